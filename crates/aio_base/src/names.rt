@@ -1,0 +1,81 @@
+//! The names of a reactor: sources, tasks, timers, moments, directions and events.
+
+ghost use Rattle.std.specs.Prelude.{◌≡◌, ℕ, ◌^◌, ◌<◌, ◌≤◌, SomeIff};
+
+use std::marker::Model;
+
+/// The number of a registered source, as `polling` 3 keys its events (`lib.rs`, `Event::key`).
+#[derive(Clone, Copy, Debug, PartialEq, Eq, PartialOrd, Ord, Hash)]
+pub struct Key(pub u32);
+
+/// The number of a task. Two wakers wake the same task exactly where their numbers are equal.
+#[derive(Clone, Copy, Debug, PartialEq, Eq, PartialOrd, Ord, Hash)]
+pub struct Waker(pub u32);
+
+/// The number of a registered timer: the registrations of one deadline fire in its order
+/// (`async-io` 2, `reactor.rs`, `insert_timer`).
+#[derive(Clone, Copy, Debug, PartialEq, Eq, PartialOrd, Ord, Hash)]
+pub struct TimerId(pub u64);
+
+/// A moment in whole nanoseconds from a clock's start, at most 10^18.
+#[derive(Clone, Copy, Debug, PartialEq, Eq, PartialOrd, Ord, Hash)]
+pub struct Moment {
+    nanoseconds: u64,
+}
+
+impl Model for Moment {
+    ghost Value = { ℕ };
+
+    ghost view = { λ m. m.nanoseconds };
+
+    ghost invariant = { λ m. m.nanoseconds ≤ 10 ^ 18 };
+
+    ghost inverse = { λ n. record { nanoseconds = n } };
+}
+
+impl Moment {
+    /// The moment so many nanoseconds after the clock's start; `None` exactly above 10^18.
+    pub fn new(n: u64) -> Option<Moment>
+        ensures { SomeIff result (n ≤ 10 ^ 18) n }
+    {
+        if n <= 1_000_000_000_000_000_000 {
+            Some(Moment { nanoseconds: n })
+        } else {
+            None
+        }
+    }
+
+    /// The nanoseconds since the clock's start.
+    pub fn get(self) -> u64
+        ensures value { result ≡ self }
+        ensures bound { result ≤ 10 ^ 18 }
+    {
+        self.nanoseconds
+    }
+}
+
+/// A direction of a source (`async-io` 2, `reactor.rs`, the constants `READ` and `WRITE`).
+#[derive(Clone, Copy, Debug, PartialEq, Eq, PartialOrd, Ord, Hash)]
+pub enum Dir {
+    Read,
+    Write,
+}
+
+/// All directions, in the order in which one event takes waiters: the published reactor looks at
+/// writability first (`async-io` 2, `reactor.rs`, `react`).
+pub const DIRS: [Dir; 2] = [Dir::Write, Dir::Read];
+
+/// The directions that a source is watched for, or that an event names.
+#[derive(Clone, Copy, Debug, PartialEq, Eq, PartialOrd, Ord, Hash)]
+pub struct Interest {
+    pub read: bool,
+    pub write: bool,
+}
+
+/// An event of a poller: the directions of the source `key` that are ready, maybe none
+/// (`polling` 3, `lib.rs`, `Event`).
+#[derive(Clone, Copy, Debug, PartialEq, Eq, PartialOrd, Ord, Hash)]
+pub struct Event {
+    pub key: Key,
+    pub on: Interest,
+}

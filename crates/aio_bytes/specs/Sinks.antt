@@ -1,0 +1,11 @@
+-- What the refusal of a sink says of its count of faults.
+use Rattle.std.specs.Prelude.{◌≡◌, ◌≢◌, ℕ, ◌≤◌, Bool, IsTrue, Result, Err, IsErrOf}
+use Rattle.aio_base.specs.Devices.{Rose}
+use Rattle.aio_bytes.specs.declared.traits.SinkRefusal.{SinkRefusal}
+use Rattle.aio_bytes.specs.declared.traits.SinkRefusal.TheVariants.{Failed}
+
+-- The count of faults over one call of a sink: it does not fall, it rose where the call failed, and neither a fault nor a rise comes of a sure object. Want of memory has no cause here.
+pub record HasSinkCause {T : Type 0} (before after : ℕ) (sure : Bool) (answer : Result T SinkRefusal) : Type 0 where
+  pub later : before ≤ after
+  pub failed : IsErrOf answer Failed → Rose before after
+  pub never : IsTrue sure → (answer ≢ Err Failed) × (after ≡ before)

@@ -1,0 +1,10 @@
+//! Bytes in and out: the source that a program reads and the sink that it writes, with their counts
+//! of faults and the bytes that they tell.
+//!
+//! It stands on `aio_base`. It promises which bytes were taken and added, what a refusal leaves, and
+//! that a fault comes only where the count of faults rose.
+#![tactic(auto)]
+
+pub mod traits;
+
+pub use traits::{Sink, SinkRefusal, Source};

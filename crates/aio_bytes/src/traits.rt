@@ -1,0 +1,47 @@
+//! What a source of bytes and a sink of bytes promise.
+
+ghost use Rattle.std.specs.Prelude.{◌≡◌, ℕ, ◌<◌, ◌≤◌, List, Option, length, IfOk};
+ghost use Rattle.std.specs.Io.KnownBytes.{ReadConsumes, WriteAppends};
+
+use aio_base::{Failed, Faults};
+
+/// A source of bytes.
+pub trait Source: Faults {
+    ghost use Rattle.aio_base.specs.Devices.{HasCause};
+
+    /// The bytes that it has left, where it tells them.
+    ghost remaining: { Self → Option (List ℕ) };
+
+    /// Reads the next bytes into the front of `buf` and answers how many; 0 is the end. `Failed` only
+    /// where the count of faults rose, and then no byte is taken. Takes no memory.
+    fn read(&mut self, buf: &mut [u8]) -> Result<usize, Failed>
+        requires { 0 < length buf.old }
+        ensures bound { IfOk result (λ n. n ≤ length buf.new) }
+        ensures bytes { ReadConsumes (remaining self.old) (remaining self.new) result buf.new }
+        ensures sure { Self.is_sure self.new ≡ Self.is_sure self.old }
+        ensures cause { HasCause (Self.fault_count self.old) (Self.fault_count self.new) (Self.is_sure self.old) result };
+}
+
+/// Why a sink took no byte.
+#[derive(Clone, Copy, Debug, PartialEq, Eq)]
+pub enum SinkRefusal {
+    Failed,
+    OutOfMemory,
+}
+
+/// A sink of bytes.
+pub trait Sink: Faults {
+    ghost use Rattle.aio_bytes.specs.Sinks.{HasSinkCause};
+
+    /// The bytes that it holds, where it tells them.
+    ghost contents: { Self → Option (List ℕ) };
+
+    /// Adds the first bytes of `piece` at the end and answers how many, at least one. A refusal adds
+    /// nothing; `Failed` only where the count of faults rose.
+    fn write(&mut self, piece: &[u8]) -> Result<usize, SinkRefusal>
+        requires { 0 < length piece.now }
+        ensures bound { IfOk result (λ n. (0 < n) × (n ≤ length piece.now)) }
+        ensures bytes { WriteAppends (contents self.old) (contents self.new) result piece.now }
+        ensures sure { Self.is_sure self.new ≡ Self.is_sure self.old }
+        ensures cause { HasSinkCause (Self.fault_count self.old) (Self.fault_count self.new) (Self.is_sure self.old) result };
+}
