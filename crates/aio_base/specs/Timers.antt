@@ -1,0 +1,45 @@
+-- The pass over registered timers: those that are due leave, in order.
+use Rattle.std.specs.Prelude.{ℕ, ◌-◌, Bool, true, false, not, ◌&&◌, ◌||◌, ◌==◌, nat_lt, nat_le, if◌then◌else◌, List, [], ◌∷◌, ◌++◌, map, filter, min, Option, None, Some}
+use Rattle.aio_base.specs.declared.names.Waker.{Waker}
+use Rattle.aio_base.specs.World.{Registration, is_empty_list}
+
+-- whether a registration fires before another: by deadline and then by id (`async-io` 2, `reactor.rs`, the key of the timers' map)
+abbrev pub fires_before : Registration → Registration → Bool
+fires_before a b = nat_lt a.deadline b.deadline || ((a.deadline == b.deadline) && nat_lt a.id b.id)
+
+-- put at its place in an ordered list
+abbrev pub placed : Registration → List Registration → List Registration
+placed r [] = r ∷ []
+placed r (x ∷ xs) = if fires_before x r then x ∷ placed r xs else r ∷ x ∷ xs
+
+abbrev pub in_order : List Registration → List Registration
+in_order [] = []
+in_order (r ∷ rs) = placed r (in_order rs)
+
+-- the wakers of a pass at a moment, in order: those of all registrations with a deadline at most the moment
+abbrev pub due_wakers : ℕ → List Registration → List Waker
+due_wakers moment registrations =
+    map (λ (r : Registration). r.waker) (in_order (filter (λ (r : Registration). nat_le r.deadline moment) registrations))
+
+-- what stays registered after a pass
+abbrev pub after_pass : ℕ → List Registration → List Registration
+after_pass moment registrations = filter (λ (r : Registration). not (nat_le r.deadline moment)) registrations
+
+abbrev pub lesser : Option ℕ → Option ℕ → Option ℕ
+lesser None b = b
+lesser (Some a) None = Some a
+lesser (Some a) (Some b) = Some (min a b)
+
+abbrev pub first_deadline : List Registration → Option ℕ
+first_deadline [] = None
+first_deadline (r ∷ rs) = lesser (Some r.deadline) (first_deadline rs)
+
+abbrev pub time_to : ℕ → Option ℕ → Option ℕ
+time_to now None = None
+time_to now (Some deadline) = Some (deadline - now)
+
+-- the limit of a wait in nanoseconds: 0 where the pass took a timer, else the lesser of the time to the first deadline and the given limit
+-- (`async-io` 2, `reactor.rs`, `react`)
+abbrev pub limit_of : ℕ → List Registration → Option ℕ → Option ℕ
+limit_of now registrations given =
+    if is_empty_list (due_wakers now registrations) then lesser (time_to now (first_deadline (after_pass now registrations))) given else Some 0

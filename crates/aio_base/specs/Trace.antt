@@ -1,0 +1,143 @@
+-- What an input says: its lines, the steps that they spell, and the line that is refused.
+use Rattle.std.specs.Prelude.{◌≡◌, ℕ, ◌+◌, ◌-◌, ◌*◌, ◌^◌, ◌<◌, Bool, true, false, ◌&&◌, ◌==◌, nat_lt, if◌then◌else◌, List, [], ◌∷◌, Option, None, Some, option_and_then, codes, decimal, bytes_eq}
+use Rattle.std.specs.List.{slice_split}
+use Rattle.aio_base.specs.declared.names.Key.{Key}
+use Rattle.aio_base.specs.declared.names.Waker.{Waker}
+use Rattle.aio_base.specs.declared.names.Dir.{Dir}
+use Rattle.aio_base.specs.declared.names.Dir.TheVariants.{Read, Write}
+use Rattle.aio_base.specs.declared.names.Interest.{Interest}
+use Rattle.aio_base.specs.declared.names.Event.{Event}
+use Rattle.aio_base.specs.declared.steps.Step.{Step}
+use Rattle.aio_base.specs.declared.steps.Step.TheVariants as step
+use Rattle.aio_base.specs.declared.steps.Reason.{Reason}
+use Rattle.aio_base.specs.declared.steps.Reason.TheVariants as reason
+
+infixl 10 ◌>>=◌
+abbrev pub ◌>>=◌ : {A B : Type 0} → Option A → (A → Option B) → Option B
+o >>= f = option_and_then f o
+
+-- ## The lines of an input
+
+-- a byte in front of the first line, which begins with it where there is none
+abbrev pub onto_first_line : ℕ → List (List ℕ) → List (List ℕ)
+onto_first_line b [] = (b ∷ []) ∷ []
+onto_first_line b (line ∷ lines) = (b ∷ line) ∷ lines
+
+-- The lines without their line feeds. The last may lack it; after a line feed at the end no further line comes.
+abbrev pub lines_of : List ℕ → List (List ℕ)
+lines_of [] = []
+lines_of (b ∷ bytes) = if b == 10 then [] ∷ lines_of bytes else onto_first_line b (lines_of bytes)
+
+-- ## The step that a line spells
+
+-- the words of a line, parted by single spaces
+abbrev pub words_of : List ℕ → List (List ℕ)
+words_of line = slice_split (λ b. b == 32) line
+
+-- what digits stand for, after a number that is read already
+abbrev pub value_after : ℕ → List ℕ → ℕ
+value_after n [] = n
+value_after n (digit ∷ digits) = value_after (10 * n + (digit - 48)) digits
+
+-- the number below 2^32 whose decimal spelling this is
+abbrev pub number_of : List ℕ → Option ℕ
+number_of word = let n = value_after 0 word in if bytes_eq word (decimal n) && nat_lt n (2 ^ 32) then Some n else None
+
+abbrev pub dir_of : List ℕ → Option Dir
+dir_of word = if bytes_eq word (codes "r") then Some Read else (if bytes_eq word (codes "w") then Some Write else None)
+
+abbrev pub flags_named : List ℕ → Option Interest
+flags_named word =
+    if bytes_eq word (codes "-") then Some (record { read = false; write = false })
+    else (if bytes_eq word (codes "r") then Some (record { read = true; write = false })
+    else (if bytes_eq word (codes "w") then Some (record { read = false; write = true })
+    else (if bytes_eq word (codes "rw") then Some (record { read = true; write = true }) else None)))
+
+-- a step whose line has no further word
+abbrev pub alone : Step → List (List ℕ) → Option Step
+alone s [] = Some s
+alone s (word ∷ words) = None
+
+abbrev pub poll_named : List ℕ → List ℕ → List ℕ → Option Step
+poll_named key dir waker =
+    number_of key >>= λ k. dir_of dir >>= λ d. number_of waker >>= λ w. Some (step.Poll (record { 0 = k }) d (record { 0 = w }))
+
+abbrev pub poll_of : List (List ℕ) → Option Step
+poll_of (key ∷ dir ∷ waker ∷ []) = poll_named key dir waker
+poll_of _ = None
+
+abbrev pub event_named : List ℕ → List ℕ → Option Step
+event_named key flags = number_of key >>= λ k. flags_named flags >>= λ on. Some (step.Note (record { key = record { 0 = k }; on = on }))
+
+abbrev pub event_of : List (List ℕ) → Option Step
+event_of (key ∷ flags ∷ []) = event_named key flags
+event_of _ = None
+
+abbrev pub step_named : List ℕ → List (List ℕ) → Option Step
+step_named command places =
+    if bytes_eq command (codes "poll") then poll_of places
+    else (if bytes_eq command (codes "event") then event_of places
+    else (if bytes_eq command (codes "react") then alone step.React places
+    else (if bytes_eq command (codes "add") then alone step.Add places else None)))
+
+abbrev pub step_of_words : List (List ℕ) → Option Step
+step_of_words [] = None
+step_of_words (command ∷ places) = step_named command places
+
+-- The step whose written spelling this line is, among the lines that are built: `add`, `poll`, `event` and `react`.
+unfoldable pub written_step : List ℕ → Option Step
+written_step line = step_of_words (words_of line)
+
+-- a step of the lines that are built, with numbers that a line can hold
+abbrev pub IsBuilt : Step → Type 0
+IsBuilt step.Add = Unit {0}
+IsBuilt (step.Poll key dir waker) = (key.0 < 2 ^ 32) × (waker.0 < 2 ^ 32)
+IsBuilt (step.Note event) = event.key.0 < 2 ^ 32
+IsBuilt step.React = Unit {0}
+IsBuilt _ = ⊥
+
+-- ## The steps of an input, and the line that is refused
+
+pub record Refusal : Type 0 where
+  pub line : ℕ
+  pub reason : Reason
+
+pub record Trace : Type 0 where
+  pub steps : List Step
+  pub refusal : Option Refusal
+
+-- no line is left
+abbrev pub complete : Trace
+complete = record { steps = []; refusal = None }
+
+abbrev pub refused : ℕ → Reason → Trace
+refused line reason = record { steps = []; refusal = Some (record { line = line; reason = reason }) }
+
+abbrev pub with_step : Step → Trace → Trace
+with_step s trace = record trace { steps = s ∷ trace.steps }
+
+-- the lines of a trace, its header among them
+abbrev pub line_limit : ℕ
+line_limit = 1000000
+
+-- a line that spells no step that is built is refused, and nothing after it counts
+abbrev pub trace_after : ℕ → Option Step → Trace → Trace
+trace_after line None rest = refused line reason.Stage
+trace_after line (Some s) rest = with_step s rest
+
+-- what these lines say, the first of which has this number
+abbrev pub trace_from : ℕ → List (List ℕ) → Trace
+trace_from line [] = complete
+trace_from line (text ∷ lines) =
+    if nat_lt line_limit line then refused line reason.Lines else trace_after line (written_step text) (trace_from (line + 1) lines)
+
+abbrev pub header_text : List ℕ
+header_text = codes "trace 1"
+
+abbrev pub trace_of_lines : List (List ℕ) → Trace
+trace_of_lines [] = refused 1 reason.Header
+trace_of_lines (header ∷ lines) = if bytes_eq header header_text then trace_from 2 lines else refused 1 reason.Header
+
+-- what an input says: its steps, and the first line that is refused
+unfoldable pub trace_of : List ℕ → Trace
+trace_of input = trace_of_lines (lines_of input)
