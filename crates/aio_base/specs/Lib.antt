@@ -2,6 +2,7 @@ pub mod Devices
 pub mod Waits
 pub mod World
 pub mod Timers
+pub mod Rounds
 pub mod Machine
 pub mod Script
 pub mod Text

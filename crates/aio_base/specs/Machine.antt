@@ -1,7 +1,7 @@
 -- The reactor machine: what each step answers, whom it wakes and what world it leaves, given what the poller answers to its calls.
 -- The rules are those of `async-io` 2 (`reactor.rs`, `driver.rs`, `lib.rs`) over `polling` 3 in oneshot mode; where the project chooses for
 -- itself, a comment says so. What a case does not name stays.
-use Rattle.std.specs.Prelude.{ℕ, ◌+◌, ◌-◌, ◌*◌, ◌^◌, Bool, true, false, not, ◌&&◌, ◌||◌, ◌==◌, nat_lt, nat_le, if◌then◌else◌, List, [], ◌∷◌, ◌++◌, map, filter, find, length, take, drop, Option, None, Some, is_some, option_map, option_to_list, unwrap_or}
+use Rattle.std.specs.Prelude.{ℕ, ◌+◌, ◌^◌, Bool, true, false, not, ◌&&◌, ◌||◌, ◌==◌, nat_lt, nat_le, if◌then◌else◌, List, [], ◌∷◌, ◌++◌, map, filter, find, length, Option, None, Some, is_some, option_to_list, unwrap_or}
 use Rattle.std.specs.List.{list_any}
 use Rattle.std.specs.Option.{option_map_or}
 use Rattle.aio_base.specs.declared.names.Key.{Key}
@@ -16,7 +16,7 @@ use Rattle.aio_base.specs.declared.steps.Step.{Step}
 use Rattle.aio_base.specs.declared.steps.Step.TheVariants as step
 use Rattle.aio_base.specs.declared.steps.Answer.{Answer}
 use Rattle.aio_base.specs.declared.steps.Answer.TheVariants as answer
-use Rattle.aio_base.specs.World.{PollerAnswer, Succeeds, Gives, IsInterrupted, Fails, LiveSource, PollWaiter, Mark, ListenerEntry, ArmedDirection, BrokenSource, Registration, TimerEntry, DueFaults, RoundState, HandledDirection, World, directions_of, is_of, serial_of, key_of, poll_waiter, without_waiter, mark_of, without_mark, waiters_of, is_empty_list, is_idle, wanted, is_broken, without_broken, set_armed, clear_armed, is_fresh}
+use Rattle.aio_base.specs.World.{PollerAnswer, Succeeds, Gives, IsInterrupted, Fails, LiveSource, PollWaiter, Mark, ListenerEntry, Registration, TimerEntry, DueFaults, RoundState, World, directions_of, is_of, serial_of, key_of, poll_waiter, without_waiter, mark_of, without_mark, waiters_of, is_empty_list, is_idle, wanted, is_broken, without_broken, set_armed, clear_armed, is_fresh}
 use Rattle.aio_base.specs.Timers.{due_wakers, after_pass, limit_of}
 
 -- What a step, or a section of a round, gives: its answer, its wakes in order, the world after it, the kinds of the calls that it made on the

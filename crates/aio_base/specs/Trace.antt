@@ -1,12 +1,9 @@
 -- What an input says: its lines, the steps that they spell, and the line that is refused.
-use Rattle.std.specs.Prelude.{◌≡◌, ℕ, ◌+◌, ◌-◌, ◌*◌, ◌^◌, ◌<◌, Bool, true, false, ◌&&◌, ◌==◌, nat_lt, if◌then◌else◌, List, [], ◌∷◌, Option, None, Some, option_and_then, codes, decimal, bytes_eq}
+use Rattle.std.specs.Prelude.{ℕ, ◌+◌, ◌-◌, ◌*◌, ◌^◌, ◌<◌, true, false, ◌&&◌, ◌==◌, nat_lt, if◌then◌else◌, List, [], ◌∷◌, Option, None, Some, option_and_then, codes, decimal, bytes_eq}
 use Rattle.std.specs.List.{slice_split}
-use Rattle.aio_base.specs.declared.names.Key.{Key}
-use Rattle.aio_base.specs.declared.names.Waker.{Waker}
 use Rattle.aio_base.specs.declared.names.Dir.{Dir}
 use Rattle.aio_base.specs.declared.names.Dir.TheVariants.{Read, Write}
 use Rattle.aio_base.specs.declared.names.Interest.{Interest}
-use Rattle.aio_base.specs.declared.names.Event.{Event}
 use Rattle.aio_base.specs.declared.steps.Step.{Step}
 use Rattle.aio_base.specs.declared.steps.Step.TheVariants as step
 use Rattle.aio_base.specs.declared.steps.Reason.{Reason}

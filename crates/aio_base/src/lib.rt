@@ -7,6 +7,7 @@
 #![tactic(auto)]
 
 pub mod devices;
+pub mod freshness;
 pub mod names;
 pub mod outcomes;
 pub mod steps;
