@@ -1,0 +1,99 @@
+-- A poller in memory as contracts see it, and what its calls make of it.
+use Rattle.std.specs.Prelude.{◌≡◌, ℕ, Bool, true, false, if◌then◌else◌, List, [], ◌∷◌, ◌++◌, Result, Ok, Err, length, take, drop, min, slice_index_or, slice_set}
+use Rattle.aio_base.specs.declared.names.Interest.{Interest}
+use Rattle.aio_base.specs.declared.names.Event.{Event}
+use Rattle.aio_base.specs.declared.outcomes.Failed.{Failed}
+use Rattle.aio_base.specs.declared.outcomes.Waited.{Waited}
+use Rattle.aio_base.specs.declared.outcomes.Waited.TheVariants.{Given, Interrupted}
+use Rattle.aio_base.specs.declared.outcomes.Which.{Which}
+use Rattle.aio_base.specs.declared.outcomes.Which.TheVariants.{Add, Arm, Remove, Wait}
+use Rattle.aio_base.specs.Devices.{Interests, no_interest, raised, ArmCall, AddOf, ArmOf, RemoveOf, WaitCall}
+use Rattle.aio_script.specs.declared.poller.Due.{Due}
+
+-- A poller in memory: the interest of each key in the order of the keys, the events that are noted and not yet given, what its next calls are told to answer, and its counts of faults and of waits.
+pub record Script : Type 0 where
+  pub armed : List Interest
+  pub noted : List Event
+  pub due : Due
+  pub faults : ℕ
+  pub waits : ℕ
+
+-- the interest of each key; a key past the last entry has none
+abbrev pub interests_of : Script → Interests
+interests_of script key = slice_index_or script.armed key no_interest
+
+abbrev pub nothing_due : Due
+nothing_due = record { add = false; arm = false; remove = false; wait = false; interrupt = false }
+
+-- the next call of this kind is told to fail
+abbrev pub with_failure : Which → Due → Due
+with_failure Add due = record due { add = true }
+with_failure Arm due = record due { arm = true }
+with_failure Remove due = record due { remove = true }
+with_failure Wait due = record due { wait = true }
+
+-- whether a failure of such a call is due
+abbrev pub is_due : ArmCall → Due → Bool
+is_due (AddOf key) due = due.add
+is_due (ArmOf key on) due = due.arm
+is_due (RemoveOf key) due = due.remove
+
+-- a failure that was answered is due no longer
+abbrev pub without_failure : ArmCall → Due → Due
+without_failure (AddOf key) due = record due { add = false }
+without_failure (ArmOf key on) due = record due { arm = false }
+without_failure (RemoveOf key) due = record due { remove = false }
+
+-- the entries after a call that did not fail
+abbrev pub entries_after : ArmCall → List Interest → List Interest
+entries_after (AddOf key) armed = slice_set armed key.0 no_interest
+entries_after (ArmOf key on) armed = slice_set armed key.0 on
+entries_after (RemoveOf key) armed = slice_set armed key.0 no_interest
+
+-- what a call that changes one key's interest comes to: its answer, and the poller after it
+pub record ArmOutcome : Type 0 where
+  pub answer : Result (Unit {0}) Failed
+  pub after : Script
+
+abbrev pub failed_arm : Script → ArmCall → ArmOutcome
+failed_arm old call = record { answer = Err (record {}); after = record old { due = without_failure call old.due; faults = raised old.faults } }
+
+abbrev pub done_arm : Script → ArmCall → ArmOutcome
+done_arm old call = record { answer = Ok tt; after = record old { armed = entries_after call old.armed } }
+
+-- it fails exactly where a failure of its kind is due
+abbrev pub script_arm : Script → ArmCall → ArmOutcome
+script_arm old call = if is_due call old.due then failed_arm old call else done_arm old call
+
+-- the relation of an arming call: answer and poller after it are those that `script_arm` names
+abbrev pub ScriptArms : Script → ArmCall → Result (Unit {0}) Failed → Script → Type 0
+ScriptArms old call result new = script_arm old call ≡ record { answer = result; after = new }
+
+-- the entries once these events were given: the entry of each key that they name is none
+abbrev pub cleared : List Event → List Interest → List Interest
+cleared [] armed = armed
+cleared (event ∷ events) armed = cleared events (slice_set armed event.key.0 no_interest)
+
+-- what a wait comes to: its answer, the events that it adds, and the poller after it
+pub record WaitOutcome : Type 0 where
+  pub answer : Result Waited Failed
+  pub added : List Event
+  pub after : Script
+
+abbrev pub failed_wait : Script → WaitOutcome
+failed_wait old = record { answer = Err (record {}); added = []; after = record old { due = record old.due { wait = false }; faults = raised old.faults; waits = raised old.waits } }
+
+abbrev pub interrupted_wait : Script → WaitOutcome
+interrupted_wait old = record { answer = Ok Interrupted; added = []; after = record old { due = record old.due { interrupt = false }; waits = raised old.waits } }
+
+-- the first `room` noted events, or all where there are fewer
+abbrev pub giving_wait : Script → ℕ → WaitOutcome
+giving_wait old room = record { answer = Ok (Given (min room (length old.noted))); added = take room old.noted; after = record old { armed = cleared (take room old.noted) old.armed; noted = drop room old.noted; waits = raised old.waits } }
+
+-- a due failure comes before a due interrupt, and both before the noted events
+abbrev pub script_wait : Script → ℕ → WaitOutcome
+script_wait old room = if old.due.wait then failed_wait old else (if old.due.interrupt then interrupted_wait old else giving_wait old room)
+
+-- the relation of a wait: answer, events and poller after it are those that `script_wait` names
+abbrev pub ScriptWaits : Script → WaitCall → Result Waited Failed → List Event → Script → Type 0
+ScriptWaits old call result events new = script_wait old call.room ≡ record { answer = result; added = events; after = new }

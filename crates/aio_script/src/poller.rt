@@ -1,0 +1,240 @@
+//! The poller in memory and its calls.
+
+ghost use Rattle.std.specs.Prelude.{◌≡◌, ℕ, ◌+◌, ◌≤◌, ◌<◌, [], ◌∷◌, ◌++◌, List, Option, Some, true, false, OnOk, OnErr, IfOk, IsOk, length, take, drop, min, replicate, vec_len, vec_capacity};
+
+use crate::events::NotedEvents;
+use aio_base::{Arm, Event, EventWait, Failed, Faults, Interest, Key, OutOfMemory, Poller, Waited, Which};
+use std::alloc::Global;
+use std::marker::Model;
+use std::mem;
+
+/// How many keys have an interest: one for each source that a reactor can hold.
+const KEYS: usize = 4096;
+
+const NO_INTEREST: Interest = Interest {
+    read: false,
+    write: false,
+};
+
+/// What the next calls are told to answer: a failure of the next call of a kind, and an interrupt
+/// of the next wait that does not fail.
+#[derive(Clone, Copy, Debug, PartialEq, Eq)]
+pub(crate) struct Due {
+    pub add: bool,
+    pub arm: bool,
+    pub remove: bool,
+    pub wait: bool,
+    pub interrupt: bool,
+}
+
+/// A poller in memory in oneshot mode (`polling` 3, `lib.rs`, `Poller`): its events, failures and
+/// interrupts are told to it before the calls that answer them. It looks at no clock.
+#[derive(Drop)]
+pub struct ScriptPoller {
+    armed: Vec<Interest>,
+    noted: NotedEvents,
+    due: Due,
+    faults: u64,
+    waits: u64,
+}
+
+impl Model for ScriptPoller {
+    ghost use Rattle.std.specs.Prelude.{◌≡◌, vec_len};
+    ghost use Rattle.aio_script.specs.Script.{Script};
+
+    ghost Value = { Script };
+
+    ghost view = { λ p. record { armed = p.armed.items; noted = p.noted; due = p.due; faults = p.faults; waits = p.waits } };
+
+    ghost invariant = { λ p. vec_len p.armed ≡ 4096 };
+}
+
+impl ScriptPoller {
+    ghost use Rattle.aio_base.specs.Devices.{no_interest, raised};
+    ghost use Rattle.aio_script.specs.Script.{interests_of, nothing_due, with_failure};
+
+    /// A poller with room for 4,096 keys that has nothing armed, noted or due, and no faults or
+    /// waits counted. `OutOfMemory` where memory ran out.
+    pub fn new(alloc: Global) -> Result<ScriptPoller, OutOfMemory>
+        ensures { IfOk result (λ p. p ≡ record { armed = replicate 4096 no_interest; noted = []; due = nothing_due; faults = 0; waits = 0 }) }
+    {
+        let Ok(armed) = vec![in alloc; NO_INTEREST; KEYS] else {
+            return Err(OutOfMemory);
+        };
+        Ok(ScriptPoller {
+            armed,
+            noted: NotedEvents::new(alloc),
+            due: Due {
+                add: false,
+                arm: false,
+                remove: false,
+                wait: false,
+                interrupt: false,
+            },
+            faults: 0,
+            waits: 0,
+        })
+    }
+
+    /// Notes an event of any key and any directions behind those that are noted. `OutOfMemory`
+    /// leaves the poller as it was.
+    pub fn give(&mut self, event: Event) -> Result<(), OutOfMemory>
+        ensures ok { OnOk result (self.new ≡ record self.old { noted = self.old.noted ++ event ∷ [] }) }
+        ensures err { OnErr result (self.new ≡ self.old) }
+    {
+        self.noted.push(event)
+    }
+
+    /// The next call of this kind fails. Told twice, still one call fails.
+    pub fn fail_next(&mut self, which: Which)
+        ensures { self.new ≡ record self.old { due = with_failure which self.old.due } }
+    {
+        match which {
+            Which::Add => self.due.add = true,
+            Which::Arm => self.due.arm = true,
+            Which::Remove => self.due.remove = true,
+            Which::Wait => self.due.wait = true,
+        }
+    }
+
+    /// The next wait that does not fail is interrupted.
+    pub fn interrupt_next(&mut self)
+        ensures { self.new ≡ record self.old { due = record self.old.due { interrupt = true } } }
+    {
+        self.due.interrupt = true;
+    }
+
+    /// The armed interest of a key; a key of 4,096 or more has none.
+    pub fn armed(&self, key: Key) -> Interest
+        ensures { result ≡ interests_of self.now key.0 }
+    {
+        let index = key.0 as usize;
+        if index < self.armed.len() {
+            self.armed[index]
+        } else {
+            NO_INTEREST
+        }
+    }
+
+    /// The events that are noted and not yet given, in order.
+    pub fn noted(&self) -> &[Event]
+        ensures { result.now ≡ self.now.noted }
+    {
+        self.noted.as_slice()
+    }
+}
+
+impl Faults for ScriptPoller {
+    ghost fault_count = { λ p. p.faults };
+
+    ghost is_sure = { λ p. false };
+
+    ghost all_sure = { false };
+
+    ghost use Rattle.std.proofs.lemmas.Bool.{false≢true};
+
+    ghost sure_below_top = { λ p sure. absurd (false≢true sure) };
+
+    ghost each_sure = { λ p sure. sure };
+
+    fn faults(&self) -> u64 {
+        self.faults
+    }
+}
+
+impl Arm for ScriptPoller {
+    ghost use Rattle.std.specs.Prelude.{[], ◌∷◌, Some};
+    ghost use Rattle.aio_script.specs.Script.{interests_of, ScriptArms};
+
+    ghost interests = { λ p. Some (interests_of p) };
+
+    ghost rest = { λ p. p.waits ∷ [] };
+
+    ghost arm_step = { ScriptArms };
+
+    fn add(&mut self, key: Key) -> Result<(), Failed> {
+        if mem::replace(&mut self.due.add, false) {
+            self.faults = self.faults.saturating_add(1);
+            return Err(Failed);
+        }
+        self.armed[key.0 as usize] = NO_INTEREST;
+        Ok(())
+    }
+
+    fn arm(&mut self, key: Key, on: Interest) -> Result<(), Failed> {
+        if mem::replace(&mut self.due.arm, false) {
+            self.faults = self.faults.saturating_add(1);
+            return Err(Failed);
+        }
+        self.armed[key.0 as usize] = on;
+        Ok(())
+    }
+
+    fn remove(&mut self, key: Key) -> Result<(), Failed> {
+        if mem::replace(&mut self.due.remove, false) {
+            self.faults = self.faults.saturating_add(1);
+            return Err(Failed);
+        }
+        self.armed[key.0 as usize] = NO_INTEREST;
+        Ok(())
+    }
+}
+
+impl EventWait for ScriptPoller {
+    ghost use Rattle.aio_script.specs.Script.{ScriptWaits};
+
+    ghost wait_count = { λ p. p.waits };
+
+    ghost wait_step = { ScriptWaits };
+
+    fn wait(
+        &mut self,
+        out: &mut Vec<Event>,
+        room: u32,
+        _limit: Option<u64>,
+    ) -> Result<Waited, Failed> {
+        self.waits = self.waits.saturating_add(1);
+        if mem::replace(&mut self.due.wait, false) {
+            self.faults = self.faults.saturating_add(1);
+            return Err(Failed);
+        }
+        if mem::replace(&mut self.due.interrupt, false) {
+            return Ok(Waited::Interrupted);
+        }
+        let noted = self.noted.as_slice();
+        let count = noted.len().min(room as usize);
+        let given = &noted[..count];
+        out.extend_from_slice(given).unwrap();
+        clear_interests(&mut self.armed, given);
+        self.noted.skip(count);
+        Ok(Waited::Given(count as u32))
+    }
+
+    fn waits(&self) -> u64 {
+        self.waits
+    }
+}
+
+impl Poller for ScriptPoller {
+    ghost use Rattle.std.proofs.Common.{ap};
+    ghost use Rattle.std.specs.Prelude.{slice_index_or};
+    ghost use Rattle.aio_script.specs.ToldInterests.{wait_clears_interests};
+
+    ghost wait_clears = { wait_clears_interests };
+
+    ghost waits_in_rest = { λ a b same. ap (λ rest. slice_index_or rest 0 0) same };
+}
+
+ghost use Rattle.aio_script.specs.Script.{cleared};
+
+/// Clears the interest of each key that an event names; a key past the last entry has none.
+fn clear_interests(armed: &mut [Interest], events: &[Event])
+    ensures { armed.new ≡ cleared events.now armed.old }
+{
+    for event in events {
+        let index = event.key.0 as usize;
+        if index < armed.len() {
+            armed[index] = NO_INTEREST;
+        }
+    }
+}
