@@ -5,6 +5,14 @@
 //! that a fault comes only where the count of faults rose.
 #![tactic(auto)]
 
+pub mod lines;
+pub mod memory;
+pub mod sure;
 pub mod traits;
+pub mod writing;
 
+pub use lines::LineReader;
+pub use memory::{MemSink, MemSource};
+pub use sure::{SureSink, SureSource};
 pub use traits::{Sink, SinkRefusal, Source};
+pub use writing::write_all;

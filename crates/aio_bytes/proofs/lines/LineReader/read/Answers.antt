@@ -1,0 +1,12 @@
+use Rattle.std.proofs.Common.{rules, ◌≡◌, ℕ, ◌+◌, ◌-◌, ◌<◌, ◌≤◌, ◌++◌, List, length, take, drop, slice_range, arith, length-take-le, length-drop}
+use Rattle.std.proofs.lemmas.Grind.{common_steps}
+use Rattle.std.specs.Io.KnownBytes.{Consumes}
+use Rattle.aio_bytes.proofs.LineLemmas.{slice_range-read}
+use Rattle.aio_bytes.proofs.lines.LineReader.read.Goals as goal
+
+pub returns-in-Ok-clause-ok : goal.returns-in-Ok-clause-ok
+returns-in-Ok-clause-ok g c =
+    let held = c.self.inside.end - c.self.inside.start in
+    let new = c.read_behind.new.bytes in
+    let front : take held new ≡ c.args.self.now.ahead = grind (arith, common_steps) in
+    (take c.in-Ok.n (drop held new), slice_range-read _ new c.args.self.now.ahead held c.in-Ok.n (grind (arith, common_steps)) front, grind (arith, common_steps), search rules)

@@ -1,0 +1,194 @@
+//! A reader of the lines of a source, which holds a bounded number of bytes of it.
+
+ghost use Rattle.std.specs.Prelude.{◌≡◌, ℕ, ◌+◌, ◌-◌, ◌<◌, ◌≤◌, ◌==◌, ◌++◌, ◌∷◌, [], ◌||◌, ◌↔◌, true, List, Option, length, take, drop, slice_range, nat_lt, nat_eq, position, vec_len, IsTrue, IfOk, OnErr, OnOk, MatchOption, MatchResult};
+ghost use Rattle.std.specs.Bool.{OnTrue, OnFalse};
+ghost use Rattle.std.specs.Io.KnownBytes.{Consumes, Keeps, IsAtEnd, ReadConsumes};
+ghost use Rattle.aio_base.specs.Devices.{HasCause};
+ghost use Rattle.aio_bytes.specs.Held.{HasNoLineFeed};
+
+use aio_base::Failed;
+use std::alloc::{AllocError, Global};
+use std::marker::Model;
+
+use crate::traits::Source;
+
+/// How many bytes a reader of lines holds at most that were read and not yet given: 257. A line may
+/// so be 256 bytes long before its line feed; where 257 bytes lie ahead and none is a line feed,
+/// no more of that line is taken.
+pub const LONGEST: usize = 257;
+
+/// The lines of a source, one after the other, with at most `LONGEST` bytes read ahead. A line is
+/// found by a scan of its bytes and lies in place: nothing is copied and no memory is taken. What
+/// is in hand of an unfinished line is moved to the front of the buffer when more is read.
+#[derive(Drop)]
+pub struct LineReader {
+    buffer: Vec<u8>,
+    line_start: usize,
+    line_end: usize,
+    start: usize,
+    end: usize,
+    short: bool,
+}
+
+impl Model for LineReader {
+    ghost use Rattle.std.specs.Prelude.{◌≡◌, ◌≤◌, slice_range, vec_len};
+    ghost use Rattle.aio_bytes.specs.Held.{Held};
+
+    ghost Value = { Held };
+
+    ghost view = { λ r. record { line = slice_range r.buffer.items r.line_start r.line_end; ahead = slice_range r.buffer.items r.start r.end; short = r.short } };
+
+    ghost invariant = { λ r. (vec_len r.buffer ≡ 257) × (r.line_start ≤ r.line_end) × (r.line_end ≤ 257) × (r.start ≤ r.end) × (r.end ≤ 257) };
+}
+
+impl LineReader {
+    /// A reader that has read nothing. `AllocError` where there is no memory for its buffer.
+    pub fn new(alloc: Global) -> Result<LineReader, AllocError>
+        ensures line { IfOk result (λ reader. reader.line ≡ []) }
+        ensures ahead { IfOk result (λ reader. reader.ahead ≡ []) }
+        ensures short { IfOk result (λ reader. reader.short ≡ true) }
+    {
+        let buffer = Vec::from_array(alloc, [0; LONGEST])?;
+        Ok(LineReader {
+            buffer,
+            line_start: 0,
+            line_end: 0,
+            start: 0,
+            end: 0,
+            short: true,
+        })
+    }
+
+    /// Whether a whole line lies ahead: then it becomes the line found, without its line feed.
+    pub fn find_line(&mut self) -> bool
+        ensures found { OnTrue result (self.old.ahead ≡ self.new.line ++ 10 ∷ self.new.ahead) }
+        ensures first { OnTrue result (HasNoLineFeed self.new.line) }
+        ensures none { OnFalse result (HasNoLineFeed self.old.ahead) }
+        ensures kept { OnFalse result (self.new.ahead ≡ self.old.ahead) }
+        ensures no_line { OnFalse result (self.new.line ≡ []) }
+        ensures short { self.new.short ≡ self.old.short }
+        ensures bound { length self.new.ahead ≤ LONGEST }
+    {
+        self.line_start = self.start;
+        let ahead = &self.buffer.as_slice()[self.start..self.end];
+        match first_line_feed(ahead) {
+            Some(len) => {
+                self.line_end = self.start + len;
+                self.start += len + 1;
+                true
+            }
+            None => {
+                self.line_end = self.start;
+                false
+            }
+        }
+    }
+
+    /// Reads as many bytes as there is room for, by one call of the source, and answers how many;
+    /// 0 is the end of the source. `Failed` only where the source failed: then the bytes ahead are
+    /// as before. No line is found afterwards.
+    pub fn read<S: Source>(&mut self, source: &mut S) -> Result<usize, Failed>
+        requires { length self.old.ahead < LONGEST }
+        ensures ok { IfOk result (λ n. (piece : List ℕ) × (self.new.ahead ≡ self.old.ahead ++ piece) × (length piece ≡ n) × Consumes (S.remaining source.old) (S.remaining source.new) piece) }
+        ensures end { IfOk result (λ n. n ≡ 0 → IsAtEnd (S.remaining source.new)) }
+        ensures short { IfOk result (λ n. self.new.short ≡ nat_lt n (LONGEST - length self.old.ahead)) }
+        ensures ahead { OnErr result (self.new.ahead ≡ self.old.ahead) }
+        ensures kept { OnErr result (Keeps (S.remaining source.old) (S.remaining source.new)) }
+        ensures failed { OnErr result (self.new.short ≡ true) }
+        ensures line { self.new.line ≡ [] }
+        ensures bound { length self.new.ahead ≤ LONGEST }
+        ensures sure { S.Faults.is_sure source.new ≡ S.Faults.is_sure source.old }
+        ensures cause { HasCause (S.Faults.fault_count source.old) (S.Faults.fault_count source.new) (S.Faults.is_sure source.old) result }
+    {
+        let held = self.end - self.start;
+        move_to_front(self.buffer.as_mut_slice(), self.start, self.end);
+        self.line_start = 0;
+        self.line_end = 0;
+        self.start = 0;
+        self.end = held;
+        match read_behind(source, self.buffer.as_mut_slice(), held) {
+            Ok(n) => {
+                self.end = held + n;
+                self.short = n < LONGEST - held;
+                Ok(n)
+            }
+            Err(failed) => {
+                self.short = true;
+                Err(failed)
+            }
+        }
+    }
+
+    /// Makes the bytes ahead the line found: the last line of a source, which has no line feed.
+    pub fn take_rest(&mut self)
+        ensures line { self.new.line ≡ self.old.ahead }
+        ensures ahead { self.new.ahead ≡ [] }
+        ensures short { self.new.short ≡ self.old.short }
+    {
+        self.line_start = self.start;
+        self.line_end = self.end;
+        self.start = self.end;
+    }
+
+    /// The line found last, without its line feed; empty where none was found.
+    pub fn line(&self) -> &[u8]
+        ensures value { result.now ≡ self.now.line }
+        ensures bound { length result.now ≤ LONGEST }
+    {
+        &self.buffer.as_slice()[self.line_start..self.line_end]
+    }
+
+    /// How many bytes were read after the line found last.
+    pub fn ahead_len(&self) -> usize
+        ensures value { result ≡ length self.now.ahead }
+        ensures bound { result ≤ LONGEST }
+    {
+        self.end - self.start
+    }
+
+    /// Whether as many bytes lie ahead as are held at most, so that no more can be read.
+    pub fn is_full(&self) -> bool
+        ensures full { IsTrue result ↔ (length self.now.ahead ≡ LONGEST) }
+        ensures room { OnFalse result (length self.now.ahead < LONGEST) }
+    {
+        self.end - self.start == LONGEST
+    }
+
+    /// Whether the next read may have to wait: the last one gave less than it was asked for or
+    /// failed, or none was made yet, or no byte of an unfinished line is in hand.
+    pub fn may_wait(&self) -> bool
+        ensures { result ≡ (self.now.short || length self.now.ahead == 0) }
+    {
+        self.short || self.end == self.start
+    }
+}
+
+// The place of the first line feed.
+fn first_line_feed(bytes: &[u8]) -> Option<usize>
+    ensures { result ≡ position (λ byte. byte == 10) bytes.now }
+{
+    bytes.iter().position(|byte| *byte == b'\n')
+}
+
+// Moves the bytes from `start` to `end` to the front.
+fn move_to_front(bytes: &mut [u8], start: usize, end: usize)
+    requires order { start ≤ end }
+    requires in_bounds { end ≤ length bytes.old }
+    ensures { take (end - start) bytes.new ≡ slice_range bytes.old start end }
+{
+    if start > 0 {
+        bytes.copy_within(start..end, 0);
+    }
+}
+
+// One read of the source into the bytes behind the first `held`, which stay.
+fn read_behind<S: Source>(source: &mut S, bytes: &mut [u8], held: usize) -> Result<usize, Failed>
+    requires { held < length bytes.old }
+    ensures front { take held bytes.new ≡ take held bytes.old }
+    ensures bound { IfOk result (λ n. held + n ≤ length bytes.new) }
+    ensures bytes { ReadConsumes (S.remaining source.old) (S.remaining source.new) result (drop held bytes.new) }
+    ensures sure { S.Faults.is_sure source.new ≡ S.Faults.is_sure source.old }
+    ensures cause { HasCause (S.Faults.fault_count source.old) (S.Faults.fault_count source.new) (S.Faults.is_sure source.old) result }
+{
+    source.read(&mut bytes[held..])
+}
