@@ -1,0 +1,4 @@
+pub mod Directions
+pub mod Kept
+pub mod Reactors
+pub mod Ties

@@ -1,0 +1,7 @@
+-- What the reactor keeps, read off its fields.
+use Rattle.std.specs.Prelude.{List}
+use Rattle.aio_run.specs.declared.reactor.Reactor.{Reactor}
+use Rattle.aio_run.specs.Kept.{Kept}
+
+abbrev pub kept_of : Reactor → Kept
+kept_of r = record { sources = r.sources.items; ticker = r.ticker; script = r.poller }

@@ -1,0 +1,5 @@
+//! The top call of the program: what its words ask for, read from a source and written to a sink.
+#![tactic(auto)]
+
+mod reactor;
+mod sources;
