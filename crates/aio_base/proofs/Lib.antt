@@ -1,1 +1,3 @@
 pub mod FreshnessLemmas
+mod Rows
+pub mod Spellings

@@ -13,8 +13,8 @@ pub HasNoLineFeed-before_first : (bytes : List ℕ) → HasNoLineFeed (take (pos
 HasNoLineFeed-before_first bytes =
     let n = position_or_len is_line_feed bytes in
     list_any_none is_line_feed (take n bytes) (λ k d within.
-      let before : k < n = omega (arith, length-take n bytes) in
-      subst (λ byte. is_line_feed byte ≡ false) (sym (get_or-take n bytes k d before)) (fails_before_first is_line_feed bytes k d before))
+    let before : k < n = omega (arith, length-take n bytes) in
+    subst (λ byte. is_line_feed byte ≡ false) (sym (get_or-take n bytes k d before)) (fails_before_first is_line_feed bytes k d before))
 
 -- what the first line feed's place says of the bytes
 abbrev pub CutsLine : List ℕ → ℕ → Type 0

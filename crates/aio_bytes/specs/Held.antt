@@ -1,8 +1,9 @@
--- What a reader of lines holds of a source.
-use Rattle.std.specs.Prelude.{◌≡◌, ℕ, ◌==◌, Bool, false, List}
+-- What a reader of lines holds of a source, and what a read of it adds.
+use Rattle.std.specs.Prelude.{◌≡◌, ℕ, ◌==◌, Bool, false, List, ◌++◌, length, Option}
 use Rattle.std.specs.List.{list_any}
+use Rattle.std.specs.Io.KnownBytes.{Consumes, IsAtEnd}
 
--- the line found last without its line feed, the bytes read after it, and whether the last read gave less than it was asked for
+-- the line found last without its line feed, the bytes read after it, and whether the next read may have to wait by what the last one gave
 pub record Held : Type 0 where
   pub line : List ℕ
   pub ahead : List ℕ
@@ -14,3 +15,11 @@ is_line_feed byte = byte == 10
 -- no byte is a line feed
 abbrev pub HasNoLineFeed : List ℕ → Type 0
 HasNoLineFeed bytes = list_any is_line_feed bytes ≡ false
+
+-- A read put the next n bytes of a source behind those that lay ahead. The source's bytes before and after it are given where they are told, and n is 0 only at its end.
+pub record PutsAhead (before after : Option (List ℕ)) (old new : List ℕ) (n : ℕ) : Type 0 where
+  pub piece : List ℕ
+  pub ahead : new ≡ old ++ piece
+  pub count : length piece ≡ n
+  pub taken : Consumes before after piece
+  pub at_end : n ≡ 0 → IsAtEnd after

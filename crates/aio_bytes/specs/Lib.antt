@@ -1,3 +1,4 @@
 pub mod Held
+pub mod Adapters
 pub mod Memory
 pub mod Sinks

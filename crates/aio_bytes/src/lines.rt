@@ -4,13 +4,12 @@ ghost use Rattle.std.specs.Prelude.{◌≡◌, ℕ, ◌+◌, ◌-◌, ◌<◌, �
 ghost use Rattle.std.specs.Bool.{OnTrue, OnFalse};
 ghost use Rattle.std.specs.Io.KnownBytes.{Consumes, Keeps, IsAtEnd, ReadConsumes};
 ghost use Rattle.aio_base.specs.Devices.{HasCause};
-ghost use Rattle.aio_bytes.specs.Held.{HasNoLineFeed};
+ghost use Rattle.aio_bytes.specs.Held.{HasNoLineFeed, PutsAhead};
 
+use crate::traits::Source;
 use aio_base::Failed;
 use std::alloc::{AllocError, Global};
 use std::marker::Model;
-
-use crate::traits::Source;
 
 /// How many bytes a reader of lines holds at most that were read and not yet given: 257. A line may
 /// so be 256 bytes long before its line feed; where 257 bytes lie ahead and none is a line feed,
@@ -89,8 +88,7 @@ impl LineReader {
     /// as before. No line is found afterwards.
     pub fn read<S: Source>(&mut self, source: &mut S) -> Result<usize, Failed>
         requires { length self.old.ahead < LONGEST }
-        ensures ok { IfOk result (λ n. (piece : List ℕ) × (self.new.ahead ≡ self.old.ahead ++ piece) × (length piece ≡ n) × Consumes (S.remaining source.old) (S.remaining source.new) piece) }
-        ensures end { IfOk result (λ n. n ≡ 0 → IsAtEnd (S.remaining source.new)) }
+        ensures ok { IfOk result (PutsAhead (S.remaining source.old) (S.remaining source.new) self.old.ahead self.new.ahead) }
         ensures short { IfOk result (λ n. self.new.short ≡ nat_lt n (LONGEST - length self.old.ahead)) }
         ensures ahead { OnErr result (self.new.ahead ≡ self.old.ahead) }
         ensures kept { OnErr result (Keeps (S.remaining source.old) (S.remaining source.new)) }

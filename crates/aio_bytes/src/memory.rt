@@ -1,8 +1,8 @@
 //! A source and a sink over bytes in memory, whose calls fail by a script.
 
-ghost use Rattle.std.specs.Prelude.{◌≡◌, ◌<◌, ◌≤◌, [], ◌++◌, take, drop, length, min, true, false, Some, IfOk, is_err};
+ghost use Rattle.std.specs.Prelude.{◌≡◌, ◌<◌, ◌≤◌, [], ◌++◌, take, drop, length, min, true, false, Some, IfOk, is_ok, is_err, if◌then◌else◌};
 ghost use Rattle.std.specs.Io.KnownBytes.{ReadConsumes, WriteAppends};
-ghost use Rattle.aio_base.specs.Devices.{HasCause};
+ghost use Rattle.aio_base.specs.Devices.{HasCause, raised};
 ghost use Rattle.aio_bytes.specs.Sinks.{HasSinkCause};
 ghost use Rattle.aio_bytes.specs.Memory.{ScriptedSource, ScriptedSink, is_next_failing, is_failed, given_count, after_read, after_write};
 
@@ -11,6 +11,44 @@ use aio_base::{Failed, Faults};
 use std::alloc::Global;
 use std::marker::Model;
 
+/// The calls of a device, some of which fail by a script.
+#[derive(Drop)]
+struct Script {
+    fails: Vec<u64>,
+    calls: u64,
+    faults: u64,
+}
+
+impl Script {
+    fn new(fails: Vec<u64>) -> Script
+        ensures script { result.fails ≡ fails }
+        ensures calls { result.calls ≡ 0 }
+        ensures faults { result.faults ≡ 0 }
+    {
+        Script {
+            fails,
+            calls: 0,
+            faults: 0,
+        }
+    }
+
+    /// Counts one more call, and one more fault where that call fails.
+    fn next_call(&mut self) -> Result<(), Failed>
+        ensures fails { is_err result ≡ is_next_failing self.old.fails.items self.old.calls }
+        ensures calls { self.new.calls ≡ raised self.old.calls }
+        ensures faults { self.new.faults ≡ (if is_ok result then self.old.faults else raised self.old.faults) }
+        ensures script { self.new.fails.items ≡ self.old.fails.items }
+        ensures later { self.old.faults ≤ self.new.faults }
+    {
+        self.calls = self.calls.saturating_add(1);
+        if self.fails.contains(&self.calls) {
+            self.faults = self.faults.saturating_add(1);
+            return Err(Failed);
+        }
+        Ok(())
+    }
+}
+
 /// A source over bytes in memory that gives at most a piece a call. Its calls are numbered from 1,
 /// and those whose numbers stand in its script fail, taking nothing.
 #[derive(Drop)]
@@ -18,15 +56,13 @@ pub struct MemSource {
     bytes: Vec<u8>,
     position: usize,
     piece: usize,
-    fails: Vec<u64>,
-    calls: u64,
-    faults: u64,
+    script: Script,
 }
 
 impl Model for MemSource {
     ghost Value = { ScriptedSource };
 
-    ghost view = { λ s. record { left = drop s.position s.bytes.items; calls = s.calls; piece = s.piece; fails = s.fails.items; fault_count = s.faults } };
+    ghost view = { λ s. record { left = drop s.position s.bytes.items; calls = s.script.calls; piece = s.piece; fails = s.script.fails.items; fault_count = s.script.faults } };
 
     ghost invariant = { λ s. (s.position ≤ length s.bytes.items) × (0 < s.piece) };
 }
@@ -42,9 +78,7 @@ impl MemSource {
             bytes,
             position: 0,
             piece,
-            fails,
-            calls: 0,
-            faults: 0,
+            script: Script::new(fails),
         }
     }
 }
@@ -57,7 +91,7 @@ impl Faults for MemSource {
     ghost all_sure = { false };
 
     fn faults(&self) -> u64 {
-        self.faults
+        self.script.faults
     }
 
     ghost sure_below_top = { λ s sure. Prim.cc };
@@ -79,11 +113,7 @@ impl Source for MemSource {
         ensures bytes { ReadConsumes (Some self.old.left) (Some self.new.left) result buf.new }
         ensures cause { HasCause self.old.fault_count self.new.fault_count false result }
     {
-        self.calls = self.calls.saturating_add(1);
-        if self.fails.contains(&self.calls) {
-            self.faults = self.faults.saturating_add(1);
-            return Err(Failed);
-        }
+        self.script.next_call()?;
         let rest = &self.bytes[self.position..];
         let count = copy_front(rest, buf, self.piece);
         self.position += count;
@@ -107,15 +137,13 @@ pub(crate) fn copy_front(from: &[u8], to: &mut [u8], most: usize) -> usize
 #[derive(Drop)]
 pub struct MemSink {
     bytes: Vec<u8>,
-    fails: Vec<u64>,
-    calls: u64,
-    faults: u64,
+    script: Script,
 }
 
 impl Model for MemSink {
     ghost Value = { ScriptedSink };
 
-    ghost view = { λ s. record { written = s.bytes.items; calls = s.calls; fails = s.fails.items; fault_count = s.faults } };
+    ghost view = { λ s. record { written = s.bytes.items; calls = s.script.calls; fails = s.script.fails.items; fault_count = s.script.faults } };
 }
 
 impl MemSink {
@@ -125,9 +153,7 @@ impl MemSink {
     {
         MemSink {
             bytes: Vec::new(alloc),
-            fails,
-            calls: 0,
-            faults: 0,
+            script: Script::new(fails),
         }
     }
 
@@ -147,7 +173,7 @@ impl Faults for MemSink {
     ghost all_sure = { false };
 
     fn faults(&self) -> u64 {
-        self.faults
+        self.script.faults
     }
 
     ghost sure_below_top = { λ s sure. Prim.cc };
@@ -169,9 +195,7 @@ impl Sink for MemSink {
         ensures bytes { WriteAppends (Some self.old.written) (Some self.new.written) result piece.now }
         ensures cause { HasSinkCause self.old.fault_count self.new.fault_count false result }
     {
-        self.calls = self.calls.saturating_add(1);
-        if self.fails.contains(&self.calls) {
-            self.faults = self.faults.saturating_add(1);
+        if self.script.next_call().is_err() {
             return Err(SinkRefusal::Failed);
         }
         if self.bytes.extend_from_slice(piece).is_err() {

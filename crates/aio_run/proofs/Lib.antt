@@ -1,1 +1,2 @@
 pub mod Simulation
+mod Commands

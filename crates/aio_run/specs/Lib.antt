@@ -2,3 +2,5 @@ pub mod Directions
 pub mod Kept
 pub mod Reactors
 pub mod Ties
+pub mod Reading
+pub mod Writing

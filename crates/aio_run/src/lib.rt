@@ -2,4 +2,6 @@
 #![tactic(auto)]
 
 mod reactor;
+mod reading;
 mod sources;
+mod writing;

@@ -1,5 +1,5 @@
 -- A wait of a poller in memory does to the interests that it tells what its events say.
-use Rattle.std.specs.Prelude.{◌≡◌, ◌≢◌, ℕ, ◌≤◌, ◌<◌, Bool, true, false, List, [], ◌∷◌, ◌==◌, if◌then◌else◌, length, slice_index_or, slice_set, take, Result, refl}
+use Rattle.std.specs.Prelude.{◌≡◌, ℕ, Bool, true, false, List, [], ◌∷◌, ◌==◌, if◌then◌else◌, length, slice_index_or, slice_set, take, Result, refl}
 use Rattle.std.proofs.Common.{◌∙◌, sym, ap, subst, ⊎_elim}
 use Rattle.std.proofs.lemmas.Bool.{cases_eq, ne_eqb, eq-eqb, cases_lt}
 use Rattle.std.proofs.lemmas.List.{get_or_past, get_or-set_same, get_or-set_other, set_past}
@@ -8,7 +8,7 @@ use Rattle.aio_base.specs.declared.names.Event.{Event}
 use Rattle.aio_base.specs.declared.outcomes.Failed.{Failed}
 use Rattle.aio_base.specs.declared.outcomes.Waited.{Waited}
 use Rattle.aio_base.specs.Devices.{Interests, no_interest, with_interest, clear_interests, WaitCall}
-use Rattle.aio_script.specs.Script.{Script, WaitOutcome, interests_of, cleared, failed_wait, interrupted_wait, giving_wait, script_wait, ScriptWaits}
+use Rattle.aio_script.specs.Script.{Script, WaitOutcome, interests_of, cleared, failed_wait, interrupted_wait, giving_wait, ScriptWaits}
 
 -- an entry that was cleared is none, and so is one past the end
 none-at_cleared : (armed : List Interest) (key : ℕ) → slice_index_or (slice_set armed key no_interest) key no_interest ≡ no_interest

@@ -60,12 +60,11 @@ impl NotedEvents {
     fn make_room(&mut self)
         ensures { self.new ≡ self.old }
     {
-        let len = self.events.len();
-        let is_full = len == self.events.capacity();
-        if is_full && self.given > 0 && self.given >= len / 2 {
-            let given = self.given;
+        let given = self.given;
+        let left = self.events.len() - given;
+        if self.events.len() == self.events.capacity() && given >= left {
             self.events.copy_within(given.., 0);
-            self.events.truncate(len - given);
+            self.events.truncate(left);
             self.given = 0;
         }
     }

@@ -7,5 +7,7 @@
 
 mod events;
 mod poller;
+#[cfg(test)]
+mod tests;
 
 pub use poller::ScriptPoller;

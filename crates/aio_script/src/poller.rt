@@ -1,9 +1,12 @@
 //! The poller in memory and its calls.
 
 ghost use Rattle.std.specs.Prelude.{◌≡◌, ℕ, ◌+◌, ◌≤◌, ◌<◌, [], ◌∷◌, ◌++◌, List, Option, Some, true, false, OnOk, OnErr, IfOk, IsOk, length, take, drop, min, replicate, vec_len, vec_capacity};
+ghost use Rattle.aio_script.specs.Script.{cleared};
 
 use crate::events::NotedEvents;
-use aio_base::{Arm, Event, EventWait, Failed, Faults, Interest, Key, OutOfMemory, Poller, Waited, Which};
+use aio_base::{
+    Arm, Event, EventWait, Failed, Faults, Interest, Key, OutOfMemory, Poller, Waited, Which,
+};
 use std::alloc::Global;
 use std::marker::Model;
 use std::mem;
@@ -106,7 +109,8 @@ impl ScriptPoller {
 
     /// The armed interest of a key; a key of 4,096 or more has none.
     pub fn armed(&self, key: Key) -> Interest
-        ensures { result ≡ interests_of self.now key.0 }
+        ensures value { result ≡ interests_of self.now key.0 }
+        ensures entries { length self.now.armed ≡ 4096 }
     {
         let index = key.0 as usize;
         if index < self.armed.len() {
@@ -121,6 +125,14 @@ impl ScriptPoller {
         ensures { result.now ≡ self.now.noted }
     {
         self.noted.as_slice()
+    }
+
+    /// Counts one fault, and gives the answer that tells it.
+    fn fault(&mut self) -> Failed
+        ensures { self.new ≡ record self.old { faults = raised self.old.faults } }
+    {
+        self.faults = self.faults.saturating_add(1);
+        Failed
     }
 }
 
@@ -152,28 +164,31 @@ impl Arm for ScriptPoller {
 
     ghost arm_step = { ScriptArms };
 
+    /// Registers a source; its interest is none. `Failed` exactly where a failure of `add` is due,
+    /// which is then due no longer.
     fn add(&mut self, key: Key) -> Result<(), Failed> {
         if mem::replace(&mut self.due.add, false) {
-            self.faults = self.faults.saturating_add(1);
-            return Err(Failed);
+            return Err(self.fault());
         }
         self.armed[key.0 as usize] = NO_INTEREST;
         Ok(())
     }
 
+    /// Arms a source: its interest is `on` until an event of it is given. `Failed` exactly where a
+    /// failure of `arm` is due, which is then due no longer.
     fn arm(&mut self, key: Key, on: Interest) -> Result<(), Failed> {
         if mem::replace(&mut self.due.arm, false) {
-            self.faults = self.faults.saturating_add(1);
-            return Err(Failed);
+            return Err(self.fault());
         }
         self.armed[key.0 as usize] = on;
         Ok(())
     }
 
+    /// Takes a source out. `Failed` exactly where a failure of `remove` is due, which is then due no
+    /// longer.
     fn remove(&mut self, key: Key) -> Result<(), Failed> {
         if mem::replace(&mut self.due.remove, false) {
-            self.faults = self.faults.saturating_add(1);
-            return Err(Failed);
+            return Err(self.fault());
         }
         self.armed[key.0 as usize] = NO_INTEREST;
         Ok(())
@@ -187,6 +202,9 @@ impl EventWait for ScriptPoller {
 
     ghost wait_step = { ScriptWaits };
 
+    /// Gives the first `room` noted events, or all where there are fewer, without waiting. `Failed`
+    /// exactly where a failure of `wait` is due, and else interrupted exactly where that is due;
+    /// what was answered is then due no longer, and no event is given.
     fn wait(
         &mut self,
         out: &mut Vec<Event>,
@@ -195,8 +213,7 @@ impl EventWait for ScriptPoller {
     ) -> Result<Waited, Failed> {
         self.waits = self.waits.saturating_add(1);
         if mem::replace(&mut self.due.wait, false) {
-            self.faults = self.faults.saturating_add(1);
-            return Err(Failed);
+            return Err(self.fault());
         }
         if mem::replace(&mut self.due.interrupt, false) {
             return Ok(Waited::Interrupted);
@@ -224,8 +241,6 @@ impl Poller for ScriptPoller {
 
     ghost waits_in_rest = { λ a b same. ap (λ rest. slice_index_or rest 0 0) same };
 }
-
-ghost use Rattle.aio_script.specs.Script.{cleared};
 
 /// Clears the interest of each key that an event names; a key past the last entry has none.
 fn clear_interests(armed: &mut [Interest], events: &[Event])

@@ -1,4 +1,3 @@
-use Rattle.std.proofs.Common.{rules}
 use Rattle.aio_script.proofs.poller.ScriptPoller.new.Goals as goal
 
 -- a copy of an interest is that interest

@@ -1,0 +1,6 @@
+-- The tries before took no byte.
+use Rattle.std.specs.Io.KnownBytes.{Keeps}
+use Rattle.aio_bytes.proofs.adapters.read_retrying.Given as goal
+
+abbrev pub invariant-loop : goal.invariant-loop
+invariant-loop g l = Keeps (g.R.Read.remaining l.initial.reader) (g.R.Read.remaining l.reader)

@@ -1,0 +1,6 @@
+-- The tries before added no byte.
+use Rattle.std.specs.Io.KnownBytes.{Keeps}
+use Rattle.aio_bytes.proofs.adapters.write_retrying.Given as goal
+
+abbrev pub invariant-loop : goal.invariant-loop
+invariant-loop g l = Keeps (g.W.Write.contents l.initial.writer) (g.W.Write.contents l.writer)

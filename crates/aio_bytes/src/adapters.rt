@@ -1,0 +1,182 @@
+//! Adapters over std's readers and writers: the trusted edge. What the system gives and takes is not
+//! proved.
+
+ghost use Rattle.std.specs.Prelude.{◌≡◌, ◌≢◌, ◌<◌, ◌≤◌, length, false, None, Err, IfOk, is_ok, if◌then◌else◌};
+ghost use Rattle.std.specs.Io.KnownBytes.{ReadConsumes, WriteAppends};
+ghost use Rattle.aio_base.specs.Devices.{HasCause, raised};
+ghost use Rattle.aio_bytes.specs.Sinks.{HasSinkCause};
+
+use crate::traits::{Sink, SinkRefusal, Source};
+use aio_base::{Failed, Faults};
+use std::io::{ErrorKind, Read, Write};
+use std::marker::Model;
+
+/// How often a call is tried again that a signal interrupts.
+const RETRIES: u32 = 1_000;
+
+/// One read of `reader`, tried again where it is interrupted. `Failed` for any other error, and where
+/// it is interrupted at each try.
+fn read_retrying<R: Read>(reader: &mut R, buf: &mut [u8]) -> Result<usize, Failed>
+    ensures bound { IfOk result (λ n. n ≤ length buf.new) }
+    ensures bytes { ReadConsumes (R.remaining reader.old) (R.remaining reader.new) result buf.new }
+{
+    for _ in 0..=RETRIES {
+        match reader.read(buf) {
+            Ok(count) => return Ok(count),
+            Err(error) => {
+                if error.kind() != ErrorKind::Interrupted {
+                    return Err(Failed);
+                }
+            }
+        }
+    }
+    Err(Failed)
+}
+
+/// One write to `writer`, tried again where it is interrupted. `Failed` for any other error, where it
+/// is interrupted at each try, and where it takes nothing.
+fn write_retrying<W: Write>(writer: &mut W, piece: &[u8]) -> Result<usize, Failed>
+    ensures bound { IfOk result (λ n. (0 < n) × (n ≤ length piece.now)) }
+    ensures bytes { WriteAppends (W.contents writer.old) (W.contents writer.new) result piece.now }
+{
+    for _ in 0..=RETRIES {
+        match writer.write(piece) {
+            Ok(0) => return Err(Failed),
+            Ok(count) => return Ok(count),
+            Err(error) => {
+                if error.kind() != ErrorKind::Interrupted {
+                    return Err(Failed);
+                }
+            }
+        }
+    }
+    Err(Failed)
+}
+
+/// A source over a reader of std, which tells no bytes and is never sure. That its answers are the
+/// system's own is not proved.
+#[derive(Drop)]
+pub struct StdSource<R> {
+    inner: R,
+    faults: u64,
+}
+
+impl<R> Model for StdSource<R> {
+    ghost use Rattle.aio_bytes.specs.Adapters.{Adapter};
+
+    ghost Value = { Adapter R };
+
+    ghost view = { λ s. record { inner = s.inner; fault_count = s.faults } };
+}
+
+impl<R> StdSource<R> {
+    /// A source over `inner`.
+    pub fn new(inner: R) -> StdSource<R>
+        ensures { result ≡ record { inner = inner; fault_count = 0 } }
+    {
+        StdSource { inner, faults: 0 }
+    }
+}
+
+impl<R> Faults for StdSource<R> {
+    ghost fault_count = { λ s. s.fault_count };
+
+    ghost is_sure = { λ _. false };
+
+    ghost all_sure = { false };
+
+    fn faults(&self) -> u64 {
+        self.faults
+    }
+
+    ghost sure_below_top = { λ s sure. Prim.cc };
+
+    ghost each_sure = { λ s sure. Prim.cc };
+}
+
+impl<R: Read> Source for StdSource<R> {
+    ghost remaining = { λ _. None };
+
+    /// One read of the reader, tried again at most 1,000 times where it is interrupted. `Failed` where
+    /// the reader fails otherwise or is interrupted at each try; the count of faults then rises by one.
+    fn read(&mut self, buf: &mut [u8]) -> Result<usize, Failed>
+        requires { 0 < length buf.old }
+        ensures faults { self.new.fault_count ≡ (if is_ok result then self.old.fault_count else raised self.old.fault_count) }
+        ensures inner { ReadConsumes (R.remaining self.old.inner) (R.remaining self.new.inner) result buf.new }
+        ensures bound { IfOk result (λ n. n ≤ length buf.new) }
+        ensures bytes { ReadConsumes None None result buf.new }
+        ensures cause { HasCause self.old.fault_count self.new.fault_count false result }
+    {
+        let answer = read_retrying(&mut self.inner, buf);
+        if answer.is_err() {
+            self.faults = self.faults.saturating_add(1);
+        }
+        answer
+    }
+}
+
+/// A sink over a writer of std, which tells no bytes and is never sure. It does not flush: the writer
+/// is unbuffered, or the program flushes it. That what it took arrives is not proved.
+#[derive(Drop)]
+pub struct StdSink<W> {
+    inner: W,
+    faults: u64,
+}
+
+impl<W> Model for StdSink<W> {
+    ghost use Rattle.aio_bytes.specs.Adapters.{Adapter};
+
+    ghost Value = { Adapter W };
+
+    ghost view = { λ s. record { inner = s.inner; fault_count = s.faults } };
+}
+
+impl<W> StdSink<W> {
+    /// A sink over `inner`.
+    pub fn new(inner: W) -> StdSink<W>
+        ensures { result ≡ record { inner = inner; fault_count = 0 } }
+    {
+        StdSink { inner, faults: 0 }
+    }
+}
+
+impl<W> Faults for StdSink<W> {
+    ghost fault_count = { λ s. s.fault_count };
+
+    ghost is_sure = { λ _. false };
+
+    ghost all_sure = { false };
+
+    fn faults(&self) -> u64 {
+        self.faults
+    }
+
+    ghost sure_below_top = { λ s sure. Prim.cc };
+
+    ghost each_sure = { λ s sure. Prim.cc };
+}
+
+impl<W: Write> Sink for StdSink<W> {
+    ghost contents = { λ _. None };
+
+    /// One write to the writer, tried again at most 1,000 times where it is interrupted. `Failed` where
+    /// the writer fails otherwise, is interrupted at each try or takes nothing; the count of faults
+    /// then rises by one. Never `OutOfMemory`.
+    fn write(&mut self, piece: &[u8]) -> Result<usize, SinkRefusal>
+        requires { 0 < length piece.now }
+        ensures faults { self.new.fault_count ≡ (if is_ok result then self.old.fault_count else raised self.old.fault_count) }
+        ensures inner { WriteAppends (W.contents self.old.inner) (W.contents self.new.inner) result piece.now }
+        ensures memory { result ≢ Err SinkRefusal.OutOfMemory }
+        ensures bound { IfOk result (λ n. (0 < n) × (n ≤ length piece.now)) }
+        ensures bytes { WriteAppends None None result piece.now }
+        ensures cause { HasSinkCause self.old.fault_count self.new.fault_count false result }
+    {
+        match write_retrying(&mut self.inner, piece) {
+            Ok(count) => Ok(count),
+            Err(Failed) => {
+                self.faults = self.faults.saturating_add(1);
+                Err(SinkRefusal::Failed)
+            }
+        }
+    }
+}

@@ -1,0 +1,22 @@
+-- A line's step, by its command.
+use Rattle.std.proofs.Common.{◌≡◌, ℕ, Bool, true, false, cond, List, Option, None, Some, refl, option_and_then}
+use Rattle.std.specs.Prelude.{bytes_eq, codes}
+use Rattle.aio_base.specs.declared.steps.Step.{Step}
+use Rattle.aio_base.specs.declared.steps.Step.TheVariants as step
+use Rattle.aio_base.specs.Trace.{alone, poll_of, event_of, step_named}
+use Rattle.aio_run.specs.declared.reading.Command.{Command}
+use Rattle.aio_run.specs.declared.reading.Command.TheVariants as command
+use Rattle.aio_run.specs.Reading.{command_named, step_of}
+
+by_tests : (poll event react add : Bool) (places : List (List ℕ))
+    → cond poll (poll_of places) (cond event (event_of places) (cond react (alone step.React places) (cond add (alone step.Add places) None)))
+    ≡ option_and_then (λ command. step_of command places) (cond poll (Some command.Poll) (cond event (Some command.Event) (cond react (Some command.React) (cond add (Some command.Add) None))))
+by_tests true event react add places = refl
+by_tests false true react add places = refl
+by_tests false false true add places = refl
+by_tests false false false true places = refl
+by_tests false false false false places = refl
+
+-- the first word names a command, and the command reads the places
+pub step_named_by : (word : List ℕ) (places : List (List ℕ)) → step_named word places ≡ option_and_then (λ command. step_of command places) (command_named word)
+step_named_by word places = by_tests (bytes_eq word (codes "poll")) (bytes_eq word (codes "event")) (bytes_eq word (codes "react")) (bytes_eq word (codes "add")) places

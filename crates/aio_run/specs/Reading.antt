@@ -1,0 +1,34 @@
+-- What the parts of a line say.
+use Rattle.std.specs.Prelude.{◌≡◌, ℕ, List, [], ◌∷◌, Option, None, Some, codes, bytes_eq, if◌then◌else◌}
+use Rattle.aio_base.specs.declared.steps.Step.{Step}
+use Rattle.aio_base.specs.declared.steps.Step.TheVariants as step
+use Rattle.aio_base.specs.Trace.{words_of, alone, poll_of, event_of}
+use Rattle.aio_run.specs.declared.reading.Command.{Command}
+use Rattle.aio_run.specs.declared.reading.Command.TheVariants as command
+
+-- the words of what follows a word and its space; none where no space follows
+abbrev pub words_behind : Option (List ℕ) → List (List ℕ)
+words_behind None = []
+words_behind (Some text) = words_of text
+
+-- at least two words
+pub record HasMore (words : List (List ℕ)) : Type 0 where
+  pub first : List ℕ
+  pub second : List ℕ
+  pub rest : List (List ℕ)
+  pub is : words ≡ first ∷ second ∷ rest
+
+-- the command of a line that begins with this word
+abbrev pub command_named : List ℕ → Option Command
+command_named word =
+    if bytes_eq word (codes "poll") then Some command.Poll
+    else (if bytes_eq word (codes "event") then Some command.Event
+    else (if bytes_eq word (codes "react") then Some command.React
+    else (if bytes_eq word (codes "add") then Some command.Add else None)))
+
+-- the step of a line with this command and these further words
+abbrev pub step_of : Command → List (List ℕ) → Option Step
+step_of command.Poll places = poll_of places
+step_of command.Event places = event_of places
+step_of command.React places = alone step.React places
+step_of command.Add places = alone step.Add places

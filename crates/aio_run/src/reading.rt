@@ -1,0 +1,164 @@
+//! Reading the step that a line spells. Takes no memory, and looks at each byte a constant number of
+//! times.
+
+ghost use Rattle.std.specs.Prelude.{◌≡◌, [], ◌∷◌, MatchOption};
+ghost use Rattle.std.specs.Option.{option_copied};
+ghost use Rattle.aio_base.specs.Trace.{alone, dir_of, event_of, flags_named, number_of, poll_of, words_of, written_step};
+ghost use Rattle.aio_run.specs.Reading.{HasMore, command_named, step_of, words_behind};
+
+use aio_base::{Dir, Event, Interest, Key, Step, Waker};
+
+/// The commands of the lines that are built.
+#[derive(Clone, Copy)]
+enum Command {
+    Add,
+    Poll,
+    Event,
+    React,
+}
+
+/// The step whose written spelling this line is, without its line feed; `None` where it spells none
+/// that is built.
+pub(crate) fn read_step(line: &[u8]) -> Option<Step>
+    ensures { result ≡ written_step line.now }
+{
+    let (word, places) = split_word(line);
+    read_places(read_command(word)?, places)
+}
+
+/// The command that a line's first word names.
+fn read_command(word: &[u8]) -> Option<Command>
+    ensures { result ≡ command_named word.now }
+{
+    match word {
+        b"poll" => Some(Command::Poll),
+        b"event" => Some(Command::Event),
+        b"react" => Some(Command::React),
+        b"add" => Some(Command::Add),
+        _ => None,
+    }
+}
+
+/// The step of a line with this command and with this text behind the command's space.
+fn read_places(command: Command, places: Option<&[u8]>) -> Option<Step>
+    ensures { result ≡ step_of command (words_behind (option_copied places.entry)) }
+{
+    match command {
+        Command::Poll => read_poll(places?),
+        Command::Event => read_event(places?),
+        Command::React => alone(Step::React, places),
+        Command::Add => alone(Step::Add, places),
+    }
+}
+
+/// The first word of a text, and what follows the space behind it; `None` where no space follows.
+fn split_word(text: &[u8]) -> (&[u8], Option<&[u8]>)
+    ensures { words_of text.now ≡ result.0.now ∷ words_behind (option_copied result.1) }
+{
+    for (at, byte) in text.iter().enumerate() {
+        if *byte == b' ' {
+            return (&text[..at], Some(&text[at + 1..]));
+        }
+    }
+    (text, None)
+}
+
+/// The one word of a text; `None` where another follows it.
+fn only_word(text: &[u8]) -> Option<&[u8]>
+    ensures { MatchOption result (HasMore (words_of text.now)) (λ word. words_of text.now ≡ word.now ∷ []) }
+{
+    let (word, rest) = split_word(text);
+    match rest {
+        None => Some(word),
+        Some(_) => None,
+    }
+}
+
+/// A step whose line has no further word.
+fn alone(step: Step, places: Option<&[u8]>) -> Option<Step>
+    ensures { result ≡ alone step (words_behind (option_copied places.entry)) }
+{
+    match places {
+        None => Some(step),
+        Some(_) => None,
+    }
+}
+
+/// The step of a line `poll K D W`, read behind its first word.
+fn read_poll(places: &[u8]) -> Option<Step>
+    ensures { result ≡ poll_of (words_of places.now) }
+{
+    let (key, rest) = split_word(places);
+    let (direction, rest) = split_word(rest?);
+    let waker = only_word(rest?)?;
+    Some(Step::Poll(
+        Key(number(key)?),
+        read_direction(direction)?,
+        Waker(number(waker)?),
+    ))
+}
+
+/// The step of a line `event K F`, read behind its first word.
+fn read_event(places: &[u8]) -> Option<Step>
+    ensures { result ≡ event_of (words_of places.now) }
+{
+    let (key, rest) = split_word(places);
+    let flags = only_word(rest?)?;
+    Some(Step::Note(Event {
+        key: Key(number(key)?),
+        on: read_flags(flags)?,
+    }))
+}
+
+/// The number below 2^32 whose decimal spelling this word is: no leading zero stands before a digit.
+fn number(word: &[u8]) -> Option<u32>
+    ensures { result ≡ number_of word.now }
+{
+    if word.len() > 10 || word.is_empty() || (word.len() > 1 && word[0] == b'0') {
+        return None;
+    }
+    let mut value: u64 = 0;
+    for digit in word {
+        if *digit < b'0' || *digit > b'9' {
+            return None;
+        }
+        value = 10 * value + u64::from(*digit - b'0');
+    }
+    u32::try_from(value).ok()
+}
+
+/// The direction that a word names: `r` or `w`.
+fn read_direction(word: &[u8]) -> Option<Dir>
+    ensures { result ≡ dir_of word.now }
+{
+    match word {
+        b"r" => Some(Dir::Read),
+        b"w" => Some(Dir::Write),
+        _ => None,
+    }
+}
+
+/// The directions of an event that a word names: `-`, `r`, `w` or `rw`.
+fn read_flags(word: &[u8]) -> Option<Interest>
+    ensures { result ≡ flags_named word.now }
+{
+    match word {
+        b"-" => Some(Interest {
+            read: false,
+            write: false,
+        }),
+        b"r" => Some(Interest {
+            read: true,
+            write: false,
+        }),
+        b"w" => Some(Interest {
+            read: false,
+            write: true,
+        }),
+        b"rw" => Some(Interest {
+            read: true,
+            write: true,
+        }),
+        _ => None,
+    }
+}

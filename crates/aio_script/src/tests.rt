@@ -1,0 +1,186 @@
+//! What no clause says: that the calls succeed with ample memory, through the bound `Poller` too.
+
+ghost use Rattle.std.specs.Prelude.{◌≤◌, ◌<◌, ◌+◌, vec_len, vec_capacity};
+
+use crate::ScriptPoller;
+use aio_base::{Arm, Event, EventWait, Failed, Faults, Interest, Key, Poller, Waited, Which};
+use std::process::Abort;
+use std::test::Fail;
+
+const NONE: Interest = Interest {
+    read: false,
+    write: false,
+};
+
+const READ: Interest = Interest {
+    read: true,
+    write: false,
+};
+
+const WRITE: Interest = Interest {
+    read: false,
+    write: true,
+};
+
+const READABLE: Event = Event {
+    key: Key(3),
+    on: READ,
+};
+
+const WRITABLE: Event = Event {
+    key: Key(5),
+    on: WRITE,
+};
+
+const EMPTY: Event = Event {
+    key: Key(3),
+    on: NONE,
+};
+
+/// A key that no test adds.
+const STRANGER: Event = Event {
+    key: Key(9),
+    on: READ,
+};
+
+/// A key above every interest.
+const OUTSIDE: Event = Event {
+    key: Key(4096),
+    on: WRITE,
+};
+
+#[test]
+fn events_come_in_order_and_clear_their_keys(rt: HostRuntime) -> Result<(), Fail> {
+    let mut poller = ScriptPoller::new(rt.alloc())?;
+    let mut out = Vec::with_capacity(rt.alloc(), 8)?;
+    assert_eq!(rt; poller.add(Key(3)), Ok(()));
+    assert_eq!(rt; poller.arm(Key(3), READ), Ok(()));
+    assert_eq!(rt; poller.arm(Key(5), WRITE), Ok(()));
+    assert_eq!(rt; poller.arm(Key(7), READ), Ok(()));
+    for event in [READABLE, WRITABLE, EMPTY] {
+        poller.give(event)?;
+    }
+    assert_eq!(rt; poller.wait(&mut out, 2, None), Ok(Waited::Given(2)));
+    assert_eq!(rt; out.as_slice(), [READABLE, WRITABLE].as_slice());
+    assert_eq!(rt; poller.noted(), [EMPTY].as_slice());
+    assert_eq!(rt; poller.armed(Key(3)), NONE);
+    assert_eq!(rt; poller.armed(Key(5)), NONE);
+    assert_eq!(rt; poller.armed(Key(7)), READ);
+    assert_eq!(rt; poller.remove(Key(7)), Ok(()));
+    assert_eq!(rt; poller.armed(Key(7)), NONE);
+    assert_eq!(rt; poller.waits(), 1);
+    Ok(())
+}
+
+#[test]
+fn strangers_are_given_too(rt: HostRuntime) -> Result<(), Fail> {
+    let mut poller = ScriptPoller::new(rt.alloc())?;
+    let mut out = Vec::with_capacity(rt.alloc(), 4)?;
+    assert_eq!(rt; poller.arm(Key(7), READ), Ok(()));
+    poller.give(STRANGER)?;
+    poller.give(OUTSIDE)?;
+    assert_eq!(rt; poller.wait(&mut out, 4, Some(0)), Ok(Waited::Given(2)));
+    assert_eq!(rt; out.as_slice(), [STRANGER, OUTSIDE].as_slice());
+    assert_eq!(rt; poller.armed(Key(7)), READ);
+    assert_eq!(rt; poller.armed(Key(4096)), NONE);
+    assert!(rt; poller.noted().is_empty());
+    Ok(())
+}
+
+#[test]
+fn told_twice_fails_once(rt: HostRuntime) -> Result<(), Fail> {
+    let mut poller = ScriptPoller::new(rt.alloc())?;
+    for which in [Which::Add, Which::Arm, Which::Remove, Which::Wait] {
+        poller.fail_next(which);
+        poller.fail_next(which);
+    }
+    poller.give(READABLE)?;
+    assert_eq!(rt; poller.add(Key(3)), Err(Failed));
+    assert_eq!(rt; poller.add(Key(3)), Ok(()));
+    assert_eq!(rt; poller.arm(Key(3), READ), Err(Failed));
+    assert_eq!(rt; poller.armed(Key(3)), NONE);
+    assert_eq!(rt; poller.arm(Key(3), READ), Ok(()));
+    assert_eq!(rt; poller.remove(Key(3)), Err(Failed));
+    assert_eq!(rt; poller.armed(Key(3)), READ);
+    assert_eq!(rt; poller.remove(Key(3)), Ok(()));
+    let mut out = Vec::with_capacity(rt.alloc(), 2)?;
+    assert_eq!(rt; poller.wait(&mut out, 1, None), Err(Failed));
+    assert!(rt; out.is_empty());
+    assert!(rt; out.len() + 1 <= out.capacity());
+    assert_eq!(rt; poller.wait(&mut out, 1, None), Ok(Waited::Given(1)));
+    assert_eq!(rt; poller.faults(), 4);
+    assert_eq!(rt; poller.waits(), 2);
+    Ok(())
+}
+
+#[test]
+fn an_interrupt_waits_for_a_wait_that_does_not_fail(rt: HostRuntime) -> Result<(), Fail> {
+    let mut poller = ScriptPoller::new(rt.alloc())?;
+    poller.give(READABLE)?;
+    poller.interrupt_next();
+    poller.interrupt_next();
+    poller.fail_next(Which::Wait);
+    let answers = [
+        Err(Failed),
+        Ok(Waited::Interrupted),
+        Ok(Waited::Given(1)),
+        Ok(Waited::Given(0)),
+    ];
+    for answer in answers {
+        let mut out = Vec::with_capacity(rt.alloc(), 1)?;
+        assert_eq!(rt; poller.wait(&mut out, 1, None), answer);
+    }
+    assert_eq!(rt; poller.faults(), 1);
+    assert_eq!(rt; poller.waits(), 4);
+    Ok(())
+}
+
+/// Every kind of call of a poller once, through the bound alone.
+fn calls_answer<P: Poller>(rt: &impl Abort, poller: &mut P, out: &mut Vec<Event>)
+    requires { vec_len out.old + 1 ≤ vec_capacity out.old }
+{
+    assert_eq!(rt; poller.add(Key(3)), Ok(()));
+    assert_eq!(rt; poller.arm(Key(3), READ), Ok(()));
+    assert_eq!(rt; poller.wait(out, 1, None), Ok(Waited::Given(1)));
+    assert_eq!(rt; poller.remove(Key(3)), Ok(()));
+    assert_eq!(rt; poller.faults(), 0);
+    assert_eq!(rt; poller.waits(), 1);
+}
+
+#[test]
+fn calls_through_the_bound(rt: HostRuntime) -> Result<(), Fail> {
+    let mut poller = ScriptPoller::new(rt.alloc())?;
+    let mut out = Vec::with_capacity(rt.alloc(), 1)?;
+    poller.give(READABLE)?;
+    calls_answer(&rt, &mut poller, &mut out);
+    assert_eq!(rt; out.as_slice(), [READABLE].as_slice());
+    Ok(())
+}
+
+/// Notes and takes many events in turn, so that the given ones are moved over now and then.
+#[test]
+fn many_events_keep_their_order(rt: HostRuntime) -> Result<(), Fail> {
+    let mut poller = ScriptPoller::new(rt.alloc())?;
+    let mut next = 0;
+    for number in 0..3000u32 {
+        poller.give(Event {
+            key: Key(number),
+            on: READ,
+        })?;
+        if number % 3 == 2 {
+            let mut out = Vec::with_capacity(rt.alloc(), 2)?;
+            assert_eq!(rt; poller.wait(&mut out, 2, None), Ok(Waited::Given(2)));
+            assert_eq!(rt;
+                out.as_slice().first().map(|event| event.key),
+                Some(Key(next))
+            );
+            next = (number / 3 + 1) * 2;
+        }
+    }
+    assert_eq!(rt; poller.noted().len(), 1000);
+    assert_eq!(rt;
+        poller.noted().first().map(|event| event.key),
+        Some(Key(2000))
+    );
+    Ok(())
+}
