@@ -1,3 +1,4 @@
 pub mod FreshnessLemmas
 mod Rows
 pub mod Spellings
+pub mod Words

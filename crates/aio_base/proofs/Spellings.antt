@@ -1,127 +1,366 @@
--- Words and numbers of a line, and what a line spells.
-use Rattle.std.proofs.Common.{◌≡◌, ℕ, ◌+◌, ◌-◌, ◌*◌, ◌^◌, ◌<◌, ◌≤◌, Bool, true, false, ◌&&◌, eqb, ltb, cond, nat_lt, List, [], ◌∷◌, ◌++◌, length, get_or, take, drop, Option, None, Some, refl, sym, ap, ◌∙◌, subst, inl, inr, ◌⊎◌, eq-zero-or-pos, arith, rules, decimal}
+-- A line spells one step: what is read from a line is the step whose spelling the line is.
+use Rattle.std.proofs.Common.{◌≡◌, ℕ, ◌^◌, ◌<◌, ◌≤◌, Bool, true, false, cond, eqb, List, [], ◌∷◌, ◌++◌, length, Option, None, Some, option_and_then, inl, inr, ◌⊎◌, refl, sym, ap, ◌∙◌, subst, arith, decimal, codes, lit≤, append_assoc, length-append}
 use Rattle.std.specs.Prelude.{bytes_eq}
-use Rattle.std.specs.List.{All, onto_first}
+use Rattle.std.specs.List.{All, join_with_byte}
 use Rattle.std.specs.Str.Parse.{AllDigits}
-use Rattle.std.proofs.lemmas.List.{drop_more, take_more, take-append-drop}
-use Rattle.std.proofs.lemmas.List.Splits.{slice_split_at, slice_split_none}
+use Rattle.std.proofs.lemmas.List.{get_or_default}
+use Rattle.std.proofs.lemmas.Bool.Decides.{nat_tests}
+use Rattle.std.proofs.lemmas.List.Splits.{slice_split_at, join_with_byte-slice_split}
 use Rattle.std.proofs.lemmas.Slice.Eq.{bytes_eq-Decides}
-use Rattle.std.proofs.lemmas.Bool.Decides.{Decides-ltb}
-use Rattle.std.proofs.lemmas.Str.Parse.{IsNumeralModel, numerals_by_fold, tells_digits, digit_at}
-use Rattle.std.proofs.lemmas.Int.Digits.{digits_more}
-use Rattle.std.proofs.lemmas.Str.{digit_value_digit}
-use Rattle.std.proofs.lemmas.Fmt.{digits_decimal, digits_value-decimal, decimal-digits_value, decimal_digit, decimal_nonempty, first_decimal, length-decimal-le}
+use Rattle.std.proofs.lemmas.Str.Parse.{digit_at}
+use Rattle.std.proofs.lemmas.Fmt.{digits_decimal, length-decimal-le}
+use Rattle.aio_base.specs.declared.names.Dir.{Dir}
+use Rattle.aio_base.specs.declared.names.Dir.TheVariants.{Read, Write}
+use Rattle.aio_base.specs.declared.names.Interest.{Interest}
 use Rattle.aio_base.specs.declared.steps.Step.{Step}
-use Rattle.aio_base.specs.Trace.{words_of, value_after, number_of, alone, event_of, poll_of}
+use Rattle.aio_base.specs.declared.steps.Step.TheVariants as step
+use Rattle.aio_base.specs.Text.{dir_text, flags_of, flags_text, spelling}
+use Rattle.aio_base.specs.Trace.{words_of, number_of, dir_of, flags_named, alone, poll_named, poll_of, event_named, event_of, step_named, step_of_words, written_step, IsBuilt, header_text}
+use Rattle.aio_base.proofs.Words.{words_of_one, numerals, number_of_decimal, number_of_spells}
 
--- ## Words
+-- ## The words of a step
 
--- a text has a first word
-pub words_begin : (text : List ℕ) → (word : List ℕ) × (words : List (List ℕ)) × (words_of text ≡ word ∷ words)
-words_begin [] = ([], [], refl)
-words_begin (b ∷ bytes) =
-    elim (eqb b 32) as (λ t. (word : List ℕ) × (words : List (List ℕ)) × (cond t ([] ∷ words_of bytes) (onto_first b (words_of bytes)) ≡ word ∷ words)) [
-      | true ↦ ([], words_of bytes, refl)
-      | false ↦ let w = words_begin bytes in (b ∷ w.0, w.1, ap (onto_first b) w.2)
+-- the words of a built step's spelling
+abbrev words_for : Step → List (List ℕ)
+words_for step.Add = codes "add" ∷ []
+words_for (step.Poll key dir waker) = codes "poll" ∷ decimal key.0 ∷ dir_text dir ∷ decimal waker.0 ∷ []
+words_for (step.Note event) = codes "event" ∷ decimal event.key.0 ∷ flags_text event.on ∷ []
+words_for step.React = codes "react" ∷ []
+words_for _ = []
+
+-- these are the words of a step that is built
+record Names (words : List (List ℕ)) (s : Step) : Type 0 where
+  built : IsBuilt s
+  words_are : words ≡ words_for s
+
+-- ## From words to a step
+
+same_bytes : (a b : List ℕ) → bytes_eq a b ≡ true → a ≡ b
+same_bytes a b = (bytes_eq-Decides a b).0
+
+-- the value that a step of a chain took, and what the rest made of it
+bind_some : {A B : Type 0} (f : A → Option B) (o : Option A) (y : B) → option_and_then f o ≡ Some y → (x : A) × (o ≡ Some x) × (f x ≡ Some y)
+bind_some f None y e = absurd cc
+bind_some f (Some x) y e = (x, refl, e)
+
+same_some : {A : Type 0} (x y : A) → Some x ≡ Some y → x ≡ y
+same_some x y e = cc
+
+if_some : {A : Type 0} (test : Bool) (x y : A) (rest : Option A) → cond test (Some x) rest ≡ Some y → ((test ≡ true) × (x ≡ y)) ⊎ ((test ≡ false) × (rest ≡ Some y))
+if_some true x y rest e = inl (refl, same_some x y e)
+if_some false x y rest e = inr (refl, e)
+
+dir_spells : (word : List ℕ) (dir : Dir) → dir_of word ≡ Some dir → word ≡ dir_text dir
+dir_spells word dir e =
+    elim (if_some (bytes_eq word (codes "r")) Read dir _ e) [
+      | inl p ↦ same_bytes word (codes "r") p.0 ∙ ap dir_text p.1
+      | inr q ↦
+          elim (if_some (bytes_eq word (codes "w")) Write dir _ q.1) [
+            | inl p ↦ same_bytes word (codes "w") p.0 ∙ ap dir_text p.1
+            | inr none ↦ absurd (let f = none.1 in cc)
+          ]
     ]
 
--- a step alone has no word behind it
-pub alone_none : (s : Step) (text : List ℕ) → alone s (words_of text) ≡ None
-alone_none s text = let w = words_begin text in ap (alone s) w.2
+flags_spell : (word : List ℕ) (on : Interest) → flags_named word ≡ Some on → word ≡ flags_text on
+flags_spell word on e =
+    elim (if_some (bytes_eq word (codes "-")) _ on _ e) [
+      | inl p ↦ same_bytes word (codes "-") p.0 ∙ ap flags_text p.1
+      | inr q ↦
+          elim (if_some (bytes_eq word (codes "r")) _ on _ q.1) [
+            | inl p ↦ same_bytes word (codes "r") p.0 ∙ ap flags_text p.1
+            | inr q ↦
+                elim (if_some (bytes_eq word (codes "w")) _ on _ q.1) [
+                  | inl p ↦ same_bytes word (codes "w") p.0 ∙ ap flags_text p.1
+                  | inr q ↦
+                      elim (if_some (bytes_eq word (codes "rw")) _ on _ q.1) [
+                        | inl p ↦ same_bytes word (codes "rw") p.0 ∙ ap flags_text p.1
+                        | inr none ↦ absurd (let f = none.1 in cc)
+                      ]
+                ]
+          ]
+    ]
 
--- a step of two or three places has no word behind them
-pub event_none : (key flags text : List ℕ) → event_of (key ∷ flags ∷ words_of text) ≡ None
-event_none key flags text = let w = words_begin text in ap (λ words. event_of (key ∷ flags ∷ words)) w.2
+two_same : (command : List ℕ) {a b x y : List ℕ} → a ≡ x → b ≡ y → command ∷ a ∷ b ∷ [] ≡ command ∷ x ∷ y ∷ []
+two_same command p q = cc
 
-pub poll_none : (key dir waker text : List ℕ) → poll_of (key ∷ dir ∷ waker ∷ words_of text) ≡ None
-poll_none key dir waker text = let w = words_begin text in ap (λ words. poll_of (key ∷ dir ∷ waker ∷ words)) w.2
+three_same : (command : List ℕ) {a b c x y z : List ℕ} → a ≡ x → b ≡ y → c ≡ z → command ∷ a ∷ b ∷ c ∷ [] ≡ command ∷ x ∷ y ∷ z ∷ []
+three_same command p q r = cc
 
--- the first word ends at the first space
-pub words_of_at : (text : List ℕ) (at : ℕ) → at < length text → All (λ b. eqb b 32 ≡ false) (take at text) → get_or text at 0 ≡ 32 → words_of text ≡ take at text ∷ words_of (drop (at + 1) text)
-words_of_at text at within front here =
-    let parts : text ≡ take at text ++ (32 ∷ drop (at + 1) text) = sym (take-append-drop at text) ∙ ap (λ rest. take at text ++ rest) (drop_more text at 0 within ∙ ap (λ b. b ∷ drop (at + 1) text) here) in
-    ap words_of parts ∙ slice_split_at (λ b. eqb b 32) (take at text) 32 (drop (at + 1) text) front refl
+poll_spells : (key dir waker : List ℕ) (s : Step) → poll_named key dir waker ≡ Some s → Names (codes "poll" ∷ key ∷ dir ∷ waker ∷ []) s
+poll_spells key dir waker s e =
+    let k = bind_some _ (number_of key) s e in
+    let d = bind_some _ (dir_of dir) s k.2 in
+    let w = bind_some _ (number_of waker) s d.2 in
+    let by_key = number_of_spells key k.0 k.1 in
+    let by_waker = number_of_spells waker w.0 w.1 in
+    let named : Names (codes "poll" ∷ key ∷ dir ∷ waker ∷ []) (step.Poll (record { 0 = k.0 }) d.0 (record { 0 = w.0 })) = record {
+      built = (by_key.1, by_waker.1);
+      words_are = three_same (codes "poll") by_key.0 (dir_spells dir d.0 d.1) by_waker.0;
+    } in
+    subst (Names (codes "poll" ∷ key ∷ dir ∷ waker ∷ [])) (same_some _ s w.2) named
 
--- a text without a space is one word
-pub words_of_one : (text : List ℕ) → All (λ b. eqb b 32 ≡ false) text → words_of text ≡ text ∷ []
-words_of_one text none = slice_split_none (λ b. eqb b 32) text none
+event_spells : (key flags : List ℕ) (s : Step) → event_named key flags ≡ Some s → Names (codes "event" ∷ key ∷ flags ∷ []) s
+event_spells key flags s e =
+    let k = bind_some _ (number_of key) s e in
+    let f = bind_some _ (flags_named flags) s k.2 in
+    let by_key = number_of_spells key k.0 k.1 in
+    let named : Names (codes "event" ∷ key ∷ flags ∷ []) (step.Note (record { key = record { 0 = k.0 }; on = f.0 })) = record {
+      built = by_key.1;
+      words_are = two_same (codes "event") by_key.0 (flags_spell flags f.0 f.1);
+    } in
+    subst (Names (codes "event" ∷ key ∷ flags ∷ [])) (same_some _ s f.2) named
 
--- ## Numbers
+places_poll : (places : List (List ℕ)) (s : Step) → poll_of places ≡ Some s → Names (codes "poll" ∷ places) s
+places_poll [] s e = absurd cc
+places_poll (key ∷ []) s e = absurd cc
+places_poll (key ∷ dir ∷ []) s e = absurd cc
+places_poll (key ∷ dir ∷ waker ∷ []) s e = poll_spells key dir waker s e
+places_poll (key ∷ dir ∷ waker ∷ more ∷ words) s e = absurd cc
 
--- decimal digits, and what they stand for
-pub numerals : IsNumeralModel (AllDigits 10) (value_after 0)
-numerals = numerals_by_fold (AllDigits 10) tells_digits value_after (search rules)
+places_event : (places : List (List ℕ)) (s : Step) → event_of places ≡ Some s → Names (codes "event" ∷ places) s
+places_event [] s e = absurd cc
+places_event (key ∷ []) s e = absurd cc
+places_event (key ∷ flags ∷ []) s e = event_spells key flags s e
+places_event (key ∷ flags ∷ more ∷ words) s e = absurd cc
 
--- the word that decimal writes of its value is a number
-pub number_of_decimal : (n : ℕ) → n < 2 ^ 32 → number_of (decimal n) ≡ Some n
-number_of_decimal n small =
-    let value : value_after 0 (decimal n) ≡ n = digits_value-decimal numerals n (omega arith) in
-    let same : bytes_eq (decimal n) (decimal n) ≡ true = (bytes_eq-Decides (decimal n) (decimal n)).1 refl in
-    let below : nat_lt n (2 ^ 32) ≡ true = (Decides-ltb n (2 ^ 32)).1 small in
-    rw (value, same, below)
+places_react : (places : List (List ℕ)) (s : Step) → alone step.React places ≡ Some s → Names (codes "react" ∷ places) s
+places_react [] s e = subst (Names (codes "react" ∷ [])) (same_some step.React s e) (record { built = tt; words_are = refl })
+places_react (word ∷ words) s e = absurd cc
 
-some_if : (b : Bool) (v n : ℕ) → cond b (Some v) None ≡ Some n → (b ≡ true) × (v ≡ n)
-some_if true v n e = (refl, cc)
-some_if false v n e = absurd cc
+places_add : (places : List (List ℕ)) (s : Step) → alone step.Add places ≡ Some s → Names (codes "add" ∷ places) s
+places_add [] s e = subst (Names (codes "add" ∷ [])) (same_some step.Add s e) (record { built = tt; words_are = refl })
+places_add (word ∷ words) s e = absurd cc
 
-both_true : (a b : Bool) → (a && b) ≡ true → (a ≡ true) × (b ≡ true)
-both_true true b e = (refl, e)
-both_true false b e = absurd cc
+-- the first test that holds decides
+by_test : {A : Type 0} (test : Bool) (x y z : Option A) → cond test x y ≡ z → ((test ≡ true) × (x ≡ z)) ⊎ ((test ≡ false) × (y ≡ z))
+by_test true x y z e = inl (refl, e)
+by_test false x y z e = inr (refl, e)
 
--- a number's word is its decimal spelling
-pub number_of_spells : (word : List ℕ) (n : ℕ) → number_of word ≡ Some n → (word ≡ decimal n) × (n < 2 ^ 32)
-number_of_spells word n e =
-    let v = value_after 0 word in
-    let p = some_if (bytes_eq word (decimal v) && nat_lt v (2 ^ 32)) v n e in
-    let t = both_true _ _ p.0 in
-    ((bytes_eq-Decides word (decimal v)).0 t.0 ∙ ap decimal p.1, let below : v < 2 ^ 32 = (Decides-ltb v (2 ^ 32)).0 t.1 in omega (arith, p.1))
+names_from : (command text : List ℕ) (places : List (List ℕ)) (s : Step) → bytes_eq command text ≡ true → Names (text ∷ places) s → Names (command ∷ places) s
+names_from command text places s same named = subst (λ word. Names (word ∷ places) s) (sym (same_bytes command text same)) named
 
-none_or_some : (o : Option ℕ) → ((n : ℕ) → o ≡ Some n → ⊥) → o ≡ None
-none_or_some None never = refl
-none_or_some (Some n) never = absurd (never n refl)
+command_names : (command : List ℕ) (places : List (List ℕ)) (s : Step) → step_named command places ≡ Some s → Names (command ∷ places) s
+command_names command places s e =
+    elim (by_test (bytes_eq command (codes "poll")) _ _ _ e) [
+      | inl p ↦ names_from command (codes "poll") places s p.0 (places_poll places s p.1)
+      | inr q ↦
+          elim (by_test (bytes_eq command (codes "event")) _ _ _ q.1) [
+            | inl p ↦ names_from command (codes "event") places s p.0 (places_event places s p.1)
+            | inr q ↦
+                elim (by_test (bytes_eq command (codes "react")) _ _ _ q.1) [
+                  | inl p ↦ names_from command (codes "react") places s p.0 (places_react places s p.1)
+                  | inr q ↦
+                      elim (by_test (bytes_eq command (codes "add")) _ _ _ q.1) [
+                        | inl p ↦ names_from command (codes "add") places s p.0 (places_add places s p.1)
+                        | inr none ↦ absurd (let f = none.1 in cc)
+                      ]
+                ]
+          ]
+    ]
 
--- a word that spells no number
-pub number_of_none : (word : List ℕ) → ((n : ℕ) → n < 2 ^ 32 → word ≡ decimal n → ⊥) → number_of word ≡ None
-number_of_none word never = none_or_some (number_of word) (λ n e. let s = number_of_spells word n e in never n s.1 s.0)
+words_name : (words : List (List ℕ)) (s : Step) → step_of_words words ≡ Some s → Names words s
+words_name [] s e = absurd cc
+words_name (command ∷ places) s e = command_names command places s e
 
--- at most ten digits without a leading zero spell their value
-pub number_of_digits : (word : List ℕ) → AllDigits 10 word → 0 < length word → (get_or word 0 0 ≡ 48 → length word ≡ 1) → value_after 0 word < 2 ^ 32 → number_of word ≡ Some (value_after 0 word)
-number_of_digits word digits some lead small =
-    let spelled : decimal (value_after 0 word) ≡ word = decimal-digits_value numerals word digits some lead (omega arith) in
-    let same : bytes_eq word (decimal (value_after 0 word)) ≡ true = (bytes_eq-Decides word (decimal (value_after 0 word))).1 (sym spelled) in
-    let below : nat_lt (value_after 0 word) (2 ^ 32) ≡ true = (Decides-ltb (value_after 0 word) (2 ^ 32)).1 small in
-    rw (same, below)
+-- ## From a step to its words and back
 
--- a number's word has one to ten digits
-pub number_of_long : (word : List ℕ) → 10 < length word → number_of word ≡ None
-number_of_long word long = number_of_none word (λ n small e. omega (arith, ap length e, length-decimal-le 10 n (omega arith) (omega arith) (omega arith)))
+read_dir : (dir : Dir) → dir_of (dir_text dir) ≡ Some dir
+read_dir Read = refl
+read_dir Write = refl
 
-pub number_of_empty : (word : List ℕ) → length word ≡ 0 → number_of word ≡ None
-number_of_empty word empty = number_of_none word (λ n small e. omega (arith, ap length e, decimal_nonempty n (omega arith)))
+read_flags : (r w : Bool) → flags_named (flags_of r w) ≡ Some (record { read = r; write = w })
+read_flags false false = refl
+read_flags true false = refl
+read_flags false true = refl
+read_flags true true = refl
 
--- a longer word that begins with a zero is no number
-pub number_of_zero : (word : List ℕ) → 1 < length word → get_or word 0 0 ≡ 48 → number_of word ≡ None
-number_of_zero word long zero_first = number_of_none word (λ n small e. begins n small e (eq-zero-or-pos n))
-  where
-    begins : (n : ℕ) → n < 2 ^ 32 → word ≡ decimal n → (n ≡ 0) ⊎ (0 < n) → ⊥
-    begins n small e (inl z) = omega (arith, ap length (e ∙ ap decimal z ∙ decimal_digit 0 (omega arith)))
-    begins n small e (inr p) = omega (arith, ap (λ w. get_or w 0 0) e, first_decimal n p (omega arith))
+-- what is read from a built step's words
+read_words : (s : Step) → IsBuilt s → step_of_words (words_for s) ≡ Some s
+read_words step.Add built = refl
+read_words (step.Poll key dir waker) built =
+    ap (option_and_then (λ k. option_and_then (λ d. option_and_then (λ w. Some (step.Poll (record { 0 = k }) d (record { 0 = w }))) (number_of (decimal waker.0))) (dir_of (dir_text dir)))) (number_of_decimal key.0 built.0)
+    ∙ ap (option_and_then (λ d. option_and_then (λ w. Some (step.Poll key d (record { 0 = w }))) (number_of (decimal waker.0)))) (read_dir dir)
+    ∙ ap (option_and_then (λ w. Some (step.Poll key dir (record { 0 = w })))) (number_of_decimal waker.0 built.1)
+read_words (step.Note event) built =
+    ap (option_and_then (λ k. option_and_then (λ on. Some (step.Note (record { key = record { 0 = k }; on = on }))) (flags_named (flags_text event.on)))) (number_of_decimal event.key.0 built)
+    ∙ ap (option_and_then (λ on. Some (step.Note (record { key = event.key; on = on })))) (read_flags event.on.read event.on.write)
+read_words step.React built = refl
+read_words (step.Del key) built = absurd built
+read_words (step.New key dir) built = absurd built
+read_words (step.StepEar number waker) built = absurd built
+read_words (step.DropEar number) built = absurd built
+read_words (step.TimerAt moment) built = absurd built
+read_words (step.TimerEvery moment period) built = absurd built
+read_words step.TimerNever built = absurd built
+read_words (step.Tick number waker) built = absurd built
+read_words (step.SetAt number moment) built = absurd built
+read_words (step.SetEvery number moment period) built = absurd built
+read_words (step.End number) built = absurd built
+read_words (step.Now moment) built = absurd built
+read_words (step.Fault kind) built = absurd built
+read_words step.Interrupt built = absurd built
+read_words (step.Begin limit) built = absurd built
+read_words step.Wait built = absurd built
+read_words step.Handle built = absurd built
+read_words step.Finish built = absurd built
 
--- a word with another byte than a digit is no number
-pub number_of_other : (word : List ℕ) (at : ℕ) → at < length word → (get_or word at 0 < 48) ⊎ (57 < get_or word at 0) → number_of word ≡ None
-number_of_other word at within other = number_of_none word (λ n small e. let range = digit_at word at (let P : List ℕ → Type 0 = λ w. AllDigits 10 w in subst P (sym e) (digits_decimal numerals n (omega arith))) within in outside range.0 range.1 other)
-  where
-    outside : {b : ℕ} → 48 ≤ b → b ≤ 57 → (b < 48) ⊎ (57 < b) → ⊥
-    outside low high (inl l) = omega arith
-    outside low high (inr h) = omega arith
+-- ## From words to a line and back
 
--- one more digit
-value_after_push : (n : ℕ) (digits : List ℕ) (digit : ℕ) → value_after n (digits ++ digit ∷ []) ≡ 10 * value_after n digits + (digit - 48)
-value_after_push n [] digit = refl
-value_after_push n (d ∷ digits) digit = value_after_push (10 * n + (d - 48)) digits digit
+-- the words of a built step, joined by spaces, are its spelling
+joined : (s : Step) → IsBuilt s → join_with_byte 32 (words_for s) ≡ spelling s
+unfolding spelling
+joined step.Add built = refl
+joined (step.Poll key dir waker) built = simp append_assoc
+joined (step.Note event) built = simp append_assoc
+joined step.React built = refl
+joined (step.Del key) built = absurd built
+joined (step.New key dir) built = absurd built
+joined (step.StepEar number waker) built = absurd built
+joined (step.DropEar number) built = absurd built
+joined (step.TimerAt moment) built = absurd built
+joined (step.TimerEvery moment period) built = absurd built
+joined step.TimerNever built = absurd built
+joined (step.Tick number waker) built = absurd built
+joined (step.SetAt number moment) built = absurd built
+joined (step.SetEvery number moment period) built = absurd built
+joined (step.End number) built = absurd built
+joined (step.Now moment) built = absurd built
+joined (step.Fault kind) built = absurd built
+joined step.Interrupt built = absurd built
+joined (step.Begin limit) built = absurd built
+joined step.Wait built = absurd built
+joined step.Handle built = absurd built
+joined step.Finish built = absurd built
 
-pub value_more : (word : List ℕ) (at : ℕ) → at < length word → value_after 0 (take (at + 1) word) ≡ 10 * value_after 0 (take at word) + (get_or word at 0 - 48)
-value_more word at within = ap (value_after 0) (take_more word at 0 within) ∙ value_after_push 0 (take at word) (get_or word at 0)
+-- digits hold no space
+no_space : (digits : List ℕ) → AllDigits 10 digits → All (λ b. eqb b 32 ≡ false) digits
+no_space digits all = λ k d within. let range = digit_at digits k all within in let same = get_or_default digits k d 0 within in grind (arith, nat_tests)
 
-pub digits_more_in : (word : List ℕ) (at : ℕ) → at < length word → AllDigits 10 (take at word) → 48 ≤ get_or word at 0 → get_or word at 0 ≤ 57 → AllDigits 10 (take (at + 1) word)
-digits_more_in word at within digits low high = digits_more 10 word at within digits (omega (arith, digit_value_digit (get_or word at 0) (low, high)))
+number_then : (n : ℕ) (rest : List ℕ) → n < 2 ^ 32 → words_of (decimal n ++ 32 ∷ rest) ≡ decimal n ∷ words_of rest
+number_then n rest small = slice_split_at (λ b. eqb b 32) (decimal n) 32 rest (no_space (decimal n) (digits_decimal numerals n (omega arith))) refl
+
+number_last : (n : ℕ) → n < 2 ^ 32 → words_of (decimal n) ≡ decimal n ∷ []
+number_last n small = words_of_one (decimal n) (no_space (decimal n) (digits_decimal numerals n (omega arith)))
+
+dir_then : (dir : Dir) (rest : List ℕ) → words_of (dir_text dir ++ 32 ∷ rest) ≡ dir_text dir ∷ words_of rest
+dir_then Read rest = refl
+dir_then Write rest = refl
+
+flags_last : (r w : Bool) → words_of (flags_of r w) ≡ flags_of r w ∷ []
+flags_last false false = refl
+flags_last true false = refl
+flags_last false true = refl
+flags_last true true = refl
+
+-- a built step's words, joined by spaces, part again
+parted : (s : Step) → IsBuilt s → words_of (join_with_byte 32 (words_for s)) ≡ words_for s
+parted step.Add built = refl
+parted (step.Poll key dir waker) built =
+    ap (λ words. codes "poll" ∷ words) (
+    number_then key.0 (dir_text dir ++ 32 ∷ decimal waker.0) built.0
+    ∙ ap (λ words. decimal key.0 ∷ words) (dir_then dir (decimal waker.0) ∙ ap (λ words. dir_text dir ∷ words) (number_last waker.0 built.1))
+    )
+parted (step.Note event) built =
+    ap (λ words. codes "event" ∷ words) (
+    number_then event.key.0 (flags_text event.on) built ∙ ap (λ words. decimal event.key.0 ∷ words) (flags_last event.on.read event.on.write)
+    )
+parted step.React built = refl
+parted (step.Del key) built = absurd built
+parted (step.New key dir) built = absurd built
+parted (step.StepEar number waker) built = absurd built
+parted (step.DropEar number) built = absurd built
+parted (step.TimerAt moment) built = absurd built
+parted (step.TimerEvery moment period) built = absurd built
+parted step.TimerNever built = absurd built
+parted (step.Tick number waker) built = absurd built
+parted (step.SetAt number moment) built = absurd built
+parted (step.SetEvery number moment period) built = absurd built
+parted (step.End number) built = absurd built
+parted (step.Now moment) built = absurd built
+parted (step.Fault kind) built = absurd built
+parted step.Interrupt built = absurd built
+parted (step.Begin limit) built = absurd built
+parted step.Wait built = absurd built
+parted step.Handle built = absurd built
+parted step.Finish built = absurd built
+
+-- ## The law
+
+-- a step that a line spells is built, and the line is its spelling
+pub reads_spelling : (line : List ℕ) (s : Step) → written_step line ≡ Some s → IsBuilt s × (spelling s ≡ line)
+unfolding written_step
+reads_spelling line s e =
+    let named = words_name (words_of line) s e in
+    (named.built, sym (sym (join_with_byte-slice_split 32 line) ∙ ap (join_with_byte 32) named.words_are ∙ joined s named.built))
+
+-- the spelling of a built step spells it
+pub spelling_reads : (line : List ℕ) (s : Step) → IsBuilt s → spelling s ≡ line → written_step line ≡ Some s
+unfolding written_step
+spelling_reads line s built e =
+    ap (λ text. step_of_words (words_of text)) (sym e ∙ sym (joined s built)) ∙ ap step_of_words (parted s built) ∙ read_words s built
+
+-- ## Long lines
+
+dir_short : (dir : Dir) → length (dir_text dir) ≤ 1
+dir_short Read = lit≤ tt
+dir_short Write = lit≤ tt
+
+flags_short : (r w : Bool) → length (flags_of r w) ≤ 2
+flags_short false false = lit≤ tt
+flags_short true false = lit≤ tt
+flags_short false true = lit≤ tt
+flags_short true true = lit≤ tt
+
+number_short : (n : ℕ) → n < 2 ^ 32 → length (decimal n) ≤ 10
+number_short n small = length-decimal-le 10 n (omega arith) (omega arith) (omega arith)
+
+-- a built step's spelling is far shorter than a line may be
+spelling_short : (s : Step) → IsBuilt s → length (spelling s) ≤ 28
+unfolding spelling
+spelling_short step.Add built = lit≤ tt
+spelling_short (step.Poll key dir waker) built = simp length-append (omega (arith, number_short key.0 built.0, dir_short dir, number_short waker.0 built.1))
+spelling_short (step.Note event) built = simp length-append (omega (arith, number_short event.key.0 built, flags_short event.on.read event.on.write))
+spelling_short step.React built = lit≤ tt
+spelling_short (step.Del key) built = absurd built
+spelling_short (step.New key dir) built = absurd built
+spelling_short (step.StepEar number waker) built = absurd built
+spelling_short (step.DropEar number) built = absurd built
+spelling_short (step.TimerAt moment) built = absurd built
+spelling_short (step.TimerEvery moment period) built = absurd built
+spelling_short step.TimerNever built = absurd built
+spelling_short (step.Tick number waker) built = absurd built
+spelling_short (step.SetAt number moment) built = absurd built
+spelling_short (step.SetEvery number moment period) built = absurd built
+spelling_short (step.End number) built = absurd built
+spelling_short (step.Now moment) built = absurd built
+spelling_short (step.Fault kind) built = absurd built
+spelling_short step.Interrupt built = absurd built
+spelling_short (step.Begin limit) built = absurd built
+spelling_short step.Wait built = absurd built
+spelling_short step.Handle built = absurd built
+spelling_short step.Finish built = absurd built
+
+none_where_never : {A : Type 0} (o : Option A) → ((x : A) → o ≡ Some x → ⊥) → o ≡ None
+none_where_never None never = refl
+none_where_never (Some x) never = absurd (never x refl)
+
+false_where_never : (test : Bool) → (test ≡ true → ⊥) → test ≡ false
+false_where_never false never = refl
+false_where_never true never = absurd (never refl)
+
+-- a line of more than 256 bytes spells no step
+pub long_line_spells_none : (line : List ℕ) → 257 ≤ length line → written_step line ≡ None
+long_line_spells_none line long =
+    none_where_never (written_step line) (λ s e. let spelled = reads_spelling line s e in omega (arith, spelling_short s spelled.0, ap length spelled.1))
+
+-- nor is it the header
+pub long_line_is_no_header : (line : List ℕ) → 257 ≤ length line → bytes_eq line header_text ≡ false
+long_line_is_no_header line long =
+    false_where_never (bytes_eq line header_text) (λ same. omega (arith, ap length (same_bytes line header_text same)))
+
+-- the same of a line that begins with 257 bytes, however it goes on
+pub long_front_spells_none : (front more : List ℕ) → length front ≡ 257 → written_step (front ++ more) ≡ None
+long_front_spells_none front more long = long_line_spells_none (front ++ more) (omega (arith, length-append front more))
+
+pub long_front_is_no_header : (front more : List ℕ) → length front ≡ 257 → bytes_eq (front ++ more) header_text ≡ false
+long_front_is_no_header front more long = long_line_is_no_header (front ++ more) (omega (arith, length-append front more))

@@ -8,6 +8,7 @@
 
 pub mod devices;
 pub mod freshness;
+pub mod laws;
 pub mod names;
 pub mod outcomes;
 pub mod steps;

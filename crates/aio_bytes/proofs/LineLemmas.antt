@@ -1,9 +1,9 @@
 -- Lemmas on the first line feed of some bytes and on parts of a buffer.
-use Rattle.std.proofs.Common.{◌≡◌, ℕ, ◌+◌, ◌-◌, ◌<◌, ◌≤◌, ◌∷◌, ◌++◌, List, [], Bool, true, false, length, take, drop, get_or, MatchOption, refl, sym, ap, ◌∙◌, subst, arith, cond, slice_range, eqb-true, ltb-true, ltb-false, take-add, Option, Some, None}
+use Rattle.std.proofs.Common.{◌≡◌, ℕ, ◌+◌, ◌-◌, ◌<◌, ◌≤◌, ◌∷◌, ◌++◌, List, Bool, true, false, length, take, drop, MatchOption, refl, sym, ap, ◌∙◌, subst, arith, cond, slice_range, eqb-true, ltb-true, ltb-false, take-add, Option, Some, None}
 use Rattle.std.proofs.lemmas.List.{take-take, drop-drop, drop-take, take-append-drop, take_all, get_or-take, length-take, drop_more}
-use Rattle.std.proofs.lemmas.List.Sums.{fails_before_first, passes_at_first, split_at_first, prefix_len-le-length}
+use Rattle.std.proofs.lemmas.List.Sums.{fails_before_first, passes_at_first}
 use Rattle.std.proofs.lemmas.List.Folds.{list_any_none}
-use Rattle.std.specs.List.{position, position_or_len, list_any}
+use Rattle.std.specs.List.{position, position_or_len}
 use Rattle.std.specs.Prelude.{nat_lt}
 use Rattle.std.proofs.lemmas.Grind.{common_steps}
 use Rattle.aio_bytes.specs.Held.{HasNoLineFeed, is_line_feed}

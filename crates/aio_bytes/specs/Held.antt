@@ -3,7 +3,7 @@ use Rattle.std.specs.Prelude.{◌≡◌, ℕ, ◌==◌, Bool, false, List, ◌++
 use Rattle.std.specs.List.{list_any}
 use Rattle.std.specs.Io.KnownBytes.{Consumes, IsAtEnd}
 
--- the line found last without its line feed, the bytes read after it, and whether the next read may have to wait by what the last one gave
+-- The line found last without its line feed, the bytes read after it, and whether the last read gave less than it was asked for. A read that failed, or that was not made yet, counts as short.
 pub record Held : Type 0 where
   pub line : List ℕ
   pub ahead : List ℕ

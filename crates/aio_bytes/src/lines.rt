@@ -1,8 +1,8 @@
 //! A reader of the lines of a source, which holds a bounded number of bytes of it.
 
-ghost use Rattle.std.specs.Prelude.{◌≡◌, ℕ, ◌+◌, ◌-◌, ◌<◌, ◌≤◌, ◌==◌, ◌++◌, ◌∷◌, [], ◌||◌, ◌↔◌, true, List, Option, length, take, drop, slice_range, nat_lt, nat_eq, position, vec_len, IsTrue, IfOk, OnErr, OnOk, MatchOption, MatchResult};
+ghost use Rattle.std.specs.Prelude.{◌≡◌, ◌+◌, ◌-◌, ◌<◌, ◌≤◌, ◌==◌, ◌++◌, ◌∷◌, [], ◌||◌, ◌↔◌, true, length, take, drop, slice_range, nat_lt, position, IsTrue, IfOk, OnErr};
 ghost use Rattle.std.specs.Bool.{OnTrue, OnFalse};
-ghost use Rattle.std.specs.Io.KnownBytes.{Consumes, Keeps, IsAtEnd, ReadConsumes};
+ghost use Rattle.std.specs.Io.KnownBytes.{Keeps, ReadConsumes};
 ghost use Rattle.aio_base.specs.Devices.{HasCause};
 ghost use Rattle.aio_bytes.specs.Held.{HasNoLineFeed, PutsAhead};
 
@@ -11,14 +11,16 @@ use aio_base::Failed;
 use std::alloc::{AllocError, Global};
 use std::marker::Model;
 
-/// How many bytes a reader of lines holds at most that were read and not yet given: 257. A line may
-/// so be 256 bytes long before its line feed; where 257 bytes lie ahead and none is a line feed,
-/// no more of that line is taken.
+/// The most bytes of an unfinished line that a reader of lines takes of its source: 257. So a line
+/// may be 256 bytes long before its line feed; where 257 bytes lie ahead and none is a line feed,
+/// no more of that line is read.
 pub const LONGEST: usize = 257;
 
 /// The lines of a source, one after the other, with at most `LONGEST` bytes read ahead. A line is
 /// found by a scan of its bytes and lies in place: nothing is copied and no memory is taken. What
 /// is in hand of an unfinished line is moved to the front of the buffer when more is read.
+///
+/// Contracts see the line found last, the bytes read after it, and whether the last read was short.
 #[derive(Drop)]
 pub struct LineReader {
     buffer: Vec<u8>,

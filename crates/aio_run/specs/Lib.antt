@@ -4,3 +4,6 @@ pub mod Reactors
 pub mod Ties
 pub mod Reading
 pub mod Writing
+pub mod Session
+pub mod Steps
+pub mod Commands

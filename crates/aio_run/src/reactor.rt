@@ -2,9 +2,8 @@
 //!
 //! A plain value: freshness is two remembered numbers for each direction, never a search of the past.
 
-ghost use Rattle.std.specs.Prelude.{◌≡◌, ℕ, ◌+◌, ◌-◌, ◌^◌, ◌<◌, ◌≤◌, [], ◌∷◌, ◌++◌, length, take, drop, vec_len, vec_capacity, IfOk, OnErr, replicate, OnOk};
-ghost use Rattle.aio_base.specs.Devices.{no_interest};
-ghost use Rattle.aio_script.specs.Script.{nothing_due};
+ghost use Rattle.std.specs.Prelude.{◌≡◌, ℕ, ◌+◌, ◌-◌, ◌^◌, ◌<◌, ◌≤◌, [], ◌∷◌, ◌++◌, length, take, drop, vec_len, vec_capacity, IfOk, OnErr, OnOk};
+ghost use Rattle.aio_script.specs.Script.{nothing_due, new_script};
 ghost use Rattle.aio_run.specs.Kept.{handle_event, handle_events};
 
 use aio_base::{Answer, Arm, Dir, EndWord, Event, EventWait, Interest, Key, OutOfMemory, Step, Waker};
@@ -48,8 +47,7 @@ impl Reactor {
     pub(crate) fn new(alloc: Global) -> Result<Reactor, AllocError>
         ensures sources { IfOk result (λ r. r.sources.items ≡ []) }
         ensures ticker { IfOk result (λ r. r.ticker ≡ 0) }
-        ensures armed { IfOk result (λ r. r.poller.armed ≡ replicate 4096 no_interest) }
-        ensures noted { IfOk result (λ r. r.poller.noted ≡ []) }
+        ensures poller { IfOk result (λ r. r.poller ≡ new_script) }
     {
         let events = Vec::with_capacity(alloc, WAIT_ROOM as usize)?;
         match ScriptPoller::new(alloc) {

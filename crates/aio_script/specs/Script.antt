@@ -1,5 +1,5 @@
 -- A poller in memory as contracts see it, and what its calls make of it.
-use Rattle.std.specs.Prelude.{◌≡◌, ℕ, Bool, true, false, if◌then◌else◌, List, [], ◌∷◌, Result, Ok, Err, length, take, drop, min, slice_index_or, slice_set}
+use Rattle.std.specs.Prelude.{◌≡◌, ℕ, Bool, true, false, if◌then◌else◌, List, [], ◌∷◌, Result, Ok, Err, length, take, drop, min, replicate, slice_index_or, slice_set}
 use Rattle.aio_base.specs.declared.names.Interest.{Interest}
 use Rattle.aio_base.specs.declared.names.Event.{Event}
 use Rattle.aio_base.specs.declared.outcomes.Failed.{Failed}
@@ -22,8 +22,16 @@ pub record Script : Type 0 where
 abbrev pub interests_of : Script → Interests
 interests_of script key = slice_index_or script.armed key no_interest
 
+-- no interest for each of the 4,096 keys
+unfoldable pub none_armed : List Interest
+none_armed = replicate 4096 no_interest
+
 abbrev pub nothing_due : Due
 nothing_due = record { add = false; arm = false; remove = false; wait = false; interrupt = false }
+
+-- a poller that was just made
+abbrev pub new_script : Script
+new_script = record { armed = none_armed; noted = []; due = nothing_due; faults = 0; waits = 0 }
 
 -- the next call of this kind is told to fail
 abbrev pub with_failure : Which → Due → Due

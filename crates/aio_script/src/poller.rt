@@ -1,6 +1,6 @@
 //! The poller in memory and its calls.
 
-ghost use Rattle.std.specs.Prelude.{◌≡◌, ℕ, ◌+◌, ◌≤◌, ◌<◌, [], ◌∷◌, ◌++◌, List, Option, Some, true, false, OnOk, OnErr, IfOk, IsOk, length, take, drop, min, replicate, vec_len, vec_capacity};
+ghost use Rattle.std.specs.Prelude.{◌≡◌, ℕ, [], ◌∷◌, ◌++◌, true, false, OnOk, OnErr, IfOk, length};
 ghost use Rattle.aio_script.specs.Script.{cleared};
 
 use crate::events::NotedEvents;
@@ -54,12 +54,13 @@ impl Model for ScriptPoller {
 
 impl ScriptPoller {
     ghost use Rattle.aio_base.specs.Devices.{no_interest, raised};
-    ghost use Rattle.aio_script.specs.Script.{interests_of, nothing_due, with_failure};
+    ghost use Rattle.aio_script.specs.Script.{interests_of, new_script, with_failure};
 
     /// A poller with room for 4,096 keys that has nothing armed, noted or due, and no faults or
     /// waits counted. `OutOfMemory` where memory ran out.
     pub fn new(alloc: Global) -> Result<ScriptPoller, OutOfMemory>
-        ensures { IfOk result (λ p. p ≡ record { armed = replicate 4096 no_interest; noted = []; due = nothing_due; faults = 0; waits = 0 }) }
+        ensures fresh { IfOk result (λ p. p ≡ new_script) }
+        ensures unarmed { IfOk result (λ p. (key : ℕ) → interests_of p key ≡ no_interest) }
     {
         let Ok(armed) = vec![in alloc; NO_INTEREST; KEYS] else {
             return Err(OutOfMemory);

@@ -6,7 +6,7 @@ use Rattle.std.proofs.lemmas.List.{take_all, length-take-le}
 use Rattle.std.proofs.lemmas.Str.Parse.{digits_value_short}
 use Rattle.std.proofs.lemmas.Bool.Decides.{nat_tests}
 use Rattle.aio_base.specs.Trace.{number_of, value_after}
-use Rattle.aio_base.proofs.Spellings.{numerals, number_of_long, number_of_empty, number_of_zero, number_of_other, number_of_digits, number_of_none, digits_more_in, value_more}
+use Rattle.aio_base.proofs.Words.{numerals, number_of_long, number_of_empty, number_of_zero, number_of_other, number_of_digits, number_of_none, digits_more_in, value_more}
 use Rattle.aio_run.proofs.reading.number.Goals as goal
 use Rattle.aio_run.proofs.reading.number.Goals.{then-word-gt10-via-then-word-gt10, then-word-gt10-via-else-word-gt10+then-is_empty, then-word-gt10-via-else-word-gt10+else-is_empty+then-word-eq48, then-word-gt1, else-word-gt1, then-digit-lt48-via-then-digit-lt48, then-digit-lt48-via-else-digit-lt48+then-digit-gt57}
 

@@ -4,7 +4,7 @@ use Rattle.std.proofs.lemmas.List.{take_rest, take_all}
 use Rattle.std.proofs.lemmas.List.Elements.{All-more}
 use Rattle.std.proofs.lemmas.Bool.Decides.{nat_tests}
 use Rattle.aio_base.specs.Trace.{words_of}
-use Rattle.aio_base.proofs.Spellings.{words_of_at, words_of_one}
+use Rattle.aio_base.proofs.Words.{words_of_at, words_of_one}
 use Rattle.aio_run.proofs.reading.split_word.Goals as goal
 
 pub returns-then-byte-eq32 : goal.returns-then-byte-eq32

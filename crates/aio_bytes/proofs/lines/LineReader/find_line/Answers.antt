@@ -1,7 +1,6 @@
-use Rattle.std.proofs.Common.{◌≡◌, ℕ, ◌+◌, ◌-◌, ◌<◌, ◌≤◌, ◌++◌, ◌∷◌, List, length, take, drop, slice_range, arith}
+use Rattle.std.proofs.Common.{slice_range, arith}
 use Rattle.std.proofs.lemmas.Grind.{common_steps}
-use Rattle.aio_bytes.specs.Held.{HasNoLineFeed}
-use Rattle.aio_bytes.proofs.LineLemmas.{CutsLine, line_at_place, no_line_where_none, slice_range-cut, take-slice_range}
+use Rattle.aio_bytes.proofs.LineLemmas.{line_at_place, no_line_where_none, slice_range-cut, take-slice_range}
 use Rattle.aio_bytes.proofs.lines.LineReader.find_line.Goals as goal
 
 pub returns-in-Some-clause-found : goal.returns-in-Some-clause-found

@@ -1,6 +1,5 @@
-use Rattle.std.proofs.Common.{rules, ◌≡◌, ℕ, ◌+◌, ◌-◌, ◌<◌, ◌≤◌, ◌++◌, List, length, take, drop, slice_range, arith, length-take-le, length-drop}
+use Rattle.std.proofs.Common.{rules, ◌≡◌, ◌-◌, take, drop, arith}
 use Rattle.std.proofs.lemmas.Grind.{common_steps}
-use Rattle.std.specs.Io.KnownBytes.{Consumes}
 use Rattle.aio_bytes.proofs.LineLemmas.{slice_range-read}
 use Rattle.aio_bytes.proofs.lines.LineReader.read.Goals as goal
 

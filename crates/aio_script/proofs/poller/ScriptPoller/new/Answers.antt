@@ -1,6 +1,25 @@
+use Rattle.std.proofs.Common.{◌≡◌, ℕ, List, ◌≤◌, get_or, replicate, ⊎_elim, subst, sym}
+use Rattle.std.proofs.lemmas.Bool.{cases_lt}
+use Rattle.std.proofs.lemmas.List.{get_or-replicate, get_or_past, length-replicate}
+use Rattle.aio_base.specs.declared.names.Interest.{Interest}
+use Rattle.aio_base.specs.Devices.{no_interest}
+use Rattle.aio_script.specs.Script.{none_armed}
 use Rattle.aio_script.proofs.poller.ScriptPoller.new.Goals as goal
 
+-- each entry of equal entries is that entry, and so is the one past the end
+same-everywhere : {X : Type 0} → (n key : ℕ) (x : X) → get_or (replicate n x) key x ≡ x
+same-everywhere n key x =
+    ⊎_elim
+    (λ within. get_or-replicate n key x x within)
+    (λ past. get_or_past (replicate n x) key x (subst (λ (len : ℕ). len ≤ key) (sym (length-replicate n x)) past))
+    (cases_lt key n)
+
 -- a copy of an interest is that interest
-pub returns : goal.returns
-returns c =
+pub returns-clause-fresh : goal.returns-clause-fresh
+unfolding none_armed
+returns-clause-fresh c =
     let entries = c.in-Ok.ensures.items_if_clones_equal (λ copy is_copy. is_copy) in rw (entries, c.new.ensures)
+
+pub returns-clause-unarmed : goal.returns-clause-unarmed
+returns-clause-unarmed c =
+    let entries = c.in-Ok.ensures.items_if_clones_equal (λ copy is_copy. is_copy) in λ key. subst (λ (armed : List Interest). get_or armed key no_interest ≡ no_interest) (sym entries) (same-everywhere 4096 key no_interest)

@@ -1,0 +1,169 @@
+//! The top call of the program.
+
+ghost use Rattle.std.specs.Prelude.{◌≡◌, ◌≢◌, ℕ, ◌↔◌, [], List, Option, Some, IfSome, OnOk, OnErr, true, false, string_bytes, map};
+ghost use Rattle.std.specs.Io.KnownBytes.{Appends};
+ghost use Rattle.aio_bytes.specs.Sinks.{AppendsPart, HasSinkCause};
+ghost use Rattle.aio_run.specs.Session.{Causes, LeavesAllBut};
+ghost use Rattle.aio_run.specs.Commands.{IsReplay, exit_of, text_of, Replays, TellsCounts, bytes_taken, is_read_fault, is_write_fault};
+ghost use Rattle.aio_run.specs.Writing.{refusal_text};
+
+use aio_base::{CountFault, Reason};
+use aio_bytes::{Sink, SinkRefusal, Source, write_all};
+use std::alloc::Global;
+use std::sync::Wait;
+use std::thread::Threads;
+
+use crate::ends::{End, Stop};
+use crate::session::Session;
+use crate::status::{Status, Why};
+use crate::writing::push_refusal;
+
+/// The text where the words are no command.
+const USAGE: &[u8] =
+    b"usage: replay; gen N SEED; sum N SEED; relay PORT WORKERS IDLE PAIRS; stress CALLS SEED\n";
+
+/// Runs the command that the words name, over an input, an output and a sink for what is told to the
+/// user. The one command that is built is `replay`: it reads a trace from `input` and writes the
+/// answers and wakes of its steps to `out`.
+///
+/// - `Why::Done`: the input was read to its end, no line of it is refused, and `out` grew by exactly
+///   the output of its steps.
+/// - `Why::Usage`: exactly where the words are not the one word `replay`; nothing was touched.
+/// - `Why::Refused`: exactly the first refused line and its reason, unless a fault came before; `out`
+///   grew by the output of the steps before it.
+/// - `Why::ReadFault`, `Why::WriteFault`: only where the count of faults of `input`, or of `out`, rose in
+///   this call, by the two counts. `out` grew by a front part of the output.
+/// - `Why::OutOfMemory`: at any time. `out` grew by a front part of the output.
+///
+/// At most 257,000,257 bytes of `input` are taken, and at most 257 of a line before it is refused.
+pub fn run<R: Wait + Threads + Sync + Send + Copy, S: Source, K: Sink, E: Sink>(
+    _rt: &R,
+    alloc: Global,
+    words: &[String],
+    input: &mut S,
+    out: &mut K,
+    err: &mut E,
+) -> Status
+    ensures exit { result.exit ≡ exit_of result.why }
+
+    // The words are no command that is built exactly where they are not the one word `replay`.
+    ensures usage { (result.why ≡ Why.Usage) ↔ (IsReplay (map string_bytes words.now) → ⊥) }
+    ensures untouched { result.why ≡ Why.Usage → (input.new ≡ input.old) × (out.new ≡ out.old) }
+
+    // For every list of bytes that the source has left, `out` grows by the machine's output.
+    ensures replays { IsReplay (map string_bytes words.now) → (bytes : List ℕ) → S.remaining input.old ≡ Some bytes
+        → Replays result.why bytes (S.remaining input.new) (K.contents out.old) (K.contents out.new) }
+    ensures taken { (bytes : List ℕ) → S.remaining input.old ≡ Some bytes
+        → LeavesAllBut (bytes_taken result.why) (S.remaining input.new) bytes }
+
+    // A fault comes only of a device that failed, and is told by its counts.
+    ensures counts { TellsCounts result.why (S.fault_count input.old) (S.fault_count input.new) (K.fault_count out.old) (K.fault_count out.new) }
+    ensures read_cause { Causes S.fault_count S.is_sure input.old input.new (is_read_fault result.why) }
+    ensures write_cause { Causes K.fault_count K.is_sure out.old out.new (is_write_fault result.why) }
+
+    // The user is told why, as far as `err` takes it; a refusal of `err` changes nothing else.
+    ensures told { OnOk result.told (Appends (E.contents err.old) (E.contents err.new) (text_of result.why)) }
+    ensures told_part { OnErr result.told (AppendsPart (E.contents err.old) (E.contents err.new) (text_of result.why)) }
+    ensures told_cause { HasSinkCause (E.fault_count err.old) (E.fault_count err.new) (E.is_sure err.old) result.told }
+{
+    let why = if is_replay(words) {
+        replay(alloc, input, out)
+    } else {
+        Why::Usage
+    };
+    Status {
+        exit: exit_status(why),
+        why,
+        told: tell(alloc, err, why),
+    }
+}
+
+/// Whether the words are those of the command that replays a trace.
+fn is_replay(words: &[String]) -> bool
+    ensures yes { result ≡ true → IsReplay (map string_bytes words.now) }
+    ensures no { result ≡ false → IsReplay (map string_bytes words.now) → ⊥ }
+{
+    words.len() == 1 && words[0].as_str() == "replay"
+}
+
+/// Replays the trace of an input.
+fn replay<S: Source, K: Sink>(alloc: Global, input: &mut S, out: &mut K) -> Why
+    ensures usage { result ≢ Why.Usage }
+    ensures replays { (bytes : List ℕ) → S.remaining input.old ≡ Some bytes
+        → Replays result bytes (S.remaining input.new) (K.contents out.old) (K.contents out.new) }
+    ensures taken { (bytes : List ℕ) → S.remaining input.old ≡ Some bytes
+        → LeavesAllBut (bytes_taken result) (S.remaining input.new) bytes }
+    ensures counts { TellsCounts result (S.fault_count input.old) (S.fault_count input.new) (K.fault_count out.old) (K.fault_count out.new) }
+    ensures read_cause { Causes S.fault_count S.is_sure input.old input.new (is_read_fault result) }
+    ensures write_cause { Causes K.fault_count K.is_sure out.old out.new (is_write_fault result) }
+{
+    let reads = input.faults();
+    let writes = out.faults();
+    let mut session = match Session::new(alloc) {
+        Ok(session) => session,
+        Err(_) => return Why::OutOfMemory,
+    };
+    match session.replay(input, out) {
+        End::Done => Why::Done,
+        End::Refused { line, reason } => Why::Refused { line, reason },
+        End::Stopped(Stop::Read) => Why::ReadFault(CountFault {
+            before: reads,
+            after: input.faults(),
+        }),
+        End::Stopped(Stop::Write) => Why::WriteFault(CountFault {
+            before: writes,
+            after: out.faults(),
+        }),
+        End::Stopped(Stop::OutOfMemory) => Why::OutOfMemory,
+    }
+}
+
+/// The exit status of the program.
+fn exit_status(why: Why) -> u8
+    ensures { result ≡ exit_of why }
+{
+    match why {
+        Why::Done => 0,
+        Why::Usage => 1,
+        Why::Refused { .. } => 2,
+        Why::ReadFault(_) => 3,
+        Why::WriteFault(_) => 4,
+        Why::OutOfMemory => 5,
+        Why::DeviceFault { .. } => 6,
+    }
+}
+
+/// Tells the user why the call ended, where that is not plain; or what kept `err` from taking it.
+fn tell<E: Sink>(alloc: Global, err: &mut E, why: Why) -> Result<(), SinkRefusal>
+    ensures told { OnOk result (Appends (E.contents err.old) (E.contents err.new) (text_of why)) }
+    ensures part { OnErr result (AppendsPart (E.contents err.old) (E.contents err.new) (text_of why)) }
+    ensures cause { HasSinkCause (E.fault_count err.old) (E.fault_count err.new) (E.is_sure err.old) result }
+{
+    match why {
+        Why::Done => Ok(()),
+        Why::Usage => write_all(err, USAGE),
+        Why::Refused { line, reason } => tell_refusal(alloc, err, line, reason),
+        Why::ReadFault(_) => write_all(err, b"read fault\n"),
+        Why::WriteFault(_) => write_all(err, b"write fault\n"),
+        Why::OutOfMemory => write_all(err, b"out of memory\n"),
+        Why::DeviceFault { .. } => write_all(err, b"device fault\n"),
+    }
+}
+
+/// Tells the user which line of a trace is refused, and why.
+fn tell_refusal<E: Sink>(
+    alloc: Global,
+    err: &mut E,
+    line: u64,
+    reason: Reason,
+) -> Result<(), SinkRefusal>
+    ensures told { OnOk result (Appends (E.contents err.old) (E.contents err.new) (refusal_text line reason)) }
+    ensures part { OnErr result (AppendsPart (E.contents err.old) (E.contents err.new) (refusal_text line reason)) }
+    ensures cause { HasSinkCause (E.fault_count err.old) (E.fault_count err.new) (E.is_sure err.old) result }
+{
+    let mut text = Vec::new(alloc);
+    match push_refusal(&mut text, line, reason) {
+        Ok(()) => write_all(err, text.as_slice()),
+        Err(_) => Err(SinkRefusal::OutOfMemory),
+    }
+}

@@ -1,0 +1,317 @@
+//! The replay of a trace: lines are read, their steps run, and answers gathered in a block of text.
+
+ghost use Rattle.std.specs.Prelude.{◌≡◌, ℕ, ◌+◌, ◌-◌, ◌*◌, ◌^◌, ◌<◌, ◌≤◌, ◌++◌, ◌≢◌, [], List, Option, Some, length, vec_len, IsOk, OnOk, OnErr, false, true, bytes_eq};
+ghost use Rattle.aio_base.specs.Trace.{header_text};
+ghost use Rattle.std.specs.Io.KnownBytes.{Appends};
+ghost use Rattle.aio_bytes.specs.Sinks.{AppendsPart};
+ghost use Rattle.aio_run.specs.Steps.{Closes};
+ghost use Rattle.aio_run.specs.Session.{ends_with, Causes, is_read_fault, is_write_fault, stops_with, Unread, FindsNext, SendsOrStops, ReadsMore};
+
+use aio_base::{Reason, Step, Waker};
+use aio_bytes::{LineReader, Sink, Source, write_all};
+use std::alloc::{AllocError, Global};
+
+use crate::ends::{End, Next, Stop};
+use crate::reactor::Reactor;
+use crate::reading::read_step;
+use crate::writing::push_reply;
+
+/// How many bytes of answers are gathered before they are written.
+const BLOCK: usize = 65_536;
+
+/// How many lines a trace has at most, its header among them.
+const LINE_LIMIT: u64 = 1_000_000;
+
+/// Room for the reply that fills a block: an answer and the wakes of a round.
+const REPLY_ROOM: usize = 32_768;
+
+/// A replay in the middle: the reader of the input's lines, the reactor, and the answers that are not
+/// written yet.
+#[derive(Drop)]
+pub(crate) struct Session {
+    pub reader: LineReader,
+    pub reactor: Reactor,
+    pub text: Vec<u8>,
+    pub wakes: Vec<Waker>,
+}
+
+impl Session {
+    ghost use Rattle.std.specs.Prelude.{IfOk, List, Option};
+    ghost use Rattle.aio_base.specs.Trace.{IsBuilt};
+    ghost use Rattle.aio_base.specs.World.{World};
+    ghost use Rattle.aio_run.specs.Steps.{Closes};
+ghost use Rattle.aio_run.specs.Session.{ends_with, Causes, goes_on_with, ends_with, is_read_fault, is_write_fault, EndsSo};
+    ghost use Rattle.aio_run.specs.Steps.{Answers, Standing, LineTaken, GoesOn, Opens};
+    ghost use Rattle.aio_run.specs.Reactors.{kept_of};
+
+    /// A replay that has read nothing. `AllocError` where there is no memory for its parts.
+    pub(crate) fn new(alloc: Global) -> Result<Session, AllocError>
+        ensures opens { IfOk result (λ s. Opens s.reader.ahead s.text.items (kept_of s.reactor)) }
+    {
+        let reader = LineReader::new(alloc)?;
+        let reactor = Reactor::new(alloc)?;
+        let text = Vec::with_capacity(alloc, BLOCK + REPLY_ROOM)?;
+        Ok(Session {
+            reader,
+            reactor,
+            text,
+            wakes: Vec::new(alloc),
+        })
+    }
+
+    /// Runs a step, and puts its answer and its wakes at the end of the text. `AllocError` where
+    /// memory ran out.
+    fn answer(&mut self, step: &Step) -> Result<(), AllocError>
+        requires built { IsBuilt step.now }
+        requires rounds { self.old.reactor.ticker < 2 ^ 64 - 1 }
+        ensures answers { OnOk result (Answers step.now (kept_of self.old.reactor) (kept_of self.new.reactor) self.old.text.items self.new.text.items) }
+        ensures ticker { self.new.reactor.ticker ≤ self.old.reactor.ticker + 1 }
+        ensures reader { self.new.reader ≡ self.old.reader }
+    {
+        let answer = self.reactor.step(step, &mut self.wakes)?;
+        push_reply(&mut self.text, &answer, self.wakes.as_slice())?;
+        Ok(())
+    }
+
+    /// Replays a trace, from its header to its end.
+    pub(crate) fn replay<S: Source, K: Sink>(&mut self, input: &mut S, out: &mut K) -> End
+        requires opens { Opens self.old.reader.ahead self.old.text.items (kept_of self.old.reactor) }
+        ensures ends { (all : List ℕ) → S.remaining input.old ≡ Some all → EndsSo result all (S.remaining input.new) (K.contents out.old) (K.contents out.new) }
+        ensures read_cause { Causes S.fault_count S.is_sure input.old input.new (ends_with is_read_fault result) }
+        ensures write_cause { Causes K.fault_count K.is_sure out.old out.new (ends_with is_write_fault result) }
+    {
+        match self.header(input, out) {
+            None => {}
+            Some(end) => return end,
+        }
+        for line in 2..LINE_LIMIT + 1 {
+            match self.replay_line(line, input, out) {
+                None => {}
+                Some(end) => return end,
+            }
+        }
+        self.after_last(input, out)
+    }
+
+    /// Reads the header, which is the first line.
+    fn header<S: Source, K: Sink>(&mut self, input: &mut S, out: &mut K) -> Option<End>
+        requires opens { Opens self.old.reader.ahead self.old.text.items (kept_of self.old.reactor) }
+        ensures goes_on { (all : List ℕ) → S.remaining input.old ≡ Some all
+            → GoesOn result all (S.remaining input.new) (K.contents out.old) (K.contents out.new) 2 self.new.reader.ahead self.new.text.items (kept_of self.new.reactor) }
+        ensures bound { length self.new.reader.ahead ≤ 257 }
+        ensures reactor { self.new.reactor ≡ self.old.reactor }
+        ensures read_cause { Causes S.fault_count S.is_sure input.old input.new (goes_on_with is_read_fault result) }
+        ensures write_cause { Causes K.fault_count K.is_sure out.old out.new (goes_on_with is_write_fault result) }
+    {
+        let next = match next_line(&mut self.reader, &mut self.text, input, out) {
+            Ok(next) => next,
+            Err(stop) => return Some(End::Stopped(stop)),
+        };
+        match next {
+            Next::Line => {
+                if is_header(self.reader.line()) {
+                    return None;
+                }
+                Some(refuse(&mut self.text, out, 1, Reason::Header))
+            }
+            Next::Long => Some(refuse(&mut self.text, out, 1, Reason::Header)),
+            Next::End => Some(refuse(&mut self.text, out, 1, Reason::Header)),
+        }
+    }
+
+    /// Reads and answers the line of this number, where there is one.
+    fn replay_line<S: Source, K: Sink>(
+        &mut self,
+        line: u64,
+        input: &mut S,
+        out: &mut K,
+    ) -> Option<End>
+        requires limit { line ≤ 1000000 }
+        requires bound { length self.old.reader.ahead ≤ 257 }
+        requires rounds { self.old.reactor.ticker < 2 ^ 64 - 1 }
+        ensures goes_on { (all : List ℕ) (first : Option (List ℕ))
+            → Standing all (S.remaining input.old) first (K.contents out.old) line self.old.reader.ahead self.old.text.items (kept_of self.old.reactor)
+            → GoesOn result all (S.remaining input.new) first (K.contents out.new) (line + 1) self.new.reader.ahead self.new.text.items (kept_of self.new.reactor) }
+        ensures bound { length self.new.reader.ahead ≤ 257 }
+        ensures ticker { self.new.reactor.ticker ≤ self.old.reactor.ticker + 1 }
+        ensures read_cause { Causes S.fault_count S.is_sure input.old input.new (goes_on_with is_read_fault result) }
+        ensures write_cause { Causes K.fault_count K.is_sure out.old out.new (goes_on_with is_write_fault result) }
+    {
+        let next = match next_line(&mut self.reader, &mut self.text, input, out) {
+            Ok(next) => next,
+            Err(stop) => return Some(End::Stopped(stop)),
+        };
+        match next {
+            Next::Line => self.answer_line(line, out),
+            Next::Long => Some(refuse(&mut self.text, out, line, Reason::Stage)),
+            Next::End => Some(close(&mut self.text, out, End::Done)),
+        }
+    }
+
+    /// Looks for a line past the last that a trace may have, and refuses it.
+    fn after_last<S: Source, K: Sink>(&mut self, input: &mut S, out: &mut K) -> End
+        requires bound { length self.old.reader.ahead ≤ 257 }
+        ensures ends { (all : List ℕ) (first : Option (List ℕ))
+            → Standing all (S.remaining input.old) first (K.contents out.old) 1000001 self.old.reader.ahead self.old.text.items (kept_of self.old.reactor)
+            → EndsSo result all (S.remaining input.new) first (K.contents out.new) }
+        ensures read_cause { Causes S.fault_count S.is_sure input.old input.new (ends_with is_read_fault result) }
+        ensures write_cause { Causes K.fault_count K.is_sure out.old out.new (ends_with is_write_fault result) }
+    {
+        let next = match next_line(&mut self.reader, &mut self.text, input, out) {
+            Ok(next) => next,
+            Err(stop) => return End::Stopped(stop),
+        };
+        match next {
+            Next::Line => refuse(&mut self.text, out, LINE_LIMIT + 1, Reason::Lines),
+            Next::Long => refuse(&mut self.text, out, LINE_LIMIT + 1, Reason::Lines),
+            Next::End => close(&mut self.text, out, End::Done),
+        }
+    }
+
+    /// Answers the line that was found, which has this number.
+    fn answer_line<K: Sink>(&mut self, line: u64, out: &mut K) -> Option<End>
+        requires limit { line ≤ 1000000 }
+        requires rounds { self.old.reactor.ticker < 2 ^ 64 - 1 }
+        ensures goes_on { (input : List ℕ) (told first : Option (List ℕ))
+            → LineTaken input told first (K.contents out.old) line self.old.reader.line self.old.reader.ahead self.old.text.items (kept_of self.old.reactor)
+            → GoesOn result input told first (K.contents out.new) (line + 1) self.new.reader.ahead self.new.text.items (kept_of self.new.reactor) }
+        ensures ticker { self.new.reactor.ticker ≤ self.old.reactor.ticker + 1 }
+        ensures reader { self.new.reader ≡ self.old.reader }
+        ensures reads { goes_on_with is_read_fault result ≡ false }
+        ensures cause { Causes K.fault_count K.is_sure out.old out.new (goes_on_with is_write_fault result) }
+    {
+        let step = match read_step(self.reader.line()) {
+            Some(step) => step,
+            None => return Some(refuse(&mut self.text, out, line, Reason::Stage)),
+        };
+        match self.answer(&step) {
+            Ok(()) => {}
+            Err(_) => return Some(End::Stopped(Stop::OutOfMemory)),
+        }
+        if self.text.len() < BLOCK {
+            return None;
+        }
+        match flush(&mut self.text, out) {
+            Ok(()) => None,
+            Err(stop) => Some(End::Stopped(stop)),
+        }
+    }
+}
+
+/// Whether a line is the header of a trace.
+fn is_header(line: &[u8]) -> bool
+    ensures { result ≡ bytes_eq line.now header_text }
+{
+    line == b"trace 1".as_slice()
+}
+
+/// Writes what is left of the text, and ends so; or with what stopped that.
+fn close<K: Sink>(text: &mut Vec<u8>, out: &mut K, end: End) -> End
+    ensures closes { Closes result end (K.contents out.old) (K.contents out.new) text.old.items }
+    ensures reads { ends_with is_read_fault end ≡ false → ends_with is_read_fault result ≡ false }
+    ensures cause { ends_with is_write_fault end ≡ false → Causes K.fault_count K.is_sure out.old out.new (ends_with is_write_fault result) }
+{
+    match flush(text, out) {
+        Ok(()) => end,
+        Err(stop) => End::Stopped(stop),
+    }
+}
+
+/// Refuses a line after the text is written.
+fn refuse<K: Sink>(text: &mut Vec<u8>, out: &mut K, line: u64, reason: Reason) -> End
+    ensures closes { Closes result (End.Refused line reason) (K.contents out.old) (K.contents out.new) text.old.items }
+    ensures reads { ends_with is_read_fault result ≡ false }
+    ensures cause { Causes K.fault_count K.is_sure out.old out.new (ends_with is_write_fault result) }
+{
+    close(text, out, End::Refused { line, reason })
+}
+
+/// Writes the text, and is left with none of it.
+fn flush<K: Sink>(text: &mut Vec<u8>, out: &mut K) -> Result<(), Stop>
+    ensures sends { SendsOrStops result (K.contents out.old) (K.contents out.new) text.old.items text.new.items }
+    ensures empty { OnOk result (text.new.items ≡ []) }
+    ensures never_read { stops_with is_read_fault result ≡ false }
+    ensures cause { Causes K.fault_count K.is_sure out.old out.new (stops_with is_write_fault result) }
+{
+    match write_all(out, text.as_slice()) {
+        Ok(()) => {
+            text.clear();
+            Ok(())
+        }
+        Err(refusal) => Err(Stop::of(refusal)),
+    }
+}
+
+/// Reads more of the input, after the text was written where the read may have to wait for it.
+/// Answers how many bytes came; 0 is the end of the input. Where the input fails, what was answered
+/// before is written as far as the output takes it.
+fn read_more<S: Source, K: Sink>(
+    reader: &mut LineReader,
+    text: &mut Vec<u8>,
+    input: &mut S,
+    out: &mut K,
+) -> Result<usize, Stop>
+    requires { length reader.old.ahead < 257 }
+    ensures read { ReadsMore result (S.remaining input.old) (S.remaining input.new) reader.old.ahead reader.new.ahead }
+    ensures bound { length reader.new.ahead ≤ 257 }
+    ensures sends { SendsOrStops result (K.contents out.old) (K.contents out.new) text.old.items text.new.items }
+    ensures read_cause { Causes S.fault_count S.is_sure input.old input.new (stops_with is_read_fault result) }
+    ensures write_cause { Causes K.fault_count K.is_sure out.old out.new (stops_with is_write_fault result) }
+{
+    if reader.may_wait() {
+        match flush(text, out) {
+            Ok(()) => {}
+            Err(stop) => return Err(stop),
+        }
+    }
+    match reader.read(input) {
+        Ok(count) => Ok(count),
+        Err(_) => {
+            let _ = flush(text, out);
+            Err(Stop::Read)
+        }
+    }
+}
+
+/// Finds the next line of the input, or its end, in what is read ahead and in what is read now.
+fn next_line<S: Source, K: Sink>(
+    reader: &mut LineReader,
+    text: &mut Vec<u8>,
+    input: &mut S,
+    out: &mut K,
+) -> Result<Next, Stop>
+    requires { length reader.old.ahead ≤ 257 }
+    ensures found { (unread : List ℕ) → Unread (S.remaining input.old) reader.old.ahead unread → FindsNext result (S.remaining input.new) reader.new.line reader.new.ahead unread }
+    ensures bound { length reader.new.ahead ≤ 257 }
+    ensures sends { SendsOrStops result (K.contents out.old) (K.contents out.new) text.old.items text.new.items }
+    ensures read_cause { Causes S.fault_count S.is_sure input.old input.new (stops_with is_read_fault result) }
+    ensures write_cause { Causes K.fault_count K.is_sure out.old out.new (stops_with is_write_fault result) }
+{
+    loop {
+        if reader.find_line() {
+            return Ok(Next::Line);
+        }
+        if reader.is_full() {
+            reader.take_rest();
+            return Ok(Next::Long);
+        }
+        match read_more(reader, text, input, out) {
+            Ok(0) => return Ok(last_line(reader)),
+            Ok(_) => {}
+            Err(stop) => return Err(stop),
+        }
+    }
+}
+
+/// What is found at the end of the input: the rest of it as a line, where there is a rest.
+fn last_line(reader: &mut LineReader) -> Next
+    ensures line { reader.old.ahead ≢ [] → (result ≡ Next.Line) × (reader.new.line ≡ reader.old.ahead) }
+    ensures end { reader.old.ahead ≡ [] → result ≡ Next.End }
+    ensures ahead { reader.new.ahead ≡ [] }
+{
+    if reader.ahead_len() == 0 {
+        return Next::End;
+    }
+    reader.take_rest();
+    Next::Line
+}
