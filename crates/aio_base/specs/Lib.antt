@@ -7,3 +7,4 @@ pub mod Machine
 pub mod Script
 pub mod Text
 pub mod Trace
+pub mod Moves

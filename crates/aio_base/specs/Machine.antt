@@ -392,21 +392,21 @@ abbrev pub hand_of : Option RoundState → List Event
 hand_of None = []
 hand_of (Some round) = round.in_hand
 
-abbrev pub end_of : Answer → EndWord
-end_of (answer.End word) = word
-end_of _ = Clean
+abbrev pub fault_of : Option RoundState → EndWord
+fault_of None = Clean
+fault_of (Some round) = round.fault
 
--- a whole round, as one step: begin without a limit, one wait, each event handled, finish
-abbrev pub react : World → List PollerAnswer → Outcome
-react w answers =
-    let begun = begin_round w None answers in
+-- a whole round, as one step: begin with a given limit, one wait, each event handled, finish
+abbrev pub react : World → Option ℕ → List PollerAnswer → Outcome
+react w given answers =
+    let begun = begin_round w given answers in
     let waited = wait_round begun.world begun.left in
     let hand = hand_of waited.world.round in
     let handled = handle_each hand waited.world waited.left in
     let ended = finish_round handled.world handled.left in
     if is_some w.round then quiet answer.Locked w answers
     else record {
-      answer = answer.Round (w.rounds + 1) (length hand) (end_of ended.answer);
+      answer = answer.Round (w.rounds + 1) (length hand) (fault_of handled.world.round);
       wakes = ended.wakes;
       world = ended.world;
       calls = waited.calls ++ handled.calls;
@@ -437,7 +437,7 @@ case_of w (step.Begin limit) answers = begin_round w limit answers
 case_of w step.Wait answers = wait_round w answers
 case_of w step.Handle answers = handle_round w answers
 case_of w step.Finish answers = finish_round w answers
-case_of w step.React answers = react w answers
+case_of w step.React answers = react w None answers
 
 -- the position rises by one with every step
 abbrev pub moved_on : Outcome → Outcome

@@ -54,20 +54,26 @@ after_calls (call ∷ calls) w = after_calls calls (after_call call w)
 abbrev pub settled : Outcome → Outcome
 settled o = record o { world = after_calls o.calls o.world }
 
+-- a step of a run, for any answers of a poller: what it used up is due and noted no longer
+abbrev pub run_step : World → Step → List PollerAnswer → Outcome
+run_step w s answers = settled (step_result w s answers)
+
 -- a step over the script poller
 unfoldable pub script_step : World → Step → Outcome
-script_step w s = settled (step_result w s (script_answers w s))
+script_step w s = run_step w s (script_answers w s)
 
 -- the text of an answer: its line and then one line for each wake
 unfoldable pub reply_text : Answer → List Waker → List ℕ
 reply_text a wakes = ended_line (answer_line a) ++ flat_map (λ waker. ended_line (answer_line (answer.Wake waker))) wakes
 
+-- what each step of a run gives, by its position
+abbrev pub outcomes_from : World → List Step → List Outcome
+outcomes_from w [] = []
+outcomes_from w (s ∷ steps) = script_step w s ∷ outcomes_from (script_step w s).world steps
+
 -- the text of a run from a world
 abbrev pub output_from : World → List Step → List ℕ
-output_from w [] = []
-output_from w (s ∷ steps) =
-    let o = script_step w s in
-    reply_text o.answer o.wakes ++ output_from o.world steps
+output_from w steps = flat_map (λ (o : Outcome). reply_text o.answer o.wakes) (outcomes_from w steps)
 
 -- the world after a run
 abbrev pub world_after : World → List Step → World

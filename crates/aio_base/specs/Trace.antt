@@ -1,5 +1,5 @@
 -- What an input says: its lines, the steps that they spell, and the line that is refused.
-use Rattle.std.specs.Prelude.{ℕ, ◌+◌, ◌-◌, ◌*◌, ◌^◌, ◌<◌, true, false, ◌&&◌, ◌==◌, nat_lt, if◌then◌else◌, List, [], ◌∷◌, Option, None, Some, option_and_then, codes, decimal, bytes_eq}
+use Rattle.std.specs.Prelude.{ℕ, ◌+◌, ◌-◌, ◌*◌, ◌^◌, ◌<◌, ◌≤◌, true, false, ◌&&◌, ◌==◌, nat_lt, if◌then◌else◌, List, [], ◌∷◌, Option, None, Some, option_and_then, codes, decimal, bytes_eq}
 use Rattle.std.specs.List.{slice_split}
 use Rattle.aio_base.specs.declared.names.Dir.{Dir}
 use Rattle.aio_base.specs.declared.names.Dir.TheVariants.{Read, Write}
@@ -92,6 +92,17 @@ IsBuilt (step.Poll key dir waker) = (key.0 < 2 ^ 32) × (waker.0 < 2 ^ 32)
 IsBuilt (step.Note event) = event.key.0 < 2 ^ 32
 IsBuilt step.React = Unit {0}
 IsBuilt _ = ⊥
+
+-- a period is 1 to 10^18 nanoseconds
+abbrev pub IsPeriod : ℕ → Type 0
+IsPeriod period = (1 ≤ period) × (period ≤ 10 ^ 18)
+
+-- a step in range: its period, if it has one, is a period, and its limit, if it has one, at most 10^18 nanoseconds
+abbrev pub IsInRange : Step → Type 0
+IsInRange (step.TimerEvery deadline period) = IsPeriod period
+IsInRange (step.SetEvery number deadline period) = IsPeriod period
+IsInRange (step.Begin (Some limit)) = limit ≤ 10 ^ 18
+IsInRange _ = Unit {0}
 
 -- ## The steps of an input, and the line that is refused
 

@@ -204,6 +204,10 @@ without_broken broken serial = filter (λ (b : BrokenSource). not (b.serial == s
 abbrev pub set_armed : List ArmedDirection → ℕ → List Dir → List ArmedDirection
 set_armed armed key dirs = filter (λ (a : ArmedDirection). not (a.key == key)) armed ++ map (λ dir. record { key = key; dir = dir }) dirs
 
+-- whether a direction of a key is armed
+abbrev pub is_armed : List ArmedDirection → ℕ → Dir → Bool
+is_armed armed key dir = list_any (λ (a : ArmedDirection). (a.key == key) && same_dir a.dir dir) armed
+
 -- each event that is given clears the whole interest of its key
 abbrev pub clear_armed : List ArmedDirection → List Event → List ArmedDirection
 clear_armed armed [] = armed

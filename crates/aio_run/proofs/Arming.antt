@@ -9,9 +9,8 @@ use Rattle.aio_base.specs.declared.names.Interest.{Interest}
 use Rattle.aio_base.specs.declared.names.Waker.{Waker}
 use Rattle.aio_base.specs.declared.names.Event.{Event}
 use Rattle.aio_base.specs.Devices.{no_interest}
-use Rattle.aio_base.specs.World.{World, ArmedDirection, same_dir, has_dir, poll_waiter, is_empty_list, is_idle, wanted, set_armed, clear_armed}
+use Rattle.aio_base.specs.World.{is_armed, World, ArmedDirection, same_dir, has_dir, poll_waiter, is_empty_list, is_idle, wanted, set_armed, clear_armed}
 use Rattle.aio_script.specs.Script.{cleared}
-use Rattle.aio_run.specs.Ties.{is_armed}
 use Rattle.aio_run.proofs.Found.{list_any-filter_kept, list_any-filter_lost, list_any-congr, list_any-map}
 
 -- ## The poller's interests

@@ -1,10 +1,8 @@
 -- A line's step, by its command.
-use Rattle.std.proofs.Common.{◌≡◌, ℕ, Bool, true, false, cond, List, Option, None, Some, refl, option_and_then}
+use Rattle.std.proofs.Common.{◌≡◌, ℕ, Bool, true, false, cond, List, None, Some, refl, option_and_then}
 use Rattle.std.specs.Prelude.{bytes_eq, codes}
-use Rattle.aio_base.specs.declared.steps.Step.{Step}
 use Rattle.aio_base.specs.declared.steps.Step.TheVariants as step
 use Rattle.aio_base.specs.Trace.{alone, poll_of, event_of, step_named}
-use Rattle.aio_run.specs.declared.reading.Command.{Command}
 use Rattle.aio_run.specs.declared.reading.Command.TheVariants as command
 use Rattle.aio_run.specs.Reading.{command_named, step_of}
 

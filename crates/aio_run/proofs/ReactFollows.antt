@@ -10,7 +10,7 @@ use Rattle.aio_base.specs.declared.outcomes.Which.TheVariants as which
 use Rattle.aio_base.specs.declared.steps.Step.TheVariants as step
 use Rattle.aio_base.specs.declared.steps.Answer.TheVariants as answer
 use Rattle.aio_base.specs.World.{Succeeds, Gives, World, RoundState, Registration, clear_armed}
-use Rattle.aio_base.specs.Machine.{Outcome, finish_round, handle_each, gave_none, end_of, moved_on, step_result}
+use Rattle.aio_base.specs.Machine.{Outcome, finish_round, handle_each, gave_none, fault_of, moved_on, step_result}
 use Rattle.aio_base.specs.Script.{settled, script_step}
 use Rattle.aio_script.specs.Script.{cleared}
 use Rattle.aio_run.specs.Kept.{Kept, Handling, Stepped, handle_events, waited_script, kept_react}
@@ -97,7 +97,7 @@ record Comes (stepped : Stepped) (o : Outcome) : Type 0 where
 abbrev whole : ℕ → ℕ → Outcome → Outcome
 whole number count o =
     let ended = finish_round o.world o.left in
-    record { answer = answer.Round number count (end_of ended.answer); wakes = ended.wakes; world = ended.world; calls = which.Wait ∷ o.calls; left = ended.left }
+    record { answer = answer.Round number count (fault_of o.world.round); wakes = ended.wakes; world = ended.world; calls = which.Wait ∷ o.calls; left = ended.left }
 
 abbrev ended_kept : RoundFacts → Handling → Kept
 ended_kept f h = record { sources = h.sources; ticker = f.ticker; script = h.script }

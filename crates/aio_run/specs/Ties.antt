@@ -5,7 +5,7 @@ use Rattle.aio_base.specs.declared.names.Dir.{Dir}
 use Rattle.aio_base.specs.declared.names.Waker.{Waker}
 use Rattle.aio_base.specs.declared.steps.Step.{Step}
 use Rattle.aio_base.specs.declared.steps.Answer.{Answer}
-use Rattle.aio_base.specs.World.{World, LiveSource, ArmedDirection, HandledDirection, poll_waiter, mark_of, same_dir, has_dir, nothing_due}
+use Rattle.aio_base.specs.World.{World, LiveSource, ArmedDirection, HandledDirection, poll_waiter, mark_of, has_dir, is_armed, nothing_due}
 use Rattle.aio_base.specs.Rounds.{rounds_at, last_tick, AllBegun}
 use Rattle.aio_base.specs.Script.{script_step}
 use Rattle.aio_script.specs.Script.{interests_of}
@@ -42,10 +42,6 @@ pub record DirectionStands (bound : ℕ) (d : Direction) (w : World) (serial : �
   pub waiter : poll_waiter w.poll_waiters serial dir ≡ d.waiter
   pub tick : last_tick w.begun w.handled serial dir ≡ d.tick
   pub since : Remembers bound w.begun d.since (mark_of w.marks serial dir)
-
--- whether a direction of a key is armed
-abbrev pub is_armed : List ArmedDirection → ℕ → Dir → Bool
-is_armed armed key dir = list_any (λ (a : ArmedDirection). (a.key == key) && same_dir a.dir dir) armed
 
 -- What is kept stands for the world, all of whose positions are below a bound. The lines that are built make no listener and no timer, and
 -- no call of the poller fails.

@@ -162,3 +162,73 @@ fn read_flags(word: &[u8]) -> Option<Interest>
         _ => None,
     }
 }
+
+#[cfg(test)]
+mod tests {
+    use super::*;
+
+    fn poll(key: u32, direction: Dir, waker: u32) -> Option<Step> {
+        Some(Step::Poll(Key(key), direction, Waker(waker)))
+    }
+
+    fn event(key: u32, read: bool, write: bool) -> Option<Step> {
+        Some(Step::Note(Event {
+            key: Key(key),
+            on: Interest { read, write },
+        }))
+    }
+
+    #[test]
+    fn lines_spell_their_steps(rt: HostRuntime) {
+        for (line, step) in [
+            ("add", Some(Step::Add)),
+            ("react", Some(Step::React)),
+            ("poll 0 r 7", poll(0, Dir::Read, 7)),
+            ("poll 4095 r 63", poll(4095, Dir::Read, 63)),
+            ("poll 4294967295 w 0", poll(4_294_967_295, Dir::Write, 0)),
+            ("event 0 -", event(0, false, false)),
+            ("event 3 r", event(3, true, false)),
+            ("event 3 w", event(3, false, true)),
+            ("event 9 rw", event(9, true, true)),
+        ] {
+            assert_eq!(rt; read_step(line.as_bytes()), step, "{line}");
+        }
+    }
+
+    #[test]
+    fn other_lines_spell_no_step(rt: HostRuntime) {
+        for line in [
+            "",
+            " ",
+            "add ",
+            " add",
+            "ADD",
+            "add 0",
+            "poll",
+            "poll 0",
+            "poll 0 r",
+            "poll 0 r ",
+            "poll 007 r 1",
+            "poll 0 r 00",
+            "poll 4294967296 r 1",
+            "poll 99999999999 r 1",
+            "poll 0 rw 1",
+            "poll 0  r 1",
+            "poll 0 r 1 2",
+            "poll -1 r 1",
+            "poll +1 r 1",
+            "poll 1a r 1",
+            "event 0",
+            "event 0 wr",
+            "event 0 r r",
+            "event  0 r",
+            "react\r",
+            "react 0",
+            "poll\t0 r 1",
+            "wait",
+            "del 0",
+        ] {
+            assert_eq!(rt; read_step(line.as_bytes()), None, "{line}");
+        }
+    }
+}

@@ -1,25 +1,49 @@
 //! Writing the lines of a trace's answers, at the end of a block of output.
 
-ghost use Rattle.std.specs.Prelude.{◌≡◌, ◌++◌, [], ◌∷◌, codes, decimal, map, flat_map, OnOk};
+ghost use Rattle.std.specs.Prelude.{◌≡◌, ◌++◌, [], ◌∷◌, codes, decimal, flat_map, OnErr, OnOk};
 ghost use Rattle.aio_base.specs.Script.{reply_text};
 ghost use Rattle.aio_base.specs.Text.{answer_line, end_text, ended_line, fault_text, limit_text, reason_text};
-ghost use Rattle.aio_run.specs.Writing.{refusal_text};
+ghost use Rattle.aio_run.specs.Writing.{KeepsFront, refusal_text};
 
 use aio_base::{Answer, EndWord, Key, Reason, Waker};
 use itoa::Buffer;
 use std::alloc::AllocError;
 
 /// Writes an answer's line and then one line for each wake. `AllocError` where memory runs out, and
-/// then part of the lines may stand in `out`.
-#[tactic(auto, unfolding(aio_base::specs::Script::reply_text))]
+/// then `out` is as before.
 pub(crate) fn push_reply(
     out: &mut Vec<u8>,
     answer: &Answer,
     wakes: &[Waker],
 ) -> Result<(), AllocError>
-    ensures { OnOk result (out.new.items ≡ out.old.items ++ reply_text answer.now wakes.now) }
+    ensures ok { OnOk result (out.new.items ≡ out.old.items ++ reply_text answer.now wakes.now) }
+    ensures err { OnErr result (out.new.items ≡ out.old.items) }
+{
+    let written = out.len();
+    let result = push_lines(out, answer, wakes);
+    if result.is_err() {
+        out.truncate(written);
+    }
+    result
+}
+
+/// Writes an answer's line and then one line for each wake, maybe a part of them where memory runs
+/// out.
+#[tactic(auto, unfolding(aio_base::specs::Script::reply_text))]
+fn push_lines(out: &mut Vec<u8>, answer: &Answer, wakes: &[Waker]) -> Result<(), AllocError>
+    ensures ok { OnOk result (out.new.items ≡ out.old.items ++ reply_text answer.now wakes.now) }
+    ensures kept { OnErr result (KeepsFront out.old.items out.new.items) }
 {
     push_answer(out, answer)?;
+    push_wakes(out, wakes)
+}
+
+/// Writes one line for each wake.
+fn push_wakes(out: &mut Vec<u8>, wakes: &[Waker]) -> Result<(), AllocError>
+    ensures ok { OnOk result (out.new.items
+        ≡ out.old.items ++ flat_map (λ waker. ended_line (answer_line (Answer.Wake waker))) wakes.now) }
+    ensures kept { OnErr result (KeepsFront out.old.items out.new.items) }
+{
     for waker in wakes {
         push_answer(out, &Answer::Wake(*waker))?;
     }
@@ -29,7 +53,8 @@ pub(crate) fn push_reply(
 /// Writes an answer's line.
 #[tactic(auto, unfolding(aio_base::specs::Text::answer_line))]
 pub(crate) fn push_answer(out: &mut Vec<u8>, answer: &Answer) -> Result<(), AllocError>
-    ensures { OnOk result (out.new.items ≡ out.old.items ++ ended_line (answer_line answer.now)) }
+    ensures ok { OnOk result (out.new.items ≡ out.old.items ++ ended_line (answer_line answer.now)) }
+    ensures kept { OnErr result (KeepsFront out.old.items out.new.items) }
 {
     match *answer {
         Answer::Ready => out.extend_from_slice(b"ready\n"),
@@ -74,8 +99,9 @@ pub(crate) fn push_answer(out: &mut Vec<u8>, answer: &Answer) -> Result<(), Allo
 
 /// Writes the line of a whole round.
 fn push_round(out: &mut Vec<u8>, number: u64, events: u32, end: EndWord) -> Result<(), AllocError>
-    ensures { OnOk result (out.new.items ≡ out.old.items ++ ended_line (codes "round "
+    ensures ok { OnOk result (out.new.items ≡ out.old.items ++ ended_line (codes "round "
         ++ decimal number ++ codes " events " ++ decimal events ++ codes " " ++ end_text end)) }
+    ensures kept { OnErr result (KeepsFront out.old.items out.new.items) }
 {
     out.extend_from_slice(b"round ")?;
     push_number(out, number)?;
@@ -87,7 +113,8 @@ fn push_round(out: &mut Vec<u8>, number: u64, events: u32, end: EndWord) -> Resu
 
 /// Writes the line of the end of a round.
 fn push_end(out: &mut Vec<u8>, end: EndWord) -> Result<(), AllocError>
-    ensures { OnOk result (out.new.items ≡ out.old.items ++ ended_line (codes "end " ++ end_text end)) }
+    ensures ok { OnOk result (out.new.items ≡ out.old.items ++ ended_line (codes "end " ++ end_text end)) }
+    ensures kept { OnErr result (KeepsFront out.old.items out.new.items) }
 {
     out.extend_from_slice(b"end ")?;
     out.extend_from_slice(end_line(end))
@@ -106,8 +133,9 @@ fn end_line(end: EndWord) -> &'static [u8]
 
 /// Writes the line of a round that begins.
 fn push_begin(out: &mut Vec<u8>, number: u64, limit: Option<u64>) -> Result<(), AllocError>
-    ensures { OnOk result (out.new.items ≡ out.old.items ++ ended_line (codes "begin "
+    ensures ok { OnOk result (out.new.items ≡ out.old.items ++ ended_line (codes "begin "
         ++ decimal number ++ codes " wait " ++ limit_text limit)) }
+    ensures kept { OnErr result (KeepsFront out.old.items out.new.items) }
 {
     out.extend_from_slice(b"begin ")?;
     push_number(out, number)?;
@@ -120,8 +148,9 @@ fn push_begin(out: &mut Vec<u8>, number: u64, limit: Option<u64>) -> Result<(), 
 
 /// Writes the line of an event that was handled.
 fn push_handled(out: &mut Vec<u8>, key: Key, fault: bool) -> Result<(), AllocError>
-    ensures { OnOk result (out.new.items ≡ out.old.items ++ ended_line (codes "handled "
+    ensures ok { OnOk result (out.new.items ≡ out.old.items ++ ended_line (codes "handled "
         ++ decimal key.0 ++ fault_text fault)) }
+    ensures kept { OnErr result (KeepsFront out.old.items out.new.items) }
 {
     if !fault {
         return push_numbered(out, b"handled ", u64::from(key.0));
@@ -133,7 +162,8 @@ fn push_handled(out: &mut Vec<u8>, key: Key, fault: bool) -> Result<(), AllocErr
 
 /// Writes a line of a word and a number.
 fn push_numbered(out: &mut Vec<u8>, word: &[u8], number: u64) -> Result<(), AllocError>
-    ensures { OnOk result (out.new.items ≡ out.old.items ++ ended_line (word.now ++ decimal number)) }
+    ensures ok { OnOk result (out.new.items ≡ out.old.items ++ ended_line (word.now ++ decimal number)) }
+    ensures kept { OnErr result (KeepsFront out.old.items out.new.items) }
 {
     out.extend_from_slice(word)?;
     push_number(out, number)?;
@@ -143,7 +173,8 @@ fn push_numbered(out: &mut Vec<u8>, word: &[u8], number: u64) -> Result<(), Allo
 
 /// Writes a number in decimal digits.
 fn push_number(out: &mut Vec<u8>, number: u64) -> Result<(), AllocError>
-    ensures { OnOk result (out.new.items ≡ out.old.items ++ decimal number) }
+    ensures ok { OnOk result (out.new.items ≡ out.old.items ++ decimal number) }
+    ensures kept { OnErr result (KeepsFront out.old.items out.new.items) }
 {
     let mut digits = Buffer::new();
     out.extend_from_slice(digits.format(number).as_bytes())
@@ -171,7 +202,8 @@ pub(crate) fn reason_word(reason: Reason) -> &'static [u8]
 
 /// Writes the line that tells which line of a trace is refused, and why.
 pub(crate) fn push_refusal(out: &mut Vec<u8>, line: u64, reason: Reason) -> Result<(), AllocError>
-    ensures { OnOk result (out.new.items ≡ out.old.items ++ refusal_text line reason) }
+    ensures ok { OnOk result (out.new.items ≡ out.old.items ++ refusal_text line reason) }
+    ensures kept { OnErr result (KeepsFront out.old.items out.new.items) }
 {
     out.extend_from_slice(b"line ")?;
     push_number(out, line)?;
@@ -179,4 +211,106 @@ pub(crate) fn push_refusal(out: &mut Vec<u8>, line: u64, reason: Reason) -> Resu
     out.extend_from_slice(reason_word(reason))?;
     out.push(b'\n')?;
     Ok(())
+}
+
+#[cfg(test)]
+mod tests {
+    use super::*;
+    use aio_base::Moment;
+    use std::test::Fail;
+
+    #[test]
+    fn answers_have_their_lines(rt: HostRuntime) -> Result<(), Fail> {
+        let moment = Moment::new(1_000_000_000_000_000_000).ok_or("no moment")?;
+        for (answer, line) in [
+            (Answer::KeyIs(Key(4095)), "key 4095\n"),
+            (Answer::Full, "full\n"),
+            (Answer::FaultAdd, "fault add\n"),
+            (Answer::Gone, "gone\n"),
+            (Answer::NoSource, "no source\n"),
+            (Answer::InUse, "in use\n"),
+            (Answer::FaultRemove, "fault remove\n"),
+            (Answer::Ready, "ready\n"),
+            (Answer::Pending, "pending\n"),
+            (Answer::FaultArm, "fault arm\n"),
+            (Answer::Listener(1), "listener 1\n"),
+            (Answer::NoListener, "no listener\n"),
+            (Answer::Dropped, "dropped\n"),
+            (Answer::Timer(20), "timer 20\n"),
+            (Answer::ReadyAt(moment), "ready 1000000000000000000\n"),
+            (Answer::NoTimer, "no timer\n"),
+            (Answer::Set, "set\n"),
+            (Answer::Ended, "ended\n"),
+            (Answer::At(moment), "at 1000000000000000000\n"),
+            (Answer::Back(moment), "back 1000000000000000000\n"),
+            (Answer::Noted, "noted\n"),
+            (
+                Answer::Begin {
+                    number: 1,
+                    limit: None,
+                },
+                "begin 1 wait none\n",
+            ),
+            (
+                Answer::Begin {
+                    number: 2,
+                    limit: Some(0),
+                },
+                "begin 2 wait 0\n",
+            ),
+            (Answer::Locked, "locked\n"),
+            (Answer::Given(1024), "given 1024\n"),
+            (Answer::Interrupted, "interrupted\n"),
+            (Answer::FaultWait, "fault wait\n"),
+            (Answer::NoRound, "no round\n"),
+            (Answer::Events(3), "events 3\n"),
+            (
+                Answer::Handled {
+                    key: Key(0),
+                    fault: false,
+                },
+                "handled 0\n",
+            ),
+            (
+                Answer::Handled {
+                    key: Key(0),
+                    fault: true,
+                },
+                "handled 0 fault arm\n",
+            ),
+            (Answer::Empty, "empty\n"),
+            (Answer::End(EndWord::Clean), "end ok\n"),
+            (Answer::End(EndWord::FaultWait), "end fault wait\n"),
+            (Answer::End(EndWord::FaultArm), "end fault arm\n"),
+            (
+                Answer::Round {
+                    number: 1,
+                    events: 2,
+                    end: EndWord::Clean,
+                },
+                "round 1 events 2 ok\n",
+            ),
+            (Answer::Wake(Waker(4_294_967_295)), "wake 4294967295\n"),
+        ] {
+            let mut out = Vec::new(rt.alloc());
+            push_answer(&mut out, &answer)?;
+            assert_eq!(rt; out.as_slice(), line.as_bytes(), "{line}");
+        }
+        Ok(())
+    }
+
+    #[test]
+    fn replies_and_refusals_follow_what_was_written(rt: HostRuntime) -> Result<(), Fail> {
+        let mut out = Vec::new(rt.alloc());
+        let round = Answer::Round {
+            number: 2,
+            events: 1,
+            end: EndWord::FaultArm,
+        };
+        push_reply(&mut out, &round, &[Waker(2), Waker(1)])?;
+        push_refusal(&mut out, 12, Reason::Stage)?;
+        let want = "round 2 events 1 fault arm\nwake 2\nwake 1\nline 12: stage\n";
+        assert_eq!(rt; out.as_slice(), want.as_bytes());
+        Ok(())
+    }
 }

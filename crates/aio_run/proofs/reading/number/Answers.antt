@@ -1,4 +1,4 @@
-use Rattle.std.proofs.Common.{◌≡◌, ◌+◌, ◌-◌, ◌*◌, ◌^◌, ◌<◌, ◌≤◌, length, take, drop, get_or, sym, ap, ◌∙◌, subst, inl, inr, arith, ℕ, List, Result, Ok, Err, Some}
+use Rattle.std.proofs.Common.{◌≡◌, ◌^◌, ◌<◌, ◌≤◌, length, take, get_or, sym, ap, ◌∙◌, subst, inl, inr, arith, ℕ, List, Result, Ok, Err, Some}
 use Rattle.std.specs.Result.{OkIff, result_ok}
 use Rattle.std.specs.Str.Parse.{AllDigits}
 use Rattle.std.proofs.lemmas.Fmt.{digits_value-decimal}

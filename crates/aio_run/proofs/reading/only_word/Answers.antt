@@ -1,7 +1,7 @@
 use Rattle.std.proofs.Common.{◌∷◌, ap, ◌∙◌}
 use Rattle.std.specs.Option.{option_copied}
 use Rattle.aio_base.proofs.Words.{words_begin}
-use Rattle.aio_run.specs.Reading.{HasMore, words_behind}
+use Rattle.aio_run.specs.Reading.{words_behind}
 use Rattle.aio_run.proofs.reading.only_word.Goals as goal
 
 pub returns-in-Some : goal.returns-in-Some

@@ -1,4 +1,4 @@
-use Rattle.std.proofs.Common.{◌≡◌, sym, ap, ◌∙◌, option_and_then}
+use Rattle.std.proofs.Common.{sym, ap, ◌∙◌, option_and_then}
 use Rattle.std.specs.Option.{option_copied}
 use Rattle.aio_base.specs.Trace.{step_of_words, written_step}
 use Rattle.aio_run.specs.Reading.{step_of, words_behind}

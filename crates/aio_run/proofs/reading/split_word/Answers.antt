@@ -1,9 +1,8 @@
-use Rattle.std.proofs.Common.{◌≡◌, ◌∷◌, ◌+◌, ◌<◌, length, take, drop, get_or, eqb, false, sym, ap, ◌∙◌, subst, arith}
+use Rattle.std.proofs.Common.{◌≡◌, ◌+◌, take, eqb, false, subst, arith}
 use Rattle.std.specs.List.{All}
 use Rattle.std.proofs.lemmas.List.{take_rest, take_all}
 use Rattle.std.proofs.lemmas.List.Elements.{All-more}
 use Rattle.std.proofs.lemmas.Bool.Decides.{nat_tests}
-use Rattle.aio_base.specs.Trace.{words_of}
 use Rattle.aio_base.proofs.Words.{words_of_at, words_of_one}
 use Rattle.aio_run.proofs.reading.split_word.Goals as goal
 

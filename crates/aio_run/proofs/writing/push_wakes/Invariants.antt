@@ -1,9 +1,9 @@
 use Rattle.std.proofs.Common.{◌≡◌, ◌++◌, take, flat_map}
 use Rattle.aio_base.specs.declared.steps.Answer.TheVariants.{Wake}
 use Rattle.aio_base.specs.Text.{answer_line, ended_line}
-use Rattle.aio_run.proofs.writing.push_reply.Given as goal
+use Rattle.aio_run.proofs.writing.push_wakes.Given as goal
 
--- the answer's line and those of the wakes so far
+-- the lines of the wakes so far
 abbrev pub invariant-loop-waker : goal.invariant-loop-waker
 invariant-loop-waker l =
-    l.out.items ≡ l.fn.out.items ++ ended_line (answer_line l.answer) ++ flat_map (λ waker. ended_line (answer_line (Wake waker))) (take l.waker-index l.wakes)
+    l.out.items ≡ l.fn.out.items ++ flat_map (λ waker. ended_line (answer_line (Wake waker))) (take l.waker-index l.wakes)
