@@ -12,7 +12,7 @@ use Rattle.std.proofs.lemmas.Int.Digits.{digits_more}
 use Rattle.std.proofs.lemmas.Str.{digit_value_digit}
 use Rattle.std.proofs.lemmas.Fmt.{digits_decimal, digits_value-decimal, decimal-digits_value, decimal_digit, decimal_nonempty, first_decimal, length-decimal-le}
 use Rattle.aio_base.specs.declared.steps.Step.{Step}
-use Rattle.aio_base.specs.Trace.{words_of, value_after, number_of, alone, event_of, poll_of}
+use Rattle.aio_base.specs.Trace.{words_of, value_after, number_of, alone}
 
 -- ## Words
 
@@ -28,13 +28,6 @@ words_begin (b ∷ bytes) =
 -- a step alone has no word behind it
 pub alone_none : (s : Step) (text : List ℕ) → alone s (words_of text) ≡ None
 alone_none s text = let w = words_begin text in ap (alone s) w.2
-
--- a step of two or three places has no word behind them
-pub event_none : (key flags text : List ℕ) → event_of (key ∷ flags ∷ words_of text) ≡ None
-event_none key flags text = let w = words_begin text in ap (λ words. event_of (key ∷ flags ∷ words)) w.2
-
-pub poll_none : (key dir waker text : List ℕ) → poll_of (key ∷ dir ∷ waker ∷ words_of text) ≡ None
-poll_none key dir waker text = let w = words_begin text in ap (λ words. poll_of (key ∷ dir ∷ waker ∷ words)) w.2
 
 -- the first word ends at the first space
 pub words_of_at : (text : List ℕ) (at : ℕ) → at < length text → All (λ b. eqb b 32 ≡ false) (take at text) → get_or text at 0 ≡ 32 → words_of text ≡ take at text ∷ words_of (drop (at + 1) text)

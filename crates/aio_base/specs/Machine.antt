@@ -63,8 +63,13 @@ abbrev pub pending : Bool → World → ℕ → ℕ → List Waker → List Poll
 pending false w key serial wakes answers =
     record { answer = answer.Pending; wakes = wakes; world = w; calls = []; left = answers }
 pending true w key serial wakes answers =
-    record { answer = if fails (next_answer answers) then answer.FaultArm else answer.Pending; wakes = wakes;
-      world = after_arm w key serial (next_answer answers); calls = which.Arm ∷ []; left = later_answers answers }
+    record {
+      answer = if fails (next_answer answers) then answer.FaultArm else answer.Pending;
+      wakes = wakes;
+      world = after_arm w key serial (next_answer answers);
+      calls = which.Arm ∷ [];
+      left = later_answers answers;
+    }
 
 -- ## Sources
 
@@ -92,9 +97,13 @@ add w answers =
       answer = if failed then answer.FaultAdd else answer.KeyIs (record { 0 = key });
       wakes = [];
       world = if failed then w else record w {
-        live = w.live ++ record { key = key; serial = w.serials + 1 } ∷ []; serials = w.serials + 1; armed = set_armed w.armed key [] };
+        live = w.live ++ record { key = key; serial = w.serials + 1 } ∷ [];
+        serials = w.serials + 1;
+        armed = set_armed w.armed key [];
+      };
       calls = which.Add ∷ [];
-      left = later_answers answers }
+      left = later_answers answers;
+    }
 
 -- the source leaves with its poll waiters, marks and broken entry, without a wake; where the poller fails its interests stay
 abbrev pub remove_source : World → ℕ → ℕ → List PollerAnswer → Outcome
@@ -108,9 +117,11 @@ remove_source w key serial answers =
         poll_waiters = filter (λ (p : PollWaiter). not (p.serial == serial)) w.poll_waiters;
         marks = filter (λ (m : Mark). not (m.serial == serial)) w.marks;
         broken = without_broken w.broken serial;
-        armed = if failed then w.armed else set_armed w.armed key [] };
+        armed = if failed then w.armed else set_armed w.armed key [];
+      };
       calls = which.Remove ∷ [];
-      left = later_answers answers }
+      left = later_answers answers;
+    }
 
 abbrev pub del_source : World → ℕ → Option ℕ → List PollerAnswer → Outcome
 del_source w key None answers = quiet answer.NoSource w answers
@@ -129,7 +140,8 @@ is_waker waker held = option_map_or (λ (v : Waker). v.0 == waker.0) held false
 abbrev pub with_waiter : World → ℕ → Dir → Waker → World
 with_waiter w serial dir waker = record w {
   poll_waiters = without_waiter w.poll_waiters serial dir ++ record { serial = serial; dir = dir; waker = waker } ∷ [];
-  marks = without_mark w.marks serial dir ++ record { serial = serial; dir = dir; position = w.pos } ∷ [] }
+  marks = without_mark w.marks serial dir ++ record { serial = serial; dir = dir; position = w.pos } ∷ [];
+}
 
 -- `async-io` 2, `reactor.rs`, `Source::poll_ready`
 abbrev pub poll_source : World → ℕ → Dir → Waker → Option ℕ → List PollerAnswer → Outcome
@@ -149,7 +161,8 @@ new_listener w dir (Some serial) answers =
     let number = w.listeners_drawn + 1 in
     quiet (answer.Listener number) (record w {
       listeners = w.listeners ++ record { number = number; serial = serial; dir = dir; position = None; waker = None } ∷ [];
-      listeners_drawn = number }) answers
+      listeners_drawn = number;
+    }) answers
 
 abbrev pub is_listener : ℕ → ListenerEntry → Bool
 is_listener number l = l.number == number
@@ -170,7 +183,7 @@ step_listener w waker None answers = quiet answer.NoListener w answers
 step_listener w waker (Some entry) answers =
     if is_fresh_since w entry.serial entry.dir entry.position then quiet answer.Ready w answers
     else pending (is_idle w entry.serial entry.dir || is_broken w entry.serial)
-      (record w { listeners = with_listening w entry waker }) (unwrap_or (key_of w entry.serial) 0) entry.serial [] answers
+    (record w { listeners = with_listening w entry waker }) (unwrap_or (key_of w entry.serial) 0) entry.serial [] answers
 
 abbrev pub drop_listener : World → ℕ → Option ListenerEntry → List PollerAnswer → Outcome
 drop_listener w number None answers = quiet answer.NoListener w answers
@@ -190,7 +203,8 @@ new_timer w deadline period answers =
     let number = w.timers_made + 1 in
     quiet (answer.Timer number) (record w {
       timers = w.timers ++ record { number = number; deadline = deadline; period = period; id = None; kept = None } ∷ [];
-      timers_made = number }) answers
+      timers_made = number;
+    }) answers
 
 -- the world with another entry in a timer's place
 abbrev pub with_timer : World → TimerEntry → World
@@ -206,8 +220,10 @@ abbrev pub registered : World → TimerEntry → ℕ → Waker → World
 registered w entry deadline waker =
     let id = w.ids_drawn + 1 in
     with_timer (record w {
-      ids_drawn = id; registrations = w.registrations ++ record { id = id; deadline = deadline; waker = waker } ∷ [] })
-      (record entry { deadline = Some deadline; id = Some id; kept = Some waker })
+      ids_drawn = id;
+      registrations = w.registrations ++ record { id = id; deadline = deadline; waker = waker } ∷ [];
+    })
+    (record entry { deadline = Some deadline; id = Some id; kept = Some waker })
 
 -- the deadline after one that fired: a period later, where there is a period and the last moment is not passed
 abbrev pub next_deadline : ℕ → Option ℕ → Option ℕ
@@ -272,9 +288,19 @@ begin_round w given answers =
     else (let number = w.rounds + 1 in
     let limit = limit_of w.now w.registrations given in
     quiet (answer.Begin number limit) (record w {
-      registrations = after_pass w.now w.registrations; rounds = number; begun = w.begun ++ w.pos ∷ [];
-      round = Some (record { number = number; begin = w.pos; limit = limit; in_hand = []; taken = due_wakers w.now w.registrations;
-        last_wait = None; fault = Clean }) }) answers)
+      registrations = after_pass w.now w.registrations;
+      rounds = number;
+      begun = w.begun ++ w.pos ∷ [];
+      round = Some (record {
+        number = number;
+        begin = w.pos;
+        limit = limit;
+        in_hand = [];
+        taken = due_wakers w.now w.registrations;
+        last_wait = None;
+        fault = Clean;
+      });
+    }) answers)
 
 -- the first fault of a round is kept
 abbrev pub first_fault : EndWord → EndWord → EndWord
@@ -286,14 +312,29 @@ abbrev pub wait_answered : World → RoundState → PollerAnswer → List Poller
 wait_answered w round told rest =
     let kept = record round { last_wait = Some told } in
     elim told [
-      Fails ↦ record { answer = answer.FaultWait; wakes = [];
-        world = record w { round = Some (record kept { fault = first_fault round.fault FaultWait }) }; calls = which.Wait ∷ []; left = rest }
-    | IsInterrupted ↦ record { answer = answer.Interrupted; wakes = []; world = record w { round = Some kept }; calls = which.Wait ∷ []; left = rest }
-    | Succeeds ↦ record { answer = answer.Given 0; wakes = []; world = record w { round = Some (record kept { last_wait = Some (Gives []) }) };
-        calls = which.Wait ∷ []; left = rest }
-    | Gives events ↦ record { answer = answer.Given (length events); wakes = [];
+      | Fails ↦ record {
+        answer = answer.FaultWait;
+        wakes = [];
+        world = record w { round = Some (record kept { fault = first_fault round.fault FaultWait }) };
+        calls = which.Wait ∷ [];
+        left = rest;
+      }
+      | IsInterrupted ↦ record { answer = answer.Interrupted; wakes = []; world = record w { round = Some kept }; calls = which.Wait ∷ []; left = rest }
+      | Succeeds ↦ record {
+        answer = answer.Given 0;
+        wakes = [];
+        world = record w { round = Some (record kept { last_wait = Some (Gives []) }) };
+        calls = which.Wait ∷ [];
+        left = rest;
+      }
+      | Gives events ↦ record {
+        answer = answer.Given (length events);
+        wakes = [];
         world = record w { round = Some (record kept { in_hand = events }); armed = clear_armed w.armed events };
-        calls = which.Wait ∷ []; left = rest } ]
+        calls = which.Wait ∷ [];
+        left = rest;
+      }
+    ]
 
 abbrev pub wait_in : World → Option RoundState → List PollerAnswer → Outcome
 wait_in w None answers = quiet answer.NoRound w answers
@@ -309,7 +350,8 @@ abbrev pub without_waiters : World → ℕ → ℕ → Dir → World
 without_waiters w serial begin dir = record w {
   poll_waiters = without_waiter w.poll_waiters serial dir;
   listeners = map (λ (l : ListenerEntry). if is_of serial dir l.serial l.dir then record l { waker = None } else l) w.listeners;
-  handled = w.handled ++ record { serial = serial; dir = dir; begin = begin } ∷ [] }
+  handled = w.handled ++ record { serial = serial; dir = dir; begin = begin } ∷ [];
+}
 
 -- after the directions were taken one after the other
 abbrev pub world_taken : World → ℕ → ℕ → List Dir → World
@@ -332,7 +374,8 @@ rearmed w round key serial answers =
       wakes = [];
       world = if fails told then record armed { round = Some (record round { fault = first_fault round.fault FaultArm }) } else armed;
       calls = which.Arm ∷ [];
-      left = later_answers answers }
+      left = later_answers answers;
+    }
 
 abbrev pub handle_source : World → RoundState → Event → Option ℕ → List PollerAnswer → Outcome
 handle_source w round event None answers = quiet (answer.Handled event.key false) (record w { round = Some round }) answers
@@ -374,7 +417,9 @@ finish_in w (Some round) answers =
       answer = answer.End round.fault;
       wakes = if second then round.taken ++ due_wakers w.now w.registrations else round.taken;
       world = record w { round = None; registrations = if second then after_pass w.now w.registrations else w.registrations };
-      calls = []; left = answers }
+      calls = [];
+      left = answers;
+    }
     else quiet (answer.Events (length round.in_hand)) w answers
 
 abbrev pub finish_round : World → List PollerAnswer → Outcome
@@ -410,7 +455,8 @@ react w given answers =
       wakes = ended.wakes;
       world = ended.world;
       calls = waited.calls ++ handled.calls;
-      left = ended.left }
+      left = ended.left;
+    }
 
 -- ## A step
 

@@ -124,9 +124,27 @@ nothing_due = record { add = false; arm = false; remove = false; wait = false; i
 -- the opening world: empty lists, zeros and no round
 abbrev pub opening : World
 opening = record {
-  now = 0; pos = 0; live = []; serials = 0; poll_waiters = []; marks = []; listeners = []; listeners_drawn = 0; armed = []; broken = [];
-  registrations = []; ids_drawn = 0; timers = []; timers_made = 0; noted = []; due = nothing_due; round = None; rounds = 0; begun = [];
-  handled = [] }
+  now = 0;
+  pos = 0;
+  live = [];
+  serials = 0;
+  poll_waiters = [];
+  marks = [];
+  listeners = [];
+  listeners_drawn = 0;
+  armed = [];
+  broken = [];
+  registrations = [];
+  ids_drawn = 0;
+  timers = [];
+  timers_made = 0;
+  noted = [];
+  due = nothing_due;
+  round = None;
+  rounds = 0;
+  begun = [];
+  handled = [];
+}
 
 -- all directions, in the order in which one event takes waiters
 abbrev pub directions : List Dir

@@ -14,5 +14,4 @@ pub fn remembered_rounds_tell_freshness()
         → AllBegun handled begun → second ≤ rounds_at begun position
         → is_fresh handled serial dir position
         ≡ nat_lt (rounds_at begun position) (last_tick begun handled serial dir) && nat_lt second (last_tick begun handled serial dir) }
-{
-}
+{}

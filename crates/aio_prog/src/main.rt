@@ -4,11 +4,10 @@
 
 use aio_bytes::{StdSink, StdSource, write_all};
 use aio_run::run;
-use std::env;
-use std::io;
 use std::io::{BufReader, ErrorKind};
 use std::process::ExitCode;
 use std::rt::Env;
+use std::{env, io};
 
 /// How many bytes of standard input are read ahead.
 const READ_AHEAD: usize = 65_536;

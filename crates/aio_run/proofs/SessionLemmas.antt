@@ -1,9 +1,9 @@
 -- Facts on what is unread of an input, and on what is written of a text.
-use Rattle.std.proofs.Common.{◌≡◌, ◌≢◌, ℕ, ◌+◌, ◌*◌, ◌≤◌, ◌<◌, Bool, true, false, ◌==◌, ◌||◌, if◌then◌else◌, List, [], ◌∷◌, ◌++◌, length, Option, None, Some, Ok, refl, sym, ap, ◌∙◌, subst, append_assoc, append-nil, length-append, arith, eqb, eq-eqb}
+use Rattle.std.proofs.Common.{◌≡◌, ◌≢◌, ℕ, ◌≤◌, Bool, true, false, ◌||◌, if◌then◌else◌, List, [], ◌∷◌, ◌++◌, length, Option, None, Some, Ok, refl, sym, ap, ◌∙◌, subst, append_assoc, append-nil, length-append, arith}
 use Rattle.std.specs.List.{list_any}
-use Rattle.std.specs.Io.KnownBytes.{Appends, Consumes, Keeps, IsAtEnd}
+use Rattle.std.specs.Io.KnownBytes.{Consumes, Keeps, IsAtEnd}
 use Rattle.std.proofs.KnownBytes.{Appends-trans, Appends-nil}
-use Rattle.aio_base.specs.Trace.{lines_of, onto_first_line, written_step, header_text}
+use Rattle.aio_base.specs.Trace.{lines_of, onto_first_line}
 use Rattle.aio_base.proofs.Spellings.{long_front_spells_none, long_front_is_no_header}
 use Rattle.aio_bytes.specs.Held.{HasNoLineFeed, is_line_feed, PutsAhead}
 use Rattle.aio_bytes.specs.Sinks.{AppendsPart}
@@ -18,14 +18,16 @@ pub Sends-trans : (a b c : Option (List ℕ)) (x y z : List ℕ) → Sends a b x
 Sends-trans a b c x y z p q = record {
   sent = p.sent ++ q.sent;
   appended = Appends-trans a b c p.sent q.sent p.appended q.appended;
-  whole = p.whole ∙ ap (λ t. p.sent ++ t) q.whole ∙ sym (append_assoc p.sent q.sent z) }
+  whole = p.whole ∙ ap (λ t. p.sent ++ t) q.whole ∙ sym (append_assoc p.sent q.sent z);
+}
 
 pub Sends-part : (a b c : Option (List ℕ)) (x y : List ℕ) → Sends a b x y → AppendsPart b c y → AppendsPart a c x
 Sends-part a b c x y p q = record {
   added = p.sent ++ q.added;
   rest = q.rest;
   whole = p.whole ∙ ap (λ t. p.sent ++ t) q.whole ∙ sym (append_assoc p.sent q.added q.rest);
-  appended = Appends-trans a b c p.sent q.added p.appended q.appended }
+  appended = Appends-trans a b c p.sent q.added p.appended q.appended;
+}
 
 consumed : (left : List ℕ) (after : Option (List ℕ)) (piece : List ℕ) → Consumes (Some left) after piece
     → (rest : List ℕ) × (after ≡ Some rest) × (left ≡ piece ++ rest)
@@ -43,20 +45,23 @@ unread-read told after ahead new unread n u p =
     record {
       left = found.0;
       is_left = found.1;
-      whole = u.whole ∙ ap (λ t. ahead ++ t) found.2 ∙ sym (append_assoc ahead p.piece found.0) ∙ ap (λ t. t ++ found.0) (sym p.ahead) }
+      whole = u.whole ∙ ap (λ t. ahead ++ t) found.2 ∙ sym (append_assoc ahead p.piece found.0) ∙ ap (λ t. t ++ found.0) (sym p.ahead);
+    }
 
 pub unread-kept : (told after : Option (List ℕ)) (ahead new unread : List ℕ) → Unread told ahead unread → Keeps told after → new ≡ ahead
     → Unread after new unread
 unread-kept told after ahead new unread u k same = record {
   left = u.left;
   is_left = kept u.left after (subst (λ t. Keeps t after) u.is_left k);
-  whole = u.whole ∙ ap (λ t. t ++ u.left) (sym same) }
+  whole = u.whole ∙ ap (λ t. t ++ u.left) (sym same);
+}
 
 pub unread-most : (told : Option (List ℕ)) (ahead unread : List ℕ) → Unread told ahead unread → length ahead ≤ 257 → LeavesAllBut 257 told unread
 unread-most told ahead unread u le = record {
   left = u.left;
   is_left = u.is_left;
-  most = rw u.whole (omega (arith, length-append ahead u.left)) }
+  most = rw u.whole (omega (arith, length-append ahead u.left));
+}
 
 cons_not_nil : (c : ℕ) (bytes : List ℕ) → c ∷ bytes ≡ [] → ⊥
 cons_not_nil c bytes e = cc
@@ -113,7 +118,8 @@ takes_line told ahead line new unread u cut none le =
       is_rest = record { left = u.left; is_left = u.is_left; whole = refl };
       lines = ap lines_of split ∙ lines_of-first line (new ++ u.left) none;
       most = omega (arith, ap length split, length-append line (10 ∷ (new ++ u.left)), ap length cut, length-append line (10 ∷ new));
-      held = unread-most told ahead unread u le }
+      held = unread-most told ahead unread u le;
+    }
 
 pub takes_last : (told : Option (List ℕ)) (ahead unread : List ℕ) → Unread told ahead unread → IsAtEnd told → ahead ≢ [] → HasNoLineFeed ahead
     → length ahead ≤ 257 → TakesLine told ahead [] unread
@@ -125,7 +131,8 @@ takes_last told ahead unread u at_end some none le =
       is_rest = record { left = []; is_left = u.is_left ∙ ap Some empty; whole = refl };
       lines = ap lines_of whole ∙ lines_of-last ahead some none;
       most = omega (arith, ap length whole);
-      held = unread-most told ahead unread u le }
+      held = unread-most told ahead unread u le;
+    }
 
 pub ends_unread : (told : Option (List ℕ)) (ahead unread : List ℕ) → Unread told ahead unread → IsAtEnd told → ahead ≡ []
     → (unread ≡ []) × (told ≡ Some [])
@@ -143,11 +150,15 @@ begins_unread told (c ∷ front) unread u full none =
       others = found.1;
       lines = ap lines_of u.whole ∙ found.2;
       no_step = long_front_spells_none (c ∷ front) found.0 full;
-      no_header = long_front_is_no_header (c ∷ front) found.0 full }
+      no_header = long_front_is_no_header (c ∷ front) found.0 full;
+    }
 
 pub unread-same : (told : Option (List ℕ)) (ahead new unread : List ℕ) → Unread told ahead unread → new ≡ ahead → Unread told new unread
 unread-same told ahead new unread u same = record {
-  left = u.left; is_left = u.is_left; whole = u.whole ∙ ap (λ t. t ++ u.left) (sym same) }
+  left = u.left;
+  is_left = u.is_left;
+  whole = u.whole ∙ ap (λ t. t ++ u.left) (sym same);
+}
 
 added-none : (ahead piece : List ℕ) → length piece ≡ 0 → ahead ++ piece ≡ ahead
 added-none ahead [] zero = append-nil ahead

@@ -1,12 +1,11 @@
 -- From what stands before a line to what stands after it, or to what an end says.
-use Rattle.std.proofs.Common.{◌≡◌, ◌≢◌, ℕ, ◌+◌, ◌*◌, ◌≤◌, ◌<◌, Bool, true, false, nat_lt, if◌then◌else◌, List, [], ◌∷◌, ◌++◌, length, Option, None, Some, refl, sym, ap, ◌∙◌, subst, append_assoc, append-nil, arith, replicate, bytes_eq, flat_map}
+use Rattle.std.proofs.Common.{◌≡◌, ℕ, ◌+◌, ◌*◌, ◌≤◌, ◌<◌, Bool, true, false, nat_lt, if◌then◌else◌, List, [], ◌∷◌, ◌++◌, length, Option, None, Some, Result, Ok, Err, refl, sym, ap, ◌∙◌, subst, append_assoc, append-nil, arith, bytes_eq}
 use Rattle.std.proofs.lemmas.Bool.Decides.{nat_tests}
 use Rattle.std.specs.Io.KnownBytes.{Appends}
 use Rattle.std.proofs.KnownBytes.{Appends-trans, Appends-nil}
 use Rattle.aio_base.specs.declared.names.Waker.{Waker}
 use Rattle.aio_base.specs.declared.steps.Step.{Step}
 use Rattle.aio_base.specs.declared.steps.Answer.{Answer}
-use Rattle.aio_base.specs.declared.steps.Reason.{Reason}
 use Rattle.aio_base.specs.declared.steps.Reason.TheVariants as reason
 use Rattle.aio_base.specs.World.{World, opening}
 use Rattle.aio_base.specs.Script.{output, output_from, world_after, script_step, reply_text}
@@ -17,8 +16,8 @@ use Rattle.aio_run.specs.declared.ends.End.{End}
 use Rattle.aio_run.specs.declared.ends.End.TheVariants as ends
 use Rattle.aio_run.specs.Kept.{Kept, kept_step}
 use Rattle.aio_run.specs.Ties.{StandsFor, Follows}
-use Rattle.aio_run.specs.Session.{Sends, Unread, LeavesAllBut, BeginsUnread, TakesLine, EndsSo, Says, bytes_of_end}
-use Rattle.aio_run.specs.Steps.{Opens, Answers, Standing, LineTaken, GoesOn, Closes, Closing, after_steps, refusal_of, IsRead}
+use Rattle.aio_run.specs.Session.{Sends, SendsOrStops, Unread, LeavesAllBut, BeginsUnread, TakesLine, EndsSo, bytes_of_end}
+use Rattle.aio_run.specs.Steps.{Opens, Answers, Standing, LineTaken, Closes, Closing, after_steps, refusal_of, IsRead}
 use Rattle.aio_run.proofs.Simulation.{kept_step-follows}
 use Rattle.aio_run.proofs.OpeningStands.{new_stands_for}
 
@@ -43,9 +42,11 @@ world_after-push w (d ∷ done) s = world_after-push (script_step w d).world don
 pub answered : (kept new : Kept) (s : Step) (a : Answer) (wakes : List Waker) (text_old text_new : List ℕ) → IsBuilt s
     → kept_step kept s ≡ record { answer = a; wakes = wakes; kept = new } → text_new ≡ text_old ++ reply_text a wakes → Answers s kept new text_old text_new
 answered kept new s a wakes text_old text_new built stepped text w stands =
-    let follows : Follows w s (record { answer = a; wakes = wakes; kept = new }) = subst (Follows w s) stepped (kept_step-follows kept w s built stands) in
-    (text ∙ ap (λ t. text_old ++ reply_text t wakes) (sym follows.answer)
-      ∙ ap (λ t. text_old ++ reply_text (script_step w s).answer t) (sym follows.wakes), follows.stands)
+    let follows : Follows w s (record { answer = a; wakes = wakes; kept = new }) = subst (Follows w s) stepped (kept_step-follows kept w s built stands) in (
+      text ∙ ap (λ t. text_old ++ reply_text t wakes) (sym follows.answer)
+          ∙ ap (λ t. text_old ++ reply_text (script_step w s).answer t) (sym follows.wakes),
+      follows.stands,
+    )
 
 -- ## The trace of an input, line by line
 
@@ -84,7 +85,8 @@ takes input told now first old new line ahead bytes left text kept_text kept s t
   appended = Appends-trans first old new s.sent sends.sent s.appended sends.appended;
   whole = append_assoc s.sent sends.sent kept_text ∙ ap (λ x. s.sent ++ x) (sym sends.whole) ∙ s.whole;
   most = omega (arith, s.most, t.most);
-  held = record { left = t.held.left; is_left = t.held.is_left; most = omega (arith, s.most, t.held.most) } }
+  held = record { left = t.held.left; is_left = t.held.is_left; most = omega (arith, s.most, t.held.most) };
+}
 
 pub goes_on : (input : List ℕ) (told first out : Option (List ℕ)) (line : ℕ) (bytes ahead text new : List ℕ) (kept after : Kept) (s : Step)
     → LineTaken input told first out line bytes ahead text kept → line ≤ 1000000 → written_step bytes ≡ Some s → Answers s kept after text new
@@ -101,20 +103,26 @@ goes_on input told first out line bytes ahead text new kept after s t le some an
       sent = t.sent;
       appended = t.appended;
       whole = ap (λ x. t.sent ++ x) reply.0
-        ∙ sym (append_assoc t.sent text (reply_text (script_step (world_after opening t.done) s).answer (script_step (world_after opening t.done) s).wakes))
-        ∙ ap (λ x. x ++ reply_text (script_step (world_after opening t.done) s).answer (script_step (world_after opening t.done) s).wakes) t.whole
-        ∙ sym (output-push t.done s);
-      most = omega (arith, t.most) }
+          ∙ sym (append_assoc t.sent text (reply_text (script_step (world_after opening t.done) s).answer (script_step (world_after opening t.done) s).wakes))
+          ∙ ap (λ x. x ++ reply_text (script_step (world_after opening t.done) s).answer (script_step (world_after opening t.done) s).wakes) t.whole
+          ∙ sym (output-push t.done s);
+      most = omega (arith, t.most);
+    }
 
 -- the text is written between two lines
 pub flushed : (input : List ℕ) (told first old new : Option (List ℕ)) (line : ℕ) (ahead text kept_text : List ℕ) (kept : Kept)
     → Standing input told first old line ahead text kept → Sends old new text kept_text → Standing input told first new line ahead kept_text kept
 flushed input told first old new line ahead text kept_text kept s sends = record {
-  done = s.done; rest = s.rest; is_rest = s.is_rest; says = s.says; world = s.world;
+  done = s.done;
+  rest = s.rest;
+  is_rest = s.is_rest;
+  says = s.says;
+  world = s.world;
   sent = s.sent ++ sends.sent;
   appended = Appends-trans first old new s.sent sends.sent s.appended sends.appended;
   whole = append_assoc s.sent sends.sent kept_text ∙ ap (λ x. s.sent ++ x) (sym sends.whole) ∙ s.whole;
-  most = s.most }
+  most = s.most;
+}
 
 -- ## To an end
 
@@ -125,18 +133,20 @@ part_of first old new sent text whole more p q e = record {
   added = sent ++ q.added;
   rest = q.rest ++ more;
   whole = ap (λ t. t ++ more) (sym e) ∙ ap (λ t. (sent ++ t) ++ more) q.whole
-    ∙ ap (λ t. t ++ more) (sym (append_assoc sent q.added q.rest)) ∙ append_assoc (sent ++ q.added) q.rest more;
-  appended = Appends-trans first old new sent q.added p q.appended }
+      ∙ ap (λ t. t ++ more) (sym (append_assoc sent q.added q.rest)) ∙ append_assoc (sent ++ q.added) q.rest more;
+  appended = Appends-trans first old new sent q.added p q.appended;
+}
 
 pub stops : (input : List ℕ) (now first old new : Option (List ℕ)) (sent text : List ℕ) (done : List Step) (t : Trace) (s : Stop)
     → trace_of input ≡ after_steps done t → Appends first old sent → sent ++ text ≡ output done → AppendsPart old new text
     → LeavesAllBut (257 * 1000001) now input → EndsSo (ends.Stopped s) input now first new
 stops input now first old new sent text done t s says appended whole part taken =
     let steps : output (trace_of input).steps ≡ output done ++ output_from (world_after opening done) t.steps =
-      ap (λ (x : Trace). output x.steps) says ∙ output-append opening done t.steps in
+    ap (λ (x : Trace). output x.steps) says ∙ output-append opening done t.steps in
     record {
       says = subst (AppendsPart first new) (sym steps) (part_of first old new sent text (output done) (output_from (world_after opening done) t.steps) appended part whole);
-      taken = taken }
+      taken = taken;
+    }
 
 pub nothing_written : (out : Option (List ℕ)) (text : List ℕ) → AppendsPart out out text
 nothing_written out text = record { added = []; rest = text; whole = refl; appended = Appends-nil out }
@@ -167,23 +177,34 @@ pub stops_between : (input : List ℕ) (told first old new : Option (List ℕ)) 
 stops_between input told first old new line ahead text kept e s l part =
     stops input told first old new s.sent text s.done _ e s.says s.appended s.whole part l
 
+-- what a flush wrote is a front part of the text, whether it stopped or not
+pub part_sent : (r : Result (Unit {0}) Stop) (old new : Option (List ℕ)) (text kept_text : List ℕ) → SendsOrStops r old new text kept_text → AppendsPart old new text
+part_sent (Ok done) old new text kept_text s = record { added = s.sent; rest = kept_text; whole = s.whole; appended = s.appended }
+part_sent (Err stop) old new text kept_text s = s
+
 pub closes : (result wanted : End) (input : List ℕ) (told first old new : Option (List ℕ)) (text : List ℕ) → Closing wanted input told first old text
     → Closes result wanted old new text → EndsSo result input told first new
 closes ends.Done wanted input told first old new text c e =
     let same : wanted ≡ ends.Done = e.0 in
     let steps : (trace_of input).steps ≡ c.done = ap (λ (t : Trace). t.steps) c.says in
     record {
-      says = (subst (λ (x : End). IsRead x told) same c.is_read,
+      says = (
+        subst (λ (x : End). IsRead x told) same c.is_read,
         ap (λ (t : Trace). t.refusal) c.says ∙ ap refusal_of same,
-        subst (Appends first new) (c.whole ∙ ap output (sym steps)) (Appends-trans first old new c.sent text c.appended e.1));
-      taken = subst (λ (x : End). LeavesAllBut (bytes_of_end x) told input) same c.taken }
+        subst (Appends first new) (c.whole ∙ ap output (sym steps)) (Appends-trans first old new c.sent text c.appended e.1),
+      );
+      taken = subst (λ (x : End). LeavesAllBut (bytes_of_end x) told input) same c.taken;
+    }
 closes (ends.Refused line why) wanted input told first old new text c e =
     let same : wanted ≡ ends.Refused line why = e.0 in
     let steps : (trace_of input).steps ≡ c.done = ap (λ (t : Trace). t.steps) c.says in
     record {
-      says = (ap (λ (t : Trace). t.refusal) c.says ∙ ap refusal_of same,
-        subst (Appends first new) (c.whole ∙ ap output (sym steps)) (Appends-trans first old new c.sent text c.appended e.1));
-      taken = subst (λ (x : End). LeavesAllBut (bytes_of_end x) told input) same c.taken }
+      says = (
+        ap (λ (t : Trace). t.refusal) c.says ∙ ap refusal_of same,
+        subst (Appends first new) (c.whole ∙ ap output (sym steps)) (Appends-trans first old new c.sent text c.appended e.1),
+      );
+      taken = subst (λ (x : End). LeavesAllBut (bytes_of_end x) told input) same c.taken;
+    }
 closes (ends.Stopped s) wanted input told first old new text c e =
     stops input told first old new c.sent text c.done (record { steps = []; refusal = refusal_of wanted }) s
     (c.says ∙ sym (after_steps-end c.done (refusal_of wanted))) c.appended c.whole e
@@ -196,9 +217,13 @@ pub refuses_line : (input : List ℕ) (told first out : Option (List ℕ)) (line
 refuses_line input told first out line bytes ahead text kept t le none = record {
   done = t.done;
   says = t.says ∙ ap (after_steps t.done) (says_refused line bytes (lines_of t.rest) le none) ∙ after_steps-end t.done (refusal_of (ends.Refused line reason.Stage));
-  sent = t.sent; appended = t.appended; whole = t.whole; is_read = tt;
+  sent = t.sent;
+  appended = t.appended;
+  whole = t.whole;
+  is_read = tt;
   taken = t.held;
-  few = omega (arith, le) }
+  few = omega (arith, le);
+}
 
 -- what is written of the text before an end stays to be written of it
 closing_sends : (wanted : End) (input : List ℕ) (now first old new : Option (List ℕ)) (text kept_text sent : List ℕ) (done : List Step)
@@ -206,11 +231,15 @@ closing_sends : (wanted : End) (input : List ℕ) (now first old new : Option (L
     → IsRead wanted now → LeavesAllBut (bytes_of_end wanted) now input → bytes_of_end wanted ≤ 257 * 1000001
     → Closing wanted input now first new kept_text
 closing_sends wanted input now first old new text kept_text sent done says appended whole sends is_read taken few = record {
-  done = done; says = says;
+  done = done;
+  says = says;
   sent = sent ++ sends.sent;
   appended = Appends-trans first old new sent sends.sent appended sends.appended;
   whole = append_assoc sent sends.sent kept_text ∙ ap (λ x. sent ++ x) (sym sends.whole) ∙ whole;
-  is_read = is_read; taken = taken; few = few }
+  is_read = is_read;
+  taken = taken;
+  few = few;
+}
 
 held_more : (input : List ℕ) (now : Option (List ℕ)) (rest : List ℕ) (line : ℕ) → length input + 257 ≤ 257 * line + length rest → LeavesAllBut 257 now rest
     → LeavesAllBut (257 * line) now input
@@ -234,7 +263,7 @@ pub refuses_long : (input : List ℕ) (told now first old new : Option (List ℕ
 refuses_long input told now first old new line ahead text kept_text kept s le b l sends =
     closing_sends (ends.Refused line reason.Stage) input now first old new text kept_text s.sent s.done
     (s.says ∙ ap (λ lines. after_steps s.done (trace_from line lines)) b.lines
-      ∙ ap (after_steps s.done) (says_refused line b.first b.others le b.no_step) ∙ after_steps-end s.done (refusal_of (ends.Refused line reason.Stage)))
+    ∙ ap (after_steps s.done) (says_refused line b.first b.others le b.no_step) ∙ after_steps-end s.done (refusal_of (ends.Refused line reason.Stage)))
     s.appended s.whole sends tt (held_more input now s.rest line s.most l) (omega (arith, le))
 
 past : (line : ℕ) (bytes : List ℕ) (lines : List (List ℕ)) → 1000000 < line → trace_from line (bytes ∷ lines) ≡ refused line reason.Lines
@@ -249,7 +278,7 @@ pub refuses_past : (input : List ℕ) (told now first old new : Option (List ℕ
 refuses_past input told now first old new ahead text kept_text first_line others kept s lines l sends =
     closing_sends (ends.Refused 1000001 reason.Lines) input now first old new text kept_text s.sent s.done
     (s.says ∙ ap (λ x. after_steps s.done (trace_from 1000001 x)) lines
-      ∙ ap (after_steps s.done) (past 1000001 first_line others (omega arith)) ∙ after_steps-end s.done (refusal_of (ends.Refused 1000001 reason.Lines)))
+    ∙ ap (after_steps s.done) (past 1000001 first_line others (omega arith)) ∙ after_steps-end s.done (refusal_of (ends.Refused 1000001 reason.Lines)))
     s.appended s.whole sends tt (held_more input now s.rest 1000001 s.most l) (omega arith)
 
 -- ## The header
@@ -277,20 +306,27 @@ header_read input ahead text kept_text bytes left now first new kept o t is send
   rest = t.rest;
   is_rest = t.is_rest;
   says = says_of input ∙ ap trace_of_lines t.lines
-    ∙ ap (λ (b : Bool). if b then trace_from 2 (lines_of t.rest) else refused 1 reason.Header) is;
+      ∙ ap (λ (b : Bool). if b then trace_from 2 (lines_of t.rest) else refused 1 reason.Header) is;
   world = subst (λ k. StandsFor k opening) (sym o.fresh) new_stands_for;
   sent = sends.sent;
   appended = sends.appended;
   whole = sym sends.whole ∙ o.no_text;
-  most = omega (arith, t.most) }
+  most = omega (arith, t.most);
+}
 
 header_closing : (input ahead text kept_text : List ℕ) (now first new : Option (List ℕ)) (kept : Kept) → Opens ahead text kept
     → trace_of input ≡ refused 1 reason.Header → LeavesAllBut 257 now input → Sends first new text kept_text
     → Closing (ends.Refused 1 reason.Header) input now first new kept_text
 header_closing input ahead text kept_text now first new kept o says l sends = record {
-  done = []; says = says;
-  sent = sends.sent; appended = sends.appended; whole = sym sends.whole ∙ o.no_text; is_read = tt;
-  taken = l; few = omega arith }
+  done = [];
+  says = says;
+  sent = sends.sent;
+  appended = sends.appended;
+  whole = sym sends.whole ∙ o.no_text;
+  is_read = tt;
+  taken = l;
+  few = omega arith;
+}
 
 -- the first line is no header
 pub header_refused : (input ahead text kept_text bytes left : List ℕ) (now first new : Option (List ℕ)) (kept : Kept) → Opens ahead text kept

@@ -1,8 +1,6 @@
 -- What a status says: its number, its text, and what became of input and output.
 use Rattle.std.specs.Prelude.{◌≡◌, ℕ, ◌*◌, Bool, true, false, List, [], ◌∷◌, Option, None, Some, codes}
 use Rattle.std.specs.Io.KnownBytes.{Appends}
-use Rattle.aio_base.specs.declared.outcomes.CountFault.{CountFault}
-use Rattle.aio_base.specs.Devices.{Rose}
 use Rattle.aio_base.specs.Script.{output}
 use Rattle.aio_base.specs.Text.{ended_line}
 use Rattle.aio_base.specs.Trace.{trace_of}

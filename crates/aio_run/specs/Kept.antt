@@ -1,5 +1,5 @@
 -- What the reactor keeps, and what each of its calls makes of it.
-use Rattle.std.specs.Prelude.{ℕ, ◌+◌, Bool, true, false, ◌||◌, not, nat_le, if◌then◌else◌, List, [], ◌∷◌, ◌++◌, length, take, drop, Option, None, Some, is_none, slice_get, slice_set, option_to_list}
+use Rattle.std.specs.Prelude.{ℕ, ◌+◌, Bool, true, false, ◌||◌, nat_le, if◌then◌else◌, List, [], ◌∷◌, ◌++◌, length, take, drop, Option, None, Some, is_none, slice_get, slice_set, option_to_list}
 use Rattle.aio_base.specs.declared.names.Key.{Key}
 use Rattle.aio_base.specs.declared.names.Dir.{Dir}
 use Rattle.aio_base.specs.declared.names.Interest.{Interest}
@@ -35,8 +35,11 @@ abbrev pub kept_add : Kept → Stepped
 kept_add kept =
     let key = length kept.sources in
     if nat_le 4096 key then record { answer = answer.Full; wakes = []; kept = kept }
-    else record { answer = answer.KeyIs (record { 0 = key }); wakes = [];
-      kept = record kept { sources = kept.sources ++ new_source ∷ []; script = armed_script kept.script key no_interest } }
+    else record {
+      answer = answer.KeyIs (record { 0 = key });
+      wakes = [];
+      kept = record kept { sources = kept.sources ++ new_source ∷ []; script = armed_script kept.script key no_interest };
+    }
 
 abbrev pub armed_where : Bool → Script → ℕ → Interest → Script
 armed_where false script key on = script
@@ -48,12 +51,20 @@ kept_poll_of kept key dir waker (Some source) =
     let d = direction_of source dir in
     let after = with_direction source dir (stored waker kept.ticker d) in
     if is_ready d
-    then record { answer = answer.Ready; wakes = [];
-      kept = record kept { sources = slice_set kept.sources key.0 (with_direction source dir (seen d)) } }
+    then record {
+      answer = answer.Ready;
+      wakes = [];
+      kept = record kept { sources = slice_set kept.sources key.0 (with_direction source dir (seen d)) };
+    }
     else (if is_held waker d.waiter then record { answer = answer.Pending; wakes = []; kept = kept }
-    else record { answer = answer.Pending; wakes = option_to_list d.waiter;
-      kept = record kept { sources = slice_set kept.sources key.0 after;
-        script = armed_where (is_none d.waiter) kept.script key.0 (wanted_of after) } })
+    else record {
+      answer = answer.Pending;
+      wakes = option_to_list d.waiter;
+      kept = record kept {
+        sources = slice_set kept.sources key.0 after;
+        script = armed_where (is_none d.waiter) kept.script key.0 (wanted_of after);
+      };
+    })
 
 abbrev pub kept_poll : Kept → Key → Dir → Waker → Stepped
 kept_poll kept key dir waker = kept_poll_of kept key dir waker (slice_get kept.sources key.0)
@@ -74,7 +85,8 @@ handle_found round event h (Some source) =
     record {
       sources = slice_set h.sources event.key.0 after;
       script = armed_where (wants_any (wanted_of after)) h.script event.key.0 (wanted_of after);
-      taken = h.taken ++ taken_source event.on source }
+      taken = h.taken ++ taken_source event.on source;
+    }
 
 abbrev pub handle_event : ℕ → Event → Handling → Handling
 handle_event round event h = handle_found round event h (slice_get h.sources event.key.0)
@@ -86,19 +98,28 @@ handle_events round (event ∷ events) h = handle_events round events (handle_ev
 -- the poller after a wait that gives its first events
 abbrev pub waited_script : Script → Script
 waited_script script = record script {
-  armed = cleared (take 1024 script.noted) script.armed; noted = drop 1024 script.noted; waits = raised script.waits }
+  armed = cleared (take 1024 script.noted) script.armed;
+  noted = drop 1024 script.noted;
+  waits = raised script.waits;
+}
 
 abbrev pub kept_react : Kept → Stepped
 kept_react kept =
     let round = kept.ticker + 1 in
     let events = take 1024 kept.script.noted in
     let h = handle_events round events (record { sources = kept.sources; script = waited_script kept.script; taken = [] }) in
-    record { answer = answer.Round round (length events) Clean; wakes = h.taken;
-      kept = record { sources = h.sources; ticker = round; script = h.script } }
+    record {
+      answer = answer.Round round (length events) Clean;
+      wakes = h.taken;
+      kept = record { sources = h.sources; ticker = round; script = h.script };
+    }
 
 abbrev pub kept_note : Kept → Event → Stepped
-kept_note kept event = record { answer = answer.Noted; wakes = [];
-  kept = record kept { script = record kept.script { noted = kept.script.noted ++ event ∷ [] } } }
+kept_note kept event = record {
+  answer = answer.Noted;
+  wakes = [];
+  kept = record kept { script = record kept.script { noted = kept.script.noted ++ event ∷ [] } };
+}
 
 -- the steps of the lines that are built
 unfoldable pub kept_step : Kept → Step → Stepped

@@ -1,5 +1,4 @@
 -- What the reactor keeps, read off its fields.
-use Rattle.std.specs.Prelude.{List}
 use Rattle.aio_run.specs.declared.reactor.Reactor.{Reactor}
 use Rattle.aio_run.specs.Kept.{Kept}
 

@@ -1,11 +1,9 @@
 -- What stands while a trace is replayed, and what its end says.
-use Rattle.std.specs.Prelude.{◌≡◌, ℕ, ◌+◌, ◌*◌, ◌≤◌, Bool, true, false, IsTrue, List, [], ◌∷◌, ◌++◌, length, Option, None, Some, Result, Ok, Err, ⊤, bytes_eq}
+use Rattle.std.specs.Prelude.{◌≡◌, ℕ, ◌+◌, ◌*◌, ◌≤◌, Bool, true, false, IsTrue, List, [], ◌∷◌, ◌++◌, length, Option, None, Some, Result, Ok, Err, bytes_eq}
 use Rattle.std.specs.Io.KnownBytes.{Appends, Keeps}
-use Rattle.aio_base.specs.declared.steps.Step.{Step}
 use Rattle.aio_base.specs.Devices.{Rose}
-use Rattle.aio_base.specs.World.{opening}
-use Rattle.aio_base.specs.Script.{output, world_after}
-use Rattle.aio_base.specs.Trace.{Trace, lines_of, trace_of, trace_from, written_step, header_text}
+use Rattle.aio_base.specs.Script.{output}
+use Rattle.aio_base.specs.Trace.{lines_of, trace_of, written_step, header_text}
 use Rattle.aio_bytes.specs.declared.traits.SinkRefusal.{SinkRefusal}
 use Rattle.aio_bytes.specs.declared.traits.SinkRefusal.TheVariants as refusal
 use Rattle.aio_bytes.specs.Sinks.{AppendsPart}
@@ -16,8 +14,6 @@ use Rattle.aio_run.specs.declared.ends.End.{End}
 use Rattle.aio_run.specs.declared.ends.End.TheVariants as ends
 use Rattle.aio_run.specs.declared.ends.Next.{Next}
 use Rattle.aio_run.specs.declared.ends.Next.TheVariants as next
-use Rattle.aio_run.specs.Kept.{Kept}
-use Rattle.aio_run.specs.Ties.{StandsFor}
 
 abbrev pub stop_of : SinkRefusal → Stop
 stop_of refusal.Failed = stop.Write

@@ -1,11 +1,8 @@
 -- How what the reactor keeps stands for a world of the machine.
-use Rattle.std.specs.Prelude.{◌≡◌, ℕ, ◌+◌, ◌<◌, ◌≤◌, Bool, ◌&&◌, ◌==◌, List, [], ◌∷◌, ◌++◌, length, slice_index_or, Option, None, Some, ⊤}
-use Rattle.std.specs.List.{list_any}
+use Rattle.std.specs.Prelude.{◌≡◌, ℕ, ◌+◌, ◌<◌, ◌≤◌, List, [], ◌∷◌, length, slice_index_or, Option, None, Some, ⊤}
 use Rattle.aio_base.specs.declared.names.Dir.{Dir}
-use Rattle.aio_base.specs.declared.names.Waker.{Waker}
 use Rattle.aio_base.specs.declared.steps.Step.{Step}
-use Rattle.aio_base.specs.declared.steps.Answer.{Answer}
-use Rattle.aio_base.specs.World.{World, LiveSource, ArmedDirection, HandledDirection, poll_waiter, mark_of, has_dir, is_armed, nothing_due}
+use Rattle.aio_base.specs.World.{World, LiveSource, poll_waiter, mark_of, has_dir, is_armed, nothing_due}
 use Rattle.aio_base.specs.Rounds.{rounds_at, last_tick, AllBegun}
 use Rattle.aio_base.specs.Script.{script_step}
 use Rattle.aio_script.specs.Script.{interests_of}

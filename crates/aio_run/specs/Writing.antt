@@ -1,5 +1,7 @@
 -- The line that tells which line of a trace is refused, and why.
 use Rattle.std.specs.Prelude.{◌≡◌, ℕ, List, ◌++◌, codes, decimal}
+use Rattle.aio_base.specs.declared.steps.Answer.{Answer}
+use Rattle.aio_base.specs.declared.steps.Answer.TheVariants as answer
 use Rattle.aio_base.specs.declared.steps.Reason.{Reason}
 use Rattle.aio_base.specs.Text.{ended_line, reason_text}
 
@@ -10,3 +12,20 @@ refusal_text line reason = ended_line (codes "line " ++ decimal line ++ codes ":
 pub record KeepsFront (old new : List ℕ) : Type 0 where
   pub added : List ℕ
   pub is : new ≡ old ++ added
+
+-- an answer whose line is not the same words each time
+abbrev pub HasNumbers : Answer → Type 0
+HasNumbers (answer.KeyIs key) = Unit {0}
+HasNumbers (answer.Listener number) = Unit {0}
+HasNumbers (answer.Timer number) = Unit {0}
+HasNumbers (answer.ReadyAt deadline) = Unit {0}
+HasNumbers (answer.At moment) = Unit {0}
+HasNumbers (answer.Back moment) = Unit {0}
+HasNumbers (answer.Begin number limit) = Unit {0}
+HasNumbers (answer.Given count) = Unit {0}
+HasNumbers (answer.Events count) = Unit {0}
+HasNumbers (answer.Handled key fault) = Unit {0}
+HasNumbers (answer.End word) = Unit {0}
+HasNumbers (answer.Round number events word) = Unit {0}
+HasNumbers (answer.Wake waker) = Unit {0}
+HasNumbers _ = ⊥

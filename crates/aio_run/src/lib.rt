@@ -1,4 +1,8 @@
 //! The top call of the program: what its words ask for, read from a source and written to a sink.
+//!
+//! It stands on `aio_base`, `aio_bytes` and `aio_script`. It promises, for every list of bytes that
+//! the source has left, that the output is that of the machine run over the steps of these bytes, and
+//! of each other end its cause and what was written by then.
 #![tactic(auto)]
 
 mod ends;

@@ -7,16 +7,15 @@ ghost use Rattle.aio_run.specs.Session.{Causes, LeavesAllBut};
 ghost use Rattle.aio_run.specs.Commands.{IsReplay, exit_of, text_of, Replays, TellsCounts, bytes_taken, is_read_fault, is_write_fault};
 ghost use Rattle.aio_run.specs.Writing.{refusal_text};
 
+use crate::ends::{End, Stop};
+use crate::session::Session;
+use crate::status::{Status, Why};
+use crate::writing::push_refusal;
 use aio_base::{CountFault, Reason};
 use aio_bytes::{Sink, SinkRefusal, Source, write_all};
 use std::alloc::Global;
 use std::sync::Wait;
 use std::thread::Threads;
-
-use crate::ends::{End, Stop};
-use crate::session::Session;
-use crate::status::{Status, Why};
-use crate::writing::push_refusal;
 
 /// The text where the words are no command.
 const USAGE: &[u8] =

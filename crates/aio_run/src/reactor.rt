@@ -6,11 +6,12 @@ ghost use Rattle.std.specs.Prelude.{◌≡◌, ℕ, ◌+◌, ◌-◌, ◌^◌, �
 ghost use Rattle.aio_script.specs.Script.{nothing_due, new_script};
 ghost use Rattle.aio_run.specs.Kept.{handle_event, handle_events};
 
-use aio_base::{Answer, Arm, Dir, EndWord, Event, EventWait, Interest, Key, OutOfMemory, Step, Waker};
+use crate::sources::SourceEntry;
+use aio_base::{
+    Answer, Arm, Dir, EndWord, Event, EventWait, Interest, Key, OutOfMemory, Step, Waker,
+};
 use aio_script::ScriptPoller;
 use std::alloc::{AllocError, Global};
-
-use crate::sources::SourceEntry;
 
 /// How many sources can be live.
 const SOURCE_LIMIT: usize = 4096;

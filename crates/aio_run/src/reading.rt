@@ -1,5 +1,5 @@
-//! Reading the step that a line spells. Takes no memory, and looks at each byte a constant number of
-//! times.
+//! Reading the step that a line spells. It takes no memory, and looks at each byte a constant number
+//! of times.
 
 ghost use Rattle.std.specs.Prelude.{◌≡◌, [], ◌∷◌, MatchOption};
 ghost use Rattle.std.specs.Option.{option_copied};
@@ -65,7 +65,8 @@ fn split_word(text: &[u8]) -> (&[u8], Option<&[u8]>)
 
 /// The one word of a text; `None` where another follows it.
 fn only_word(text: &[u8]) -> Option<&[u8]>
-    ensures { MatchOption result (HasMore (words_of text.now)) (λ word. words_of text.now ≡ word.now ∷ []) }
+    ensures { MatchOption result (HasMore (words_of text.now))
+        (λ word. words_of text.now ≡ word.now ∷ []) }
 {
     let (word, rest) = split_word(text);
     match rest {
@@ -110,7 +111,7 @@ fn read_event(places: &[u8]) -> Option<Step>
     }))
 }
 
-/// The number below 2^32 whose decimal spelling this word is: no leading zero stands before a digit.
+/// The number below 2^32 whose decimal spelling this word is: no zero stands before another digit.
 fn number(word: &[u8]) -> Option<u32>
     ensures { result ≡ number_of word.now }
 {

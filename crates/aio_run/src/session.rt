@@ -7,14 +7,13 @@ ghost use Rattle.aio_bytes.specs.Sinks.{AppendsPart};
 ghost use Rattle.aio_run.specs.Steps.{Closes};
 ghost use Rattle.aio_run.specs.Session.{ends_with, Causes, is_read_fault, is_write_fault, stops_with, Unread, FindsNext, SendsOrStops, ReadsMore};
 
-use aio_base::{Reason, Step, Waker};
-use aio_bytes::{LineReader, Sink, Source, write_all};
-use std::alloc::{AllocError, Global};
-
 use crate::ends::{End, Next, Stop};
 use crate::reactor::Reactor;
 use crate::reading::read_step;
 use crate::writing::push_reply;
+use aio_base::{Reason, Step, Waker};
+use aio_bytes::{LineReader, Sink, Source, write_all};
+use std::alloc::{AllocError, Global};
 
 /// How many bytes of answers are gathered before they are written.
 const BLOCK: usize = 65_536;
@@ -40,7 +39,7 @@ impl Session {
     ghost use Rattle.aio_base.specs.Trace.{IsBuilt};
     ghost use Rattle.aio_base.specs.World.{World};
     ghost use Rattle.aio_run.specs.Steps.{Closes};
-ghost use Rattle.aio_run.specs.Session.{ends_with, Causes, goes_on_with, ends_with, is_read_fault, is_write_fault, EndsSo};
+    ghost use Rattle.aio_run.specs.Session.{ends_with, Causes, goes_on_with, ends_with, is_read_fault, is_write_fault, EndsSo};
     ghost use Rattle.aio_run.specs.Steps.{Answers, Standing, LineTaken, GoesOn, Opens};
     ghost use Rattle.aio_run.specs.Reactors.{kept_of};
 
@@ -60,11 +59,12 @@ ghost use Rattle.aio_run.specs.Session.{ends_with, Causes, goes_on_with, ends_wi
     }
 
     /// Runs a step, and puts its answer and its wakes at the end of the text. `AllocError` where
-    /// memory ran out.
+    /// memory ran out; then the text is as it was.
     fn answer(&mut self, step: &Step) -> Result<(), AllocError>
         requires built { IsBuilt step.now }
         requires rounds { self.old.reactor.ticker < 2 ^ 64 - 1 }
         ensures answers { OnOk result (Answers step.now (kept_of self.old.reactor) (kept_of self.new.reactor) self.old.text.items self.new.text.items) }
+        ensures kept { OnErr result (self.new.text.items ≡ self.old.text.items) }
         ensures ticker { self.new.reactor.ticker ≤ self.old.reactor.ticker + 1 }
         ensures reader { self.new.reader ≡ self.old.reader }
     {
@@ -168,7 +168,8 @@ ghost use Rattle.aio_run.specs.Session.{ends_with, Causes, goes_on_with, ends_wi
         }
     }
 
-    /// Answers the line that was found, which has this number.
+    /// Answers the line that was found, which has this number. Where memory runs out, what was answered
+    /// before is written as far as the output takes it.
     fn answer_line<K: Sink>(&mut self, line: u64, out: &mut K) -> Option<End>
         requires limit { line ≤ 1000000 }
         requires rounds { self.old.reactor.ticker < 2 ^ 64 - 1 }
@@ -186,7 +187,10 @@ ghost use Rattle.aio_run.specs.Session.{ends_with, Causes, goes_on_with, ends_wi
         };
         match self.answer(&step) {
             Ok(()) => {}
-            Err(_) => return Some(End::Stopped(Stop::OutOfMemory)),
+            Err(_) => {
+                let _ = flush(&mut self.text, out);
+                return Some(End::Stopped(Stop::OutOfMemory));
+            }
         }
         if self.text.len() < BLOCK {
             return None;

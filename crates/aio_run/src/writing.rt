@@ -1,9 +1,9 @@
 //! Writing the lines of a trace's answers, at the end of a block of output.
 
-ghost use Rattle.std.specs.Prelude.{◌≡◌, ◌++◌, [], ◌∷◌, codes, decimal, flat_map, OnErr, OnOk};
+ghost use Rattle.std.specs.Prelude.{◌≡◌, ◌++◌, [], ◌∷◌, codes, decimal, flat_map, MatchOption, OnErr, OnOk};
 ghost use Rattle.aio_base.specs.Script.{reply_text};
 ghost use Rattle.aio_base.specs.Text.{answer_line, end_text, ended_line, fault_text, limit_text, reason_text};
-ghost use Rattle.aio_run.specs.Writing.{KeepsFront, refusal_text};
+ghost use Rattle.aio_run.specs.Writing.{HasNumbers, KeepsFront, refusal_text};
 
 use aio_base::{Answer, EndWord, Key, Reason, Waker};
 use itoa::Buffer;
@@ -40,8 +40,8 @@ fn push_lines(out: &mut Vec<u8>, answer: &Answer, wakes: &[Waker]) -> Result<(),
 
 /// Writes one line for each wake.
 fn push_wakes(out: &mut Vec<u8>, wakes: &[Waker]) -> Result<(), AllocError>
-    ensures ok { OnOk result (out.new.items
-        ≡ out.old.items ++ flat_map (λ waker. ended_line (answer_line (Answer.Wake waker))) wakes.now) }
+    ensures ok { OnOk result (out.new.items ≡ out.old.items
+        ++ flat_map (λ waker. ended_line (answer_line (Answer.Wake waker))) wakes.now) }
     ensures kept { OnErr result (KeepsFront out.old.items out.new.items) }
 {
     for waker in wakes {
@@ -51,32 +51,56 @@ fn push_wakes(out: &mut Vec<u8>, wakes: &[Waker]) -> Result<(), AllocError>
 }
 
 /// Writes an answer's line.
-#[tactic(auto, unfolding(aio_base::specs::Text::answer_line))]
 pub(crate) fn push_answer(out: &mut Vec<u8>, answer: &Answer) -> Result<(), AllocError>
-    ensures ok { OnOk result (out.new.items ≡ out.old.items ++ ended_line (answer_line answer.now)) }
+    ensures ok { OnOk result (out.new.items
+        ≡ out.old.items ++ ended_line (answer_line answer.now)) }
+    ensures kept { OnErr result (KeepsFront out.old.items out.new.items) }
+{
+    match fixed_line(answer) {
+        Some(line) => out.extend_from_slice(line),
+        None => push_with_numbers(out, answer),
+    }
+}
+
+/// The line of an answer without numbers; `None` of one with numbers.
+#[tactic(auto, unfolding(aio_base::specs::Text::answer_line))]
+fn fixed_line(answer: &Answer) -> Option<&'static [u8]>
+    ensures { MatchOption result (HasNumbers answer.now)
+        (λ line. line.now ≡ ended_line (answer_line answer.now)) }
+{
+    match *answer {
+        Answer::Ready => Some(b"ready\n"),
+        Answer::Pending => Some(b"pending\n"),
+        Answer::Noted => Some(b"noted\n"),
+        Answer::Full => Some(b"full\n"),
+        Answer::FaultAdd => Some(b"fault add\n"),
+        Answer::Gone => Some(b"gone\n"),
+        Answer::NoSource => Some(b"no source\n"),
+        Answer::InUse => Some(b"in use\n"),
+        Answer::FaultRemove => Some(b"fault remove\n"),
+        Answer::FaultArm => Some(b"fault arm\n"),
+        Answer::NoListener => Some(b"no listener\n"),
+        Answer::Dropped => Some(b"dropped\n"),
+        Answer::NoTimer => Some(b"no timer\n"),
+        Answer::Set => Some(b"set\n"),
+        Answer::Ended => Some(b"ended\n"),
+        Answer::Locked => Some(b"locked\n"),
+        Answer::Interrupted => Some(b"interrupted\n"),
+        Answer::FaultWait => Some(b"fault wait\n"),
+        Answer::NoRound => Some(b"no round\n"),
+        Answer::Empty => Some(b"empty\n"),
+        _ => None,
+    }
+}
+
+/// Writes the line of an answer with numbers, and nothing of another answer.
+#[tactic(auto, unfolding(aio_base::specs::Text::answer_line))]
+fn push_with_numbers(out: &mut Vec<u8>, answer: &Answer) -> Result<(), AllocError>
+    ensures ok { HasNumbers answer.now → OnOk result (out.new.items
+        ≡ out.old.items ++ ended_line (answer_line answer.now)) }
     ensures kept { OnErr result (KeepsFront out.old.items out.new.items) }
 {
     match *answer {
-        Answer::Ready => out.extend_from_slice(b"ready\n"),
-        Answer::Pending => out.extend_from_slice(b"pending\n"),
-        Answer::Noted => out.extend_from_slice(b"noted\n"),
-        Answer::Full => out.extend_from_slice(b"full\n"),
-        Answer::FaultAdd => out.extend_from_slice(b"fault add\n"),
-        Answer::Gone => out.extend_from_slice(b"gone\n"),
-        Answer::NoSource => out.extend_from_slice(b"no source\n"),
-        Answer::InUse => out.extend_from_slice(b"in use\n"),
-        Answer::FaultRemove => out.extend_from_slice(b"fault remove\n"),
-        Answer::FaultArm => out.extend_from_slice(b"fault arm\n"),
-        Answer::NoListener => out.extend_from_slice(b"no listener\n"),
-        Answer::Dropped => out.extend_from_slice(b"dropped\n"),
-        Answer::NoTimer => out.extend_from_slice(b"no timer\n"),
-        Answer::Set => out.extend_from_slice(b"set\n"),
-        Answer::Ended => out.extend_from_slice(b"ended\n"),
-        Answer::Locked => out.extend_from_slice(b"locked\n"),
-        Answer::Interrupted => out.extend_from_slice(b"interrupted\n"),
-        Answer::FaultWait => out.extend_from_slice(b"fault wait\n"),
-        Answer::NoRound => out.extend_from_slice(b"no round\n"),
-        Answer::Empty => out.extend_from_slice(b"empty\n"),
         Answer::KeyIs(key) => push_numbered(out, b"key ", u64::from(key.0)),
         Answer::Listener(number) => push_numbered(out, b"listener ", number),
         Answer::Timer(number) => push_numbered(out, b"timer ", number),
@@ -94,6 +118,7 @@ pub(crate) fn push_answer(out: &mut Vec<u8>, answer: &Answer) -> Result<(), Allo
             events,
             end,
         } => push_round(out, number, events, end),
+        _ => Ok(()),
     }
 }
 
@@ -113,7 +138,8 @@ fn push_round(out: &mut Vec<u8>, number: u64, events: u32, end: EndWord) -> Resu
 
 /// Writes the line of the end of a round.
 fn push_end(out: &mut Vec<u8>, end: EndWord) -> Result<(), AllocError>
-    ensures ok { OnOk result (out.new.items ≡ out.old.items ++ ended_line (codes "end " ++ end_text end)) }
+    ensures ok { OnOk result (out.new.items
+        ≡ out.old.items ++ ended_line (codes "end " ++ end_text end)) }
     ensures kept { OnErr result (KeepsFront out.old.items out.new.items) }
 {
     out.extend_from_slice(b"end ")?;
@@ -162,7 +188,8 @@ fn push_handled(out: &mut Vec<u8>, key: Key, fault: bool) -> Result<(), AllocErr
 
 /// Writes a line of a word and a number.
 fn push_numbered(out: &mut Vec<u8>, word: &[u8], number: u64) -> Result<(), AllocError>
-    ensures ok { OnOk result (out.new.items ≡ out.old.items ++ ended_line (word.now ++ decimal number)) }
+    ensures ok { OnOk result (out.new.items
+        ≡ out.old.items ++ ended_line (word.now ++ decimal number)) }
     ensures kept { OnErr result (KeepsFront out.old.items out.new.items) }
 {
     out.extend_from_slice(word)?;

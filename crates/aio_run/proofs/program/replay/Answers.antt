@@ -1,4 +1,3 @@
-use Rattle.std.proofs.Common.{rules}
 use Rattle.aio_run.proofs.program.replay.Goals as goal
 
 pub returns-in-Done-clause-replays : goal.returns-in-Done-clause-replays

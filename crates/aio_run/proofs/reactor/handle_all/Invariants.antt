@@ -8,5 +8,5 @@ abbrev pub invariant-loop-event : goal.invariant-loop-event
 invariant-loop-event l = record {
   steady : l.poller.due ≡ nothing_due;
   left : handle_events l.round (drop l.event-index l.events) (record { sources = l.sources; script = l.poller; taken = l.taken.items })
-    ≡ handle_events l.round l.events (record { sources = l.initial.sources; script = l.initial.poller; taken = l.initial.taken.items });
+      ≡ handle_events l.round l.events (record { sources = l.initial.sources; script = l.initial.poller; taken = l.initial.taken.items });
 }

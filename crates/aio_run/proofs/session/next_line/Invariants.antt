@@ -7,7 +7,7 @@ abbrev pub invariant-loop-reader : goal.invariant-loop-reader
 invariant-loop-reader g l = record {
   bound : length l.reader.ahead ≤ 257;
   unread : (unread : List ℕ) → Unread (g.S.Source.remaining l.initial.input) l.initial.reader.ahead unread
-    → Unread (g.S.Source.remaining l.input) l.reader.ahead unread;
+      → Unread (g.S.Source.remaining l.input) l.reader.ahead unread;
   sends : Sends (g.K.Sink.contents l.initial.out) (g.K.Sink.contents l.out) l.initial.text.items l.text.items;
   read_cause : Causes g.S.Faults.fault_count g.S.Faults.is_sure l.initial.input l.input false;
   write_cause : Causes g.K.Faults.fault_count g.K.Faults.is_sure l.initial.out l.out false;

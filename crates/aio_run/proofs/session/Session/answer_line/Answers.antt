@@ -1,10 +1,8 @@
-use Rattle.std.proofs.Common.{◌≡◌, ℕ, ◌+◌, ◌++◌, List, Option, Some, None, ap, sym, ◌∙◌, arith}
-use Rattle.aio_base.specs.declared.steps.Step.{Step}
+use Rattle.std.proofs.Common.{◌≡◌, Some, None, ap, sym, ◌∙◌, arith, subst}
 use Rattle.aio_base.specs.Trace.{written_step}
 use Rattle.aio_base.proofs.Spellings.{reads_spelling}
-use Rattle.aio_run.specs.Steps.{LineTaken, Standing}
-use Rattle.aio_run.specs.Reactors.{kept_of}
-use Rattle.aio_run.proofs.StepLemmas.{closes, refuses_line, goes_on, flushed, stops_after, nothing_written, leaves_more, stops_between}
+use Rattle.aio_bytes.specs.Sinks.{AppendsPart}
+use Rattle.aio_run.proofs.StepLemmas.{closes, refuses_line, goes_on, flushed, stops_after, part_sent, leaves_more, stops_between}
 use Rattle.aio_run.proofs.session.Session.answer_line.Goals as goal
 
 pub returns-in-None-clause-goes_on : goal.returns-in-None-clause-goes_on
@@ -18,7 +16,8 @@ answer-requires-clause-built g c =
 
 pub returns-in-Err-clause-goes_on : goal.returns-in-Err-clause-goes_on
 returns-in-Err-clause-goes_on g c = λ input told first taken.
-    stops_after input told first _ _ _ _ _ _ _ _ taken c.requires.limit (nothing_written _ _)
+    stops_after input told first _ _ _ _ _ _ _ _ taken c.requires.limit
+    (subst (AppendsPart _ _) c.in-Err.ensures.kept (part_sent c.flush.result _ _ _ _ c.flush.ensures.sends))
 
 pub returns-then-len-lt-BLOCK-clause-goes_on : goal.returns-then-len-lt-BLOCK-clause-goes_on
 returns-then-len-lt-BLOCK-clause-goes_on g c = λ input told first taken.

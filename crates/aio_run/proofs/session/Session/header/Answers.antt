@@ -1,8 +1,5 @@
-use Rattle.std.proofs.Common.{◌≡◌, ℕ, List, Option, Ok, true, false, bytes_eq, ap, sym, ◌∙◌, subst}
+use Rattle.std.proofs.Common.{bytes_eq, ap, sym, ◌∙◌}
 use Rattle.aio_base.specs.Trace.{header_text}
-use Rattle.aio_run.specs.declared.ends.Next.{Next}
-use Rattle.aio_run.specs.Session.{FindsNext}
-use Rattle.aio_run.specs.Steps.{Standing}
 use Rattle.aio_run.proofs.StepLemmas.{closes, header_stopped, header_read, header_refused, header_long, header_missing, opens_unread}
 use Rattle.aio_run.proofs.session.Session.header.Goals as goal
 
@@ -20,7 +17,7 @@ pub returns-else-is_header-clause-goes_on : goal.returns-else-is_header-clause-g
 returns-else-is_header-clause-goes_on g c = λ all told.
     let found = rw c.in-Line.is at (c.in-Ok.ensures.found all (opens_unread all _ _ _ _ c.requires.opens told)) in
     closes _ _ all _ _ _ _ _ (header_refused all _ _ _ _ _ _ _ _ _ c.requires.opens found
-      (ap (λ line. bytes_eq line header_text) (sym c.line.ensures.value) ∙ sym c.is_header.ensures ∙ c.if-is_header.false) c.in-Ok.ensures.sends) c.refuse.ensures.closes
+    (ap (λ line. bytes_eq line header_text) (sym c.line.ensures.value) ∙ sym c.is_header.ensures ∙ c.if-is_header.false) c.in-Ok.ensures.sends) c.refuse.ensures.closes
 
 pub returns-in-Long-clause-goes_on : goal.returns-in-Long-clause-goes_on
 returns-in-Long-clause-goes_on g c = λ all told.

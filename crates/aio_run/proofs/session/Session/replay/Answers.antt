@@ -1,5 +1,4 @@
-use Rattle.std.proofs.Common.{◌≡◌, ℕ, List, Option, Some, arith}
-use Rattle.aio_run.specs.Steps.{Standing}
+use Rattle.std.proofs.Common.{◌≡◌, arith}
 use Rattle.aio_run.proofs.session.Session.replay.Goals as goal
 
 pub returns-in-Some-replay_line-clause-ends : goal.returns-in-Some-replay_line-clause-ends

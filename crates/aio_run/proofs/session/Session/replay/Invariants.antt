@@ -8,7 +8,7 @@ use Rattle.aio_run.proofs.session.Session.replay.Given as goal
 abbrev pub invariant-loop-line : goal.invariant-loop-line
 invariant-loop-line g l = record {
   stands : (all : List ℕ) → g.S.Source.remaining l.fn.input ≡ Some all
-    → Standing all (g.S.Source.remaining l.input) (g.K.Sink.contents l.fn.out) (g.K.Sink.contents l.out) l.line l.self.reader.ahead l.self.text.items (kept_of l.self.reactor);
+      → Standing all (g.S.Source.remaining l.input) (g.K.Sink.contents l.fn.out) (g.K.Sink.contents l.out) l.line l.self.reader.ahead l.self.text.items (kept_of l.self.reactor);
   bound : length l.self.reader.ahead ≤ 257;
   rounds : l.self.reactor.ticker ≤ l.line;
   read_cause : Causes g.S.Faults.fault_count g.S.Faults.is_sure l.fn.input l.input false;

@@ -1,7 +1,4 @@
-use Rattle.std.proofs.Common.{◌≡◌, ℕ, List, Option, Ok, arith, subst}
-use Rattle.aio_run.specs.declared.ends.Next.{Next}
-use Rattle.aio_run.specs.Session.{FindsNext}
-use Rattle.aio_run.specs.Steps.{Standing}
+use Rattle.std.proofs.Common.{arith}
 use Rattle.aio_run.proofs.StepLemmas.{closes, stops_before, refuses_long, ends_here, takes}
 use Rattle.aio_run.proofs.session.Session.replay_line.Goals as goal
 
