@@ -1,4 +1,5 @@
 pub mod FreshnessLemmas
+pub mod InterestLemmas
 mod Rows
 pub mod Spellings
 pub mod Words

@@ -112,6 +112,10 @@ pub trait EventWait: Faults {
 
 /// A poller in oneshot mode (`polling` 3, `lib.rs`): each event that is given clears the whole
 /// interest of its key, which must be armed again.
+///
+/// A poller that tells its interests and arms any cannot take a relation that always holds for its
+/// waits: by the law `wait_clears` the relation has to say which interests are left. One that tells
+/// none can. Either way its rest has to carry its number of waits, by the law `waits_in_rest`.
 pub trait Poller: Arm + EventWait {
     ghost use Rattle.aio_base.specs.declared.names.Event.{Event};
     ghost use Rattle.aio_base.specs.declared.outcomes.Failed.{Failed};

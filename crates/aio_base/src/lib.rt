@@ -12,6 +12,8 @@ pub mod laws;
 pub mod names;
 pub mod outcomes;
 pub mod steps;
+#[cfg(test)]
+mod tests;
 
 pub use devices::{Arm, EventWait, Faults, Poller};
 pub use names::{DIRS, Dir, Event, Interest, Key, Moment, TimerId, Waker};

@@ -57,7 +57,9 @@ impl Moment {
 /// A direction of a source (`async-io` 2, `reactor.rs`, the constants `READ` and `WRITE`).
 #[derive(Clone, Copy, Debug, PartialEq, Eq, PartialOrd, Ord, Hash)]
 pub enum Dir {
+    /// Readability, written `r`.
     Read,
+    /// Writability, written `w`.
     Write,
 }
 
@@ -68,7 +70,9 @@ pub const DIRS: [Dir; 2] = [Dir::Write, Dir::Read];
 /// The directions that a source is watched for, or that an event names.
 #[derive(Clone, Copy, Debug, PartialEq, Eq, PartialOrd, Ord, Hash)]
 pub struct Interest {
+    /// Whether readability is among them.
     pub read: bool,
+    /// Whether writability is among them.
     pub write: bool,
 }
 
@@ -76,6 +80,8 @@ pub struct Interest {
 /// (`polling` 3, `lib.rs`, `Event`).
 #[derive(Clone, Copy, Debug, PartialEq, Eq, PartialOrd, Ord, Hash)]
 pub struct Event {
+    /// The key of the source, which need not be registered any longer.
     pub key: Key,
+    /// The directions that are ready.
     pub on: Interest,
 }

@@ -5,7 +5,9 @@ use crate::names::Key;
 /// What a wait that did not fail answers: so many events were given, or it was interrupted.
 #[derive(Clone, Copy, Debug, PartialEq, Eq)]
 pub enum Waited {
+    /// So many events were given, maybe none.
     Given(u32),
+    /// The wait was interrupted, and gave no event.
     Interrupted,
 }
 
@@ -20,31 +22,43 @@ pub struct OutOfMemory;
 /// The fault of a device, told by its count of faults before and after the call.
 #[derive(Clone, Copy, Debug, PartialEq, Eq)]
 pub struct CountFault {
+    /// The count of faults before the call.
     pub before: u64,
+    /// The count of faults after the call.
     pub after: u64,
 }
 
 /// The fault of a poller that could not be armed for a source, told by its two counts of faults.
 #[derive(Clone, Copy, Debug, PartialEq, Eq)]
 pub struct ArmFault {
+    /// The source that could not be armed.
     pub key: Key,
+    /// The count of faults before the call.
     pub before: u64,
+    /// The count of faults after the call.
     pub after: u64,
 }
 
 /// The kinds of call of a poller.
 #[derive(Clone, Copy, Debug, PartialEq, Eq)]
 pub enum Which {
+    /// Registering a source, written `add`.
     Add,
+    /// Arming the interest of a source, written `arm`.
     Arm,
+    /// Taking a source out, written `remove`.
     Remove,
+    /// Waiting for events, written `wait`.
     Wait,
 }
 
 /// How a round ended: clean, written `ok`, or with its first fault.
 #[derive(Clone, Copy, Debug, PartialEq, Eq)]
 pub enum EndWord {
+    /// No call failed, written `ok`.
     Clean,
+    /// The wait was the first call that failed, written `fault wait`.
     FaultWait,
+    /// Arming was the first call that failed, written `fault arm`.
     FaultArm,
 }

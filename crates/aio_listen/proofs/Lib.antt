@@ -1,0 +1,5 @@
+pub mod TicketLemmas
+pub mod EntryLemmas
+pub mod SoundLemmas
+pub mod DrainLemmas
+pub mod ListeningLaws

@@ -1,0 +1,2 @@
+pub mod WaiterLemmas
+pub mod Taking

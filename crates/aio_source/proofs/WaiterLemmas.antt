@@ -1,0 +1,78 @@
+-- Who waits for a direction, and what its calls make of that.
+use Rattle.std.specs.Prelude.{◌≡◌, ℕ, ◌==◌, Bool, true, false, not, ◌&&◌, ◌||◌, IsTrue, if◌then◌else◌, List, [], ◌∷◌, ◌++◌, length, Option, None, Some, option_to_list, is_none, refl}
+use Rattle.std.proofs.Common.{sym, ◌∙◌, ap, arith}
+use Rattle.std.proofs.lemmas.Bool.Decides.{nat_tests}
+use Rattle.aio_base.specs.declared.names.Dir.{Dir}
+use Rattle.aio_base.specs.declared.names.Dir.TheVariants.{Read, Write}
+use Rattle.aio_base.specs.declared.names.Waker.{Waker}
+use Rattle.aio_base.specs.declared.names.Interest.{Interest}
+use Rattle.aio_base.specs.World.{is_empty_list, has_dir}
+use Rattle.aio_base.specs.Machine.{is_waker}
+use Rattle.aio_listen.specs.declared.ticket.Ticket.{Ticket}
+use Rattle.aio_listen.specs.Tickets.{same_ticket}
+use Rattle.aio_listen.specs.Listening.{Entry, Holds, has_ticket, wakers_of, with_waker, without, emptied}
+use Rattle.aio_source.specs.Values.{DirectionValue, DirectionValues}
+use Rattle.aio_source.specs.Rules.{waiters_of, is_idle, without_listener, direction_of, with_direction, Covers}
+
+pub empty_by_length : {A : Type 0} (xs : List A) → (length xs == 0) ≡ is_empty_list xs
+empty_by_length [] = refl
+empty_by_length (x ∷ xs) = grind (arith, nat_tests)
+
+held_first : (waker : Waker) (waiter : Option Waker) (wakers : List Waker) → is_waker waker waiter ≡ true → is_empty_list (option_to_list waiter ++ wakers) ≡ false
+held_first waker None wakers held = cc
+held_first waker (Some waiter) wakers held = refl
+
+-- a direction whose poll waiter is this waker has a waiter
+pub held_waits : (waker : Waker) (d : DirectionValue) → is_waker waker d.waiter ≡ true → is_idle d ≡ false
+held_waits waker d held = held_first waker d.waiter (wakers_of d.listeners.entries) held
+
+none_without_step : (same : Bool) (held : Option Waker) (t : Ticket) (entries : List (Entry Waker)) (ticket : Ticket) → (is_empty_list (wakers_of entries) ≡ true → is_empty_list (wakers_of (without entries ticket)) ≡ true) → is_empty_list (wakers_of ((t, held) ∷ entries)) ≡ true → is_empty_list (wakers_of (if not same then (t, held) ∷ without entries ticket else without entries ticket)) ≡ true
+none_without_step same (Some waker) t entries ticket step none = cc
+none_without_step true None t entries ticket step none = step none
+none_without_step false None t entries ticket step none = step none
+
+-- the entries without one hold no waker where all of them hold none
+none_without : (entries : List (Entry Waker)) (ticket : Ticket) → is_empty_list (wakers_of entries) ≡ true → is_empty_list (wakers_of (without entries ticket)) ≡ true
+none_without [] ticket none = refl
+none_without (e ∷ entries) ticket none = none_without_step (same_ticket e.0 ticket) e.1 e.0 entries ticket (none_without entries ticket) none
+
+still_idle : (waiter : Option Waker) (wakers fewer : List Waker) → (is_empty_list wakers ≡ true → is_empty_list fewer ≡ true) → is_empty_list (option_to_list waiter ++ wakers) ≡ true → is_empty_list (option_to_list waiter ++ fewer) ≡ true
+still_idle None wakers fewer step idle = step idle
+still_idle (Some waiter) wakers fewer step idle = cc
+
+-- giving up a listener makes no idle direction wait
+pub idle_unlistened : (ticket : Ticket) (d : DirectionValue) → is_idle d ≡ true → is_idle (without_listener ticket d) ≡ true
+idle_unlistened ticket d idle =
+    still_idle d.waiter (wakers_of d.listeners.entries) (wakers_of (without d.listeners.entries ticket)) (none_without d.listeners.entries ticket) idle
+
+waits_before : (before after : Bool) → (before ≡ true → after ≡ true) → IsTrue (not after) → IsTrue (not before)
+waits_before true after step waits = cc (step refl)
+waits_before false after step waits = refl
+
+pub waits_unlistened : (ticket : Ticket) (d : DirectionValue) → IsTrue (not (is_idle (without_listener ticket d))) → IsTrue (not (is_idle d))
+waits_unlistened ticket d waits = waits_before (is_idle d) (is_idle (without_listener ticket d)) (idle_unlistened ticket d) waits
+
+-- and what was asked for covers the listeners that are left
+pub covers_unlistened : (ds : DirectionValues) (asked : Interest) (broken : Bool) (dir : Dir) (ticket : Ticket) → Covers ds asked broken → Covers (with_direction ds dir (without_listener ticket (direction_of ds dir))) asked broken
+covers_unlistened ds asked broken Read ticket covers Read waits = covers Read (waits_unlistened ticket ds.read waits)
+covers_unlistened ds asked broken Read ticket covers Write waits = covers Write waits
+covers_unlistened ds asked broken Write ticket covers Read waits = covers Read waits
+covers_unlistened ds asked broken Write ticket covers Write waits = covers Write (waits_unlistened ticket ds.write waits)
+
+same_ticket_itself : (t : Ticket) → same_ticket t t ≡ true
+same_ticket_itself t = grind (arith, nat_tests)
+
+last_with_step : (same : Bool) (e : Entry Waker) (entries : List (Entry Waker)) (ticket : Ticket) (waker : Waker) → (IsTrue (same || has_ticket entries ticket) → ⊥) → ((IsTrue (has_ticket entries ticket) → ⊥) → with_waker (entries ++ (ticket, None) ∷ []) ticket waker ≡ entries ++ (ticket, Some waker) ∷ []) → (if same then (e.0, Some waker) else e) ∷ with_waker (entries ++ (ticket, None) ∷ []) ticket waker ≡ e ∷ (entries ++ (ticket, Some waker) ∷ [])
+last_with_step true e entries ticket waker fresh rest = absurd (fresh refl)
+last_with_step false e entries ticket waker fresh rest = ap (λ es. e ∷ es) (rest fresh)
+
+-- a new last listener that gets a waker is the last one with that waker
+pub last_with_waker : (entries : List (Entry Waker)) (ticket : Ticket) (waker : Waker) → (Holds entries ticket → ⊥) → with_waker (entries ++ (ticket, None) ∷ []) ticket waker ≡ entries ++ (ticket, Some waker) ∷ []
+last_with_waker [] ticket waker fresh = ap (λ same. (if same then (ticket, Some waker) else (ticket, None)) ∷ []) (same_ticket_itself ticket)
+last_with_waker (e ∷ entries) ticket waker fresh =
+    last_with_step (same_ticket e.0 ticket) e entries ticket waker fresh (last_with_waker entries ticket waker)
+
+-- the listeners of which an event took the wakers hold none
+pub none_emptied : (entries : List (Entry Waker)) → wakers_of (emptied entries) ≡ []
+none_emptied [] = refl
+none_emptied (e ∷ entries) = none_emptied entries

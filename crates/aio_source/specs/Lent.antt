@@ -1,0 +1,52 @@
+-- What became of an arm that was lent to a call of a source: it was left alone, or armed once.
+use Rattle.std.specs.Prelude.{◌≡◌, ℕ, Bool, true, false, Option, Result, Ok, Err, IsOk}
+use Rattle.aio_base.specs.declared.names.Key.{Key}
+use Rattle.aio_base.specs.declared.names.Interest.{Interest}
+use Rattle.aio_base.specs.declared.outcomes.Failed.{Failed}
+use Rattle.aio_base.specs.declared.outcomes.ArmFault.{ArmFault}
+use Rattle.aio_base.specs.Devices.{Interests, no_interest, ArmCall, ArmOf, Arms}
+use Rattle.aio_source.specs.Values.{SourceValue}
+use Rattle.aio_source.specs.Rules.{wanted}
+
+-- what the arm answered, by the answer of the call to which it was lent; where it was not asked, that it is done
+abbrev pub told : Result (Unit {0}) ArmFault → Result (Unit {0}) Failed
+told (Ok done) = Ok done
+told (Err fault) = Err (record {})
+
+-- the answer that tells a failed arm, by the two counts of faults
+abbrev pub fault_of : Key → ℕ → ℕ → Result (Unit {0}) Failed → Result (Unit {0}) ArmFault
+fault_of key before after (Ok done) = Ok done
+fault_of key before after (Err failed) = Err (record { key = key; before = before; after = after })
+
+-- no call was made, and the lent arm is the very one that was lent; or exactly this call, with this answer
+abbrev pub ArmsOnce : {S : Type 0} → (S → ArmCall → Result (Unit {0}) Failed → S → Type 0) → Bool → ArmCall → S → Result (Unit {0}) Failed → S → Type 0
+ArmsOnce step false call old answer new = (new ≡ old) × IsOk answer
+ArmsOnce step true call old answer new = step old call answer new
+
+-- the same of what a lent arm tells of its interests
+abbrev pub TellsArmed : Bool → ArmCall → Option Interests → Result (Unit {0}) Failed → Option Interests → Type 0
+TellsArmed false call old answer new = new ≡ old
+TellsArmed true call old answer new = Arms old call answer new
+
+-- the arm of a source for the directions that have a waiter
+abbrev pub arm_of : SourceValue → ArmCall
+arm_of s = ArmOf s.key (wanted s.directions)
+
+-- an arm that succeeds leaves the interest that was asked for, and one that fails leaves none
+abbrev pub asked_after : Bool → Interest → Result (Unit {0}) Failed → Interest → Interest
+asked_after false on answer asked = asked
+asked_after true on (Ok done) asked = on
+asked_after true on (Err failed) asked = no_interest
+
+-- an arm that fails breaks a source, and one that succeeds mends it (the project's own repair)
+abbrev pub broken_after : Bool → Result (Unit {0}) Failed → Bool → Bool
+broken_after false answer broken = broken
+broken_after true (Ok done) broken = false
+broken_after true (Err failed) broken = true
+
+-- the source once the poller was armed, or was not, and answered so
+abbrev pub settled : Bool → Result (Unit {0}) Failed → SourceValue → SourceValue
+settled arms answer s = record s {
+  asked = asked_after arms (wanted s.directions) answer s.asked;
+  broken = broken_after arms answer s.broken;
+}

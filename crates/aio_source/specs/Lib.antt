@@ -1,0 +1,5 @@
+pub mod Values
+pub mod Rules
+pub mod Lent
+pub mod Lending
+pub mod Answers

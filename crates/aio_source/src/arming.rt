@@ -1,0 +1,59 @@
+//! What a source asks of the poller that it is lent.
+
+ghost use Rattle.std.specs.Prelude.{◌≡◌, ◌<◌, Bool};
+ghost use Rattle.aio_base.specs.Devices.{HasCause, ArmOf};
+ghost use Rattle.aio_source.specs.Lent.{told, fault_of, ArmsOnce, TellsArmed, asked_after, broken_after};
+
+use aio_base::{Arm, ArmFault, Interest, Key};
+
+/// No direction.
+pub(crate) const NO_INTEREST: Interest = Interest {
+    read: false,
+    write: false,
+};
+
+/// What the last arm of a source asked for, and whether it failed.
+#[derive(Clone, Copy)]
+pub(crate) struct Arming {
+    pub asked: Interest,
+    pub broken: bool,
+}
+
+impl Arming {
+    /// Arms the poller for this key and interest where `arms` says so.
+    pub(crate) fn arm_where<A: Arm>(
+        &mut self,
+        arms: bool,
+        arm: &mut A,
+        key: Key,
+        on: Interest,
+    ) -> Result<(), ArmFault>
+        requires { key.0 < 4096 }
+        ensures fault { result ≡ fault_of key (A.fault_count arm.old) (A.fault_count arm.new) (told result) }
+        ensures asked { self.new.asked ≡ asked_after arms on (told result) self.old.asked }
+        ensures broken { self.new.broken ≡ broken_after arms (told result) self.old.broken }
+        ensures step { ArmsOnce A.arm_step arms (ArmOf key on) arm.old (told result) arm.new }
+        ensures interests { TellsArmed arms (ArmOf key on) (A.interests arm.old) (told result) (A.interests arm.new) }
+        ensures rest { A.rest arm.new ≡ A.rest arm.old }
+        ensures sure { A.is_sure arm.new ≡ A.is_sure arm.old }
+        ensures cause { HasCause (A.fault_count arm.old) (A.fault_count arm.new) (A.is_sure arm.old) (told result) }
+    {
+        if !arms {
+            return Ok(());
+        }
+        let before = arm.faults();
+        let armed = arm.arm(key, on);
+        if armed.is_ok() {
+            self.asked = on;
+            self.broken = false;
+            return Ok(());
+        }
+        self.asked = NO_INTEREST;
+        self.broken = true;
+        Err(ArmFault {
+            key,
+            before,
+            after: arm.faults(),
+        })
+    }
+}

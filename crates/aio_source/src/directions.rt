@@ -1,0 +1,99 @@
+//! The directions of a source.
+
+ghost use Rattle.std.specs.Prelude.{◌≡◌, ◌+◌, ◌≤◌, ◌++◌, length, vec_len, vec_capacity};
+ghost use Rattle.std.specs.Borrow.{sem};
+ghost use Rattle.aio_base.specs.World.{directions, has_dir};
+ghost use Rattle.aio_source.specs.Rules.{new_directions, direction_of, wanted, has_any, waiters_in, handled_along, taken_along};
+ghost use Rattle.aio_source.specs.Lending.{LendsDirection};
+
+use crate::direction::Direction;
+use aio_base::{DIRS, Dir, Interest, Waker};
+use std::alloc::Global;
+use std::marker::Model;
+
+/// The directions of a source.
+#[derive(Drop)]
+pub(crate) struct Directions {
+    read: Direction,
+    write: Direction,
+}
+
+impl Model for Directions {
+    ghost use Rattle.aio_source.specs.Values.{DirectionValues};
+
+    ghost Value = { DirectionValues };
+
+    ghost view = { λ ds. record { read = ds.read; write = ds.write } };
+}
+
+impl Directions {
+    pub(crate) fn new(alloc: Global) -> Directions
+        ensures { result ≡ new_directions }
+    {
+        Directions {
+            read: Direction::new(alloc),
+            write: Direction::new(alloc),
+        }
+    }
+
+    pub(crate) fn get(&self, dir: Dir) -> &Direction
+        ensures { result.now ≡ direction_of self.now dir }
+    {
+        match dir {
+            Dir::Read => &self.read,
+            Dir::Write => &self.write,
+        }
+    }
+
+    pub(crate) fn get_mut(&mut self, dir: Dir) -> &mut Direction
+        ensures* lends { sem 𝓛 (LendsDirection self.entry dir result) }
+        ensures value { result.now ≡ direction_of self.old dir }
+    {
+        match dir {
+            Dir::Read => &mut self.read,
+            Dir::Write => &mut self.write,
+        }
+    }
+
+    /// The interest that the waiters want.
+    pub(crate) fn wanted(&self) -> Interest
+        ensures { result ≡ wanted self.now }
+    {
+        Interest {
+            read: !self.read.is_idle(),
+            write: !self.write.is_idle(),
+        }
+    }
+
+    /// Moves the waiters of the directions that an event of this round names to the end of `taken`,
+    /// direction by direction in the order of `DIRS`.
+    pub(crate) fn take_waiters(&mut self, on: Interest, round: u64, taken: &mut Vec<Waker>)
+        requires { vec_len taken.old + length (waiters_in directions self.old) ≤ vec_capacity taken.old }
+        ensures after { self.new ≡ handled_along on round directions self.old }
+        ensures taken { taken.new.items ≡ taken.old.items ++ taken_along on round directions self.old }
+        ensures capacity { vec_capacity taken.new ≡ vec_capacity taken.old }
+    {
+        for dir in DIRS {
+            if names(on, dir) {
+                self.get_mut(dir).take_waiters(round, taken);
+            }
+        }
+    }
+}
+
+/// Whether an interest has a direction.
+pub(crate) fn names(on: Interest, dir: Dir) -> bool
+    ensures { result ≡ has_dir on dir }
+{
+    match dir {
+        Dir::Read => on.read,
+        Dir::Write => on.write,
+    }
+}
+
+/// Whether an interest has any direction.
+pub(crate) fn names_any(on: Interest) -> bool
+    ensures { result ≡ has_any on }
+{
+    DIRS.iter().any(|dir| names(on, *dir))
+}

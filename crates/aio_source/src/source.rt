@@ -1,0 +1,294 @@
+//! The state of a source and its calls.
+
+ghost use Rattle.std.specs.Prelude.{◌≡◌, ◌+◌, ◌-◌, ◌^◌, ◌<◌, ◌≤◌, ◌++◌, ◌↔◌, false, length, IfSome, IsErrOf, vec_len, vec_capacity};
+ghost use Rattle.aio_base.specs.Devices.{HasCause};
+ghost use Rattle.aio_base.specs.World.{directions};
+ghost use Rattle.aio_listen.specs.Listening.{Holds, has_ticket};
+ghost use Rattle.aio_source.specs.Rules.{new_source, is_above, waiters_of, waiters_in, direction_of, taken_along, polling, listening_first, polling_again, unlistened, handling, Covered};
+ghost use Rattle.aio_source.specs.Lent.{told, fault_of, ArmsOnce, TellsArmed, arm_of, settled};
+ghost use Rattle.aio_source.specs.Answers.{poll_answer, armed_in, armed_first, listened_in, ticket_in};
+
+use crate::answers::{ListenRefusal, Listened, Poll, Polled};
+use crate::arming::{Arming, NO_INTEREST};
+use crate::directions::{Directions, names_any};
+use aio_base::{Arm, ArmFault, Dir, Event, Interest, Key, Waker};
+use aio_listen::{AddRefusal, Ticket};
+use std::alloc::Global;
+use std::marker::Model;
+
+/// A source of a reactor (`async-io` 2, `reactor.rs`, `Source`): its key, who waits for its
+/// directions, and what the poller was asked for.
+///
+/// Each direction with a waiter was asked for, or the last arm failed; its key is below 4,096.
+#[derive(Drop)]
+pub struct SourceState {
+    key: Key,
+    directions: Directions,
+    arming: Arming,
+}
+
+impl Model for SourceState {
+    ghost use Rattle.std.specs.Prelude.{◌<◌};
+    ghost use Rattle.aio_source.specs.Values.{SourceValue};
+    ghost use Rattle.aio_source.specs.Rules.{Covers};
+
+    ghost Value = { SourceValue };
+
+    ghost view = { λ s. record { key = s.key; directions = s.directions; asked = s.arming.asked; broken = s.arming.broken } };
+
+    ghost invariant = { λ s. (s.key.0 < 4096) × Covers s.directions s.arming.asked s.arming.broken };
+}
+
+/// A source beside the object that is armed for it.
+#[derive(Drop)]
+pub struct SourceCell<A> {
+    pub state: SourceState,
+    pub io: A,
+}
+
+impl SourceState {
+    /// A source with no waiter, of which no event was handled and for which nothing was asked. It
+    /// takes no memory; its listeners take theirs from `alloc`.
+    pub fn new(alloc: Global, key: Key) -> SourceState
+        requires { key.0 < 4096 }
+        ensures { result ≡ new_source key }
+    {
+        SourceState {
+            key,
+            directions: Directions::new(alloc),
+            arming: Arming {
+                asked: NO_INTEREST,
+                broken: false,
+            },
+        }
+    }
+
+    /// The number under which the source is registered.
+    pub fn key(&self) -> Key
+        ensures value { result ≡ self.now.key }
+        ensures bound { result.0 < 4096 }
+    {
+        self.key
+    }
+
+    /// How many waiters a direction has: its poll waiter, and its listeners that hold a waker.
+    pub fn waiting(&self, dir: Dir) -> u64
+        ensures value { result ≡ length (waiters_of (direction_of self.now.directions dir)) }
+        ensures bound { result ≤ 2 ^ 63 }
+    {
+        self.directions.get(dir).waiting()
+    }
+
+    /// Whether the last round that handled an event of a direction is above both numbers.
+    pub fn ready_since(&self, dir: Dir, a: u64, b: u64) -> bool
+        ensures { result ≡ is_above a b (direction_of self.now.directions dir).tick }
+    {
+        self.directions.get(dir).is_above(a, b)
+    }
+
+    /// The interest that the last arm asked for: none where it failed, or where no waiter was left
+    /// after an event.
+    pub fn asked(&self) -> Interest
+        ensures value { result ≡ self.now.asked }
+        ensures covered { Covered self.now }
+    {
+        self.arming.asked
+    }
+
+    /// Whether the last arm failed.
+    pub fn broken(&self) -> bool
+        ensures value { result ≡ self.now.broken }
+        ensures covered { Covered self.now }
+    {
+        self.arming.broken
+    }
+
+    /// The last round that handled an event of a direction, and 0 before the first.
+    pub fn tick(&self, dir: Dir) -> u64
+        ensures { result ≡ (direction_of self.now.directions dir).tick }
+    {
+        self.directions.get(dir).tick()
+    }
+
+    /// Whether a listener of a direction has this ticket.
+    pub fn holds(&self, dir: Dir, t: Ticket) -> bool
+        ensures { result ≡ has_ticket (direction_of self.now.directions dir).listeners.entries t }
+    {
+        self.directions.get(dir).holds(t)
+    }
+
+    /// Polls a direction with a waker, while `ticker` rounds have begun (`async-io` 2, `reactor.rs`,
+    /// `Source::poll_ready`). It is ready where a round that began after the poll waiter was stored
+    /// has handled an event of the direction. Otherwise the waker becomes the poll waiter, which
+    /// stays also where the poller could not be armed: `ArmFault` only where the count of faults of
+    /// `arm` rose. A poll waiter that it replaced is handed out to be woken. It takes no memory.
+    #[tactic(auto, using(crate::proofs::WaiterLemmas::held_waits))]
+    pub fn poll_dir<A: Arm>(&mut self, arm: &mut A, dir: Dir, w: Waker, ticker: u64) -> Polled
+        ensures answer { let p = polling self.old dir w ticker in
+            result ≡ record {
+              answer = poll_answer p.ready (fault_of self.old.key (A.fault_count arm.old) (A.fault_count arm.new) (told (armed_in result.answer)));
+              replaced = p.replaced;
+            } }
+        ensures after { let p = polling self.old dir w ticker in
+            self.new ≡ settled p.arms (told (armed_in result.answer)) p.source }
+        ensures step { let p = polling self.old dir w ticker in
+            ArmsOnce A.arm_step p.arms (arm_of p.source) arm.old (told (armed_in result.answer)) arm.new }
+        ensures interests { let p = polling self.old dir w ticker in
+            TellsArmed p.arms (arm_of p.source) (A.interests arm.old) (told (armed_in result.answer)) (A.interests arm.new) }
+        ensures rest { A.rest arm.new ≡ A.rest arm.old }
+        ensures sure { A.is_sure arm.new ≡ A.is_sure arm.old }
+        ensures cause { HasCause (A.fault_count arm.old) (A.fault_count arm.new) (A.is_sure arm.old) (told (armed_in result.answer)) }
+    {
+        let direction = self.directions.get_mut(dir);
+        if direction.is_ready() {
+            direction.see();
+            return Polled {
+                answer: Poll::Ready(Ok(())),
+                replaced: None,
+            };
+        }
+        let arms = direction.is_idle() || self.arming.broken;
+        let replaced = direction.store(w, ticker);
+        let on = self.directions.wanted();
+        let armed = self.arming.arm_where(arms, arm, self.key, on);
+        Polled {
+            answer: pending_unless(armed),
+            replaced,
+        }
+    }
+
+    /// A listener's first poll of a direction, while `ticker` rounds have begun (`async-io` 2,
+    /// `reactor.rs`, the future `Ready`): it becomes the last listener of the direction with this
+    /// waker, and remembers the rounds begun and the last round of the direction. `Ok` means that it
+    /// is pending. `ArmFault` only where the count of faults of `arm` rose; the listener stays.
+    /// `TicketsSpent` exactly where 2^64 - 1 tickets of the direction were drawn, and `OutOfMemory`
+    /// where memory ran out; both come before the poller is armed and leave all as it was.
+    pub fn first_listen<A: Arm>(
+        &mut self,
+        arm: &mut A,
+        dir: Dir,
+        w: Waker,
+        ticker: u64,
+    ) -> Result<Listened, ListenRefusal>
+        ensures listened { IfSome (listened_in result) (λ l. (l.a ≡ ticker) × (l.b ≡ (direction_of self.old.directions dir).tick)) }
+        ensures serial { IfSome (ticket_in result) (λ t. t.serial ≡ (direction_of self.old.directions dir).listeners.drawn + 1) }
+        ensures fresh { IfSome (ticket_in result) (λ t. ¬ Holds (direction_of self.old.directions dir).listeners.entries t) }
+        ensures spent { IsErrOf result ListenRefusal.TicketsSpent ↔ ((direction_of self.old.directions dir).listeners.drawn ≡ 2 ^ 64 - 1) }
+        ensures fault { armed_first result ≡ fault_of self.old.key (A.fault_count arm.old) (A.fault_count arm.new) (told (armed_first result)) }
+        ensures after { let p = listening_first self.old dir w (ticket_in result) in
+            self.new ≡ settled p.arms (told (armed_first result)) p.source }
+        ensures step { let p = listening_first self.old dir w (ticket_in result) in
+            ArmsOnce A.arm_step p.arms (arm_of p.source) arm.old (told (armed_first result)) arm.new }
+        ensures interests { let p = listening_first self.old dir w (ticket_in result) in
+            TellsArmed p.arms (arm_of p.source) (A.interests arm.old) (told (armed_first result)) (A.interests arm.new) }
+        ensures rest { A.rest arm.new ≡ A.rest arm.old }
+        ensures sure { A.is_sure arm.new ≡ A.is_sure arm.old }
+        ensures cause { HasCause (A.fault_count arm.old) (A.fault_count arm.new) (A.is_sure arm.old) (told (armed_first result)) }
+    {
+        let direction = self.directions.get_mut(dir);
+        let arms = direction.is_idle() || self.arming.broken;
+        let b = direction.tick();
+        let ticket = match direction.listen(w) {
+            Ok(ticket) => ticket,
+            Err(AddRefusal::TicketsSpent) => return Err(ListenRefusal::TicketsSpent),
+            Err(AddRefusal::OutOfMemory) => return Err(ListenRefusal::OutOfMemory),
+        };
+        let listened = Listened {
+            ticket,
+            a: ticker,
+            b,
+        };
+        let on = self.directions.wanted();
+        match self.arming.arm_where(arms, arm, self.key, on) {
+            Ok(()) => Ok(listened),
+            Err(fault) => Err(ListenRefusal::ArmFault { fault, listened }),
+        }
+    }
+
+    /// A listener's later poll. It is ready where a round that began after its first poll has
+    /// handled an event of the direction, and stays so. Otherwise the listener holds this waker in
+    /// place of an earlier one, which is not woken. `ArmFault` only where the count of faults of
+    /// `arm` rose; the listener keeps the waker. It takes no memory.
+    pub fn listen_again<A: Arm>(
+        &mut self,
+        arm: &mut A,
+        dir: Dir,
+        l: Listened,
+        w: Waker,
+    ) -> Poll<Result<(), ArmFault>>
+        requires { Holds (direction_of self.old.directions dir).listeners.entries l.ticket }
+        ensures answer { let p = polling_again self.old dir l w in
+            result ≡ poll_answer p.ready (fault_of self.old.key (A.fault_count arm.old) (A.fault_count arm.new) (told (armed_in result))) }
+        ensures after { let p = polling_again self.old dir l w in
+            self.new ≡ settled p.arms (told (armed_in result)) p.source }
+        ensures step { let p = polling_again self.old dir l w in
+            ArmsOnce A.arm_step p.arms (arm_of p.source) arm.old (told (armed_in result)) arm.new }
+        ensures interests { let p = polling_again self.old dir l w in
+            TellsArmed p.arms (arm_of p.source) (A.interests arm.old) (told (armed_in result)) (A.interests arm.new) }
+        ensures rest { A.rest arm.new ≡ A.rest arm.old }
+        ensures sure { A.is_sure arm.new ≡ A.is_sure arm.old }
+        ensures cause { HasCause (A.fault_count arm.old) (A.fault_count arm.new) (A.is_sure arm.old) (told (armed_in result)) }
+    {
+        let direction = self.directions.get_mut(dir);
+        if direction.is_above(l.a, l.b) {
+            return Poll::Ready(Ok(()));
+        }
+        let arms = direction.is_idle() || self.arming.broken;
+        direction.listen_again(l.ticket, w);
+        let on = self.directions.wanted();
+        pending_unless(self.arming.arm_where(arms, arm, self.key, on))
+    }
+
+    /// Gives up a listener: it goes with its waker, and nothing that was asked for changes. It takes
+    /// no memory.
+    #[tactic(auto, using(crate::proofs::WaiterLemmas::covers_unlistened))]
+    pub fn unlisten(&mut self, dir: Dir, t: Ticket)
+        requires { Holds (direction_of self.old.directions dir).listeners.entries t }
+        ensures { self.new ≡ unlistened self.old dir t }
+    {
+        self.directions.get_mut(dir).unlisten(t);
+    }
+
+    /// Handles an event of a round (`async-io` 2, `reactor.rs`, `ReactorLock::react`): the waiters of
+    /// the directions that it names go to the end of `taken`, in the order of `DIRS` and for each
+    /// direction the poll waiter first. Then the poller is armed where a waiter is left. `ArmFault`
+    /// only where the count of faults of `arm` rose; the wakers are taken all the same. It takes no
+    /// memory.
+    pub fn handle<A: Arm>(
+        &mut self,
+        arm: &mut A,
+        e: Event,
+        round: u64,
+        taken: &mut Vec<Waker>,
+    ) -> Result<(), ArmFault>
+        requires key { e.key ≡ self.old.key }
+        requires room { vec_len taken.old + length (waiters_in directions self.old.directions) ≤ vec_capacity taken.old }
+        ensures answer { result ≡ fault_of self.old.key (A.fault_count arm.old) (A.fault_count arm.new) (told result) }
+        ensures taken { taken.new.items ≡ taken.old.items ++ taken_along e.on round directions self.old.directions }
+        ensures capacity { vec_capacity taken.new ≡ vec_capacity taken.old }
+        ensures after { let p = handling self.old e.on round in
+            self.new ≡ settled p.arms (told result) p.source }
+        ensures step { let p = handling self.old e.on round in
+            ArmsOnce A.arm_step p.arms (arm_of p.source) arm.old (told result) arm.new }
+        ensures interests { let p = handling self.old e.on round in
+            TellsArmed p.arms (arm_of p.source) (A.interests arm.old) (told result) (A.interests arm.new) }
+        ensures rest { A.rest arm.new ≡ A.rest arm.old }
+        ensures sure { A.is_sure arm.new ≡ A.is_sure arm.old }
+        ensures cause { HasCause (A.fault_count arm.old) (A.fault_count arm.new) (A.is_sure arm.old) (told result) }
+    {
+        self.directions.take_waiters(e.on, round, taken);
+        self.arming.asked = NO_INTEREST;
+        let on = self.directions.wanted();
+        self.arming.arm_where(names_any(on), arm, self.key, on)
+    }
+}
+
+/// The answer to a poll that is not ready.
+fn pending_unless(armed: Result<(), ArmFault>) -> Poll<Result<(), ArmFault>>
+    ensures { result ≡ poll_answer false armed }
+{
+    match armed {
+        Ok(()) => Poll::Pending,
+        Err(fault) => Poll::Ready(Err(fault)),
+    }
+}
