@@ -1,5 +1,5 @@
 //! What no clause says: that the calls succeed with ample memory, at a type of wakers through the
-//! bound `Copy`, and that a list can be sent to another thread.
+//! bound `Copy`, and that a list can be shared between threads.
 
 use crate::{AddRefusal, Listeners, Ticket};
 use std::alloc::{AllocError, Global};
@@ -34,7 +34,7 @@ fn drained<W: Copy>(alloc: Global, listeners: &mut Listeners<W>) -> Result<Vec<W
     Ok(out)
 }
 
-fn send<T: Send + Drop>(_value: T) {}
+fn share<T: Send + Sync + Drop>(_value: T) {}
 
 #[test]
 fn listener_that_was_removed_is_gone(rt: HostRuntime) -> Result<(), Fail> {
@@ -55,7 +55,7 @@ fn listener_that_was_removed_is_gone(rt: HostRuntime) -> Result<(), Fail> {
     assert_eq!(rt; listeners.count(), 2);
     let fourth = listeners.add()?;
     assert!(rt; listeners.holds(fourth) && !listeners.holds(second));
-    send(listeners);
+    share(listeners);
     Ok(())
 }
 

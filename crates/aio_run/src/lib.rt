@@ -12,6 +12,8 @@ mod reading;
 mod session;
 mod sources;
 pub mod status;
+#[cfg(test)]
+mod tests;
 mod writing;
 
 pub use program::run;

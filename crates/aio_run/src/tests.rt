@@ -1,0 +1,341 @@
+//! What no clause says: that a call succeeds where memory is left, that each answer is written
+//! before a read that may wait, and that the definitions mean what the worked traces say.
+
+ghost use Rattle.std.specs.Prelude.{◌<◌, None, false};
+
+use crate::{Status, Why, run};
+use aio_base::{CountFault, Failed, Faults, Reason};
+use aio_bytes::{MemSink, MemSource, SinkRefusal, Source};
+use std::alloc::{AllocError, Global};
+use std::sync::Wait;
+use std::test::Fail;
+use std::thread::Threads;
+
+const USAGE: &[u8] =
+    b"usage: replay; gen N SEED; sum N SEED; relay PORT WORKERS IDLE PAIRS; stress CALLS SEED\n";
+
+/// A trace in which a task waits for a source and is woken.
+const ORDINARY: &[u8] = b"trace 1\nadd\npoll 0 r 7\nevent 0 r\nreact\npoll 0 r 7\n";
+
+/// The answers to that trace.
+const ORDINARY_ANSWERS: &[u8] = b"key 0\npending\nnoted\nround 1 events 1 ok\nwake 7\nready\n";
+
+/// What a call answered, and what it wrote.
+#[derive(Drop)]
+struct Ran {
+    status: Status,
+    out: MemSink,
+    err: MemSink,
+}
+
+/// The numbers of the calls that fail, from 1: the reads of the input, and the writes of the output
+/// and of what is told to the user.
+#[derive(Clone, Copy)]
+struct Failing {
+    reads: &'static [u64],
+    writes: &'static [u64],
+    tells: &'static [u64],
+}
+
+const NOTHING_FAILS: Failing = Failing {
+    reads: &[],
+    writes: &[],
+    tells: &[],
+};
+
+/// Runs the command of these words over an input in memory, of which a read gives at most `piece`
+/// bytes.
+fn run_over<R: Wait + Threads + Sync + Send + Copy + AllocGlobal>(
+    rt: &R,
+    words: &[&str],
+    input: &[u8],
+    piece: usize,
+    failing: Failing,
+) -> Result<Ran, AllocError>
+    requires { 0 < piece }
+{
+    let alloc = rt.alloc();
+    let mut texts = Vec::new(alloc);
+    for word in words {
+        texts.push(String::from_str(alloc, *word)?)?;
+    }
+    let mut source = MemSource::new(input.to_vec(alloc)?, piece, failing.reads.to_vec(alloc)?);
+    let mut out = MemSink::new(alloc, failing.writes.to_vec(alloc)?);
+    let mut err = MemSink::new(alloc, failing.tells.to_vec(alloc)?);
+    let status = run(rt, alloc, texts.as_slice(), &mut source, &mut out, &mut err);
+    Ok(Ran { status, out, err })
+}
+
+/// Traces, and what comes of each: its output, its exit status and the text for the user.
+const TRACES: [(&[u8], &[u8], u8, &[u8]); 22] = [
+    (b"trace 1\n", b"", 0, b""),
+    (b"trace 1", b"", 0, b""),
+    (ORDINARY, ORDINARY_ANSWERS, 0, b""),
+    // A second waker replaces the first, which is woken.
+    (
+        b"trace 1\nadd\npoll 0 r 1\npoll 0 r 2\n",
+        b"key 0\npending\npending\nwake 1\n",
+        0,
+        b"",
+    ),
+    // A direction that is left waiting is armed again; one event wakes Write before Read.
+    (
+        b"trace 1\nadd\npoll 0 r 1\npoll 0 w 2\nevent 0 r\nreact\npoll 0 r 1\npoll 0 r 1\nevent 0 rw\nreact\n",
+        b"key 0\npending\npending\nnoted\nround 1 events 1 ok\nwake 1\nready\npending\nnoted\nround 2 events 1 ok\nwake 2\nwake 1\n",
+        0,
+        b"",
+    ),
+    // An event of an unknown key is counted and wakes nobody.
+    (
+        b"trace 1\nevent 9 rw\nreact\n",
+        b"noted\nround 1 events 1 ok\n",
+        0,
+        b"",
+    ),
+    (b"trace 1\nadd\nadd", b"key 0\nkey 1\n", 0, b""),
+    (
+        b"trace 1\npoll 4294967295 w 4294967295\n",
+        b"no source\n",
+        0,
+        b"",
+    ),
+    (b"", b"", 2, b"line 1: header\n"),
+    (b"\ntrace 1\n", b"", 2, b"line 1: header\n"),
+    (b"trace 1\r\n", b"", 2, b"line 1: header\n"),
+    (b"trace 2\nadd\n", b"", 2, b"line 1: header\n"),
+    (
+        b"trace 1\nadd\ndel 0\nadd\n",
+        b"key 0\n",
+        2,
+        b"line 3: stage\n",
+    ),
+    (b"trace 1\n add\n", b"", 2, b"line 2: stage\n"),
+    (b"trace 1\nadd \n", b"", 2, b"line 2: stage\n"),
+    (b"trace 1\nadd\r\n", b"", 2, b"line 2: stage\n"),
+    (b"trace 1\nadd\x00\n", b"", 2, b"line 2: stage\n"),
+    (b"trace 1\n\x7f\xff\n", b"", 2, b"line 2: stage\n"),
+    (b"trace 1\n\nadd\n", b"", 2, b"line 2: stage\n"),
+    (b"trace 1\ntrace 1\n", b"", 2, b"line 2: stage\n"),
+    (b"trace 1\npoll 00 r 1\n", b"", 2, b"line 2: stage\n"),
+    (b"trace 1\nevent 4294967296 r", b"", 2, b"line 2: stage\n"),
+];
+
+#[test]
+fn traces_are_answered_however_they_are_read(rt: HostRuntime) -> Result<(), Fail> {
+    for piece in [1, 7, 4096] {
+        for (trace, out, exit, err) in TRACES {
+            let ran = run_over(&rt, &["replay"], trace, piece, NOTHING_FAILS)?;
+            assert_eq!(rt; ran.out.bytes(), out, "output of {trace:?}");
+            assert_eq!(rt; ran.err.bytes(), err, "text for {trace:?}");
+            assert_eq!(rt; ran.status.exit, exit, "exit of {trace:?}");
+            assert_eq!(rt; ran.status.told, Ok(()), "text for {trace:?}");
+        }
+    }
+    Ok(())
+}
+
+#[test]
+fn other_words_are_no_command(rt: HostRuntime) -> Result<(), Fail> {
+    let lists: [&[&str]; 5] = [
+        &[],
+        &["replay", "x"],
+        &["gen", "2", "0"],
+        &["Replay"],
+        &[""],
+    ];
+    for words in lists {
+        let ran = run_over(&rt, words, ORDINARY, 4096, NOTHING_FAILS)?;
+        assert_eq!(rt; ran.status.exit, 1);
+        assert_eq!(rt; ran.status.why, Why::Usage);
+        assert_eq!(rt; ran.err.bytes(), USAGE);
+        assert!(rt; ran.out.bytes().is_empty());
+    }
+    Ok(())
+}
+
+#[test]
+fn a_line_of_any_length_is_refused(rt: HostRuntime) -> Result<(), Fail> {
+    for len in [255, 256, 257, 258, 300, 100_000] {
+        let mut trace = b"trace 1\nadd\n".to_vec(rt.alloc())?;
+        for _ in 0..len {
+            trace.push(b'a')?;
+        }
+        let ran = run_over(&rt, &["replay"], trace.as_slice(), 4096, NOTHING_FAILS)?;
+        assert_eq!(rt; ran.out.bytes(), b"key 0\n".as_slice());
+        assert_eq!(rt; ran.err.bytes(), b"line 3: stage\n".as_slice());
+        assert_eq!(rt; ran.status.exit, 2);
+    }
+    Ok(())
+}
+
+/// The read of the ordinary trace that fails, where each gives one byte, and what was written then.
+const FAILING_READS: [(&[u64], &[u8]); 8] = [
+    (&[1], b""),
+    (&[9], b""),
+    (&[12], b""),
+    (&[13], b"key 0\n"),
+    (&[23], b"key 0\n"),
+    (&[24], b"key 0\npending\n"),
+    (
+        &[40],
+        b"key 0\npending\nnoted\nround 1 events 1 ok\nwake 7\n",
+    ),
+    (&[51], ORDINARY_ANSWERS),
+];
+
+#[test]
+fn a_failing_read_leaves_the_answers_before_it(rt: HostRuntime) -> Result<(), Fail> {
+    for (reads, out) in FAILING_READS {
+        let failing = Failing {
+            reads,
+            ..NOTHING_FAILS
+        };
+        let ran = run_over(&rt, &["replay"], ORDINARY, 1, failing)?;
+        let fault = CountFault {
+            before: 0,
+            after: 1,
+        };
+        assert_eq!(rt; ran.status.exit, 3);
+        assert_eq!(rt; ran.status.why, Why::ReadFault(fault), "at {reads:?}");
+        assert_eq!(rt; ran.out.bytes(), out, "at {reads:?}");
+        assert_eq!(rt; ran.err.bytes(), b"read fault\n".as_slice());
+    }
+    Ok(())
+}
+
+/// The write of the answers to the ordinary trace that fails, where each line is read alone, and what
+/// was written then.
+const FAILING_WRITES: [(&[u64], &[u8]); 4] = [
+    (&[1], b""),
+    (&[2], b"key 0\n"),
+    (&[4], b"key 0\npending\nnoted\n"),
+    (
+        &[5, 6],
+        b"key 0\npending\nnoted\nround 1 events 1 ok\nwake 7\n",
+    ),
+];
+
+#[test]
+fn a_failing_write_leaves_the_answers_before_it(rt: HostRuntime) -> Result<(), Fail> {
+    for (writes, out) in FAILING_WRITES {
+        let failing = Failing {
+            writes,
+            ..NOTHING_FAILS
+        };
+        let ran = run_over(&rt, &["replay"], ORDINARY, 1, failing)?;
+        let fault = CountFault {
+            before: 0,
+            after: 1,
+        };
+        assert_eq!(rt; ran.status.exit, 4);
+        assert_eq!(rt; ran.status.why, Why::WriteFault(fault), "at {writes:?}");
+        assert_eq!(rt; ran.out.bytes(), out, "at {writes:?}");
+        assert_eq!(rt; ran.err.bytes(), b"write fault\n".as_slice());
+    }
+    Ok(())
+}
+
+#[test]
+fn a_user_who_cannot_be_told_changes_no_status(rt: HostRuntime) -> Result<(), Fail> {
+    let failing = Failing {
+        tells: &[1],
+        ..NOTHING_FAILS
+    };
+    let ran = run_over(&rt, &["replay"], b"", 4096, failing)?;
+    let why = Why::Refused {
+        line: 1,
+        reason: Reason::Header,
+    };
+    assert_eq!(rt; ran.status.exit, 2);
+    assert_eq!(rt; ran.status.why, why);
+    assert_eq!(rt; ran.status.told, Err(SinkRefusal::Failed));
+    assert!(rt; ran.out.bytes().is_empty());
+    assert!(rt; ran.err.bytes().is_empty());
+    Ok(())
+}
+
+#[test]
+fn a_reactor_holds_4096_sources(rt: HostRuntime) -> Result<(), Fail> {
+    let mut trace = b"trace 1\n".to_vec(rt.alloc())?;
+    let mut answers = Vec::new(rt.alloc());
+    for key in 0..4096 {
+        trace.extend_from_slice(b"add\n")?;
+        answers.extend_from_slice(format!(in rt.alloc(); "key {key}\n")?.as_bytes())?;
+    }
+    trace.extend_from_slice(b"add\n")?;
+    answers.extend_from_slice(b"full\n")?;
+    let ran = run_over(&rt, &["replay"], trace.as_slice(), 4096, NOTHING_FAILS)?;
+    assert_eq!(rt; ran.status.exit, 0);
+    assert!(rt; ran.out.bytes() == answers.as_slice());
+    Ok(())
+}
+
+/// A trace that never ends: its header, and then the line `react` again and again.
+#[derive(Drop)]
+struct Endless {
+    given: u64,
+}
+
+impl Faults for Endless {
+    ghost fault_count = { λ _. 0 };
+
+    ghost is_sure = { λ _. false };
+
+    ghost all_sure = { false };
+
+    fn faults(&self) -> u64 {
+        0
+    }
+
+    ghost sure_below_top = { λ s sure. Prim.cc };
+
+    ghost each_sure = { λ s sure. sure };
+}
+
+impl Source for Endless {
+    ghost remaining = { λ _. None };
+
+    fn read(&mut self, buf: &mut [u8]) -> Result<usize, Failed> {
+        for byte in buf.iter_mut() {
+            *byte = endless_byte(self.given);
+            self.given = self.given.saturating_add(1);
+        }
+        Ok(buf.len())
+    }
+}
+
+/// The byte at this place of the trace that never ends.
+fn endless_byte(place: u64) -> u8 {
+    if place < 8 {
+        b"trace 1\n"[place as usize]
+    } else {
+        b"react\n"[((place - 8) % 6) as usize]
+    }
+}
+
+#[test]
+fn a_trace_without_end_is_refused_past_its_millionth_line(rt: HostRuntime) -> Result<(), Fail> {
+    let mut words = Vec::new(rt.alloc());
+    words.push(String::from_str(rt.alloc(), "replay")?)?;
+    let mut source = Endless { given: 0 };
+    let mut out = MemSink::new(rt.alloc(), Vec::new(rt.alloc()));
+    let mut err = MemSink::new(rt.alloc(), Vec::new(rt.alloc()));
+    let status = run(
+        &rt,
+        rt.alloc(),
+        words.as_slice(),
+        &mut source,
+        &mut out,
+        &mut err,
+    );
+    let why = Why::Refused {
+        line: 1_000_001,
+        reason: Reason::Lines,
+    };
+    assert_eq!(rt; status.exit, 2);
+    assert_eq!(rt; status.why, why);
+    assert_eq!(rt; err.bytes(), b"line 1000001: lines\n".as_slice());
+    assert!(rt; out.bytes().ends_with(b"\nround 999999 events 0 ok\n"));
+    assert!(rt; source.given <= 257_000_257, "{}", source.given);
+    Ok(())
+}
