@@ -298,9 +298,16 @@ pub an_input_says_its_steps_in_order :
 unfolding trace_of written_step digits
 an_input_says_its_steps_in_order = refl
 
+-- a source with a listener, and a fault of its removal
+pub an_input_with_a_listener_says_its_steps_in_order :
+    trace_of (lines (codes "trace 1" ∷ codes "add" ∷ codes "new 0 r" ∷ codes "step 1 11" ∷ codes "drop 1" ∷ codes "fault remove" ∷ codes "del 0" ∷ []))
+    ≡ record { steps = add ∷ new 0 Read ∷ listen 1 11 ∷ forget 1 ∷ step.Fault which.Remove ∷ del 0 ∷ []; refusal = None }
+unfolding trace_of written_step digits
+an_input_with_a_listener_says_its_steps_in_order = refl
+
 -- no line after it counts
 pub a_line_that_is_not_built_is_refused_after_the_steps_before_it :
-    trace_of (lines (codes "trace 1" ∷ codes "add" ∷ codes "del 0" ∷ codes "react" ∷ []))
+    trace_of (lines (codes "trace 1" ∷ codes "add" ∷ codes "interrupt" ∷ codes "react" ∷ []))
     ≡ record { steps = add ∷ []; refusal = Some (record { line = 3; reason = reason.Stage }) }
 unfolding trace_of written_step digits
 a_line_that_is_not_built_is_refused_after_the_steps_before_it = refl
@@ -449,6 +456,121 @@ a_byte_below_the_digits_is_no_digit = refl
 pub commands_are_in_lower_case : written_step (codes "Add") ≡ None
 unfolding written_step digits
 commands_are_in_lower_case = refl
+
+-- a key
+pub a_del_line_spells_a_removal : written_step (codes "del 7") ≡ Some (del 7)
+unfolding written_step digits
+a_del_line_spells_a_removal = refl
+
+-- 2^32 is above every key
+pub a_key_past_the_range_is_none : written_step (codes "del 4294967296") ≡ None
+unfolding written_step digits
+a_key_past_the_range_is_none = refl
+
+-- one key
+pub a_removal_names_one_source : written_step (codes "del 0 1") ≡ None
+unfolding written_step digits
+a_removal_names_one_source = refl
+
+-- a removal without a key
+pub a_removal_names_a_source : written_step (codes "del") ≡ None
+unfolding written_step digits
+a_removal_names_a_source = refl
+
+-- two places
+pub a_new_line_spells_a_new_listener : written_step (codes "new 0 r") ≡ Some (new 0 Read)
+unfolding written_step digits
+a_new_line_spells_a_new_listener = refl
+
+-- a listener has one direction
+pub a_listener_of_both_directions_is_none : written_step (codes "new 0 rw") ≡ None
+unfolding written_step digits
+a_listener_of_both_directions_is_none = refl
+
+-- a listener without a direction
+pub a_missing_direction_is_none : written_step (codes "new 0") ≡ None
+unfolding written_step digits
+a_missing_direction_is_none = refl
+
+-- two places
+pub a_step_line_spells_a_poll_of_a_listener : written_step (codes "step 1 11") ≡ Some (listen 1 11)
+unfolding written_step digits
+a_step_line_spells_a_poll_of_a_listener = refl
+
+-- 4,294,967,295 in both places
+pub the_greatest_listener_is_read : written_step (codes "step 4294967295 4294967295") ≡ Some (listen 4294967295 4294967295)
+unfolding written_step digits
+the_greatest_listener_is_read = refl
+
+-- 2^32 is above every number of a listener
+pub a_listener_past_the_range_is_none : written_step (codes "step 4294967296 1") ≡ None
+unfolding written_step digits
+a_listener_past_the_range_is_none = refl
+
+-- 2^32 is above every waker
+pub a_listener_with_a_waker_past_the_range_is_none : written_step (codes "step 1 4294967296") ≡ None
+unfolding written_step digits
+a_listener_with_a_waker_past_the_range_is_none = refl
+
+-- a poll of a listener without a waker
+pub a_missing_waker_is_none : written_step (codes "step 1") ≡ None
+unfolding written_step digits
+a_missing_waker_is_none = refl
+
+-- a number
+pub a_drop_line_spells_the_giving_up_of_a_listener : written_step (codes "drop 2") ≡ Some (forget 2)
+unfolding written_step digits
+a_drop_line_spells_the_giving_up_of_a_listener = refl
+
+-- a number has one spelling
+pub a_leading_zero_of_a_listener_is_no_written_spelling : written_step (codes "drop 02") ≡ None
+unfolding written_step digits
+a_leading_zero_of_a_listener_is_no_written_spelling = refl
+
+-- one listener
+pub a_giving_up_names_one_listener : written_step (codes "drop 1 2") ≡ None
+unfolding written_step digits
+a_giving_up_names_one_listener = refl
+
+-- one of the calls of the poller
+pub a_fault_may_be_of_an_add : written_step (codes "fault add") ≡ Some (step.Fault which.Add)
+unfolding written_step digits
+a_fault_may_be_of_an_add = refl
+
+-- one of the calls of the poller
+pub a_fault_may_be_of_an_arm : written_step (codes "fault arm") ≡ Some (step.Fault which.Arm)
+unfolding written_step digits
+a_fault_may_be_of_an_arm = refl
+
+-- one of the calls of the poller
+pub a_fault_may_be_of_a_remove : written_step (codes "fault remove") ≡ Some (step.Fault which.Remove)
+unfolding written_step digits
+a_fault_may_be_of_a_remove = refl
+
+-- it is not built
+pub a_fault_of_a_wait_is_none : written_step (codes "fault wait") ≡ None
+unfolding written_step digits
+a_fault_of_a_wait_is_none = refl
+
+-- only the calls of the poller
+pub a_fault_of_another_call_is_none : written_step (codes "fault del") ≡ None
+unfolding written_step digits
+a_fault_of_another_call_is_none = refl
+
+-- a fault without a call
+pub a_fault_names_a_call : written_step (codes "fault") ≡ None
+unfolding written_step digits
+a_fault_names_a_call = refl
+
+-- one call
+pub a_fault_names_one_call : written_step (codes "fault add arm") ≡ None
+unfolding written_step digits
+a_fault_names_one_call = refl
+
+-- it is not built
+pub a_tick_is_none : written_step (codes "tick 1 5") ≡ None
+unfolding written_step digits
+a_tick_is_none = refl
 
 -- no word
 pub an_empty_line_spells_nothing : written_step (codes "") ≡ None

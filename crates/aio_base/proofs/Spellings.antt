@@ -12,10 +12,12 @@ use Rattle.std.proofs.lemmas.Fmt.{digits_decimal, length-decimal-le}
 use Rattle.aio_base.specs.declared.names.Dir.{Dir}
 use Rattle.aio_base.specs.declared.names.Dir.TheVariants.{Read, Write}
 use Rattle.aio_base.specs.declared.names.Interest.{Interest}
+use Rattle.aio_base.specs.declared.outcomes.Which.{Which}
+use Rattle.aio_base.specs.declared.outcomes.Which.TheVariants as which
 use Rattle.aio_base.specs.declared.steps.Step.{Step}
 use Rattle.aio_base.specs.declared.steps.Step.TheVariants as step
-use Rattle.aio_base.specs.Text.{dir_text, flags_of, flags_text, spelling}
-use Rattle.aio_base.specs.Trace.{words_of, number_of, dir_of, flags_named, alone, poll_named, poll_of, event_named, event_of, step_named, step_of_words, written_step, IsBuilt, header_text}
+use Rattle.aio_base.specs.Text.{dir_text, flags_of, flags_text, which_text, spelling}
+use Rattle.aio_base.specs.Trace.{words_of, number_of, dir_of, flags_named, fault_named, alone, del_named, del_of, poll_named, poll_of, new_named, new_of, listener_poll_named, listener_poll_of, drop_named, drop_of, event_named, event_of, fault_of, step_named, step_of_words, written_step, IsBuiltFault, IsBuilt, header_text}
 use Rattle.aio_base.proofs.Words.{words_of_one, numerals, number_of_decimal, number_of_spells}
 
 -- ## The words of a step
@@ -23,8 +25,13 @@ use Rattle.aio_base.proofs.Words.{words_of_one, numerals, number_of_decimal, num
 -- the words of a built step's spelling
 abbrev words_for : Step → List (List ℕ)
 words_for step.Add = codes "add" ∷ []
+words_for (step.Del key) = codes "del" ∷ decimal key.0 ∷ []
 words_for (step.Poll key dir waker) = codes "poll" ∷ decimal key.0 ∷ dir_text dir ∷ decimal waker.0 ∷ []
+words_for (step.New key dir) = codes "new" ∷ decimal key.0 ∷ dir_text dir ∷ []
+words_for (step.StepEar number waker) = codes "step" ∷ decimal number ∷ decimal waker.0 ∷ []
+words_for (step.DropEar number) = codes "drop" ∷ decimal number ∷ []
 words_for (step.Note event) = codes "event" ∷ decimal event.key.0 ∷ flags_text event.on ∷ []
+words_for (step.Fault kind) = codes "fault" ∷ which_text kind ∷ []
 words_for step.React = codes "react" ∷ []
 words_for _ = []
 
@@ -80,11 +87,37 @@ flags_spell word on e =
           ]
     ]
 
+-- a word that names a fault that is built
+fault_spells : (word : List ℕ) (kind : Which) → fault_named word ≡ Some kind → IsBuiltFault kind × (word ≡ which_text kind)
+fault_spells word kind e =
+    elim (if_some (bytes_eq word (codes "add")) which.Add kind _ e) [
+      | inl p ↦ (subst IsBuiltFault p.1 tt, same_bytes word (codes "add") p.0 ∙ ap which_text p.1)
+      | inr q ↦
+          elim (if_some (bytes_eq word (codes "arm")) which.Arm kind _ q.1) [
+            | inl p ↦ (subst IsBuiltFault p.1 tt, same_bytes word (codes "arm") p.0 ∙ ap which_text p.1)
+            | inr q ↦
+                elim (if_some (bytes_eq word (codes "remove")) which.Remove kind _ q.1) [
+                  | inl p ↦ (subst IsBuiltFault p.1 tt, same_bytes word (codes "remove") p.0 ∙ ap which_text p.1)
+                  | inr none ↦ absurd (let f = none.1 in cc)
+                ]
+          ]
+    ]
+
+one_same : (command : List ℕ) {a x : List ℕ} → a ≡ x → command ∷ a ∷ [] ≡ command ∷ x ∷ []
+one_same command p = cc
+
 two_same : (command : List ℕ) {a b x y : List ℕ} → a ≡ x → b ≡ y → command ∷ a ∷ b ∷ [] ≡ command ∷ x ∷ y ∷ []
 two_same command p q = cc
 
 three_same : (command : List ℕ) {a b c x y z : List ℕ} → a ≡ x → b ≡ y → c ≡ z → command ∷ a ∷ b ∷ c ∷ [] ≡ command ∷ x ∷ y ∷ z ∷ []
 three_same command p q r = cc
+
+del_spells : (key : List ℕ) (s : Step) → del_named key ≡ Some s → Names (codes "del" ∷ key ∷ []) s
+del_spells key s e =
+    let k = bind_some _ (number_of key) s e in
+    let by_key = number_of_spells key k.0 k.1 in
+    let named : Names (codes "del" ∷ key ∷ []) (step.Del (record { 0 = k.0 })) = record { built = by_key.1; words_are = one_same (codes "del") by_key.0 } in
+    subst (Names (codes "del" ∷ key ∷ [])) (same_some _ s k.2) named
 
 poll_spells : (key dir waker : List ℕ) (s : Step) → poll_named key dir waker ≡ Some s → Names (codes "poll" ∷ key ∷ dir ∷ waker ∷ []) s
 poll_spells key dir waker s e =
@@ -99,6 +132,36 @@ poll_spells key dir waker s e =
     } in
     subst (Names (codes "poll" ∷ key ∷ dir ∷ waker ∷ [])) (same_some _ s w.2) named
 
+new_spells : (key dir : List ℕ) (s : Step) → new_named key dir ≡ Some s → Names (codes "new" ∷ key ∷ dir ∷ []) s
+new_spells key dir s e =
+    let k = bind_some _ (number_of key) s e in
+    let d = bind_some _ (dir_of dir) s k.2 in
+    let by_key = number_of_spells key k.0 k.1 in
+    let named : Names (codes "new" ∷ key ∷ dir ∷ []) (step.New (record { 0 = k.0 }) d.0) = record {
+      built = by_key.1;
+      words_are = two_same (codes "new") by_key.0 (dir_spells dir d.0 d.1);
+    } in
+    subst (Names (codes "new" ∷ key ∷ dir ∷ [])) (same_some _ s d.2) named
+
+listener_poll_spells : (number waker : List ℕ) (s : Step) → listener_poll_named number waker ≡ Some s → Names (codes "step" ∷ number ∷ waker ∷ []) s
+listener_poll_spells number waker s e =
+    let n = bind_some _ (number_of number) s e in
+    let w = bind_some _ (number_of waker) s n.2 in
+    let by_number = number_of_spells number n.0 n.1 in
+    let by_waker = number_of_spells waker w.0 w.1 in
+    let named : Names (codes "step" ∷ number ∷ waker ∷ []) (step.StepEar n.0 (record { 0 = w.0 })) = record {
+      built = (by_number.1, by_waker.1);
+      words_are = two_same (codes "step") by_number.0 by_waker.0;
+    } in
+    subst (Names (codes "step" ∷ number ∷ waker ∷ [])) (same_some _ s w.2) named
+
+drop_spells : (number : List ℕ) (s : Step) → drop_named number ≡ Some s → Names (codes "drop" ∷ number ∷ []) s
+drop_spells number s e =
+    let n = bind_some _ (number_of number) s e in
+    let by_number = number_of_spells number n.0 n.1 in
+    let named : Names (codes "drop" ∷ number ∷ []) (step.DropEar n.0) = record { built = by_number.1; words_are = one_same (codes "drop") by_number.0 } in
+    subst (Names (codes "drop" ∷ number ∷ [])) (same_some _ s n.2) named
+
 event_spells : (key flags : List ℕ) (s : Step) → event_named key flags ≡ Some s → Names (codes "event" ∷ key ∷ flags ∷ []) s
 event_spells key flags s e =
     let k = bind_some _ (number_of key) s e in
@@ -110,6 +173,18 @@ event_spells key flags s e =
     } in
     subst (Names (codes "event" ∷ key ∷ flags ∷ [])) (same_some _ s f.2) named
 
+fault_line_spells : (kind : List ℕ) (s : Step) → fault_of (kind ∷ []) ≡ Some s → Names (codes "fault" ∷ kind ∷ []) s
+fault_line_spells kind s e =
+    let f = bind_some _ (fault_named kind) s e in
+    let by_kind = fault_spells kind f.0 f.1 in
+    let named : Names (codes "fault" ∷ kind ∷ []) (step.Fault f.0) = record { built = by_kind.0; words_are = one_same (codes "fault") by_kind.1 } in
+    subst (Names (codes "fault" ∷ kind ∷ [])) (same_some _ s f.2) named
+
+places_del : (places : List (List ℕ)) (s : Step) → del_of places ≡ Some s → Names (codes "del" ∷ places) s
+places_del [] s e = absurd cc
+places_del (key ∷ []) s e = del_spells key s e
+places_del (key ∷ more ∷ words) s e = absurd cc
+
 places_poll : (places : List (List ℕ)) (s : Step) → poll_of places ≡ Some s → Names (codes "poll" ∷ places) s
 places_poll [] s e = absurd cc
 places_poll (key ∷ []) s e = absurd cc
@@ -117,11 +192,33 @@ places_poll (key ∷ dir ∷ []) s e = absurd cc
 places_poll (key ∷ dir ∷ waker ∷ []) s e = poll_spells key dir waker s e
 places_poll (key ∷ dir ∷ waker ∷ more ∷ words) s e = absurd cc
 
+places_new : (places : List (List ℕ)) (s : Step) → new_of places ≡ Some s → Names (codes "new" ∷ places) s
+places_new [] s e = absurd cc
+places_new (key ∷ []) s e = absurd cc
+places_new (key ∷ dir ∷ []) s e = new_spells key dir s e
+places_new (key ∷ dir ∷ more ∷ words) s e = absurd cc
+
+places_step : (places : List (List ℕ)) (s : Step) → listener_poll_of places ≡ Some s → Names (codes "step" ∷ places) s
+places_step [] s e = absurd cc
+places_step (number ∷ []) s e = absurd cc
+places_step (number ∷ waker ∷ []) s e = listener_poll_spells number waker s e
+places_step (number ∷ waker ∷ more ∷ words) s e = absurd cc
+
+places_drop : (places : List (List ℕ)) (s : Step) → drop_of places ≡ Some s → Names (codes "drop" ∷ places) s
+places_drop [] s e = absurd cc
+places_drop (number ∷ []) s e = drop_spells number s e
+places_drop (number ∷ more ∷ words) s e = absurd cc
+
 places_event : (places : List (List ℕ)) (s : Step) → event_of places ≡ Some s → Names (codes "event" ∷ places) s
 places_event [] s e = absurd cc
 places_event (key ∷ []) s e = absurd cc
 places_event (key ∷ flags ∷ []) s e = event_spells key flags s e
 places_event (key ∷ flags ∷ more ∷ words) s e = absurd cc
+
+places_fault : (places : List (List ℕ)) (s : Step) → fault_of places ≡ Some s → Names (codes "fault" ∷ places) s
+places_fault [] s e = absurd cc
+places_fault (kind ∷ []) s e = fault_line_spells kind s e
+places_fault (kind ∷ more ∷ words) s e = absurd cc
 
 places_react : (places : List (List ℕ)) (s : Step) → alone step.React places ≡ Some s → Names (codes "react" ∷ places) s
 places_react [] s e = subst (Names (codes "react" ∷ [])) (same_some step.React s e) (record { built = tt; words_are = refl })
@@ -131,32 +228,36 @@ places_add : (places : List (List ℕ)) (s : Step) → alone step.Add places ≡
 places_add [] s e = subst (Names (codes "add" ∷ [])) (same_some step.Add s e) (record { built = tt; words_are = refl })
 places_add (word ∷ words) s e = absurd cc
 
+names_from : (command text : List ℕ) (places : List (List ℕ)) (s : Step) → bytes_eq command text ≡ true → Names (text ∷ places) s → Names (command ∷ places) s
+names_from command text places s same named = subst (λ word. Names (word ∷ places) s) (sym (same_bytes command text same)) named
+
 -- the first test that holds decides
 by_test : {A : Type 0} (test : Bool) (x y z : Option A) → cond test x y ≡ z → ((test ≡ true) × (x ≡ z)) ⊎ ((test ≡ false) × (y ≡ z))
 by_test true x y z e = inl (refl, e)
 by_test false x y z e = inr (refl, e)
 
-names_from : (command text : List ℕ) (places : List (List ℕ)) (s : Step) → bytes_eq command text ≡ true → Names (text ∷ places) s → Names (command ∷ places) s
-names_from command text places s same named = subst (λ word. Names (word ∷ places) s) (sym (same_bytes command text same)) named
+-- a command by its text, before the commands behind it
+by_command : (text command : List ℕ) (places : List (List ℕ)) (s : Step) {here rest : Option Step}
+    → (here ≡ Some s → Names (text ∷ places) s) → (rest ≡ Some s → Names (command ∷ places) s)
+    → cond (bytes_eq command text) here rest ≡ Some s → Names (command ∷ places) s
+by_command text command places s named behind e =
+    elim (by_test (bytes_eq command text) _ _ _ e) [
+      | inl p ↦ names_from command text places s p.0 (named p.1)
+      | inr q ↦ behind q.1
+    ]
 
 command_names : (command : List ℕ) (places : List (List ℕ)) (s : Step) → step_named command places ≡ Some s → Names (command ∷ places) s
-command_names command places s e =
-    elim (by_test (bytes_eq command (codes "poll")) _ _ _ e) [
-      | inl p ↦ names_from command (codes "poll") places s p.0 (places_poll places s p.1)
-      | inr q ↦
-          elim (by_test (bytes_eq command (codes "event")) _ _ _ q.1) [
-            | inl p ↦ names_from command (codes "event") places s p.0 (places_event places s p.1)
-            | inr q ↦
-                elim (by_test (bytes_eq command (codes "react")) _ _ _ q.1) [
-                  | inl p ↦ names_from command (codes "react") places s p.0 (places_react places s p.1)
-                  | inr q ↦
-                      elim (by_test (bytes_eq command (codes "add")) _ _ _ q.1) [
-                        | inl p ↦ names_from command (codes "add") places s p.0 (places_add places s p.1)
-                        | inr none ↦ absurd (let f = none.1 in cc)
-                      ]
-                ]
-          ]
-    ]
+command_names command places s =
+    by_command (codes "poll") command places s (places_poll places s) (
+    by_command (codes "event") command places s (places_event places s) (
+    by_command (codes "react") command places s (places_react places s) (
+    by_command (codes "add") command places s (places_add places s) (
+    by_command (codes "del") command places s (places_del places s) (
+    by_command (codes "new") command places s (places_new places s) (
+    by_command (codes "step") command places s (places_step places s) (
+    by_command (codes "drop") command places s (places_drop places s) (
+    by_command (codes "fault") command places s (places_fault places s) (λ none. absurd cc)
+    ))))))))
 
 words_name : (words : List (List ℕ)) (s : Step) → step_of_words words ≡ Some s → Names words s
 words_name [] s e = absurd cc
@@ -174,35 +275,33 @@ read_flags true false = refl
 read_flags false true = refl
 read_flags true true = refl
 
+read_fault : (kind : Which) → IsBuiltFault kind → fault_named (which_text kind) ≡ Some kind
+read_fault which.Add built = refl
+read_fault which.Arm built = refl
+read_fault which.Remove built = refl
+read_fault which.Wait built = absurd built
+
 -- what is read from a built step's words
 read_words : (s : Step) → IsBuilt s → step_of_words (words_for s) ≡ Some s
 read_words step.Add built = refl
+read_words (step.Del key) built = ap (option_and_then (λ k. Some (step.Del (record { 0 = k })))) (number_of_decimal key.0 built)
 read_words (step.Poll key dir waker) built =
     ap (option_and_then (λ k. option_and_then (λ d. option_and_then (λ w. Some (step.Poll (record { 0 = k }) d (record { 0 = w }))) (number_of (decimal waker.0))) (dir_of (dir_text dir)))) (number_of_decimal key.0 built.0)
     ∙ ap (option_and_then (λ d. option_and_then (λ w. Some (step.Poll key d (record { 0 = w }))) (number_of (decimal waker.0)))) (read_dir dir)
     ∙ ap (option_and_then (λ w. Some (step.Poll key dir (record { 0 = w })))) (number_of_decimal waker.0 built.1)
+read_words (step.New key dir) built =
+    ap (option_and_then (λ k. option_and_then (λ d. Some (step.New (record { 0 = k }) d)) (dir_of (dir_text dir)))) (number_of_decimal key.0 built)
+    ∙ ap (option_and_then (λ d. Some (step.New key d))) (read_dir dir)
+read_words (step.StepEar number waker) built =
+    ap (option_and_then (λ n. option_and_then (λ w. Some (step.StepEar n (record { 0 = w }))) (number_of (decimal waker.0)))) (number_of_decimal number built.0)
+    ∙ ap (option_and_then (λ w. Some (step.StepEar number (record { 0 = w })))) (number_of_decimal waker.0 built.1)
+read_words (step.DropEar number) built = ap (option_and_then (λ n. Some (step.DropEar n))) (number_of_decimal number built)
 read_words (step.Note event) built =
     ap (option_and_then (λ k. option_and_then (λ on. Some (step.Note (record { key = record { 0 = k }; on = on }))) (flags_named (flags_text event.on)))) (number_of_decimal event.key.0 built)
     ∙ ap (option_and_then (λ on. Some (step.Note (record { key = event.key; on = on })))) (read_flags event.on.read event.on.write)
+read_words (step.Fault kind) built = ap (option_and_then (λ failing. Some (step.Fault failing))) (read_fault kind built)
 read_words step.React built = refl
-read_words (step.Del key) built = absurd built
-read_words (step.New key dir) built = absurd built
-read_words (step.StepEar number waker) built = absurd built
-read_words (step.DropEar number) built = absurd built
-read_words (step.TimerAt moment) built = absurd built
-read_words (step.TimerEvery moment period) built = absurd built
-read_words step.TimerNever built = absurd built
-read_words (step.Tick number waker) built = absurd built
-read_words (step.SetAt number moment) built = absurd built
-read_words (step.SetEvery number moment period) built = absurd built
-read_words (step.End number) built = absurd built
-read_words (step.Now moment) built = absurd built
-read_words (step.Fault kind) built = absurd built
-read_words step.Interrupt built = absurd built
-read_words (step.Begin limit) built = absurd built
-read_words step.Wait built = absurd built
-read_words step.Handle built = absurd built
-read_words step.Finish built = absurd built
+read_words _ built = absurd built
 
 -- ## From words to a line and back
 
@@ -210,27 +309,15 @@ read_words step.Finish built = absurd built
 joined : (s : Step) → IsBuilt s → join_with_byte 32 (words_for s) ≡ spelling s
 unfolding spelling
 joined step.Add built = refl
+joined (step.Del key) built = refl
 joined (step.Poll key dir waker) built = simp append_assoc
+joined (step.New key dir) built = simp append_assoc
+joined (step.StepEar number waker) built = simp append_assoc
+joined (step.DropEar number) built = refl
 joined (step.Note event) built = simp append_assoc
+joined (step.Fault kind) built = refl
 joined step.React built = refl
-joined (step.Del key) built = absurd built
-joined (step.New key dir) built = absurd built
-joined (step.StepEar number waker) built = absurd built
-joined (step.DropEar number) built = absurd built
-joined (step.TimerAt moment) built = absurd built
-joined (step.TimerEvery moment period) built = absurd built
-joined step.TimerNever built = absurd built
-joined (step.Tick number waker) built = absurd built
-joined (step.SetAt number moment) built = absurd built
-joined (step.SetEvery number moment period) built = absurd built
-joined (step.End number) built = absurd built
-joined (step.Now moment) built = absurd built
-joined (step.Fault kind) built = absurd built
-joined step.Interrupt built = absurd built
-joined (step.Begin limit) built = absurd built
-joined step.Wait built = absurd built
-joined step.Handle built = absurd built
-joined step.Finish built = absurd built
+joined _ built = absurd built
 
 -- digits hold no space
 no_space : (digits : List ℕ) → AllDigits 10 digits → All (λ b. eqb b 32 ≡ false) digits
@@ -246,6 +333,16 @@ dir_then : (dir : Dir) (rest : List ℕ) → words_of (dir_text dir ++ 32 ∷ re
 dir_then Read rest = refl
 dir_then Write rest = refl
 
+dir_last : (dir : Dir) → words_of (dir_text dir) ≡ dir_text dir ∷ []
+dir_last Read = refl
+dir_last Write = refl
+
+fault_last : (kind : Which) → words_of (which_text kind) ≡ which_text kind ∷ []
+fault_last which.Add = refl
+fault_last which.Arm = refl
+fault_last which.Remove = refl
+fault_last which.Wait = refl
+
 flags_last : (r w : Bool) → words_of (flags_of r w) ≡ flags_of r w ∷ []
 flags_last false false = refl
 flags_last true false = refl
@@ -255,34 +352,26 @@ flags_last true true = refl
 -- a built step's words, joined by spaces, part again
 parted : (s : Step) → IsBuilt s → words_of (join_with_byte 32 (words_for s)) ≡ words_for s
 parted step.Add built = refl
+parted (step.Del key) built = ap (λ words. codes "del" ∷ words) (number_last key.0 built)
 parted (step.Poll key dir waker) built =
     ap (λ words. codes "poll" ∷ words) (
     number_then key.0 (dir_text dir ++ 32 ∷ decimal waker.0) built.0
     ∙ ap (λ words. decimal key.0 ∷ words) (dir_then dir (decimal waker.0) ∙ ap (λ words. dir_text dir ∷ words) (number_last waker.0 built.1))
     )
+parted (step.New key dir) built =
+    ap (λ words. codes "new" ∷ words) (number_then key.0 (dir_text dir) built ∙ ap (λ words. decimal key.0 ∷ words) (dir_last dir))
+parted (step.StepEar number waker) built =
+    ap (λ words. codes "step" ∷ words) (
+    number_then number (decimal waker.0) built.0 ∙ ap (λ words. decimal number ∷ words) (number_last waker.0 built.1)
+    )
+parted (step.DropEar number) built = ap (λ words. codes "drop" ∷ words) (number_last number built)
 parted (step.Note event) built =
     ap (λ words. codes "event" ∷ words) (
     number_then event.key.0 (flags_text event.on) built ∙ ap (λ words. decimal event.key.0 ∷ words) (flags_last event.on.read event.on.write)
     )
+parted (step.Fault kind) built = ap (λ words. codes "fault" ∷ words) (fault_last kind)
 parted step.React built = refl
-parted (step.Del key) built = absurd built
-parted (step.New key dir) built = absurd built
-parted (step.StepEar number waker) built = absurd built
-parted (step.DropEar number) built = absurd built
-parted (step.TimerAt moment) built = absurd built
-parted (step.TimerEvery moment period) built = absurd built
-parted step.TimerNever built = absurd built
-parted (step.Tick number waker) built = absurd built
-parted (step.SetAt number moment) built = absurd built
-parted (step.SetEvery number moment period) built = absurd built
-parted (step.End number) built = absurd built
-parted (step.Now moment) built = absurd built
-parted (step.Fault kind) built = absurd built
-parted step.Interrupt built = absurd built
-parted (step.Begin limit) built = absurd built
-parted step.Wait built = absurd built
-parted step.Handle built = absurd built
-parted step.Finish built = absurd built
+parted _ built = absurd built
 
 -- ## The law
 
@@ -311,6 +400,12 @@ flags_short true false = lit≤ tt
 flags_short false true = lit≤ tt
 flags_short true true = lit≤ tt
 
+fault_short : (kind : Which) → length (which_text kind) ≤ 6
+fault_short which.Add = lit≤ tt
+fault_short which.Arm = lit≤ tt
+fault_short which.Remove = lit≤ tt
+fault_short which.Wait = lit≤ tt
+
 number_short : (n : ℕ) → n < 2 ^ 32 → length (decimal n) ≤ 10
 number_short n small = length-decimal-le 10 n (omega arith) (omega arith) (omega arith)
 
@@ -318,27 +413,15 @@ number_short n small = length-decimal-le 10 n (omega arith) (omega arith) (omega
 spelling_short : (s : Step) → IsBuilt s → length (spelling s) ≤ 28
 unfolding spelling
 spelling_short step.Add built = lit≤ tt
+spelling_short (step.Del key) built = simp length-append (omega (arith, number_short key.0 built))
 spelling_short (step.Poll key dir waker) built = simp length-append (omega (arith, number_short key.0 built.0, dir_short dir, number_short waker.0 built.1))
+spelling_short (step.New key dir) built = simp length-append (omega (arith, number_short key.0 built, dir_short dir))
+spelling_short (step.StepEar number waker) built = simp length-append (omega (arith, number_short number built.0, number_short waker.0 built.1))
+spelling_short (step.DropEar number) built = simp length-append (omega (arith, number_short number built))
 spelling_short (step.Note event) built = simp length-append (omega (arith, number_short event.key.0 built, flags_short event.on.read event.on.write))
+spelling_short (step.Fault kind) built = simp length-append (omega (arith, fault_short kind))
 spelling_short step.React built = lit≤ tt
-spelling_short (step.Del key) built = absurd built
-spelling_short (step.New key dir) built = absurd built
-spelling_short (step.StepEar number waker) built = absurd built
-spelling_short (step.DropEar number) built = absurd built
-spelling_short (step.TimerAt moment) built = absurd built
-spelling_short (step.TimerEvery moment period) built = absurd built
-spelling_short step.TimerNever built = absurd built
-spelling_short (step.Tick number waker) built = absurd built
-spelling_short (step.SetAt number moment) built = absurd built
-spelling_short (step.SetEvery number moment period) built = absurd built
-spelling_short (step.End number) built = absurd built
-spelling_short (step.Now moment) built = absurd built
-spelling_short (step.Fault kind) built = absurd built
-spelling_short step.Interrupt built = absurd built
-spelling_short (step.Begin limit) built = absurd built
-spelling_short step.Wait built = absurd built
-spelling_short step.Handle built = absurd built
-spelling_short step.Finish built = absurd built
+spelling_short _ built = absurd built
 
 none_where_never : {A : Type 0} (o : Option A) → ((x : A) → o ≡ Some x → ⊥) → o ≡ None
 none_where_never None never = refl

@@ -4,6 +4,8 @@ use Rattle.std.specs.List.{slice_split}
 use Rattle.aio_base.specs.declared.names.Dir.{Dir}
 use Rattle.aio_base.specs.declared.names.Dir.TheVariants.{Read, Write}
 use Rattle.aio_base.specs.declared.names.Interest.{Interest}
+use Rattle.aio_base.specs.declared.outcomes.Which.{Which}
+use Rattle.aio_base.specs.declared.outcomes.Which.TheVariants as which
 use Rattle.aio_base.specs.declared.steps.Step.{Step}
 use Rattle.aio_base.specs.declared.steps.Step.TheVariants as step
 use Rattle.aio_base.specs.declared.steps.Reason.{Reason}
@@ -50,10 +52,24 @@ flags_named word =
     else (if bytes_eq word (codes "w") then Some (record { read = false; write = true })
     else (if bytes_eq word (codes "rw") then Some (record { read = true; write = true }) else None)))
 
+-- a call of the poller whose failing is built
+abbrev pub fault_named : List ℕ → Option Which
+fault_named word =
+    if bytes_eq word (codes "add") then Some which.Add
+    else (if bytes_eq word (codes "arm") then Some which.Arm
+    else (if bytes_eq word (codes "remove") then Some which.Remove else None))
+
 -- a step whose line has no further word
 abbrev pub alone : Step → List (List ℕ) → Option Step
 alone s [] = Some s
 alone s (word ∷ words) = None
+
+abbrev pub del_named : List ℕ → Option Step
+del_named key = number_of key >>= λ k. Some (step.Del (record { 0 = k }))
+
+abbrev pub del_of : List (List ℕ) → Option Step
+del_of (key ∷ []) = del_named key
+del_of _ = None
 
 abbrev pub poll_named : List ℕ → List ℕ → List ℕ → Option Step
 poll_named key dir waker =
@@ -63,6 +79,27 @@ abbrev pub poll_of : List (List ℕ) → Option Step
 poll_of (key ∷ dir ∷ waker ∷ []) = poll_named key dir waker
 poll_of _ = None
 
+abbrev pub new_named : List ℕ → List ℕ → Option Step
+new_named key dir = number_of key >>= λ k. dir_of dir >>= λ d. Some (step.New (record { 0 = k }) d)
+
+abbrev pub new_of : List (List ℕ) → Option Step
+new_of (key ∷ dir ∷ []) = new_named key dir
+new_of _ = None
+
+abbrev pub listener_poll_named : List ℕ → List ℕ → Option Step
+listener_poll_named number waker = number_of number >>= λ n. number_of waker >>= λ w. Some (step.StepEar n (record { 0 = w }))
+
+abbrev pub listener_poll_of : List (List ℕ) → Option Step
+listener_poll_of (number ∷ waker ∷ []) = listener_poll_named number waker
+listener_poll_of _ = None
+
+abbrev pub drop_named : List ℕ → Option Step
+drop_named number = number_of number >>= λ n. Some (step.DropEar n)
+
+abbrev pub drop_of : List (List ℕ) → Option Step
+drop_of (number ∷ []) = drop_named number
+drop_of _ = None
+
 abbrev pub event_named : List ℕ → List ℕ → Option Step
 event_named key flags = number_of key >>= λ k. flags_named flags >>= λ on. Some (step.Note (record { key = record { 0 = k }; on = on }))
 
@@ -70,26 +107,46 @@ abbrev pub event_of : List (List ℕ) → Option Step
 event_of (key ∷ flags ∷ []) = event_named key flags
 event_of _ = None
 
+abbrev pub fault_of : List (List ℕ) → Option Step
+fault_of (kind ∷ []) = fault_named kind >>= λ failing. Some (step.Fault failing)
+fault_of _ = None
+
 abbrev pub step_named : List ℕ → List (List ℕ) → Option Step
 step_named command places =
     if bytes_eq command (codes "poll") then poll_of places
     else (if bytes_eq command (codes "event") then event_of places
     else (if bytes_eq command (codes "react") then alone step.React places
-    else (if bytes_eq command (codes "add") then alone step.Add places else None)))
+    else (if bytes_eq command (codes "add") then alone step.Add places
+    else (if bytes_eq command (codes "del") then del_of places
+    else (if bytes_eq command (codes "new") then new_of places
+    else (if bytes_eq command (codes "step") then listener_poll_of places
+    else (if bytes_eq command (codes "drop") then drop_of places
+    else (if bytes_eq command (codes "fault") then fault_of places else None))))))))
 
 abbrev pub step_of_words : List (List ℕ) → Option Step
 step_of_words [] = None
 step_of_words (command ∷ places) = step_named command places
 
--- The step whose written spelling this line is, among the lines that are built: `add`, `poll`, `event` and `react`.
+-- The step whose written spelling this line is, among the lines that are built: `add`, `del`, `poll`, `new`, `step`,
+-- `drop`, `event`, `fault` of another call than `wait`, and `react`.
 unfoldable pub written_step : List ℕ → Option Step
 written_step line = step_of_words (words_of line)
+
+-- a fault of a call of the poller, among the faults that are built: those of every call but a wait
+abbrev pub IsBuiltFault : Which → Type 0
+IsBuiltFault which.Wait = ⊥
+IsBuiltFault _ = Unit {0}
 
 -- a step of the lines that are built, with numbers that a line can hold
 abbrev pub IsBuilt : Step → Type 0
 IsBuilt step.Add = Unit {0}
+IsBuilt (step.Del key) = key.0 < 2 ^ 32
 IsBuilt (step.Poll key dir waker) = (key.0 < 2 ^ 32) × (waker.0 < 2 ^ 32)
+IsBuilt (step.New key dir) = key.0 < 2 ^ 32
+IsBuilt (step.StepEar number waker) = (number < 2 ^ 32) × (waker.0 < 2 ^ 32)
+IsBuilt (step.DropEar number) = number < 2 ^ 32
 IsBuilt (step.Note event) = event.key.0 < 2 ^ 32
+IsBuilt (step.Fault kind) = IsBuiltFault kind
 IsBuilt step.React = Unit {0}
 IsBuilt _ = ⊥
 

@@ -1,18 +1,14 @@
--- What is found in the world's lists and in the reactor's after a change of one entry.
-use Rattle.std.proofs.Common.{◌≡◌, ◌≢◌, ℕ, zero, suc, ◌+◌, ◌<◌, ◌≤◌, Bool, true, false, not, ◌||◌, ◌==◌, nat_lt, if◌then◌else◌, List, [], ◌∷◌, ◌++◌, length, find, slice_get, slice_index_or, slice_set, Option, None, Some, option_map, sym, refl, ap, ◌∙◌, ⊎_elim, arith, lt-ltb, true≢false, get_or-set_same, get_or-set_other}
-use Rattle.std.proofs.lemmas.Bool.{cases_eq, not_from_true, not_from_false, eq-eqb, ne_eqb}
-use Rattle.std.proofs.lemmas.Bool.Decides.{nat_tests}
-use Rattle.std.proofs.lemmas.Option.{get_or_from_slice_get, slice_get_within}
+-- What is found in the world's lists and in what is kept after a change of one entry.
+use Rattle.std.proofs.Common.{◌≡◌, ◌≢◌, ℕ, zero, suc, ◌+◌, ◌-◌, ◌<◌, ◌≤◌, Bool, true, false, cond, not, ◌==◌, List, [], ◌∷◌, ◌++◌, length, filter, slice_get, slice_set, Option, None, Some, option_map, sym, refl, ap, ◌∙◌, ⊎_elim, arith}
+use Rattle.std.specs.List.{list_any}
+use Rattle.std.proofs.lemmas.Bool.{cases_eq, not_from_true, not_from_false, ne_eqb, eqb-true}
 use Rattle.aio_base.specs.declared.names.Dir.{Dir}
-use Rattle.aio_base.specs.declared.names.Dir.TheVariants.{Read, Write}
 use Rattle.aio_base.specs.declared.names.Waker.{Waker}
-use Rattle.aio_base.specs.World.{World, LiveSource, PollWaiter, Mark, same_dir, is_of, serial_of, poll_waiter, without_waiter, mark_of, without_mark}
-use Rattle.aio_base.specs.Machine.{is_live, free_key_from, free_key}
-use Rattle.aio_run.specs.declared.sources.Direction.{Direction}
-use Rattle.aio_run.specs.declared.sources.SourceEntry.{SourceEntry}
-use Rattle.aio_run.specs.Directions.{new_source, direction_of, with_direction}
-use Rattle.aio_run.specs.Ties.{live_from, direction_at}
-use Rattle.aio_run.proofs.Found.{find-filter_kept, find-filter_lost, find-push_hit, find-push_miss, is_of-refl, is_of-apart, is_of-swap}
+use Rattle.aio_base.specs.World.{PollWaiter, Mark, BrokenSource, is_of, poll_waiter, without_waiter, mark_of, without_mark, without_broken}
+use Rattle.aio_source.specs.Values.{SourceValue}
+use Rattle.aio_run.specs.declared.registry.Registered.{Registered}
+use Rattle.aio_run.specs.Kept.{found, source_at, listener_at, placed}
+use Rattle.aio_run.proofs.Found.{find-filter_kept, find-filter_lost, find-push_hit, find-push_miss, list_any-filter_kept, list_any-filter_lost, is_of-refl, is_of-eq, is_of-apart, is_of-swap}
 
 -- ## Poll waiters and marks
 
@@ -72,138 +68,160 @@ mark_of-stored_other ms s d position s' d' apart =
     (record { serial = s; dir = d; position = position }) (is_of-swap s d s' d' apart))
     ∙ mark_of-without_other ms s d s' d' apart
 
--- ## Sources
+-- ## What stands of a serial that leaves
 
-pub length-live_from : (base : ℕ) (sources : List SourceEntry) → length (live_from base sources) ≡ length sources
-length-live_from base [] = refl
-length-live_from base (s ∷ sources) = ap suc (length-live_from (base + 1) sources)
+-- a filter that drops one serial keeps what is of another
+keeps_serial : (serial other : ℕ) (dir : Dir) → other ≢ serial → (a : ℕ) (b : Dir) → is_of other dir a b ≡ true → not (a == serial) ≡ true
+keeps_serial serial other dir apart a b h =
+    not_from_false (a == serial) (ne_eqb a serial (λ (e : a ≡ serial). apart (sym (is_of-eq other dir a b h).0 ∙ e)))
 
-find_live_step : (base key : ℕ) (there : Bool) (rest : Option LiveSource) → there ≡ (base == key) → base ≤ key
-    → (base + 1 ≤ key → rest ≡ Some (record { key = key; serial = key + 1 }))
-    → (if there then Some (record { key = base; serial = base + 1 }) else rest) ≡ Some (record { key = key; serial = key + 1 })
-find_live_step base key true rest e le more = let same : base ≡ key = grind (arith, nat_tests) in rw same
-find_live_step base key false rest e le more = more (grind (arith, nat_tests))
+pub poll_waiter-removed : (ps : List PollWaiter) (serial other : ℕ) (dir : Dir) → other ≢ serial
+    → poll_waiter (filter (λ (p : PollWaiter). not (p.serial == serial)) ps) other dir ≡ poll_waiter ps other dir
+poll_waiter-removed ps serial other dir apart =
+    ap (option_map (λ (p : PollWaiter). p.waker)) (find-filter_kept (λ (p : PollWaiter). is_of other dir p.serial p.dir)
+    (λ (p : PollWaiter). not (p.serial == serial)) (λ p h. keeps_serial serial other dir apart p.serial p.dir h) ps)
 
-pub find_live : (base key : ℕ) (sources : List SourceEntry) → base ≤ key → key < base + length sources
-    → find (λ (s : LiveSource). s.key == key) (live_from base sources) ≡ Some (record { key = key; serial = key + 1 })
-find_live base key [] le lt = absurd (omega arith)
-find_live base key (s ∷ sources) le lt = find_live_step base key _ _ refl le (λ more. find_live (base + 1) key sources more (omega arith))
+pub mark_of-removed : (ms : List Mark) (serial other : ℕ) (dir : Dir) → other ≢ serial
+    → mark_of (filter (λ (m : Mark). not (m.serial == serial)) ms) other dir ≡ mark_of ms other dir
+mark_of-removed ms serial other dir apart =
+    ap (option_map (λ (m : Mark). m.position)) (find-filter_kept (λ (m : Mark). is_of other dir m.serial m.dir)
+    (λ (m : Mark). not (m.serial == serial)) (λ m h. keeps_serial serial other dir apart m.serial m.dir h) ms)
 
-pub find_live-past : (base key : ℕ) (sources : List SourceEntry) → base + length sources ≤ key
-    → find (λ (s : LiveSource). s.key == key) (live_from base sources) ≡ None
-find_live-past base key [] le = refl
-find_live-past base key (s ∷ sources) le =
-    let rest = find_live-past (base + 1) key sources (omega arith) in rw (ne_eqb base key (omega arith)) rest
+keeps_broken : (serial other a : ℕ) → other ≢ serial → a == other ≡ true → not (a == serial) ≡ true
+keeps_broken serial other a apart h =
+    not_from_false (a == serial) (ne_eqb a serial (λ (e : a ≡ serial). apart (sym (eqb-true a other h) ∙ e)))
 
-pub serial_of-within : (w : World) (sources : List SourceEntry) (key : ℕ) → w.live ≡ live_from 0 sources → key < length sources
-    → serial_of w key ≡ Some (key + 1)
-serial_of-within w sources key live lt =
-    rw live (ap (option_map (λ (s : LiveSource). s.serial)) (find_live 0 key sources (omega arith) (omega arith)))
+-- whether another source is broken is not changed where one is broken no longer
+pub broken-without_other : (broken : List BrokenSource) (serial other : ℕ) → other ≢ serial
+    → list_any (λ (b : BrokenSource). b.serial == other) (without_broken broken serial) ≡ list_any (λ (b : BrokenSource). b.serial == other) broken
+broken-without_other broken serial other apart =
+    list_any-filter_kept (λ (b : BrokenSource). b.serial == other) (λ (b : BrokenSource). not (b.serial == serial))
+    (λ b h. keeps_broken serial other b.serial apart h) broken
 
-pub serial_of-past : (w : World) (sources : List SourceEntry) (key : ℕ) → w.live ≡ live_from 0 sources → length sources ≤ key
-    → serial_of w key ≡ None
-serial_of-past w sources key live le = rw live (ap (option_map (λ (s : LiveSource). s.serial)) (find_live-past 0 key sources (omega arith)))
+pub broken-without_same : (broken : List BrokenSource) (serial : ℕ)
+    → list_any (λ (b : BrokenSource). b.serial == serial) (without_broken broken serial) ≡ false
+broken-without_same broken serial =
+    list_any-filter_lost (λ (b : BrokenSource). b.serial == serial) (λ (b : BrokenSource). not (b.serial == serial)) (λ b h. not_from_true _ h) broken
 
-is_live_step : (base key count : ℕ) (rest : Bool) → (base + 1 ≤ key → rest ≡ nat_lt key (base + 1 + count)) → base ≤ key
-    → (base == key) || rest ≡ nat_lt key (base + suc count)
-is_live_step base key count rest more le =
+-- ## Sources and listeners that are kept, by their places
+
+pub found-set_same : {A : Type 0} (places : List (Option A)) (i : ℕ) (a : A) (place : Option A) → found (slice_get places i) ≡ Some a
+    → found (slice_get (slice_set places i place) i) ≡ place
+found-set_same [] i a place got = absurd (cc)
+found-set_same (p ∷ places) zero a place got = refl
+found-set_same (p ∷ places) (suc i) a place got = found-set_same places i a place got
+
+pub found-set_other : {A : Type 0} (places : List (Option A)) (i other : ℕ) (place : Option A) → other ≢ i
+    → found (slice_get (slice_set places i place) other) ≡ found (slice_get places other)
+found-set_other [] i other place apart = refl
+found-set_other (p ∷ places) zero zero place apart = absurd (apart refl)
+found-set_other (p ∷ places) zero (suc other) place apart = refl
+found-set_other (p ∷ places) (suc i) zero place apart = refl
+found-set_other (p ∷ places) (suc i) (suc other) place apart = found-set_other places i other place (λ (e : other ≡ i). apart (ap suc e))
+
+pub found-within : {A : Type 0} (places : List (Option A)) (i : ℕ) (a : A) → found (slice_get places i) ≡ Some a → i < length places
+found-within [] i a got = absurd (cc)
+found-within (p ∷ places) zero a got = omega arith
+found-within (p ∷ places) (suc i) a got = let rest = found-within places i a got in omega arith
+
+pub found-push_same : {A : Type 0} (places : List (Option A)) (i : ℕ) (place : Option A) → i ≡ length places
+    → found (slice_get (places ++ place ∷ []) i) ≡ place
+found-push_same [] zero place e = refl
+found-push_same [] (suc i) place e = absurd (omega arith)
+found-push_same (p ∷ places) zero place e = absurd (omega arith)
+found-push_same (p ∷ places) (suc i) place e = found-push_same places i place (omega arith)
+
+pub found-push_other : {A : Type 0} (places : List (Option A)) (i : ℕ) (place : Option A) → i ≢ length places
+    → found (slice_get (places ++ place ∷ []) i) ≡ found (slice_get places i)
+found-push_other [] zero place apart = absurd (apart refl)
+found-push_other [] (suc i) place apart = refl
+found-push_other (p ∷ places) zero place apart = refl
+found-push_other (p ∷ places) (suc i) place apart = found-push_other places i place (λ (e : i ≡ length places). apart (ap suc e))
+
+pub source_at-set_same : (sources : List (Option SourceValue)) (key : ℕ) (s : SourceValue) (place : Option SourceValue)
+    → source_at sources key ≡ Some s → source_at (slice_set sources key place) key ≡ place
+source_at-set_same sources key s place got = found-set_same sources key s place got
+
+pub source_at-set_other : (sources : List (Option SourceValue)) (key other : ℕ) (place : Option SourceValue) → other ≢ key
+    → source_at (slice_set sources key place) other ≡ source_at sources other
+source_at-set_other sources key other place apart = found-set_other sources key other place apart
+
+pub source_at-within : (sources : List (Option SourceValue)) (key : ℕ) (s : SourceValue) → source_at sources key ≡ Some s → key < length sources
+source_at-within sources key s got = found-within sources key s got
+
+pub source_at-placed_same : (sources : List (Option SourceValue)) (key : ℕ) (s : SourceValue) → key ≤ length sources
+    → source_at (placed sources key s) key ≡ Some s
+source_at-placed_same [] zero s le = refl
+source_at-placed_same [] (suc key) s le = absurd (omega arith)
+source_at-placed_same (p ∷ sources) zero s le = refl
+source_at-placed_same (p ∷ sources) (suc key) s le = source_at-placed_same sources key s (omega arith)
+
+pub source_at-placed_other : (sources : List (Option SourceValue)) (key other : ℕ) (s : SourceValue) → key ≤ length sources → other ≢ key
+    → source_at (placed sources key s) other ≡ source_at sources other
+source_at-placed_other [] zero zero s le apart = absurd (apart refl)
+source_at-placed_other [] zero (suc other) s le apart = refl
+source_at-placed_other [] (suc key) other s le apart = absurd (omega arith)
+source_at-placed_other (p ∷ sources) zero zero s le apart = absurd (apart refl)
+source_at-placed_other (p ∷ sources) zero (suc other) s le apart = refl
+source_at-placed_other (p ∷ sources) (suc key) zero s le apart = refl
+source_at-placed_other (p ∷ sources) (suc key) (suc other) s le apart =
+    source_at-placed_other sources key other s (omega arith) (λ (e : other ≡ key). apart (ap suc e))
+
+listener_at-zero : (listeners : List (Option Registered)) → listener_at listeners 0 ≡ None
+listener_at-zero listeners = refl
+
+not_zero : (listeners : List (Option Registered)) (number : ℕ) (r : Registered) → listener_at listeners number ≡ Some r → number ≢ 0
+not_zero listeners number r got e = absurd (cc (rw e at got))
+
+-- a listener's place, whose number counts from 1
+pub listener_at-found : (listeners : List (Option Registered)) (number : ℕ) → number ≢ 0
+    → listener_at listeners number ≡ found (slice_get listeners (number - 1))
+listener_at-found listeners number apart = rw (ne_eqb number 0 apart)
+
+pub listener_at-within : (listeners : List (Option Registered)) (number : ℕ) (r : Registered) → listener_at listeners number ≡ Some r
+    → (0 < number) × (number ≤ length listeners)
+listener_at-within listeners number r got =
+    let apart = not_zero listeners number r got in
+    let within = found-within listeners (number - 1) r (sym (listener_at-found listeners number apart) ∙ got) in
+    (omega arith, omega arith)
+
+pub listener_at-set_same : (listeners : List (Option Registered)) (number : ℕ) (r : Registered) (place : Option Registered)
+    → listener_at listeners number ≡ Some r → listener_at (slice_set listeners (number - 1) place) number ≡ place
+listener_at-set_same listeners number r place got =
+    let apart = not_zero listeners number r got in
+    listener_at-found (slice_set listeners (number - 1) place) number apart
+    ∙ found-set_same listeners (number - 1) r place (sym (listener_at-found listeners number apart) ∙ got)
+
+pub listener_at-set_other : (listeners : List (Option Registered)) (number other : ℕ) (place : Option Registered) → number ≢ 0 → other ≢ number
+    → listener_at (slice_set listeners (number - 1) place) other ≡ listener_at listeners other
+listener_at-set_other listeners number other place some apart =
     ⊎_elim
-    (λ (same : base ≡ key). rw (eq-eqb base key same) (grind (arith, nat_tests)))
-    (λ (other : base ≢ key). rw (ne_eqb base key other) (more (omega arith) ∙ grind (arith, nat_tests)))
-    (cases_eq base key)
+    (λ (e : other ≡ 0). rw e)
+    (λ (e : other ≢ 0). listener_at-found (slice_set listeners (number - 1) place) other e
+    ∙ found-set_other listeners (number - 1) (other - 1) place (λ (same : other - 1 ≡ number - 1). apart (omega arith))
+    ∙ sym (listener_at-found listeners other e))
+    (cases_eq other 0)
 
-is_live-from : (base key : ℕ) (sources : List SourceEntry) → base ≤ key → is_live (live_from base sources) key ≡ nat_lt key (base + length sources)
-is_live-from base key [] le = grind (arith, nat_tests)
-is_live-from base key (s ∷ sources) le =
-    is_live_step base key (length sources) _ (λ more. is_live-from (base + 1) key sources more) le
+pub listener_at-push_same : (listeners : List (Option Registered)) (number : ℕ) (place : Option Registered) → number ≡ length listeners + 1
+    → listener_at (listeners ++ place ∷ []) number ≡ place
+listener_at-push_same listeners number place e =
+    listener_at-found (listeners ++ place ∷ []) number (λ (zero_is : number ≡ 0). absurd (omega arith))
+    ∙ found-push_same listeners (number - 1) place (omega arith)
 
-free_from : (live : List LiveSource) (n : ℕ) → ((key : ℕ) → is_live live key ≡ nat_lt key n) → (fuel : List LiveSource) (key : ℕ)
-    → key + length fuel ≡ n → free_key_from key live fuel ≡ n
-free_from live n is [] key e = omega arith
-free_from live n is (s ∷ fuel) key e =
-    rw (is key, lt-ltb key n (omega arith)) (free_from live n is fuel (key + 1) (omega arith))
-
--- no key below the number of sources is free
-pub free_key-next : (sources : List SourceEntry) → free_key (live_from 0 sources) ≡ length sources
-free_key-next sources =
-    free_from (live_from 0 sources) (length sources) (λ key. is_live-from 0 key sources (omega arith) ∙ grind (arith, nat_tests))
-    (live_from 0 sources) 0 (omega (arith, length-live_from 0 sources))
-
-pub live_from-push : (base : ℕ) (sources : List SourceEntry) (source : SourceEntry) (key : ℕ) → key ≡ base + length sources
-    → live_from base (sources ++ source ∷ []) ≡ live_from base sources ++ record { key = key; serial = key + 1 } ∷ []
-live_from-push base [] source key e = let same : base ≡ key = omega arith in rw same
-live_from-push base (s ∷ sources) source key e = rw (live_from-push (base + 1) sources source key (omega arith))
-
-pub live_from-set : (base : ℕ) (sources : List SourceEntry) (key : ℕ) (source : SourceEntry)
-    → live_from base (slice_set sources key source) ≡ live_from base sources
-live_from-set base [] key source = refl
-live_from-set base (s ∷ sources) zero source = refl
-live_from-set base (s ∷ sources) (suc key) source = ap (λ (live : List LiveSource). record { key = base; serial = base + 1 } ∷ live) (live_from-set (base + 1) sources key source)
-
-pub slice_get-set_same : (sources : List SourceEntry) (key : ℕ) (source new : SourceEntry) → slice_get sources key ≡ Some source
-    → slice_get (slice_set sources key new) key ≡ Some new
-slice_get-set_same [] key source new got = absurd (cc)
-slice_get-set_same (s ∷ sources) zero source new got = refl
-slice_get-set_same (s ∷ sources) (suc key) source new got = slice_get-set_same sources key source new got
-
-pub slice_get-none : (sources : List SourceEntry) (key : ℕ) → slice_get sources key ≡ None → length sources ≤ key
-slice_get-none [] key got = omega arith
-slice_get-none (s ∷ sources) zero got = absurd (cc)
-slice_get-none (s ∷ sources) (suc key) got = let rest = slice_get-none sources key got in omega arith
-
--- ## Directions
-
-pub direction_at-set_same : (sources : List SourceEntry) (key : ℕ) (source : SourceEntry) (dir : Dir) → key < length sources
-    → direction_at (slice_set sources key source) key dir ≡ direction_of source dir
-direction_at-set_same sources key source dir lt = ap (λ (s : SourceEntry). direction_of s dir) (get_or-set_same sources key source new_source lt)
-
-pub direction_at-set_other : (sources : List SourceEntry) (key : ℕ) (source : SourceEntry) (other : ℕ) (dir : Dir) → other ≢ key
-    → direction_at (slice_set sources key source) other dir ≡ direction_at sources other dir
-direction_at-set_other sources key source other dir apart =
-    ap (λ (s : SourceEntry). direction_of s dir) (get_or-set_other sources key other source new_source apart)
-
-pub direction_at-get : (sources : List SourceEntry) (key : ℕ) (source : SourceEntry) (dir : Dir) → slice_get sources key ≡ Some source
-    → direction_at sources key dir ≡ direction_of source dir
-direction_at-get sources key source dir got =
-    ap (λ (s : SourceEntry). direction_of s dir) (get_or_from_slice_get sources key source new_source got)
-
-direction_of-with_same : (source : SourceEntry) (dir : Dir) (d : Direction) → direction_of (with_direction source dir d) dir ≡ d
-direction_of-with_same source Read d = refl
-direction_of-with_same source Write d = refl
-
-direction_of-with_other : (source : SourceEntry) (dir : Dir) (d : Direction) (other : Dir) → same_dir other dir ≡ false
-    → direction_of (with_direction source dir d) other ≡ direction_of source other
-direction_of-with_other source Read d Read apart = absurd (true≢false apart)
-direction_of-with_other source Read d Write apart = refl
-direction_of-with_other source Write d Read apart = refl
-direction_of-with_other source Write d Write apart = absurd (true≢false apart)
-
-pub direction_at-with_same : (sources : List SourceEntry) (key : ℕ) (source : SourceEntry) (dir : Dir) (d : Direction)
-    → slice_get sources key ≡ Some source → direction_at (slice_set sources key (with_direction source dir d)) key dir ≡ d
-direction_at-with_same sources key source dir d got =
-    direction_at-set_same sources key (with_direction source dir d) dir (slice_get_within sources key source got)
-    ∙ direction_of-with_same source dir d
-
-apart_dirs : (s : ℕ) (d : Dir) (a : ℕ) (b : Dir) → a ≡ s → is_of s d a b ≡ false → same_dir b d ≡ false
-apart_dirs s d a b same apart = sym (rw (eq-eqb a s same)) ∙ apart
-
-pub direction_at-with_other : (sources : List SourceEntry) (key : ℕ) (source : SourceEntry) (dir : Dir) (d : Direction) (other : ℕ) (dir' : Dir)
-    → slice_get sources key ≡ Some source → is_of key dir other dir' ≡ false
-    → direction_at (slice_set sources key (with_direction source dir d)) other dir' ≡ direction_at sources other dir'
-direction_at-with_other sources key source dir d other dir' got apart =
+pub listener_at-push_other : (listeners : List (Option Registered)) (number : ℕ) (place : Option Registered) → number ≢ length listeners + 1
+    → listener_at (listeners ++ place ∷ []) number ≡ listener_at listeners number
+listener_at-push_other listeners number place apart =
     ⊎_elim
-    (λ (same : other ≡ key). rw same (direction_at-set_same sources key (with_direction source dir d) dir' (slice_get_within sources key source got)
-    ∙ direction_of-with_other source dir d dir' (apart_dirs key dir other dir' same apart) ∙ sym (direction_at-get sources key source dir' got)))
-    (λ (away : other ≢ key). direction_at-set_other sources key (with_direction source dir d) other dir' away)
-    (cases_eq other key)
+    (λ (e : number ≡ 0). rw e)
+    (λ (e : number ≢ 0). listener_at-found (listeners ++ place ∷ []) number e
+    ∙ found-push_other listeners (number - 1) place (λ (same : number - 1 ≡ length listeners). apart (omega arith))
+    ∙ sym (listener_at-found listeners number e))
+    (cases_eq number 0)
 
-pub get_or-push_default : {X : Type 0} (xs : List X) (i : ℕ) (d : X) → slice_index_or (xs ++ d ∷ []) i d ≡ slice_index_or xs i d
-get_or-push_default [] zero d = refl
-get_or-push_default [] (suc i) d = refl
-get_or-push_default (x ∷ xs) zero d = refl
-get_or-push_default (x ∷ xs) (suc i) d = get_or-push_default xs i d
+no_place : (number : ℕ) (zero_is : Bool) → cond {A = Option Registered} zero_is None None ≡ None
+no_place number true = refl
+no_place number false = refl
 
--- a source that is added stands where a new source was read before
-pub direction_at-push : (sources : List SourceEntry) (key : ℕ) (dir : Dir)
-    → direction_at (sources ++ new_source ∷ []) key dir ≡ direction_at sources key dir
-direction_at-push sources key dir = ap (λ (s : SourceEntry). direction_of s dir) (get_or-push_default sources key new_source)
+-- of no listeners none is found
+pub listener_at-none : (number : ℕ) → listener_at [] number ≡ None
+listener_at-none number = no_place number (number == 0)

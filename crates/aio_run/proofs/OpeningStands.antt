@@ -1,5 +1,5 @@
 -- What a new reactor keeps stands for the opening world.
-use Rattle.std.proofs.Common.{◌≡◌, ℕ, zero, suc, ◌+◌, false, [], replicate, slice_index_or, refl, ◌∙◌, arith}
+use Rattle.std.proofs.Common.{◌≡◌, ℕ, zero, suc, false, [], replicate, slice_index_or, None, refl, ◌∙◌, arith}
 use Rattle.std.proofs.lemmas.List.{length-replicate}
 use Rattle.aio_base.specs.declared.names.Dir.{Dir}
 use Rattle.aio_base.specs.declared.names.Dir.TheVariants.{Read, Write}
@@ -8,35 +8,49 @@ use Rattle.aio_base.specs.Devices.{no_interest}
 use Rattle.aio_base.specs.World.{has_dir, opening}
 use Rattle.aio_script.specs.Script.{nothing_due, new_script}
 use Rattle.aio_script.specs.Script as script
-use Rattle.aio_run.specs.Directions.{new_source, direction_of}
-use Rattle.aio_run.specs.Ties.{DirectionStands, StandsFor}
+use Rattle.aio_run.specs.Kept.{listener_at}
+use Rattle.aio_run.specs.Ties.{NothingOf, StandsFor}
+use Rattle.aio_run.proofs.Bounds.{ListenerStands-as}
+use Rattle.aio_run.proofs.Lookups.{listener_at-none}
 
 get_or-replicate_default : {X : Type 0} (n i : ℕ) (d : X) → slice_index_or (replicate n d) i d ≡ d
 get_or-replicate_default zero i d = refl
 get_or-replicate_default (suc n) zero d = refl
 get_or-replicate_default (suc n) (suc i) d = get_or-replicate_default n i d
 
-new_stands : (serial : ℕ) (dir : Dir) → DirectionStands 0 (direction_of new_source dir) opening serial dir
-new_stands serial Read = record { waiter = refl; tick = refl; since = tt }
-new_stands serial Write = record { waiter = refl; tick = refl; since = tt }
-
 none_armed : (on : Interest) (dir : Dir) → on ≡ no_interest → false ≡ has_dir on dir
 none_armed on Read e = rw e
 none_armed on Write e = rw e
 
--- no source, no round, and a poller that has nothing armed, noted or due
+nothing_yet : (serial : ℕ) → NothingOf opening serial
+nothing_yet serial = record {
+  no_waiter = λ dir. refl;
+  no_mark = λ dir. refl;
+  no_event = λ dir. refl;
+  no_listener = refl;
+  not_broken = refl;
+}
+
+-- no source, no listener, no round, and a poller that has nothing armed, noted or due
 pub opening_stands : (entries faults waits : ℕ) → entries ≡ 4096
     → StandsFor (record {
       sources = [];
+      listeners = [];
       ticker = 0;
       script = record { armed = replicate entries no_interest; noted = []; due = nothing_due; faults = faults; waits = waits };
     }) opening
 opening_stands entries faults waits e = (
   record {
-    live = refl;
+    sources = λ key. tt;
     few = omega arith;
-    serials = refl;
-    directions = λ key dir. new_stands (key + 1) dir;
+    count = refl;
+    live = tt;
+    given = tt;
+    unused = λ serial lt. nothing_yet serial;
+    listeners = λ number. ListenerStands-as 0 opening None (listener_at [] number) None None (listener_at-none number) refl tt;
+    numbers = tt;
+    holds = tt;
+    drawn = refl;
     rounds = refl;
     ticker = refl;
     begun = tt;
@@ -44,16 +58,15 @@ opening_stands entries faults waits e = (
     armed = λ key dir. none_armed _ dir (get_or-replicate_default entries key no_interest);
     entries = length-replicate entries no_interest ∙ e;
     noted = refl;
-    steady = refl;
-    listeners = refl;
+    due = record { add = refl; arm = refl; remove = refl; wait = refl; interrupt = refl };
+    no_wait_fault = refl;
+    no_interrupt = refl;
     registrations = refl;
-    broken = refl;
-    due = refl;
   },
   refl,
 )
 
 -- a new reactor, as its calls make it
-pub new_stands_for : StandsFor (record { sources = []; ticker = 0; script = new_script }) opening
+pub new_stands_for : StandsFor (record { sources = []; listeners = []; ticker = 0; script = new_script }) opening
 unfolding script.none_armed
 new_stands_for = opening_stands 4096 0 0 refl

@@ -1,215 +1,229 @@
 -- The step `poll`: what is kept follows the machine.
-use Rattle.std.proofs.Common.{◌≡◌, ℕ, ◌+◌, ◌≤◌, false, ◌||◌, ◌==◌, List, [], ◌∷◌, length, slice_get, slice_set, Option, None, Some, is_none, option_to_list, sym, refl, ap, ◌∙◌, ⊎_elim, subst, true≢false, arith, length-set}
-use Rattle.std.specs.List.{list_any}
-use Rattle.std.proofs.lemmas.Option.{slice_get_within}
+use Rattle.std.proofs.Common.{if◌then◌else◌, ◌≡◌, ◌≢◌, ℕ, ◌+◌, ◌≤◌, Bool, true, false, ◌||◌, List, [], ◌∷◌, slice_set, Option, None, Some, option_to_list, sym, refl, ◌∙◌, subst, arith, length-set}
+use Rattle.std.proofs.lemmas.Bool.{ne_eqb, eq-eqb}
 use Rattle.aio_base.specs.declared.names.Key.{Key}
 use Rattle.aio_base.specs.declared.names.Dir.{Dir}
 use Rattle.aio_base.specs.declared.names.Waker.{Waker}
 use Rattle.aio_base.specs.declared.steps.Step.TheVariants as step
 use Rattle.aio_base.specs.declared.steps.Answer.TheVariants as answer
-use Rattle.aio_base.specs.World.{Succeeds, World, is_of, mark_of, without_mark, is_broken, serial_of, DueFaults, BrokenSource}
-use Rattle.aio_base.specs.Machine.{pending, with_waiter, poll_source}
+use Rattle.aio_base.specs.World.{World, PollWaiter, Mark, same_dir, is_of, poll_waiter, mark_of, without_mark, serial_of}
+use Rattle.aio_base.specs.Machine.{Outcome, quiet, is_waker, pending, with_waiter, poll_source}
+use Rattle.aio_base.specs.Script.{fails_where}
 use Rattle.aio_base.proofs.FreshnessLemmas.{last_tick-bound}
-use Rattle.aio_run.specs.declared.sources.Direction.{Direction}
-use Rattle.aio_run.specs.declared.sources.SourceEntry.{SourceEntry}
-use Rattle.aio_run.specs.Directions.{is_ready, is_held, stored, seen, direction_of, with_direction, wanted_of}
-use Rattle.aio_run.specs.Kept.{Kept, armed_where, kept_poll_of, kept_poll}
-use Rattle.aio_run.specs.Ties.{direction_at, DirectionStands, StandsFor, Follows}
-use Rattle.aio_run.proofs.Found.{is_of-cases, is_of-refl}
-use Rattle.aio_run.proofs.Lookups.{poll_waiter-stored_same, live_from-set, slice_get-set_same, slice_get-none, poll_waiter-stored_other, mark_of-without_same, mark_of-without_other, mark_of-stored_same, mark_of-stored_other, serial_of-within, serial_of-past, direction_at-get, direction_at-with_same, direction_at-with_other}
-use Rattle.aio_run.proofs.Arming.{is_idle-no_listener}
-use Rattle.aio_run.proofs.Bounds.{AllBelow-later, Remembers-later, rounds_at-all, is_fresh-above}
-use Rattle.aio_run.proofs.Settling.{Settles, Follows-from, Settles-if, StandsFor-later, not_due}
-use Rattle.aio_run.proofs.ArmFollows.{arm_stands}
+use Rattle.aio_source.specs.Values.{DirectionValue, SourceValue}
+use Rattle.aio_source.specs.Rules.{Polling, polling, is_ready, seen, stored, direction_of, with_source_direction}
+use Rattle.aio_source.specs.Rules as source
+use Rattle.aio_run.specs.Kept.{Kept, Stepped, source_at, lend, with_source, poll_answered, kept_poll_of, kept_poll}
+use Rattle.aio_run.specs.Ties.{DirectionStands, SourceStands, PlaceStands, Stands, StandsFor, Follows}
+use Rattle.aio_run.proofs.Lookups.{poll_waiter-stored_same, poll_waiter-stored_other, mark_of-without_same, mark_of-without_other, mark_of-stored_same, mark_of-stored_other}
+use Rattle.aio_run.proofs.Bounds.{AllBelow-later, RemembersMark-later, ListenerStands-same, rounds_at-all, is_fresh-mark}
+use Rattle.aio_run.proofs.Settling.{Settles, Follows-from, Stands-later, StandsFor-later}
+use Rattle.aio_run.proofs.Waiters.{idle_stands}
+use Rattle.aio_run.proofs.Counts.{count_live-set}
+use Rattle.aio_run.proofs.Changing.{Aside, slice_set-kept, places_changed, unused_changed, source_stands, source_direction}
+use Rattle.aio_run.proofs.LentPoller.{pending_settles}
 
-apart_serials : (key : ℕ) (dir : Dir) (k : ℕ) (e : Dir) → is_of key dir k e ≡ false → is_of (key + 1) dir (k + 1) e ≡ false
-apart_serials key dir k e apart =
-    ⊎_elim (λ (same : (k + 1 ≡ key + 1) × (e ≡ dir)). absurd (true≢false (sym (is_of-refl key dir)
-    ∙ subst (λ (n : ℕ). is_of key dir n dir ≡ false) (omega arith) (rw (same.1) at apart))))
-    (λ h. h) (is_of-cases (key + 1) dir (k + 1) e)
+apart_serials : (serial other : ℕ) (dir e : Dir) → other ≢ serial → is_of serial dir other e ≡ false
+apart_serials serial other dir e apart = rw (ne_eqb other serial apart)
 
--- one direction of one source changes
-one_direction : (later : ℕ) (sources : List SourceEntry) (key : ℕ) (source : SourceEntry) (dir : Dir) (new : Direction) (w' : World)
-    → slice_get sources key ≡ Some source → DirectionStands later new w' (key + 1) dir
-    → ((k : ℕ) (e : Dir) → is_of (key + 1) dir (k + 1) e ≡ false → DirectionStands later (direction_at sources k e) w' (k + 1) e)
-    → (k : ℕ) (e : Dir) → DirectionStands later (direction_at (slice_set sources key (with_direction source dir new)) k e) w' (k + 1) e
-one_direction later sources key source dir new w' got here away k e =
-    ⊎_elim
-    (λ (same : (k ≡ key) × (e ≡ dir)). rw (same.0, same.1, direction_at-with_same sources key source dir new got) here)
-    (λ (apart : is_of key dir k e ≡ false).
-    rw (direction_at-with_other sources key source dir new k e got apart) (away k e (apart_serials key dir k e apart)))
-    (is_of-cases key dir k e)
+apart_dirs : (serial : ℕ) (dir e : Dir) → same_dir e dir ≡ false → is_of serial dir serial e ≡ false
+apart_dirs serial dir e apart = rw (eq-eqb serial serial refl) apart
 
--- the event that came since is seen
-seen_stands : (kept : Kept) (w : World) (key : ℕ) (dir : Dir) (source : SourceEntry) → StandsFor kept w → slice_get kept.sources key ≡ Some source
-    → StandsFor (record kept { sources = slice_set kept.sources key (with_direction source dir (seen (direction_of source dir))) })
-    (record w { pos = w.pos + 1; marks = without_mark w.marks (key + 1) dir })
-seen_stands kept w key dir source stands got =
-    let s = stands.0 in
-    let after = with_direction source dir (seen (direction_of source dir)) in
-    let old = rw (direction_at-get kept.sources key source dir got) at (s.directions key dir) in
-    let same : length (slice_set kept.sources key after) ≡ length kept.sources = length-set kept.sources key after in (
-      record {
-        live = s.live ∙ sym (live_from-set 0 kept.sources key after);
-        few = rw same s.few;
-        serials = s.serials ∙ sym same;
-        directions = one_direction (w.pos + 1) kept.sources key source dir (seen (direction_of source dir)) _ got
-            (record { waiter = old.waiter; tick = old.tick; since = rw (mark_of-without_same w.marks (key + 1) dir) tt })
-            (λ k e apart. let d = s.directions k e in record {
-              waiter = d.waiter;
-              tick = d.tick;
-              since = rw (mark_of-without_other w.marks (key + 1) dir (k + 1) e apart) (Remembers-later w.pos (w.pos + 1) _ _ _ (omega arith) d.since);
-            });
-        rounds = s.rounds;
-        ticker = s.ticker;
-        begun = AllBelow-later w.pos (w.pos + 1) w.begun (omega arith) s.begun;
-        handled = s.handled;
-        armed = s.armed;
-        entries = s.entries;
-        noted = s.noted;
-        steady = s.steady;
-        listeners = s.listeners;
-        registrations = s.registrations;
-        broken = s.broken;
-        due = s.due;
-      },
-      stands.1,
-    )
+-- the world with other poll waiters and marks
+with_waiters : World → List PollWaiter → List Mark → World
+with_waiters w waiters marks = record w { poll_waiters = waiters; marks = marks }
 
-stored_direction : (kept : Kept) (w : World) (key : ℕ) (dir : Dir) (waker : Waker) (d : Direction) → StandsFor kept w
-    → DirectionStands w.pos d w (key + 1) dir → DirectionStands (w.pos + 1) (stored waker kept.ticker d) (with_waiter w (key + 1) dir waker) (key + 1) dir
-stored_direction kept w key dir waker d stands old =
-    let s = stands.0 in
-    let most = last_tick-bound w.begun w.handled (key + 1) dir in
-    record {
-      waiter = poll_waiter-stored_same w.poll_waiters (key + 1) dir waker;
-      tick = old.tick;
-      since = rw (mark_of-stored_same w.marks (key + 1) dir w.pos)
-          (omega arith, sym (rounds_at-all w.begun w.pos s.begun ∙ s.ticker), rw (old.tick, s.ticker) at most);
-    }
+-- the poll waiters and marks of the other directions are as they were
+record OthersStay (w : World) (waiters : List PollWaiter) (marks : List Mark) (serial : ℕ) (dir : Dir) : Type 0 where
+  waiter : (other : ℕ) (e : Dir) → is_of serial dir other e ≡ false → poll_waiter waiters other e ≡ poll_waiter w.poll_waiters other e
+  mark : (other : ℕ) (e : Dir) → is_of serial dir other e ≡ false → mark_of marks other e ≡ mark_of w.marks other e
 
-other_direction : (w : World) (key : ℕ) (dir : Dir) (waker : Waker) (k : ℕ) (e : Dir) (d : Direction) → is_of (key + 1) dir (k + 1) e ≡ false
-    → DirectionStands w.pos d w (k + 1) e → DirectionStands (w.pos + 1) d (with_waiter w (key + 1) dir waker) (k + 1) e
-other_direction w key dir waker k e d apart old = record {
-  waiter = poll_waiter-stored_other w.poll_waiters (key + 1) dir waker (k + 1) e apart ∙ old.waiter;
-  tick = old.tick;
-  since = rw (mark_of-stored_other w.marks (key + 1) dir w.pos (k + 1) e apart) (Remembers-later w.pos (w.pos + 1) _ _ _ (omega arith) old.since);
+aside_waiters : (bound : ℕ) (kept : Kept) (w : World) (waiters : List PollWaiter) (marks : List Mark) (serial : ℕ) (dir : Dir)
+    → OthersStay w waiters marks serial dir
+    → (other : ℕ) → other ≢ serial → Aside bound kept.listeners kept.listeners w (with_waiters w waiters marks) other
+unfolding with_waiters
+aside_waiters bound kept w waiters marks serial dir stay other apart = record {
+  listened = refl;
+  same = record {
+    rounds = λ p lt. refl;
+    waiter = λ e. stay.waiter other e (apart_serials serial other dir e apart);
+    mark = λ e. stay.mark other e (apart_serials serial other dir e apart);
+    tick = λ e. refl;
+    entries = λ e. refl;
+    broken = refl;
+  };
 }
 
--- the sources once a waker was stored
-sources_stored : Kept → ℕ → Dir → Waker → SourceEntry → List SourceEntry
-sources_stored kept key dir waker source =
-    slice_set kept.sources key (with_direction source dir (stored waker kept.ticker (direction_of source dir)))
+direction_stays : (bound later : ℕ) (kept : Kept) (w : World) (waiters : List PollWaiter) (marks : List Mark) (serial : ℕ) (dir e : Dir) (d : DirectionValue) → bound ≤ later
+    → OthersStay w waiters marks serial dir → same_dir e dir ≡ false → DirectionStands bound kept.listeners d w serial e
+    → DirectionStands later kept.listeners d (with_waiters w waiters marks) serial e
+unfolding with_waiters
+direction_stays bound later kept w waiters marks serial dir e d le stay apart stands = record {
+  waiter = stay.waiter serial e (apart_dirs serial dir e apart) ∙ stands.waiter;
+  tick = stands.tick;
+  ticks = rw (stay.mark serial e (apart_dirs serial dir e apart)) (RemembersMark-later bound later w.begun _ _ le stands.ticks);
+  entries = stands.entries;
+  distinct = stands.distinct;
+}
 
-stored_directions : (kept : Kept) (w : World) (key : ℕ) (dir : Dir) (waker : Waker) (source : SourceEntry) → StandsFor kept w
-    → slice_get kept.sources key ≡ Some source → (k : ℕ) (e : Dir)
-    → DirectionStands (w.pos + 1) (direction_at (sources_stored kept key dir waker source) k e) (with_waiter w (key + 1) dir waker) (k + 1) e
-unfolding sources_stored
-stored_directions kept w key dir waker source stands got =
-    one_direction (w.pos + 1) kept.sources key source dir (stored waker kept.ticker (direction_of source dir)) (with_waiter w (key + 1) dir waker) got
-    (stored_direction kept w key dir waker (direction_of source dir) stands
-    (rw (direction_at-get kept.sources key source dir got) at (stands.0.directions key dir)))
-    (λ k e apart. other_direction w key dir waker k e (direction_at kept.sources k e) apart (stands.0.directions k e))
-
--- the waker is the poll waiter, marked with the position
-stored_stands : (kept : Kept) (w : World) (key : ℕ) (dir : Dir) (waker : Waker) (source : SourceEntry) → StandsFor kept w
-    → slice_get kept.sources key ≡ Some source
-    → StandsFor (record kept { sources = sources_stored kept key dir waker source }) (record (with_waiter w (key + 1) dir waker) { pos = w.pos + 1 })
-unfolding sources_stored
-stored_stands kept w key dir waker source stands got =
-    let s = stands.0 in
-    let after = with_direction source dir (stored waker kept.ticker (direction_of source dir)) in
-    let same : length (slice_set kept.sources key after) ≡ length kept.sources = length-set kept.sources key after in (
-      record {
-        live = s.live ∙ sym (live_from-set 0 kept.sources key after);
-        few = rw same s.few;
-        serials = s.serials ∙ sym same;
-        directions = λ k e. let d = stored_directions kept w key dir waker source stands got k e in
-            record { waiter = d.waiter; tick = d.tick; since = d.since };
-        rounds = s.rounds;
-        ticker = s.ticker;
-        begun = AllBelow-later w.pos (w.pos + 1) w.begun (omega arith) s.begun;
-        handled = s.handled;
-        armed = s.armed;
-        entries = s.entries;
-        noted = s.noted;
-        steady = s.steady;
-        listeners = s.listeners;
-        registrations = s.registrations;
-        broken = s.broken;
-        due = s.due;
-      },
-      stands.1,
-    )
-
-no_broken : (w : World) (serial : ℕ) → w.broken ≡ [] → is_broken w serial ≡ false
-no_broken w serial none = ap (λ (broken : List BrokenSource). list_any (λ (b : BrokenSource). b.serial == serial) broken) none
-
-after_got : (kept : Kept) (key : ℕ) (dir : Dir) (waker : Waker) (source : SourceEntry) → slice_get kept.sources key ≡ Some source
-    → slice_get (sources_stored kept key dir waker source) key ≡ Some (with_direction source dir (stored waker kept.ticker (direction_of source dir)))
-unfolding sources_stored
-after_got kept key dir waker source got = slice_get-set_same kept.sources key source (with_direction source dir (stored waker kept.ticker (direction_of source dir))) got
-
--- a waker that was not held: the poller is armed where none was
-stored_settles : (kept : Kept) (w : World) (key : Key) (dir : Dir) (waker : Waker) (source : SourceEntry) (held : Option Waker) → StandsFor kept w
-    → slice_get kept.sources key.0 ≡ Some source
-    → Settles (pending (is_none held || false) (with_waiter w (key.0 + 1) dir waker) key.0 (key.0 + 1) (option_to_list held) (Succeeds ∷ []))
-    (record {
-      answer = answer.Pending;
-      wakes = option_to_list held;
-      kept = record kept {
-        sources = sources_stored kept key.0 dir waker source;
-        script = armed_where (is_none held) kept.script key.0 (wanted_of (with_direction source dir (stored waker kept.ticker (direction_of source dir))));
-      };
-    })
-stored_settles kept w key dir waker source (Some held) stands got =
-    record { answer = refl; wakes = refl; stands = stored_stands kept w key.0 dir waker source stands got }
-stored_settles kept w key dir waker source None stands got =
-    let now = stored_stands kept w key.0 dir waker source stands got in
+-- the poll waiter and the mark of one direction change
+waiting_stands : (kept : Kept) (w : World) (key serial : ℕ) (s : SourceValue) (dir : Dir) (new : DirectionValue) (waiters : List PollWaiter) (marks : List Mark)
+    → Stands w.pos kept w → source_at kept.sources key ≡ Some s → serial_of w key ≡ Some serial → OthersStay w waiters marks serial dir
+    → DirectionStands (w.pos + 1) kept.listeners new (with_waiters w waiters marks) serial dir
+    → Stands (w.pos + 1) (record kept { sources = slice_set kept.sources key (Some (with_source_direction s dir new)) }) (with_waiters w waiters marks)
+unfolding with_waiters
+waiting_stands kept w key serial s dir new waiters marks stands got found stay here =
+    let w' : World = with_waiters w waiters marks in
+    let after : SourceValue = with_source_direction s dir new in
+    let now : SourceStands w.pos kept.listeners s w key serial = source_stands w.pos kept w key serial s stands got found in
+    let aside = aside_waiters w.pos kept w waiters marks serial dir stay in
     record {
-      answer = refl;
-      wakes = refl;
-      stands = (
-        arm_stands (w.pos + 1) (record kept { sources = sources_stored kept key.0 dir waker source })
-            (record (with_waiter w (key.0 + 1) dir waker) { pos = w.pos + 1 }) key.0
-            (with_direction source dir (stored waker kept.ticker (direction_of source dir))) now.0 (after_got kept key.0 dir waker source got),
-        stands.1,
-      );
+      sources = places_changed w.pos (w.pos + 1) kept kept.listeners w w' key serial s after (omega arith) stands got found refl
+          (source_direction w.pos (w.pos + 1) kept.listeners kept.listeners w w' key serial s dir new now refl here
+          (λ e apart. direction_stays w.pos (w.pos + 1) kept w waiters marks serial dir e (direction_of s.directions e) (omega arith) stay apart (now.directions_stand e))) aside;
+      few = rw (length-set kept.sources key (Some after)) stands.few;
+      count = stands.count ∙ sym (count_live-set kept.sources key s after got);
+      live = stands.live;
+      given = stands.given;
+      unused = unused_changed w.pos kept kept.listeners w w' key serial stands found aside;
+      listeners = λ number. ListenerStands-same w.pos (w.pos + 1) w w' _ _ (omega arith) (λ p lt. refl) (λ r e. refl) (stands.listeners number);
+      numbers = stands.numbers;
+      holds = stands.holds;
+      drawn = stands.drawn;
+      rounds = stands.rounds;
+      ticker = stands.ticker;
+      begun = AllBelow-later w.pos (w.pos + 1) w.begun (omega arith) stands.begun;
+      handled = stands.handled;
+      armed = stands.armed;
+      entries = stands.entries;
+      noted = stands.noted;
+      due = stands.due;
+      no_wait_fault = stands.no_wait_fault;
+      no_interrupt = stands.no_interrupt;
+      registrations = stands.registrations;
     }
 
-poll_settles : (kept : Kept) (w : World) (key : Key) (dir : Dir) (waker : Waker) (source : SourceEntry) → StandsFor kept w
-    → slice_get kept.sources key.0 ≡ Some source
-    → Settles (poll_source w key.0 dir waker (Some (key.0 + 1)) (Succeeds ∷ [])) (kept_poll_of kept key dir waker (Some source))
-unfolding sources_stored
-poll_settles kept w key dir waker source stands got =
-    let s = stands.0 in
-    let old = rw (direction_at-get kept.sources key.0 source dir got) at (s.directions key.0 dir) in
-    let d = direction_of source dir in
+-- the event that came since is seen
+seen_stands : (kept : Kept) (w : World) (key serial : ℕ) (s : SourceValue) (dir : Dir) → Stands w.pos kept w → source_at kept.sources key ≡ Some s
+    → serial_of w key ≡ Some serial → Stands (w.pos + 1) (record kept { sources = slice_set kept.sources key (Some (with_source_direction s dir (seen (direction_of s.directions dir)))) })
+    (record w { marks = without_mark w.marks serial dir })
+unfolding with_waiters
+seen_stands kept w key serial s dir stands got found =
+    let old = (source_stands w.pos kept w key serial s stands got found).directions_stand dir in
+    waiting_stands kept w key serial s dir (seen (direction_of s.directions dir)) w.poll_waiters (without_mark w.marks serial dir) stands got found
+    (record { waiter = λ other e apart. refl; mark = λ other e apart. mark_of-without_other w.marks serial dir other e apart })
+    (record { waiter = old.waiter; tick = old.tick; ticks = rw (mark_of-without_same w.marks serial dir) tt; entries = old.entries; distinct = old.distinct })
+
+-- the waker is the poll waiter, marked with the position
+stored_stands : (kept : Kept) (w : World) (key serial : ℕ) (s : SourceValue) (dir : Dir) (waker : Waker) → Stands w.pos kept w
+    → source_at kept.sources key ≡ Some s
+    → serial_of w key ≡ Some serial
+    → Stands (w.pos + 1) (record kept { sources = slice_set kept.sources key (Some (with_source_direction s dir (stored waker kept.ticker (direction_of s.directions dir)))) })
+    (with_waiter w serial dir waker)
+unfolding with_waiters
+stored_stands kept w key serial s dir waker stands got found =
+    let old = (source_stands w.pos kept w key serial s stands got found).directions_stand dir in
+    let most = last_tick-bound w.begun w.handled serial dir in
+    let w' : World = with_waiter w serial dir waker in
+    waiting_stands kept w key serial s dir (stored waker kept.ticker (direction_of s.directions dir)) w'.poll_waiters w'.marks stands got found
+    (record {
+      waiter = λ other e apart. poll_waiter-stored_other w.poll_waiters serial dir waker other e apart;
+      mark = λ other e apart. mark_of-stored_other w.marks serial dir w.pos other e apart;
+    })
+    (record {
+      waiter = poll_waiter-stored_same w.poll_waiters serial dir waker;
+      tick = old.tick;
+      ticks = rw (mark_of-stored_same w.marks serial dir w.pos)
+          (omega arith, sym (rounds_at-all w.begun w.pos stands.begun ∙ stands.ticker), rw (old.tick, stands.ticker) at most);
+      entries = old.entries;
+      distinct = old.distinct;
+    })
+
+-- what is kept after a poll that found this
+polled : Kept → ℕ → Polling → Stepped
+polled kept key p =
+    let l = lend p.arms p.source kept.script in
+    record { answer = poll_answered p.ready l.answer; wakes = option_to_list p.replaced; kept = with_source kept key l }
+
+settles_either : (test : Bool) (x y : Outcome) (kept : Kept) (key : ℕ) (a b : Polling) → (test ≡ true → Settles x (polled kept key a))
+    → (test ≡ false → Settles y (polled kept key b))
+    → Settles (if test then x else y) (polled kept key (if test then a else b))
+settles_either true x y kept key a b one two = one refl
+settles_either false x y kept key a b one two = two refl
+
+-- the waker that is the poll waiter already: armed where the last arm failed
+held_settles : (kept : Kept) (w : World) (key serial : ℕ) (s : SourceValue) → StandsFor kept w → source_at kept.sources key ≡ Some s
+    → serial_of w key ≡ Some serial → Settles (pending s.broken w key serial [] (fails_where w.due.arm ∷ []))
+    (polled kept key (record { ready = false; replaced = None; source = s; arms = s.broken }))
+unfolding polled
+held_settles kept w key serial s stands got found =
+    pending_settles s.broken kept w key serial s s []
+    (subst (λ (sources : List (Option SourceValue)). Stands (w.pos + 1) (record kept { sources = sources }) w) (sym (slice_set-kept kept.sources key s got))
+    (Stands-later w.pos (w.pos + 1) kept w w.pos (omega arith) stands.0))
+    stands.1 got found
+
+-- an event came since the poll waiter was stored
+ready_settles : (kept : Kept) (w : World) (key serial : ℕ) (s : SourceValue) (dir : Dir) → StandsFor kept w → source_at kept.sources key ≡ Some s
+    → serial_of w key ≡ Some serial → Settles (quiet answer.Ready (record w { marks = without_mark w.marks serial dir }) (fails_where w.due.arm ∷ []))
+    (polled kept key (record { ready = true; replaced = None; source = with_source_direction s dir (seen (direction_of s.directions dir)); arms = false }))
+unfolding polled
+ready_settles kept w key serial s dir stands got found = record {
+  answer = refl;
+  wakes = refl;
+  stands = (
+    Stands-later (w.pos + 1) (w.pos + 1) _ (record w { marks = without_mark w.marks serial dir }) (w.pos + 1) (omega arith)
+        (seen_stands kept w key serial s dir stands.0 got found),
+    stands.1,
+  );
+}
+
+-- another waker: it is the poll waiter from now on, and the poller is armed where nobody waited or the last arm failed
+stored_settles : (kept : Kept) (w : World) (key serial : ℕ) (s : SourceValue) (dir : Dir) (waker : Waker) → StandsFor kept w
+    → source_at kept.sources key ≡ Some s
+    → serial_of w key ≡ Some serial
+    → Settles (pending (source.is_idle (direction_of s.directions dir) || s.broken) (with_waiter w serial dir waker) key serial (option_to_list (direction_of s.directions dir).waiter) (fails_where w.due.arm ∷ []))
+    (polled kept key (record {
+      ready = false;
+      replaced = (direction_of s.directions dir).waiter;
+      source = with_source_direction s dir (stored waker kept.ticker (direction_of s.directions dir));
+      arms = source.is_idle (direction_of s.directions dir) || s.broken;
+    }))
+unfolding polled
+stored_settles kept w key serial s dir waker stands got found =
+    let d = direction_of s.directions dir in
+    pending_settles (source.is_idle d || s.broken) kept (with_waiter w serial dir waker) key serial s (with_source_direction s dir (stored waker kept.ticker d))
+    (option_to_list d.waiter) (stored_stands kept w key serial s dir waker stands.0 got found) stands.1 got found
+
+poll_settles : (kept : Kept) (w : World) (key : Key) (dir : Dir) (waker : Waker) (s : SourceValue) (serial : ℕ) → StandsFor kept w
+    → source_at kept.sources key.0 ≡ Some s → serial_of w key.0 ≡ Some serial
+    → Settles (poll_source w key.0 dir waker (Some serial) (fails_where w.due.arm ∷ [])) (polled kept key.0 (polling s dir waker kept.ticker))
+poll_settles kept w key dir waker s serial stands got found =
+    let now = source_stands w.pos kept w key.0 serial s stands.0 got found in
+    let old = now.directions_stand dir in
+    let d = direction_of s.directions dir in
     rw (
-      is_fresh-above w.pos w.begun w.handled (key.0 + 1) dir d.tick d.since (mark_of w.marks (key.0 + 1) dir) s.handled old.tick old.since,
-      is_idle-no_listener w (key.0 + 1) dir s.listeners,
-      no_broken w (key.0 + 1) s.broken,
+      is_fresh-mark w.pos w.begun w.handled serial dir d.tick d.ticks (mark_of w.marks serial dir) stands.0.handled old.tick old.ticks,
+      idle_stands w.pos kept.listeners d w serial dir stands.0.holds old,
+      now.broken_is,
       old.waiter,
     )
-    (Settles-if (is_ready d) _ _ _ _
-    (λ fresh. record { answer = refl; wakes = refl; stands = seen_stands kept w key.0 dir source stands got })
-    (λ stale. Settles-if (is_held waker d.waiter) _ _ _ _
-    (λ same. record { answer = refl; wakes = refl; stands = StandsFor-later kept w stands })
-    (λ other. stored_settles kept w key dir waker source d.waiter stands got)))
+    (settles_either (is_ready d) _ _ kept key.0 _ _
+    (λ fresh. ready_settles kept w key.0 serial s dir stands got found)
+    (λ stale. settles_either (is_waker waker d.waiter) _ _ kept key.0 _ _
+    (λ same. held_settles kept w key.0 serial s stands got found)
+    (λ other. stored_settles kept w key.0 serial s dir waker stands got found)))
 
-poll_found : (kept : Kept) (w : World) (key : Key) (dir : Dir) (waker : Waker) (found : Option SourceEntry) → StandsFor kept w
-    → slice_get kept.sources key.0 ≡ found → Settles (poll_source w key.0 dir waker (serial_of w key.0) (Succeeds ∷ [])) (kept_poll_of kept key dir waker found)
-poll_found kept w key dir waker None stands got =
-    let past : length kept.sources ≤ key.0 = slice_get-none kept.sources key.0 got in
-    rw (serial_of-past w kept.sources key.0 stands.0.live past)
-    (record { answer = refl; wakes = refl; stands = StandsFor-later kept w stands })
-poll_found kept w key dir waker (Some source) stands got =
-    rw (serial_of-within w kept.sources key.0 stands.0.live (slice_get_within kept.sources key.0 source got))
-    (poll_settles kept w key dir waker source stands got)
+poll_found : (kept : Kept) (w : World) (key : Key) (dir : Dir) (waker : Waker) (place : Option SourceValue) (serial : Option ℕ) → StandsFor kept w
+    → source_at kept.sources key.0 ≡ place → serial_of w key.0 ≡ serial → PlaceStands w.pos kept.listeners place w key.0 serial
+    → Settles (poll_source w key.0 dir waker serial (fails_where w.due.arm ∷ [])) (kept_poll_of kept key dir waker place)
+unfolding polled
+poll_found kept w key dir waker None None stands got found place = record { answer = refl; wakes = refl; stands = StandsFor-later kept w stands }
+poll_found kept w key dir waker None (Some serial) stands got found place = absurd place
+poll_found kept w key dir waker (Some s) None stands got found place = absurd place
+poll_found kept w key dir waker (Some s) (Some serial) stands got found place = poll_settles kept w key dir waker s serial stands got found
 
 pub kept_poll-follows : (kept : Kept) (w : World) (key : Key) (dir : Dir) (waker : Waker) → StandsFor kept w
     → Follows w (step.Poll key dir waker) (kept_poll kept key dir waker)
 kept_poll-follows kept w key dir waker stands =
     Follows-from w (step.Poll key dir waker) (kept_poll kept key dir waker)
-    (rw (not_due w.due.arm (ap (λ (due : DueFaults). due.arm) stands.0.due))
-    (poll_found kept w key dir waker (slice_get kept.sources key.0) stands refl))
+    (poll_found kept w key dir waker (source_at kept.sources key.0) (serial_of w key.0) stands refl refl (stands.0.sources key.0))

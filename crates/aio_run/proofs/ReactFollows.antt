@@ -1,34 +1,51 @@
 -- A whole round of what is kept is the machine's round over the script poller.
-use Rattle.std.proofs.Common.{◌≡◌, ℕ, ◌+◌, ◌<◌, Bool, true, false, ◌&&◌, if◌then◌else◌, List, [], ◌∷◌, ◌++◌, length, take, drop, Option, None, Some, refl, sym, ap, ◌∙◌, subst, arith, append-nil, length-append, length-set, slice_set}
+use Rattle.std.proofs.Common.{◌≡◌, ℕ, ◌+◌, Bool, true, false, ◌&&◌, if◌then◌else◌, List, [], ◌∷◌, ◌++◌, length, take, drop, slice_set, None, Some, refl, sym, ap, ◌∙◌, subst, arith, append-nil, length-append, length-set}
 use Rattle.aio_base.specs.declared.names.Waker.{Waker}
 use Rattle.aio_base.specs.declared.names.Interest.{Interest}
-use Rattle.aio_base.specs.Devices.{no_interest}
-use Rattle.aio_run.specs.declared.sources.Remembered.{Remembered}
 use Rattle.aio_base.specs.declared.names.Event.{Event}
 use Rattle.aio_base.specs.declared.outcomes.EndWord.TheVariants.{Clean}
 use Rattle.aio_base.specs.declared.outcomes.Which.TheVariants as which
 use Rattle.aio_base.specs.declared.steps.Step.TheVariants as step
 use Rattle.aio_base.specs.declared.steps.Answer.TheVariants as answer
-use Rattle.aio_base.specs.World.{Succeeds, Gives, World, RoundState, Registration, clear_armed}
-use Rattle.aio_base.specs.Machine.{Outcome, finish_round, handle_each, gave_none, fault_of, moved_on, step_result}
-use Rattle.aio_base.specs.Script.{settled, script_step}
+use Rattle.aio_base.specs.Devices.{no_interest}
+use Rattle.aio_base.specs.World.{World, Registration, DueFaults, clear_armed, is_empty_list}
+use Rattle.aio_base.specs.Machine.{Outcome, finish_round, handle_each, fault_of}
+use Rattle.aio_base.specs.Script.{fails_where}
 use Rattle.aio_script.specs.Script.{cleared}
 use Rattle.aio_run.specs.Kept.{Kept, Handling, Stepped, handle_events, waited_script, kept_react}
-use Rattle.aio_run.specs.Ties.{Stands, StandsFor, Remembers, Follows}
+use Rattle.aio_run.specs.Ties.{Stands, StandsFor, Follows}
 use Rattle.aio_run.proofs.Arming.{AreArmed-cleared}
+use Rattle.aio_run.proofs.Bounds.{SameRounds, PlaceStands-same, ListenerStands-same}
+use Rattle.aio_run.proofs.Settling.{Settles, Follows-from, Stands-later}
+use Rattle.aio_run.proofs.Changing.{Aside, nothing_aside}
 use Rattle.aio_run.proofs.RoundLemmas.{rounds_at-longer, rounds_at-last, HasBegun-last, AllBegun-longer, AllBelow-more, last_tick-longer}
-use Rattle.aio_run.proofs.InRound.{after_calls-arms, RoundFacts, InRound, LeadsTo, round_of, kept_in, plain, plain-is}
+use Rattle.aio_run.proofs.InRound.{due_after, after_calls-arms, RoundFacts, round_of, kept_in, as_settled, InRound, LeadsTo}
 use Rattle.aio_run.proofs.Handled.{handle_each-leads}
 
--- ## The round begins and waits
+-- ## The world before a round
 
-Remembers-longer : (bound : ℕ) (begun : List ℕ) (since : Option Remembered) (mark : Option ℕ) → Remembers bound begun since mark
-    → Remembers (bound + 1) (begun ++ bound ∷ []) since mark
-Remembers-longer bound begun None None r = tt
-Remembers-longer bound begun None (Some mark) r = absurd r
-Remembers-longer bound begun (Some since) None r = absurd r
-Remembers-longer bound begun (Some since) (Some mark) r =
-    let before : mark < bound = r.0 in (omega arith, r.1 ∙ sym (rounds_at-longer begun bound mark before), r.2)
+-- no wait is to fail, and none to be interrupted
+abbrev calm : DueFaults → DueFaults
+calm told = record told { wait = false; interrupt = false }
+
+-- with what is known of the world before a round written out
+abbrev before_round : Kept → World → World
+before_round kept w = record w { registrations = []; rounds = kept.ticker; noted = kept.script.noted; due = calm w.due; round = None }
+
+before_round-is : (kept : Kept) (w : World) → StandsFor kept w → w ≡ before_round kept w
+before_round-is kept w stands =
+    let s = stands.0 in
+    let wait : w.due.wait ≡ false = s.due.wait ∙ s.no_wait_fault in
+    let interrupt : w.due.interrupt ≡ false = s.due.interrupt ∙ s.no_interrupt in
+    λ i. record w {
+      registrations = s.registrations i;
+      rounds = s.rounds i;
+      noted = s.noted i;
+      due = record w.due { wait = wait i; interrupt = interrupt i };
+      round = stands.1 i;
+    }
+
+-- ## The round begins and waits
 
 length-cleared : (events : List Event) (entries : List Interest) → length (cleared events entries) ≡ length entries
 length-cleared [] entries = refl
@@ -39,59 +56,89 @@ length-cleared (event ∷ events) entries =
 abbrev given : Kept → List Event
 given kept = take 1024 kept.script.noted
 
-abbrev facts_of : Kept → ℕ → RoundFacts
-facts_of kept pos = record { pos = pos; ticker = kept.ticker + 1; answered = Some (Gives (given kept)); noted = kept.script.noted }
+abbrev facts_of : Kept → World → RoundFacts
+facts_of kept w = record {
+  pos = w.pos;
+  ticker = kept.ticker + 1;
+  given = given kept;
+  noted = kept.script.noted;
+  told = calm w.due;
+  listeners = kept.listeners;
+}
 
 abbrev waited_kept : Kept → Handling
-waited_kept kept = record { sources = kept.sources; script = waited_script kept.script; taken = [] }
+waited_kept kept = record { sources = kept.sources; script = waited_script kept.script; taken = []; fault = Clean }
 
 -- the world once the round has begun and waited
 abbrev waited_world : Kept → World → World
-waited_world kept w = record (plain kept w) {
+waited_world kept w = record (before_round kept w) {
   rounds = kept.ticker + 1;
   begun = w.begun ++ w.pos ∷ [];
-  round = Some (round_of w.pos (kept.ticker + 1) (Some (Gives (given kept))) (given kept) []);
+  round = Some (round_of (facts_of kept w) (given kept) (waited_kept kept));
   armed = clear_armed w.armed (given kept);
 }
 
-waited : (kept : Kept) (w : World) → Stands w.pos kept w → InRound (facts_of kept w.pos) (given kept) (waited_kept kept) (waited_world kept w)
-waited kept w s = record {
-  stands = record {
-    live = refl;
-    few = s.few;
-    serials = refl;
-    directions = λ key dir. record {
-      waiter = (s.directions key dir).waiter;
-      tick = last_tick-longer w.begun w.handled w.pos (key + 1) dir s.handled s.begun ∙ (s.directions key dir).tick;
-      since = Remembers-longer w.pos w.begun _ _ (s.directions key dir).since;
-    };
-    rounds = refl;
-    ticker = length-append w.begun (w.pos ∷ []) ∙ ap (λ n. n + 1) s.ticker;
-    begun = AllBelow-more w.begun w.pos s.begun;
-    handled = AllBegun-longer w.handled w.begun w.pos s.handled;
-    armed = AreArmed-cleared (given kept) w.armed kept.script.armed s.armed;
-    entries = length-cleared (given kept) kept.script.armed ∙ s.entries;
-    noted = refl;
-    steady = s.steady;
-    listeners = refl;
-    registrations = refl;
+-- the world with what the round's wait used up
+abbrev waited_settled : Kept → World → World
+waited_settled kept w = as_settled (facts_of kept w) (calm w.due) (waited_world kept w)
+
+same_rounds : (kept : Kept) (w : World) → SameRounds w.pos w.begun (w.begun ++ w.pos ∷ [])
+same_rounds kept w p before = rounds_at-longer w.begun w.pos p before
+
+-- a round that begins changes nothing of any source
+begun_aside : (kept : Kept) (w : World) (serial : ℕ) → Stands w.pos kept w → Aside w.pos kept.listeners kept.listeners w (waited_settled kept w) serial
+begun_aside kept w serial s = record {
+  same = record {
+    rounds = λ p before. same_rounds kept w p before;
+    waiter = λ dir. refl;
+    mark = λ dir. refl;
+    tick = λ dir. last_tick-longer w.begun w.handled w.pos serial dir s.handled s.begun;
+    entries = λ dir. refl;
     broken = refl;
-    due = refl;
   };
+  listened = refl;
+}
+
+begun_stands : (kept : Kept) (w : World) → Stands w.pos kept w
+    → Stands (w.pos + 1) (kept_in (facts_of kept w) (waited_kept kept)) (waited_settled kept w)
+begun_stands kept w s = record {
+  sources = λ key. PlaceStands-same w.pos (w.pos + 1) kept.listeners kept.listeners _ w (waited_settled kept w) key _ (omega arith)
+      (λ serial e. (begun_aside kept w serial s).same) (s.sources key);
+  few = s.few;
+  count = s.count;
+  live = s.live;
+  given = s.given;
+  unused = λ serial lt. nothing_aside w.pos kept.listeners kept.listeners w (waited_settled kept w) serial (begun_aside kept w serial s) (s.unused serial lt);
+  listeners = λ number. ListenerStands-same w.pos (w.pos + 1) w (waited_settled kept w) _ _ (omega arith) (same_rounds kept w) (λ r e. refl) (s.listeners number);
+  numbers = s.numbers;
+  holds = s.holds;
+  drawn = s.drawn;
+  rounds = refl;
+  ticker = length-append w.begun (w.pos ∷ []) ∙ ap (λ n. n + 1) s.ticker;
+  begun = AllBelow-more w.begun w.pos s.begun;
+  handled = AllBegun-longer w.handled w.begun w.pos s.handled;
+  armed = AreArmed-cleared (given kept) w.armed kept.script.armed s.armed;
+  entries = length-cleared (given kept) kept.script.armed ∙ s.entries;
+  noted = refl;
+  due = record { add = s.due.add; arm = s.due.arm; remove = s.due.remove; wait = sym s.no_wait_fault; interrupt = sym s.no_interrupt };
+  no_wait_fault = s.no_wait_fault;
+  no_interrupt = s.no_interrupt;
+  registrations = refl;
+}
+
+waited : (kept : Kept) (w : World) → Stands w.pos kept w
+    → InRound (facts_of kept w) (calm w.due) (given kept) (waited_kept kept) (waited_world kept w)
+waited kept w s = record {
+  stands = begun_stands kept w s;
   round = refl;
   position = refl;
   counted = rounds_at-last w.begun w.pos s.begun ∙ ap (λ n. n + 1) s.ticker;
   among = HasBegun-last w.begun w.pos;
-  rest = refl;
+  noted = refl;
+  due = refl;
 }
 
 -- ## The round ends
-
--- an outcome is what a step of what is kept gives, and what is kept stands for its world
-record Comes (stepped : Stepped) (o : Outcome) : Type 0 where
-  answer : o.answer ≡ stepped.answer
-  wakes : o.wakes ≡ stepped.wakes
-  stands : StandsFor stepped.kept o.world
 
 -- the outcome of the whole round, from that of its handling
 abbrev whole : ℕ → ℕ → Outcome → Outcome
@@ -99,11 +146,8 @@ whole number count o =
     let ended = finish_round o.world o.left in
     record { answer = answer.Round number count (fault_of o.world.round); wakes = ended.wakes; world = ended.world; calls = which.Wait ∷ o.calls; left = ended.left }
 
-abbrev ended_kept : RoundFacts → Handling → Kept
-ended_kept f h = record { sources = h.sources; ticker = f.ticker; script = h.script }
-
 abbrev ended_step : RoundFacts → ℕ → Handling → Stepped
-ended_step f count h = record { answer = answer.Round f.ticker count Clean; wakes = h.taken; kept = ended_kept f h }
+ended_step f count h = record { answer = answer.Round f.ticker count h.fault; wakes = h.taken; kept = kept_in f h }
 
 no_wake : (second : Bool) (taken : List Waker) → (if second then taken ++ [] else taken) ≡ taken
 no_wake true taken = append-nil taken
@@ -113,89 +157,67 @@ no_registration : (second : Bool) → ◌≡◌ {A = List Registration} (if seco
 no_registration true = refl
 no_registration false = refl
 
--- the world at the end, before the used-up events are dropped
+-- whether the last wait asks for a pass over the timers at the round's end
+abbrev second_pass : RoundFacts → Bool
+second_pass f = is_empty_list f.given && true
+
+-- the world at the end, with what is known of it written out
 abbrev last_world : RoundFacts → Handling → World → World
-last_world f h w = record (plain (kept_in f.ticker f.noted h) w) { round = Some (round_of f.pos f.ticker f.answered [] h.taken) }
+last_world f h w = record w { registrations = []; noted = f.noted; due = calm f.told; round = Some (round_of f [] h) }
 
-last_world-is : (f : RoundFacts) (h : Handling) (w : World) → InRound f [] h w → w ≡ last_world f h w
-last_world-is f h w inv =
-    plain-is (f.pos + 1) (kept_in f.ticker f.noted h) w inv.stands
-    ∙ ap (λ (round : Option RoundState). record (plain (kept_in f.ticker f.noted h) w) { round = round }) inv.round
+last_world-is : (f : RoundFacts) (told : DueFaults) (h : Handling) (w : World) → f.told ≡ calm f.told → InRound f told [] h w → w ≡ last_world f h w
+last_world-is f told h w calms inv =
+    let due : w.due ≡ calm f.told = inv.due ∙ calms in
+    λ i. record w { registrations = inv.stands.registrations i; noted = inv.noted i; due = due i; round = inv.round i }
 
--- the world once the round has ended and what it used up is gone
-abbrev after_round : RoundFacts → Handling → World → List Registration → World
-after_round f h w registrations = record (plain (kept_in f.ticker f.noted h) w) {
-  round = None;
-  registrations = registrations;
+-- the world once the round has ended and what its wait used up is gone
+abbrev after_round : RoundFacts → World → World
+after_round f w = record w {
+  registrations = if second_pass f then [] else [];
   noted = drop 1024 f.noted;
+  due = calm f.told;
+  round = None;
   pos = w.pos + 1;
 }
 
-Stands-after : (f : RoundFacts) (h : Handling) (w : World) (registrations : List Registration) → InRound f [] h w → registrations ≡ []
-    → Stands (w.pos + 1) (ended_kept f h) (after_round f h w registrations)
-Stands-after f h w registrations inv none =
-    let s = subst (λ (pos : ℕ). Stands (pos + 1) (kept_in f.ticker f.noted h) w) (sym inv.position) inv.stands in
-    record {
-      live = refl;
-      few = s.few;
-      serials = refl;
-      directions = λ key dir. record { waiter = (s.directions key dir).waiter; tick = (s.directions key dir).tick; since = (s.directions key dir).since };
-      rounds = refl;
-      ticker = s.ticker;
-      begun = s.begun;
-      handled = s.handled;
-      armed = s.armed;
-      entries = s.entries;
-      noted = sym inv.rest;
-      steady = s.steady;
-      listeners = refl;
-      registrations = none;
-      broken = refl;
-      due = refl;
-    }
+ended_stands : (f : RoundFacts) (told : DueFaults) (h : Handling) (w : World) (registrations : List Registration) → registrations ≡ []
+    → Stands (f.pos + 1) (kept_in f h) (as_settled f told w) → w.pos ≡ f.pos
+    → Stands (w.pos + 1) (kept_in f h) (record w { registrations = registrations; noted = drop 1024 f.noted; due = told; round = None; pos = w.pos + 1 })
+ended_stands f told h w registrations none stands position =
+    subst (λ (rs : List Registration). Stands (w.pos + 1) (kept_in f h) (record w { registrations = rs; noted = drop 1024 f.noted; due = told; round = None; pos = w.pos + 1 }))
+    (stands.registrations ∙ sym none)
+    (Stands-later (f.pos + 1) (w.pos + 1) (kept_in f h) (as_settled f told w) (w.pos + 1) (omega arith) stands)
 
--- whether the last wait asks for a pass over the timers at the round's end
-abbrev second_pass : RoundFacts → Bool
-second_pass f = gave_none f.answered && true
+ended_at : (f : RoundFacts) (count : ℕ) (h : Handling) (o : Outcome) → f.told ≡ calm f.told → LeadsTo f f.told [] h o
+    → Settles (whole f.ticker count (record o { world = last_world f h o.world })) (ended_step f count h)
+ended_at f count h o calms leads = record {
+  answer = refl;
+  wakes = no_wake (second_pass f) h.taken;
+  stands = subst (StandsFor (kept_in f h)) (sym (after_calls-arms o.calls (after_round f o.world) leads.arms)) (
+    ended_stands f (due_after o.calls (calm f.told)) h o.world (if second_pass f then [] else []) (no_registration (second_pass f))
+        (subst (λ (told : DueFaults). Stands (f.pos + 1) (kept_in f h) (as_settled f (due_after o.calls told) o.world)) calms leads.world.stands)
+        leads.world.position,
+    refl,
+  );
+}
 
-ended_at : (f : RoundFacts) (count : ℕ) (h : Handling) (o : Outcome) → LeadsTo f [] h o
-    → Comes (ended_step f count h) (settled (moved_on (whole f.ticker count (record o { world = last_world f h o.world }))))
-ended_at f count h o leads =
-    let after : World = after_round f h o.world (if second_pass f then [] else []) in
-    record {
-      answer = refl;
-      wakes = no_wake (second_pass f) h.taken;
-      stands = subst (StandsFor (ended_kept f h)) (sym (after_calls-arms o.calls after leads.arms refl))
-          (Stands-after f h o.world (if second_pass f then [] else []) leads.world (no_registration (second_pass f)), refl);
-    }
-
-ended : (f : RoundFacts) (count : ℕ) (h : Handling) (o : Outcome) → LeadsTo f [] h o
-    → Comes (ended_step f count h) (settled (moved_on (whole f.ticker count o)))
-ended f count h o leads =
-    subst (λ (w : World). Comes (ended_step f count h) (settled (moved_on (whole f.ticker count (record o { world = w })))))
-    (sym (last_world-is f h o.world leads.world)) (ended_at f count h o leads)
+ended : (f : RoundFacts) (count : ℕ) (h : Handling) (o : Outcome) → f.told ≡ calm f.told → LeadsTo f f.told [] h o
+    → Settles (whole f.ticker count o) (ended_step f count h)
+ended f count h o calms leads =
+    subst (λ (w : World). Settles (whole f.ticker count (record o { world = w })) (ended_step f count h))
+    (sym (last_world-is f (due_after o.calls f.told) h o.world calms leads.world)) (ended_at f count h o calms leads)
 
 -- ## A whole round
 
--- the world before a round
-abbrev before_round : Kept → World → World
-before_round kept w = record (plain kept w) { round = None }
-
-react-comes : (kept : Kept) (w : World) → Stands w.pos kept w → Comes (kept_react kept)
-    (settled (moved_on (whole (kept.ticker + 1) (length (given kept)) (handle_each (given kept) (waited_world kept w) (Succeeds ∷ [])))))
-react-comes kept w s =
-    ended (facts_of kept w.pos) (length (given kept)) (handle_events (kept.ticker + 1) (given kept) (waited_kept kept))
-    (handle_each (given kept) (waited_world kept w) (Succeeds ∷ []))
-    (handle_each-leads (given kept) (facts_of kept w.pos) (waited_kept kept) (waited_world kept w) (Succeeds ∷ []) (waited kept w s) (refl, tt))
-
-react-opened : (kept : Kept) (w : World) → Stands w.pos kept w → Follows (before_round kept w) step.React (kept_react kept)
-unfolding script_step step_result
-react-opened kept w s =
-    let comes = react-comes kept w s in
-    record { answer = comes.answer; wakes = comes.wakes; stands = comes.stands }
+round_settles : (kept : Kept) (w : World) → Stands w.pos kept w
+    → Settles (whole (kept.ticker + 1) (length (given kept)) (handle_each (given kept) (waited_world kept w) (fails_where w.due.arm ∷ []))) (kept_react kept)
+round_settles kept w s =
+    ended (facts_of kept w) (length (given kept)) (handle_events (kept.ticker + 1) (given kept) (waited_kept kept))
+    (handle_each (given kept) (waited_world kept w) (fails_where w.due.arm ∷ [])) refl
+    (handle_each-leads (given kept) (facts_of kept w) (calm w.due) (waited_kept kept) (waited_world kept w) (fails_where w.due.arm ∷ []) (waited kept w s)
+    (record { next = ap fails_where s.due.arm; later = tt }))
 
 pub kept_react-follows : (kept : Kept) (w : World) → StandsFor kept w → Follows w step.React (kept_react kept)
 kept_react-follows kept w stands =
-    subst (λ (v : World). Follows v step.React (kept_react kept))
-    (sym (plain-is w.pos kept w stands.0 ∙ ap (λ (round : Option RoundState). record (plain kept w) { round = round }) stands.1))
-    (react-opened kept w stands.0)
+    subst (λ (v : World). Follows v step.React (kept_react kept)) (sym (before_round-is kept w stands))
+    (Follows-from (before_round kept w) step.React (kept_react kept) (round_settles kept w stands.0))

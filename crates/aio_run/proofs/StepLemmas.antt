@@ -4,21 +4,24 @@ use Rattle.std.proofs.lemmas.Bool.Decides.{nat_tests}
 use Rattle.std.specs.Io.KnownBytes.{Appends}
 use Rattle.std.proofs.KnownBytes.{Appends-trans, Appends-nil}
 use Rattle.aio_base.specs.declared.names.Waker.{Waker}
+use Rattle.aio_base.specs.declared.outcomes.Which.{Which}
+use Rattle.aio_base.specs.declared.outcomes.Which.TheVariants as which
 use Rattle.aio_base.specs.declared.steps.Step.{Step}
+use Rattle.aio_base.specs.declared.steps.Step.TheVariants as step
 use Rattle.aio_base.specs.declared.steps.Answer.{Answer}
 use Rattle.aio_base.specs.declared.steps.Reason.TheVariants as reason
 use Rattle.aio_base.specs.World.{World, opening}
 use Rattle.aio_base.specs.Script.{output, output_from, world_after, script_step, reply_text}
-use Rattle.aio_base.specs.Trace.{IsBuilt, Trace, Refusal, lines_of, trace_of, trace_of_lines, trace_from, trace_after, written_step, with_step, refused, line_limit, header_text}
+use Rattle.aio_base.specs.Trace.{IsBuilt, IsBuiltFault, Trace, Refusal, lines_of, trace_of, trace_of_lines, trace_from, trace_after, written_step, with_step, refused, line_limit, header_text}
 use Rattle.aio_bytes.specs.Sinks.{AppendsPart}
 use Rattle.aio_run.specs.declared.ends.Stop.{Stop}
 use Rattle.aio_run.specs.declared.ends.End.{End}
 use Rattle.aio_run.specs.declared.ends.End.TheVariants as ends
-use Rattle.aio_run.specs.Kept.{Kept, kept_step}
+use Rattle.aio_run.specs.Kept.{Kept, StepsKept, IsRun, IsTellable}
 use Rattle.aio_run.specs.Ties.{StandsFor, Follows}
 use Rattle.aio_run.specs.Session.{Sends, SendsOrStops, Unread, LeavesAllBut, BeginsUnread, TakesLine, EndsSo, bytes_of_end}
 use Rattle.aio_run.specs.Steps.{Opens, Answers, Standing, LineTaken, Closes, Closing, after_steps, refusal_of, IsRead}
-use Rattle.aio_run.proofs.Simulation.{kept_step-follows}
+use Rattle.aio_run.proofs.Simulation.{steps-follow}
 use Rattle.aio_run.proofs.OpeningStands.{new_stands_for}
 
 -- ## Steps at the end of a run
@@ -38,11 +41,30 @@ pub world_after-push : (w : World) (done : List Step) (s : Step) → world_after
 world_after-push w [] s = refl
 world_after-push w (d ∷ done) s = world_after-push (script_step w d).world done s
 
+failure_tells : (kind : Which) → IsBuiltFault kind → IsTellable kind
+failure_tells which.Add built = tt
+failure_tells which.Arm built = tt
+failure_tells which.Remove built = tt
+failure_tells which.Wait built = built
+
+-- the steps of the lines that are read are run
+pub built_runs : (s : Step) → IsBuilt s → IsRun s
+built_runs step.Add built = tt
+built_runs (step.Del key) built = tt
+built_runs (step.Poll key dir waker) built = tt
+built_runs (step.New key dir) built = tt
+built_runs (step.StepEar number waker) built = tt
+built_runs (step.DropEar number) built = tt
+built_runs (step.Note event) built = tt
+built_runs (step.Fault kind) built = failure_tells kind built
+built_runs step.React built = tt
+built_runs _ built = absurd built
+
 -- a step that is run and answered
-pub answered : (kept new : Kept) (s : Step) (a : Answer) (wakes : List Waker) (text_old text_new : List ℕ) → IsBuilt s
-    → kept_step kept s ≡ record { answer = a; wakes = wakes; kept = new } → text_new ≡ text_old ++ reply_text a wakes → Answers s kept new text_old text_new
-answered kept new s a wakes text_old text_new built stepped text w stands =
-    let follows : Follows w s (record { answer = a; wakes = wakes; kept = new }) = subst (Follows w s) stepped (kept_step-follows kept w s built stands) in (
+pub answered : (kept new : Kept) (s : Step) (a : Answer) (wakes : List Waker) (text_old text_new : List ℕ) → IsRun s
+    → StepsKept kept s (record { answer = a; wakes = wakes; kept = new }) → text_new ≡ text_old ++ reply_text a wakes → Answers s kept new text_old text_new
+answered kept new s a wakes text_old text_new run stepped text w stands =
+    let follows : Follows w s (record { answer = a; wakes = wakes; kept = new }) = steps-follow kept w s _ run stands stepped in (
       text ∙ ap (λ t. text_old ++ reply_text t wakes) (sym follows.answer)
           ∙ ap (λ t. text_old ++ reply_text (script_step w s).answer t) (sym follows.wakes),
       follows.stands,

@@ -1,9 +1,9 @@
-pub mod Directions
+pub mod Commands
 pub mod Kept
+pub mod Places
 pub mod Reactors
-pub mod Ties
 pub mod Reading
-pub mod Writing
 pub mod Session
 pub mod Steps
-pub mod Commands
+pub mod Ties
+pub mod Writing

@@ -2,7 +2,7 @@
 use Rattle.std.specs.Prelude.{◌≡◌, ℕ, List, [], ◌∷◌, Option, None, Some, codes, bytes_eq, if◌then◌else◌}
 use Rattle.aio_base.specs.declared.steps.Step.{Step}
 use Rattle.aio_base.specs.declared.steps.Step.TheVariants as step
-use Rattle.aio_base.specs.Trace.{words_of, alone, poll_of, event_of}
+use Rattle.aio_base.specs.Trace.{words_of, alone, del_of, poll_of, new_of, listener_poll_of, drop_of, event_of, fault_of}
 use Rattle.aio_run.specs.declared.reading.Command.{Command}
 use Rattle.aio_run.specs.declared.reading.Command.TheVariants as command
 
@@ -24,7 +24,12 @@ command_named word =
     if bytes_eq word (codes "poll") then Some command.Poll
     else (if bytes_eq word (codes "event") then Some command.Event
     else (if bytes_eq word (codes "react") then Some command.React
-    else (if bytes_eq word (codes "add") then Some command.Add else None)))
+    else (if bytes_eq word (codes "add") then Some command.Add
+    else (if bytes_eq word (codes "del") then Some command.Del
+    else (if bytes_eq word (codes "new") then Some command.New
+    else (if bytes_eq word (codes "step") then Some command.Step
+    else (if bytes_eq word (codes "drop") then Some command.Drop
+    else (if bytes_eq word (codes "fault") then Some command.Fault else None))))))))
 
 -- the step of a line with this command and these further words
 abbrev pub step_of : Command → List (List ℕ) → Option Step
@@ -32,3 +37,8 @@ step_of command.Poll places = poll_of places
 step_of command.Event places = event_of places
 step_of command.React places = alone step.React places
 step_of command.Add places = alone step.Add places
+step_of command.Del places = del_of places
+step_of command.New places = new_of places
+step_of command.Step places = listener_poll_of places
+step_of command.Drop places = drop_of places
+step_of command.Fault places = fault_of places

@@ -34,7 +34,7 @@ pub record Standing (input : List ℕ) (told out_old out_new : Option (List ℕ)
 pub record Opens (ahead text : List ℕ) (kept : Kept) : Type 0 where
   pub nothing_ahead : ahead ≡ []
   pub no_text : text ≡ []
-  pub fresh : kept ≡ record { sources = []; ticker = 0; script = new_script }
+  pub fresh : kept ≡ record { sources = []; listeners = []; ticker = 0; script = new_script }
 
 -- a step was run and its reply stands at the end of the text, from whatever world what was kept stands for
 abbrev pub Answers : Step → Kept → Kept → List ℕ → List ℕ → Type 0

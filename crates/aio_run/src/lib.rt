@@ -1,16 +1,19 @@
 //! The top call of the program: what its words ask for, read from a source and written to a sink.
 //!
-//! It stands on `aio_base`, `aio_bytes` and `aio_script`. It promises, for every list of bytes that
+//! It stands on `aio_base`, `aio_bytes`, `aio_script` and `aio_source`. It promises, for every list of bytes that
 //! the source has left, that the output is that of the machine run over the steps of these bytes, and
 //! of each other end its cause and what was written by then.
 #![tactic(auto)]
 
 mod ends;
+mod lending;
+mod places;
 pub mod program;
 mod reactor;
 mod reading;
+mod registry;
+mod round;
 mod session;
-mod sources;
 pub mod status;
 #[cfg(test)]
 mod tests;

@@ -1,6 +1,6 @@
 //! The top call of the program.
 
-ghost use Rattle.std.specs.Prelude.{◌≡◌, ◌≢◌, ℕ, ◌↔◌, [], List, Option, Some, IfSome, OnOk, OnErr, true, false, string_bytes, map};
+ghost use Rattle.std.specs.Prelude.{◌≡◌, ◌≢◌, ℕ, ◌<◌, ◌↔◌, [], List, Option, Some, IfSome, OnOk, OnErr, true, false, string_bytes, map};
 ghost use Rattle.std.specs.Io.KnownBytes.{Appends};
 ghost use Rattle.aio_bytes.specs.Sinks.{AppendsPart, HasSinkCause};
 ghost use Rattle.aio_run.specs.Session.{Causes, LeavesAllBut};
@@ -44,6 +44,7 @@ pub fn run<R: Wait + Threads + Sync + Send + Copy, S: Source, K: Sink, E: Sink>(
     err: &mut E,
 ) -> Status
     ensures exit { result.exit ≡ exit_of result.why }
+    ensures no_device { result.exit < 6 }
 
     // The words are no command that is built exactly where they are not the one word `replay`.
     ensures usage { (result.why ≡ Why.Usage) ↔ (IsReplay (map string_bytes words.now) → ⊥) }
@@ -88,6 +89,7 @@ fn is_replay(words: &[String]) -> bool
 /// Replays the trace of an input.
 fn replay<S: Source, K: Sink>(alloc: Global, input: &mut S, out: &mut K) -> Why
     ensures usage { result ≢ Why.Usage }
+    ensures no_device { exit_of result < 6 }
     ensures replays { (bytes : List ℕ) → S.remaining input.old ≡ Some bytes
         → Replays result bytes (S.remaining input.new) (K.contents out.old) (K.contents out.new) }
     ensures taken { (bytes : List ℕ) → S.remaining input.old ≡ Some bytes

@@ -1,16 +1,19 @@
-//! The reactor of the replayer: sources by key, the rounds begun, and the poller in memory.
+//! The reactor of the replayer: sources by key, listeners by number, the rounds begun, and the poller
+//! in memory.
 //!
-//! A plain value: freshness is two remembered numbers for each direction, never a search of the past.
+//! A plain value: freshness is remembered numbers, never a search of the past.
 
-ghost use Rattle.std.specs.Prelude.{◌≡◌, ℕ, ◌+◌, ◌-◌, ◌^◌, ◌<◌, ◌≤◌, [], ◌∷◌, ◌++◌, length, take, drop, vec_len, vec_capacity, IfOk, OnErr, OnOk};
-ghost use Rattle.aio_script.specs.Script.{nothing_due, new_script};
-ghost use Rattle.aio_run.specs.Kept.{handle_event, handle_events};
+ghost use Rattle.std.specs.Prelude.{◌≡◌, ◌≤◌, None, Some, false, vec_len, vec_capacity};
+ghost use Rattle.aio_run.specs.Kept.{free_key};
+ghost use Rattle.aio_run.specs.Places.{AreKeyed};
 
-use crate::sources::SourceEntry;
-use aio_base::{
-    Answer, Arm, Dir, EndWord, Event, EventWait, Interest, Key, OutOfMemory, Step, Waker,
-};
+use crate::lending::{Polled, listen_again, listen_first, poll_source};
+use crate::places::{fill_place, first_free_place, reserve_place};
+use crate::registry::{Registered, find_listener, has_listener};
+use crate::round::handle_all;
+use aio_base::{Answer, Arm, Dir, Event, EventWait, Key, OutOfMemory, Step, Waker, Which};
 use aio_script::ScriptPoller;
+use aio_source::{Listened, SourceState};
 use std::alloc::{AllocError, Global};
 
 /// How many sources can be live.
@@ -19,34 +22,36 @@ const SOURCE_LIMIT: usize = 4096;
 /// How many events one wait gives at most.
 const WAIT_ROOM: u32 = 1024;
 
-/// A reactor over the poller in memory. No call of that poller is told to fail.
+/// A reactor over the poller in memory. No wait of that poller is told to fail.
 #[derive(Drop)]
 pub(crate) struct Reactor {
     pub poller: ScriptPoller,
-    pub sources: Vec<SourceEntry>,
+    pub sources: Vec<Option<SourceState>>,
+    /// Below this key every key is in use.
+    pub first_free: usize,
+    pub listeners: Vec<Option<Registered>>,
     pub ticker: u64,
     pub events: Vec<Event>,
-    ghost steady: { poller.due ≡ nothing_due },
+    pub alloc: Global,
+    ghost no_wait_fault: { poller.due.wait ≡ false },
+    ghost no_interrupt: { poller.due.interrupt ≡ false },
     ghost few: { vec_len sources ≤ 4096 },
+    ghost used: { first_free ≤ free_key sources.items },
+    ghost keyed: { AreKeyed sources.items },
     ghost room: { 1024 ≤ vec_capacity events },
 }
 
-/// An answer to a step, with the waker that it replaced.
-#[derive(Clone, Copy)]
-pub(crate) struct Polled {
-    pub answer: Answer,
-    pub replaced: Option<Waker>,
-}
-
 impl Reactor {
-    ghost use Rattle.std.specs.Prelude.{◌≡◌, ◌<◌, ◌^◌, ◌-◌, [], option_to_list, IfOk};
-    ghost use Rattle.aio_base.specs.Trace.{IsBuilt};
-    ghost use Rattle.aio_run.specs.Kept.{kept_add, kept_poll, kept_note, kept_react, kept_step, Stepped};
+    ghost use Rattle.std.specs.Prelude.{◌≡◌, ◌≢◌, ℕ, ◌+◌, ◌-◌, ◌^◌, ◌<◌, ◌≤◌, [], option_to_list, is_some, IfOk};
+    ghost use Rattle.std.specs.Bool.{OnTrue};
+    ghost use Rattle.aio_script.specs.Script.{new_script};
+    ghost use Rattle.aio_run.specs.Kept.{source_at, kept_add, kept_del, kept_poll, kept_new, kept_drop, kept_note, kept_fault, kept_react, StepsListener, SteppedBy, given_up, IsRun, StepsKept};
     ghost use Rattle.aio_run.specs.Reactors.{kept_of};
 
     /// A reactor with no source. `AllocError` where there is no memory for its poller.
     pub(crate) fn new(alloc: Global) -> Result<Reactor, AllocError>
         ensures sources { IfOk result (λ r. r.sources.items ≡ []) }
+        ensures listeners { IfOk result (λ r. r.listeners.items ≡ []) }
         ensures ticker { IfOk result (λ r. r.ticker ≡ 0) }
         ensures poller { IfOk result (λ r. r.poller ≡ new_script) }
     {
@@ -55,66 +60,220 @@ impl Reactor {
             Ok(poller) => Ok(Reactor {
                 poller,
                 sources: Vec::new(alloc),
+                first_free: 0,
+                listeners: Vec::new(alloc),
                 ticker: 0,
                 events,
+                alloc,
             }),
             Err(OutOfMemory) => Err(AllocError),
         }
     }
 
-    /// Adds a source under the least key that is not in use.
+    /// Adds a source under the least key that is not in use. `AllocError` where there is no memory
+    /// for it, and then the poller was not asked.
     fn add(&mut self) -> Result<Answer, AllocError>
-        ensures step { IfOk result (λ answer. kept_add (kept_of self.old) ≡ record { answer = answer; wakes = []; kept = kept_of self.new }) }
         ensures ticker { self.new.ticker ≡ self.old.ticker }
+        ensures step { IfOk result (λ answer. record { answer = answer; wakes = []; kept = kept_of self.new } ≡ kept_add (kept_of self.old)) }
     {
-        let count = self.sources.len();
-        if count >= SOURCE_LIMIT {
+        let at = first_free_place(self.sources.as_slice(), self.first_free);
+        if at >= SOURCE_LIMIT {
             return Ok(Answer::Full);
         }
-        let key = Key(count as u32);
-        self.sources.push(SourceEntry::NEW)?;
-        self.poller.add(key).unwrap();
+        reserve_place(&mut self.sources, at)?;
+        let key = Key(at as u32);
+        if self.poller.add(key).is_err() {
+            return Ok(Answer::FaultAdd);
+        }
+        fill_place(&mut self.sources, at, SourceState::new(self.alloc, key));
+        self.first_free = at + 1;
         Ok(Answer::KeyIs(key))
+    }
+
+    /// Takes a source out, unless a listener of it lives.
+    fn del(&mut self, key: Key) -> Answer
+        ensures ticker { self.new.ticker ≡ self.old.ticker }
+        ensures step { record { answer = result; wakes = []; kept = kept_of self.new } ≡ kept_del (kept_of self.old) key }
+    {
+        if !self.is_live(key) {
+            return Answer::NoSource;
+        }
+        if has_listener(self.listeners.as_slice(), key) {
+            return Answer::InUse;
+        }
+        let at = key.0 as usize;
+        self.sources[at] = None;
+        self.first_free = self.first_free.min(at);
+        match self.poller.remove(key) {
+            Ok(()) => Answer::Gone,
+            Err(_) => Answer::FaultRemove,
+        }
     }
 
     /// Polls a direction of a source with a waker (`async-io` 2, `reactor.rs`, `poll_ready`).
     fn poll(&mut self, key: Key, dir: Dir, waker: Waker) -> Polled
         ensures ticker { self.new.ticker ≡ self.old.ticker }
-        ensures step { kept_poll (kept_of self.old) key dir waker ≡ record { answer = result.answer; wakes = option_to_list result.replaced; kept = kept_of self.new } }
+        ensures step { record { answer = result.answer; wakes = option_to_list result.replaced; kept = kept_of self.new } ≡ kept_poll (kept_of self.old) key dir waker }
     {
         let at = key.0 as usize;
         if at >= self.sources.len() {
             return told(Answer::NoSource);
         }
-        let source = self.sources[at];
-        let direction = source.direction(dir);
-        if direction.is_ready() {
-            self.sources[at] = source.with_direction(dir, direction.seen());
-            return told(Answer::Ready);
+        match &mut self.sources[at] {
+            Some(source) => poll_source(source, &mut self.poller, dir, waker, self.ticker),
+            None => told(Answer::NoSource),
         }
-        if direction.is_held(waker) {
-            return told(Answer::Pending);
+    }
+
+    /// Makes a listener of a direction of a source.
+    fn new_listener(&mut self, key: Key, dir: Dir) -> Result<Answer, AllocError>
+        ensures ticker { self.new.ticker ≡ self.old.ticker }
+        ensures step { IfOk result (λ answer. record { answer = answer; wakes = []; kept = kept_of self.new } ≡ kept_new (kept_of self.old) key dir) }
+    {
+        if !self.is_live(key) {
+            return Ok(Answer::NoSource);
         }
-        let after = source.with_direction(dir, direction.stored(waker, self.ticker));
-        self.sources[at] = after;
-        if direction.waiter.is_none() {
-            self.poller.arm(key, after.wanted()).unwrap();
+        self.listeners.push(Some(Registered {
+            key,
+            dir,
+            first: None,
+        }))?;
+        Ok(Answer::Listener(self.listeners.len() as u64))
+    }
+
+    /// Polls a listener with a waker. `AllocError` where its first poll finds no memory, or no ticket,
+    /// for it.
+    fn step_listener(&mut self, number: u32, waker: Waker) -> Result<Answer, AllocError>
+        ensures ticker { self.new.ticker ≡ self.old.ticker }
+        ensures step { IfOk result (λ answer. StepsListener (kept_of self.old) number waker (record { answer = answer; wakes = []; kept = kept_of self.new })) }
+    {
+        match find_listener(self.listeners.as_slice(), number) {
+            None => Ok(Answer::NoListener),
+            Some(registered) => match registered.first {
+                None => self.step_first(number, registered, waker),
+                Some(listened) => Ok(self.step_again(registered, listened, waker)),
+            },
         }
-        Polled {
-            answer: Answer::Pending,
-            replaced: direction.waiter,
+    }
+
+    /// The first poll of a listener, which remembers it.
+    fn step_first(
+        &mut self,
+        number: u32,
+        registered: Registered,
+        waker: Waker,
+    ) -> Result<Answer, AllocError>
+        requires { (1 ≤ number) × (number ≤ vec_len self.old.listeners) }
+        ensures ticker { self.new.ticker ≡ self.old.ticker }
+        ensures step { IfOk result (λ answer. SteppedBy (kept_of self.old) number waker registered None (source_at self.old.sources.items registered.key.0)
+            (record { answer = answer; wakes = []; kept = kept_of self.new })) }
+    {
+        let at = registered.key.0 as usize;
+        if at >= self.sources.len() {
+            return Ok(Answer::NoListener);
         }
+        match &mut self.sources[at] {
+            Some(source) => {
+                let (answer, listened) = listen_first(
+                    source,
+                    &mut self.poller,
+                    registered.dir,
+                    waker,
+                    self.ticker,
+                )?;
+                self.listeners[number as usize - 1] = Some(Registered {
+                    key: registered.key,
+                    dir: registered.dir,
+                    first: Some(listened),
+                });
+                Ok(answer)
+            }
+            None => Ok(Answer::NoListener),
+        }
+    }
+
+    /// A later poll of a listener.
+    fn step_again(&mut self, registered: Registered, listened: Listened, waker: Waker) -> Answer
+        ensures ticker { self.new.ticker ≡ self.old.ticker }
+        ensures step { (number : ℕ) → SteppedBy (kept_of self.old) number waker registered (Some listened) (source_at self.old.sources.items registered.key.0)
+            (record { answer = result; wakes = []; kept = kept_of self.new }) }
+    {
+        let at = registered.key.0 as usize;
+        if at >= self.sources.len() {
+            return Answer::NoListener;
+        }
+        match &mut self.sources[at] {
+            Some(source) => {
+                if !source.holds(registered.dir, listened.ticket) {
+                    return Answer::NoListener;
+                }
+                listen_again(source, &mut self.poller, registered.dir, listened, waker)
+            }
+            None => Answer::NoListener,
+        }
+    }
+
+    /// Gives up a listener, whose number stays taken.
+    fn drop_listener(&mut self, number: u32) -> Answer
+        ensures ticker { self.new.ticker ≡ self.old.ticker }
+        ensures step { record { answer = result; wakes = []; kept = kept_of self.new } ≡ kept_drop (kept_of self.old) number }
+    {
+        match find_listener(self.listeners.as_slice(), number) {
+            None => Answer::NoListener,
+            Some(registered) => {
+                self.unlisten(registered);
+                self.listeners[number as usize - 1] = None;
+                Answer::Dropped
+            }
+        }
+    }
+
+    /// Takes a listener out of its source, where it was polled.
+    fn unlisten(&mut self, registered: Registered)
+        ensures kept { kept_of self.new ≡ record (kept_of self.old) { sources = given_up self.old.sources.items registered registered.first (source_at self.old.sources.items registered.key.0) } }
+    {
+        let Some(listened) = registered.first else {
+            return;
+        };
+        let at = registered.key.0 as usize;
+        if at >= self.sources.len() {
+            return;
+        }
+        if let Some(source) = &mut self.sources[at] {
+            if source.holds(registered.dir, listened.ticket) {
+                source.unlisten(registered.dir, listened.ticket);
+            }
+        }
+    }
+
+    /// Whether a source has this key.
+    fn is_live(&self, key: Key) -> bool
+        ensures live { result ≡ is_some (source_at self.now.sources.items key.0) }
+        ensures within { OnTrue result (key.0 < vec_len self.now.sources) }
+    {
+        let at = key.0 as usize;
+        at < self.sources.len() && self.sources[at].is_some()
     }
 
     /// Notes an event for the next wait.
     fn note(&mut self, event: Event) -> Result<Answer, AllocError>
         ensures ticker { self.new.ticker ≡ self.old.ticker }
-        ensures step { IfOk result (λ answer. kept_note (kept_of self.old) event ≡ record { answer = answer; wakes = []; kept = kept_of self.new }) }
+        ensures step { IfOk result (λ answer. record { answer = answer; wakes = []; kept = kept_of self.new } ≡ kept_note (kept_of self.old) event) }
     {
         match self.poller.give(event) {
             Ok(()) => Ok(Answer::Noted),
             Err(OutOfMemory) => Err(AllocError),
         }
+    }
+
+    /// Tells the poller to fail its next call of this kind, which is none of its waits.
+    fn fail_next(&mut self, which: Which) -> Answer
+        requires { which ≢ Which.Wait }
+        ensures ticker { self.new.ticker ≡ self.old.ticker }
+        ensures step { record { answer = result; wakes = []; kept = kept_of self.new } ≡ kept_fault (kept_of self.old) which }
+    {
+        self.poller.fail_next(which);
+        Answer::Noted
     }
 
     /// A whole round: one wait, each event of it handled, and the wakers that were taken at the end of
@@ -123,14 +282,14 @@ impl Reactor {
     fn react(&mut self, wakes: &mut Vec<Waker>) -> Result<Answer, AllocError>
         requires rounds { self.old.ticker < 2 ^ 64 - 1 }
         requires none { wakes.old.items ≡ [] }
-        ensures step { IfOk result (λ answer. kept_react (kept_of self.old) ≡ record { answer = answer; wakes = wakes.new.items; kept = kept_of self.new }) }
         ensures ticker { self.new.ticker ≡ self.old.ticker + 1 }
+        ensures step { IfOk result (λ answer. record { answer = answer; wakes = wakes.new.items; kept = kept_of self.new } ≡ kept_react (kept_of self.old)) }
     {
         self.ticker += 1;
         self.events.clear();
         self.poller.wait(&mut self.events, WAIT_ROOM, None).unwrap();
         let events = self.events.as_slice();
-        handle_all(
+        let end = handle_all(
             &mut self.poller,
             self.sources.as_mut_slice(),
             events,
@@ -140,22 +299,22 @@ impl Reactor {
         Ok(Answer::Round {
             number: self.ticker,
             events: events.len() as u32,
-            end: EndWord::Clean,
+            end,
         })
     }
 
-    /// Runs a step of the lines that are built: its answer, and its wakes in order in place of what
-    /// `wakes` held. `AllocError` where memory ran out.
-    #[tactic(auto, unfolding(crate::specs::Kept::kept_step))]
+    /// Runs a step: its answer, and its wakes in order in place of what `wakes` held. `AllocError`
+    /// where memory ran out, or where a listener's first poll finds no ticket.
     pub(crate) fn step(&mut self, step: &Step, wakes: &mut Vec<Waker>) -> Result<Answer, AllocError>
-        requires built { IsBuilt step.now }
+        requires run { IsRun step.now }
         requires rounds { self.old.ticker < 2 ^ 64 - 1 }
-        ensures step { IfOk result (λ answer. kept_step (kept_of self.old) step.now ≡ record { answer = answer; wakes = wakes.new.items; kept = kept_of self.new }) }
+        ensures step { IfOk result (λ answer. StepsKept (kept_of self.old) step.now (record { answer = answer; wakes = wakes.new.items; kept = kept_of self.new })) }
         ensures ticker { self.new.ticker ≤ self.old.ticker + 1 }
     {
         wakes.clear();
         match *step {
             Step::Add => self.add(),
+            Step::Del(key) => Ok(self.del(key)),
             Step::Poll(key, dir, waker) => {
                 let polled = self.poll(key, dir, waker);
                 if let Some(replaced) = polled.replaced {
@@ -163,58 +322,15 @@ impl Reactor {
                 }
                 Ok(polled.answer)
             }
+            Step::New(key, dir) => self.new_listener(key, dir),
+            Step::StepEar(number, waker) => self.step_listener(number, waker),
+            Step::DropEar(number) => Ok(self.drop_listener(number)),
             Step::Note(event) => self.note(event),
+            Step::Fault(which) => Ok(self.fail_next(which)),
             Step::React => self.react(wakes),
             _ => unreachable!(),
         }
     }
-}
-
-/// Handles an event of a round: the waiters of its source's directions go to the end of `taken`, and
-/// the source is armed again where a waiter is left. An event of an unknown key is dropped.
-/// `AllocError` where there is no memory for the wakers.
-fn handle(
-    poller: &mut ScriptPoller,
-    sources: &mut [SourceEntry],
-    event: Event,
-    round: u64,
-    taken: &mut Vec<Waker>,
-) -> Result<(), AllocError>
-    requires steady { poller.old.due ≡ nothing_due }
-    requires few { length sources.old ≤ 4096 }
-    ensures steady { poller.new.due ≡ nothing_due }
-    ensures handled { OnOk result (handle_event round event (record { sources = sources.old; script = poller.old; taken = taken.old.items }) ≡ record { sources = sources.new; script = poller.new; taken = taken.new.items }) }
-{
-    let at = event.key.0 as usize;
-    if at >= sources.len() {
-        return Ok(());
-    }
-    let after = sources[at].handled(event.on, round, taken)?;
-    sources[at] = after;
-    let wanted = after.wanted();
-    if wanted.read || wanted.write {
-        poller.arm(event.key, wanted).unwrap();
-    }
-    Ok(())
-}
-
-/// Handles the events of a round in order.
-fn handle_all(
-    poller: &mut ScriptPoller,
-    sources: &mut [SourceEntry],
-    events: &[Event],
-    round: u64,
-    taken: &mut Vec<Waker>,
-) -> Result<(), AllocError>
-    requires steady { poller.old.due ≡ nothing_due }
-    requires few { length sources.old ≤ 4096 }
-    ensures steady { poller.new.due ≡ nothing_due }
-    ensures handled { OnOk result (handle_events round events.now (record { sources = sources.old; script = poller.old; taken = taken.old.items }) ≡ record { sources = sources.new; script = poller.new; taken = taken.new.items }) }
-{
-    for event in events {
-        handle(poller, sources, *event, round, taken)?;
-    }
-    Ok(())
 }
 
 /// An answer that replaced no waker.

@@ -3,17 +3,22 @@
 
 ghost use Rattle.std.specs.Prelude.{◌≡◌, [], ◌∷◌, MatchOption};
 ghost use Rattle.std.specs.Option.{option_copied};
-ghost use Rattle.aio_base.specs.Trace.{alone, dir_of, event_of, flags_named, number_of, poll_of, words_of, written_step};
+ghost use Rattle.aio_base.specs.Trace.{alone, del_of, dir_of, drop_of, event_of, fault_named, fault_of, flags_named, listener_poll_of, new_of, number_of, poll_of, words_of, written_step};
 ghost use Rattle.aio_run.specs.Reading.{HasMore, command_named, step_of, words_behind};
 
-use aio_base::{Dir, Event, Interest, Key, Step, Waker};
+use aio_base::{Dir, Event, Interest, Key, Step, Waker, Which};
 
 /// The commands of the lines that are built.
 #[derive(Clone, Copy)]
 enum Command {
     Add,
+    Del,
     Poll,
+    New,
+    Step,
+    Drop,
     Event,
+    Fault,
     React,
 }
 
@@ -35,6 +40,11 @@ fn read_command(word: &[u8]) -> Option<Command>
         b"event" => Some(Command::Event),
         b"react" => Some(Command::React),
         b"add" => Some(Command::Add),
+        b"del" => Some(Command::Del),
+        b"new" => Some(Command::New),
+        b"step" => Some(Command::Step),
+        b"drop" => Some(Command::Drop),
+        b"fault" => Some(Command::Fault),
         _ => None,
     }
 }
@@ -48,6 +58,11 @@ fn read_places(command: Command, places: Option<&[u8]>) -> Option<Step>
         Command::Event => read_event(places?),
         Command::React => alone(Step::React, places),
         Command::Add => alone(Step::Add, places),
+        Command::Del => read_del(places?),
+        Command::New => read_new(places?),
+        Command::Step => read_listener_poll(places?),
+        Command::Drop => read_drop(places?),
+        Command::Fault => read_fault(places?),
     }
 }
 
@@ -85,6 +100,14 @@ fn alone(step: Step, places: Option<&[u8]>) -> Option<Step>
     }
 }
 
+/// The step of a line `del K`, read behind its first word.
+fn read_del(places: &[u8]) -> Option<Step>
+    ensures { result ≡ del_of (words_of places.now) }
+{
+    let key = only_word(places)?;
+    Some(Step::Del(Key(number(key)?)))
+}
+
 /// The step of a line `poll K D W`, read behind its first word.
 fn read_poll(places: &[u8]) -> Option<Step>
     ensures { result ≡ poll_of (words_of places.now) }
@@ -99,6 +122,32 @@ fn read_poll(places: &[u8]) -> Option<Step>
     ))
 }
 
+/// The step of a line `new K D`, read behind its first word.
+fn read_new(places: &[u8]) -> Option<Step>
+    ensures { result ≡ new_of (words_of places.now) }
+{
+    let (key, rest) = split_word(places);
+    let direction = only_word(rest?)?;
+    Some(Step::New(Key(number(key)?), read_direction(direction)?))
+}
+
+/// The step of a line `step N W`, read behind its first word.
+fn read_listener_poll(places: &[u8]) -> Option<Step>
+    ensures { result ≡ listener_poll_of (words_of places.now) }
+{
+    let (listener, waker) = split_word(places);
+    let waker = only_word(waker?)?;
+    Some(Step::StepEar(number(listener)?, Waker(number(waker)?)))
+}
+
+/// The step of a line `drop N`, read behind its first word.
+fn read_drop(places: &[u8]) -> Option<Step>
+    ensures { result ≡ drop_of (words_of places.now) }
+{
+    let listener = only_word(places)?;
+    Some(Step::DropEar(number(listener)?))
+}
+
 /// The step of a line `event K F`, read behind its first word.
 fn read_event(places: &[u8]) -> Option<Step>
     ensures { result ≡ event_of (words_of places.now) }
@@ -109,6 +158,14 @@ fn read_event(places: &[u8]) -> Option<Step>
         key: Key(number(key)?),
         on: read_flags(flags)?,
     }))
+}
+
+/// The step of a line `fault X`, read behind its first word.
+fn read_fault(places: &[u8]) -> Option<Step>
+    ensures { result ≡ fault_of (words_of places.now) }
+{
+    let failing = only_word(places)?;
+    Some(Step::Fault(read_failing(failing)?))
 }
 
 /// The number below 2^32 whose decimal spelling this word is: no zero stands before another digit.
@@ -164,6 +221,18 @@ fn read_flags(word: &[u8]) -> Option<Interest>
     }
 }
 
+/// The call of the poller that a word names, where its failing is built: `add`, `arm` or `remove`.
+fn read_failing(word: &[u8]) -> Option<Which>
+    ensures { result ≡ fault_named word.now }
+{
+    match word {
+        b"add" => Some(Which::Add),
+        b"arm" => Some(Which::Arm),
+        b"remove" => Some(Which::Remove),
+        _ => None,
+    }
+}
+
 #[cfg(test)]
 mod tests {
     use super::*;
@@ -184,6 +253,20 @@ mod tests {
         for (line, step) in [
             ("add", Some(Step::Add)),
             ("react", Some(Step::React)),
+            ("del 0", Some(Step::Del(Key(0)))),
+            ("del 4294967295", Some(Step::Del(Key(4_294_967_295)))),
+            ("new 0 r", Some(Step::New(Key(0), Dir::Read))),
+            ("new 4095 w", Some(Step::New(Key(4095), Dir::Write))),
+            ("step 1 11", Some(Step::StepEar(1, Waker(11)))),
+            (
+                "step 0 4294967295",
+                Some(Step::StepEar(0, Waker(4_294_967_295))),
+            ),
+            ("drop 2", Some(Step::DropEar(2))),
+            ("drop 4294967295", Some(Step::DropEar(4_294_967_295))),
+            ("fault add", Some(Step::Fault(Which::Add))),
+            ("fault arm", Some(Step::Fault(Which::Arm))),
+            ("fault remove", Some(Step::Fault(Which::Remove))),
             ("poll 0 r 7", poll(0, Dir::Read, 7)),
             ("poll 4095 r 63", poll(4095, Dir::Read, 63)),
             ("poll 4294967295 w 0", poll(4_294_967_295, Dir::Write, 0)),
@@ -226,8 +309,34 @@ mod tests {
             "react\r",
             "react 0",
             "poll\t0 r 1",
+            "del",
+            "del ",
+            "del 00",
+            "del 0 0",
+            "del 4294967296",
+            "new 0",
+            "new 0 -",
+            "new 0 rw",
+            "new r 0",
+            "new 0 r 1",
+            "step 1",
+            "step 1 ",
+            "step r 1",
+            "step 4294967296 1",
+            "step 1 4294967296",
+            "step 1 2 3",
+            "drop",
+            "drop 02",
+            "drop 1 2",
+            "Drop 1",
+            "fault",
+            "fault ",
+            "fault wait",
+            "fault add add",
+            "faulty add",
+            "interrupt",
+            "tick 1 5",
             "wait",
-            "del 0",
         ] {
             assert_eq!(rt; read_step(line.as_bytes()), None, "{line}");
         }

@@ -36,11 +36,11 @@ pub(crate) struct Session {
 
 impl Session {
     ghost use Rattle.std.specs.Prelude.{IfOk, List, Option};
-    ghost use Rattle.aio_base.specs.Trace.{IsBuilt};
     ghost use Rattle.aio_base.specs.World.{World};
     ghost use Rattle.aio_run.specs.Steps.{Closes};
     ghost use Rattle.aio_run.specs.Session.{ends_with, Causes, goes_on_with, ends_with, is_read_fault, is_write_fault, EndsSo};
     ghost use Rattle.aio_run.specs.Steps.{Answers, Standing, LineTaken, GoesOn, Opens};
+    ghost use Rattle.aio_run.specs.Kept.{IsRun};
     ghost use Rattle.aio_run.specs.Reactors.{kept_of};
 
     /// A replay that has read nothing. `AllocError` where there is no memory for its parts.
@@ -61,7 +61,7 @@ impl Session {
     /// Runs a step, and puts its answer and its wakes at the end of the text. `AllocError` where
     /// memory ran out; then the text is as it was.
     fn answer(&mut self, step: &Step) -> Result<(), AllocError>
-        requires built { IsBuilt step.now }
+        requires run { IsRun step.now }
         requires rounds { self.old.reactor.ticker < 2 ^ 64 - 1 }
         ensures answers { OnOk result (Answers step.now (kept_of self.old.reactor) (kept_of self.new.reactor) self.old.text.items self.new.text.items) }
         ensures kept { OnErr result (self.new.text.items ≡ self.old.text.items) }

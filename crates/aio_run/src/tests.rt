@@ -1,7 +1,7 @@
 //! What no clause says: that a call succeeds where memory is left, that each answer is written
 //! before a read that may wait, and that the definitions mean what the worked traces say.
 
-ghost use Rattle.std.specs.Prelude.{◌<◌, None, false};
+ghost use Rattle.std.specs.Prelude.{None, false};
 
 use crate::{Status, Why, run};
 use aio_base::{CountFault, Failed, Faults, Reason};
@@ -44,22 +44,24 @@ const NOTHING_FAILS: Failing = Failing {
 };
 
 /// Runs the command of these words over an input in memory, of which a read gives at most `piece`
-/// bytes.
+/// bytes, and one where that is 0.
 fn run_over<R: Wait + Threads + Sync + Send + Copy + AllocGlobal>(
     rt: &R,
     words: &[&str],
     input: &[u8],
     piece: usize,
     failing: Failing,
-) -> Result<Ran, AllocError>
-    requires { 0 < piece }
-{
+) -> Result<Ran, AllocError> {
     let alloc = rt.alloc();
     let mut texts = Vec::new(alloc);
     for word in words {
         texts.push(String::from_str(alloc, *word)?)?;
     }
-    let mut source = MemSource::new(input.to_vec(alloc)?, piece, failing.reads.to_vec(alloc)?);
+    let mut source = MemSource::new(
+        input.to_vec(alloc)?,
+        piece.max(1),
+        failing.reads.to_vec(alloc)?,
+    );
     let mut out = MemSink::new(alloc, failing.writes.to_vec(alloc)?);
     let mut err = MemSink::new(alloc, failing.tells.to_vec(alloc)?);
     let status = run(rt, alloc, texts.as_slice(), &mut source, &mut out, &mut err);
@@ -67,7 +69,7 @@ fn run_over<R: Wait + Threads + Sync + Send + Copy + AllocGlobal>(
 }
 
 /// Traces, and what comes of each: its output, its exit status and the text for the user.
-const TRACES: [(&[u8], &[u8], u8, &[u8]); 22] = [
+const TRACES: [(&[u8], &[u8], u8, &[u8]); 29] = [
     (b"trace 1\n", b"", 0, b""),
     (b"trace 1", b"", 0, b""),
     (ORDINARY, ORDINARY_ANSWERS, 0, b""),
@@ -92,6 +94,50 @@ const TRACES: [(&[u8], &[u8], u8, &[u8]); 22] = [
         0,
         b"",
     ),
+    // A due fault shows which polls arm: the same waker does not, unless its source is broken.
+    (
+        b"trace 1\nadd\npoll 0 r 1\nfault arm\npoll 0 r 1\npoll 0 w 2\npoll 0 r 1\n",
+        b"key 0\npending\nnoted\npending\nfault arm\npending\n",
+        0,
+        b"",
+    ),
+    // An arm that fails in a round stops nothing; the next poll arms again.
+    (
+        b"trace 1\nadd\npoll 0 r 1\npoll 0 w 2\nfault arm\nevent 0 r\nreact\npoll 0 w 2\nevent 0 w\nreact\n",
+        b"key 0\npending\npending\nnoted\nnoted\nround 1 events 1 fault arm\nwake 1\npending\nnoted\nround 2 events 1 ok\nwake 2\n",
+        0,
+        b"",
+    ),
+    // Listeners are woken in the order of their first poll; one that is ready stays so.
+    (
+        b"trace 1\nadd\nnew 0 r\nnew 0 r\nnew 0 r\nstep 1 11\nstep 2 12\nstep 3 13\ndrop 2\nnew 0 r\nstep 4 14\nevent 0 r\nreact\nstep 4 14\nstep 4 14\n",
+        b"key 0\nlistener 1\nlistener 2\nlistener 3\npending\npending\npending\ndropped\nlistener 4\npending\nnoted\nround 1 events 1 ok\nwake 11\nwake 13\nwake 14\nready\nready\n",
+        0,
+        b"",
+    ),
+    // Each kind of call fails once where it was told to.
+    (
+        b"trace 1\nfault add\nadd\nadd\nfault remove\ndel 0\nadd\nfault arm\npoll 0 r 3\npoll 0 r 3\nevent 0 r\nreact\n",
+        b"noted\nfault add\nkey 0\nnoted\nfault remove\nkey 0\nnoted\nfault arm\npending\nnoted\nround 1 events 1 ok\nwake 3\n",
+        0,
+        b"",
+    ),
+    // What is not there, or is in use, is told.
+    (
+        b"trace 1\nadd\nnew 0 w\ndel 0\ndrop 1\ndel 0\npoll 0 r 1\ndel 0\nnew 0 r\nstep 1 5\ndrop 1\nstep 0 5\ndrop 0\n",
+        b"key 0\nlistener 1\nin use\ndropped\ngone\nno source\nno source\nno source\nno listener\nno listener\nno listener\nno listener\n",
+        0,
+        b"",
+    ),
+    // A waker that is given up with its source or its listener is not woken; a key is used again.
+    (
+        b"trace 1\nadd\nadd\npoll 0 r 1\nnew 1 r\nstep 1 2\ndrop 1\ndel 0\nadd\nevent 0 r\nevent 1 r\nreact\npoll 0 r 3\n",
+        b"key 0\nkey 1\npending\nlistener 1\npending\ndropped\ngone\nkey 0\nnoted\nnoted\nround 1 events 2 ok\npending\n",
+        0,
+        b"",
+    ),
+    // A fault of a wait is not built yet.
+    (b"trace 1\nfault wait\n", b"", 2, b"line 2: stage\n"),
     (b"trace 1\nadd\nadd", b"key 0\nkey 1\n", 0, b""),
     (
         b"trace 1\npoll 4294967295 w 4294967295\n",
@@ -104,7 +150,7 @@ const TRACES: [(&[u8], &[u8], u8, &[u8]); 22] = [
     (b"trace 1\r\n", b"", 2, b"line 1: header\n"),
     (b"trace 2\nadd\n", b"", 2, b"line 1: header\n"),
     (
-        b"trace 1\nadd\ndel 0\nadd\n",
+        b"trace 1\nadd\ninterrupt\nadd\n",
         b"key 0\n",
         2,
         b"line 3: stage\n",
@@ -262,8 +308,8 @@ fn a_reactor_holds_4096_sources(rt: HostRuntime) -> Result<(), Fail> {
         trace.extend_from_slice(b"add\n")?;
         answers.extend_from_slice(format!(in rt.alloc(); "key {key}\n")?.as_bytes())?;
     }
-    trace.extend_from_slice(b"add\n")?;
-    answers.extend_from_slice(b"full\n")?;
+    trace.extend_from_slice(b"add\ndel 7\nadd\n")?;
+    answers.extend_from_slice(b"full\ngone\nkey 7\n")?;
     let ran = run_over(&rt, &["replay"], trace.as_slice(), 4096, NOTHING_FAILS)?;
     assert_eq!(rt; ran.status.exit, 0);
     assert!(rt; ran.out.bytes() == answers.as_slice());

@@ -5,5 +5,5 @@ use Rattle.aio_run.proofs.session.Session.answer.Goals as goal
 
 pub returns-clause-answers : goal.returns-clause-answers
 returns-clause-answers c =
-    answered _ _ c.args.step.now c.in_ok-answer.answer c.step.new.wakes.items _ _ c.requires.built c.in_ok-answer.ensures.step
+    answered _ _ c.args.step.now c.in_ok-answer.answer c.step.new.wakes.items _ _ c.requires.run c.in_ok-answer.ensures.step
     (c.in_ok-push_reply.ensures.ok ∙ ap (λ wakes. c.args.self.now.text.items ++ reply_text c.in_ok-answer.answer wakes) c.as_slice.ensures.value)

@@ -2,7 +2,7 @@ use Rattle.std.proofs.Common.{◌≡◌, Some, None, ap, sym, ◌∙◌, arith, 
 use Rattle.aio_base.specs.Trace.{written_step}
 use Rattle.aio_base.proofs.Spellings.{reads_spelling}
 use Rattle.aio_bytes.specs.Sinks.{AppendsPart}
-use Rattle.aio_run.proofs.StepLemmas.{closes, refuses_line, goes_on, flushed, stops_after, part_sent, leaves_more, stops_between}
+use Rattle.aio_run.proofs.StepLemmas.{built_runs, closes, refuses_line, goes_on, flushed, stops_after, part_sent, leaves_more, stops_between}
 use Rattle.aio_run.proofs.session.Session.answer_line.Goals as goal
 
 pub returns-in-None-clause-goes_on : goal.returns-in-None-clause-goes_on
@@ -10,9 +10,9 @@ returns-in-None-clause-goes_on g c = λ input told first taken.
     let none : written_step c.args.self.now.reader.line ≡ None = ap written_step (sym c.line.ensures.value) ∙ sym c.read_step.ensures ∙ c.in-None.is in
     closes _ _ input told first _ _ _ (refuses_line input told first _ _ _ _ _ _ taken c.requires.limit none) c.refuse.ensures.closes
 
-pub answer-requires-clause-built : goal.answer-requires-clause-built
-answer-requires-clause-built g c =
-    (reads_spelling c.line.result.now c.in-Some.step (sym c.read_step.ensures ∙ c.in-Some.is)).0
+pub answer-requires-clause-run : goal.answer-requires-clause-run
+answer-requires-clause-run g c =
+    built_runs c.in-Some.step (reads_spelling c.line.result.now c.in-Some.step (sym c.read_step.ensures ∙ c.in-Some.is)).0
 
 pub returns-in-Err-clause-goes_on : goal.returns-in-Err-clause-goes_on
 returns-in-Err-clause-goes_on g c = λ input told first taken.
