@@ -219,6 +219,13 @@ pub a_timer_that_is_set_fires_at_its_new_deadline :
 unfolding step_result script_step reply_text answer_line digits
 a_timer_that_is_set_fires_at_its_new_deadline = refl
 
+-- each period is told from the deadline that was set
+pub a_timer_that_is_set_with_a_period_goes_on_from_its_new_deadline :
+    output (step.TimerAt 50 ∷ tick 1 1 ∷ step.SetEvery 1 10 10 ∷ step.Now 25 ∷ tick 1 1 ∷ tick 1 1 ∷ tick 1 1 ∷ [])
+    ≡ lines (codes "timer 1" ∷ codes "pending" ∷ codes "set" ∷ codes "at 25" ∷ codes "ready 10" ∷ codes "ready 20" ∷ codes "pending" ∷ [])
+unfolding step_result script_step reply_text answer_line digits
+a_timer_that_is_set_with_a_period_goes_on_from_its_new_deadline = refl
+
 -- a listener for the server, a poll and a timer with one waker for the connection
 pub a_server_accepts_and_a_connection_times_out :
     output (add ∷ add ∷ new 0 Read ∷ listen 1 64 ∷ poll 1 Read 65 ∷ step.TimerAt 1000 ∷ tick 1 65 ∷ event 0 reads ∷ step.Begin None ∷ step.Wait ∷
@@ -566,11 +573,6 @@ a_fault_names_a_call = refl
 pub a_fault_names_one_call : written_step (codes "fault add arm") ≡ None
 unfolding written_step digits
 a_fault_names_one_call = refl
-
--- it is not built
-pub a_tick_is_none : written_step (codes "tick 1 5") ≡ None
-unfolding written_step digits
-a_tick_is_none = refl
 
 -- no word
 pub an_empty_line_spells_nothing : written_step (codes "") ≡ None

@@ -17,8 +17,8 @@ use Rattle.aio_base.specs.declared.outcomes.Which.TheVariants as which
 use Rattle.aio_base.specs.declared.steps.Step.{Step}
 use Rattle.aio_base.specs.declared.steps.Step.TheVariants as step
 use Rattle.aio_base.specs.Text.{dir_text, flags_of, flags_text, which_text, spelling}
-use Rattle.aio_base.specs.Trace.{words_of, number_of, dir_of, flags_named, fault_named, alone, del_named, del_of, poll_named, poll_of, new_named, new_of, listener_poll_named, listener_poll_of, drop_named, drop_of, event_named, event_of, fault_of, step_named, step_of_words, written_step, IsBuiltFault, IsBuilt, header_text}
-use Rattle.aio_base.proofs.Words.{words_of_one, numerals, number_of_decimal, number_of_spells}
+use Rattle.aio_base.specs.Trace.{words_of, number_of, moment_of, period_of, dir_of, flags_named, fault_named, alone, del_named, del_of, poll_named, poll_of, new_named, new_of, listener_poll_named, listener_poll_of, drop_named, drop_of, event_named, event_of, fault_of, timer_at_named, timer_every_named, timer_of, tick_named, tick_of, set_at_named, set_every_named, set_of, end_named, end_of, now_named, now_of, step_named, step_of_words, written_step, IsMoment, IsPeriod, IsBuiltFault, IsBuilt, header_text}
+use Rattle.aio_base.proofs.Words.{words_of_one, numerals, number_of_decimal, number_of_spells, moment_of_decimal, moment_of_spells, period_of_decimal, period_of_spells}
 
 -- ## The words of a step
 
@@ -30,6 +30,14 @@ words_for (step.Poll key dir waker) = codes "poll" ∷ decimal key.0 ∷ dir_tex
 words_for (step.New key dir) = codes "new" ∷ decimal key.0 ∷ dir_text dir ∷ []
 words_for (step.StepEar number waker) = codes "step" ∷ decimal number ∷ decimal waker.0 ∷ []
 words_for (step.DropEar number) = codes "drop" ∷ decimal number ∷ []
+words_for (step.TimerAt deadline) = codes "timer" ∷ codes "at" ∷ decimal deadline ∷ []
+words_for (step.TimerEvery deadline period) = codes "timer" ∷ codes "every" ∷ decimal deadline ∷ decimal period ∷ []
+words_for step.TimerNever = codes "timer" ∷ codes "never" ∷ []
+words_for (step.Tick number waker) = codes "tick" ∷ decimal number ∷ decimal waker.0 ∷ []
+words_for (step.SetAt number deadline) = codes "set" ∷ decimal number ∷ codes "at" ∷ decimal deadline ∷ []
+words_for (step.SetEvery number deadline period) = codes "set" ∷ decimal number ∷ codes "every" ∷ decimal deadline ∷ decimal period ∷ []
+words_for (step.End number) = codes "end" ∷ decimal number ∷ []
+words_for (step.Now moment) = codes "now" ∷ decimal moment ∷ []
 words_for (step.Note event) = codes "event" ∷ decimal event.key.0 ∷ flags_text event.on ∷ []
 words_for (step.Fault kind) = codes "fault" ∷ which_text kind ∷ []
 words_for step.React = codes "react" ∷ []
@@ -112,6 +120,9 @@ two_same command p q = cc
 three_same : (command : List ℕ) {a b c x y z : List ℕ} → a ≡ x → b ≡ y → c ≡ z → command ∷ a ∷ b ∷ c ∷ [] ≡ command ∷ x ∷ y ∷ z ∷ []
 three_same command p q r = cc
 
+four_same : (command : List ℕ) {a b c d x y z u : List ℕ} → a ≡ x → b ≡ y → c ≡ z → d ≡ u → command ∷ a ∷ b ∷ c ∷ d ∷ [] ≡ command ∷ x ∷ y ∷ z ∷ u ∷ []
+four_same command p q r o = cc
+
 del_spells : (key : List ℕ) (s : Step) → del_named key ≡ Some s → Names (codes "del" ∷ key ∷ []) s
 del_spells key s e =
     let k = bind_some _ (number_of key) s e in
@@ -180,6 +191,85 @@ fault_line_spells kind s e =
     let named : Names (codes "fault" ∷ kind ∷ []) (step.Fault f.0) = record { built = by_kind.0; words_are = one_same (codes "fault") by_kind.1 } in
     subst (Names (codes "fault" ∷ kind ∷ [])) (same_some _ s f.2) named
 
+timer_at_spells : (moment : List ℕ) (s : Step) → timer_at_named moment ≡ Some s → Names (codes "timer" ∷ codes "at" ∷ moment ∷ []) s
+timer_at_spells moment s e =
+    let t = bind_some _ (moment_of moment) s e in
+    let by_moment = moment_of_spells moment t.0 t.1 in
+    let named : Names (codes "timer" ∷ codes "at" ∷ moment ∷ []) (step.TimerAt t.0) = record {
+      built = by_moment.1;
+      words_are = two_same (codes "timer") refl by_moment.0;
+    } in
+    subst (Names (codes "timer" ∷ codes "at" ∷ moment ∷ [])) (same_some _ s t.2) named
+
+timer_every_spells : (moment period : List ℕ) (s : Step) → timer_every_named moment period ≡ Some s → Names (codes "timer" ∷ codes "every" ∷ moment ∷ period ∷ []) s
+timer_every_spells moment period s e =
+    let t = bind_some _ (moment_of moment) s e in
+    let p = bind_some _ (period_of period) s t.2 in
+    let by_moment = moment_of_spells moment t.0 t.1 in
+    let by_period = period_of_spells period p.0 p.1 in
+    let named : Names (codes "timer" ∷ codes "every" ∷ moment ∷ period ∷ []) (step.TimerEvery t.0 p.0) = record {
+      built = (by_moment.1, by_period.1);
+      words_are = three_same (codes "timer") refl by_moment.0 by_period.0;
+    } in
+    subst (Names (codes "timer" ∷ codes "every" ∷ moment ∷ period ∷ [])) (same_some _ s p.2) named
+
+timer_never_spells : (s : Step) → Some step.TimerNever ≡ Some s → Names (codes "timer" ∷ codes "never" ∷ []) s
+timer_never_spells s e =
+    subst (Names (codes "timer" ∷ codes "never" ∷ [])) (same_some step.TimerNever s e) (record { built = tt; words_are = refl })
+
+tick_spells : (number waker : List ℕ) (s : Step) → tick_named number waker ≡ Some s → Names (codes "tick" ∷ number ∷ waker ∷ []) s
+tick_spells number waker s e =
+    let n = bind_some _ (number_of number) s e in
+    let w = bind_some _ (number_of waker) s n.2 in
+    let by_number = number_of_spells number n.0 n.1 in
+    let by_waker = number_of_spells waker w.0 w.1 in
+    let named : Names (codes "tick" ∷ number ∷ waker ∷ []) (step.Tick n.0 (record { 0 = w.0 })) = record {
+      built = (by_number.1, by_waker.1);
+      words_are = two_same (codes "tick") by_number.0 by_waker.0;
+    } in
+    subst (Names (codes "tick" ∷ number ∷ waker ∷ [])) (same_some _ s w.2) named
+
+set_at_spells : (number moment : List ℕ) (s : Step) → set_at_named number moment ≡ Some s → Names (codes "set" ∷ number ∷ codes "at" ∷ moment ∷ []) s
+set_at_spells number moment s e =
+    let n = bind_some _ (number_of number) s e in
+    let t = bind_some _ (moment_of moment) s n.2 in
+    let by_number = number_of_spells number n.0 n.1 in
+    let by_moment = moment_of_spells moment t.0 t.1 in
+    let named : Names (codes "set" ∷ number ∷ codes "at" ∷ moment ∷ []) (step.SetAt n.0 t.0) = record {
+      built = (by_number.1, by_moment.1);
+      words_are = three_same (codes "set") by_number.0 refl by_moment.0;
+    } in
+    subst (Names (codes "set" ∷ number ∷ codes "at" ∷ moment ∷ [])) (same_some _ s t.2) named
+
+set_every_spells : (number moment period : List ℕ) (s : Step) → set_every_named number moment period ≡ Some s
+    → Names (codes "set" ∷ number ∷ codes "every" ∷ moment ∷ period ∷ []) s
+set_every_spells number moment period s e =
+    let n = bind_some _ (number_of number) s e in
+    let t = bind_some _ (moment_of moment) s n.2 in
+    let p = bind_some _ (period_of period) s t.2 in
+    let by_number = number_of_spells number n.0 n.1 in
+    let by_moment = moment_of_spells moment t.0 t.1 in
+    let by_period = period_of_spells period p.0 p.1 in
+    let named : Names (codes "set" ∷ number ∷ codes "every" ∷ moment ∷ period ∷ []) (step.SetEvery n.0 t.0 p.0) = record {
+      built = (by_number.1, by_moment.1, by_period.1);
+      words_are = four_same (codes "set") by_number.0 refl by_moment.0 by_period.0;
+    } in
+    subst (Names (codes "set" ∷ number ∷ codes "every" ∷ moment ∷ period ∷ [])) (same_some _ s p.2) named
+
+end_spells : (number : List ℕ) (s : Step) → end_named number ≡ Some s → Names (codes "end" ∷ number ∷ []) s
+end_spells number s e =
+    let n = bind_some _ (number_of number) s e in
+    let by_number = number_of_spells number n.0 n.1 in
+    let named : Names (codes "end" ∷ number ∷ []) (step.End n.0) = record { built = by_number.1; words_are = one_same (codes "end") by_number.0 } in
+    subst (Names (codes "end" ∷ number ∷ [])) (same_some _ s n.2) named
+
+now_spells : (moment : List ℕ) (s : Step) → now_named moment ≡ Some s → Names (codes "now" ∷ moment ∷ []) s
+now_spells moment s e =
+    let t = bind_some _ (moment_of moment) s e in
+    let by_moment = moment_of_spells moment t.0 t.1 in
+    let named : Names (codes "now" ∷ moment ∷ []) (step.Now t.0) = record { built = by_moment.1; words_are = one_same (codes "now") by_moment.0 } in
+    subst (Names (codes "now" ∷ moment ∷ [])) (same_some _ s t.2) named
+
 places_del : (places : List (List ℕ)) (s : Step) → del_of places ≡ Some s → Names (codes "del" ∷ places) s
 places_del [] s e = absurd cc
 places_del (key ∷ []) s e = del_spells key s e
@@ -220,6 +310,55 @@ places_fault [] s e = absurd cc
 places_fault (kind ∷ []) s e = fault_line_spells kind s e
 places_fault (kind ∷ more ∷ words) s e = absurd cc
 
+-- the first test that holds decides
+by_test : {A : Type 0} (test : Bool) (x y z : Option A) → cond test x y ≡ z → ((test ≡ true) × (x ≡ z)) ⊎ ((test ≡ false) × (y ≡ z))
+by_test true x y z e = inl (refl, e)
+by_test false x y z e = inr (refl, e)
+
+-- a word that has to be this one
+by_choice : (text choice : List ℕ) (words_with : List ℕ → List (List ℕ)) (s : Step) {here : Option Step} → (here ≡ Some s → Names (words_with text) s)
+    → cond (bytes_eq choice text) here None ≡ Some s → Names (words_with choice) s
+by_choice text choice words_with s named e =
+    elim (by_test (bytes_eq choice text) _ _ _ e) [
+      | inl p ↦ subst (λ word. Names (words_with word) s) (sym (same_bytes choice text p.0)) (named p.1)
+      | inr none ↦ absurd (let f = none.1 in cc)
+    ]
+
+places_timer : (places : List (List ℕ)) (s : Step) → timer_of places ≡ Some s → Names (codes "timer" ∷ places) s
+places_timer [] s e = absurd cc
+places_timer (choice ∷ []) s e = by_choice (codes "never") choice (λ word. codes "timer" ∷ word ∷ []) s (timer_never_spells s) e
+places_timer (choice ∷ moment ∷ []) s e =
+    by_choice (codes "at") choice (λ word. codes "timer" ∷ word ∷ moment ∷ []) s (timer_at_spells moment s) e
+places_timer (choice ∷ moment ∷ period ∷ []) s e =
+    by_choice (codes "every") choice (λ word. codes "timer" ∷ word ∷ moment ∷ period ∷ []) s (timer_every_spells moment period s) e
+places_timer (choice ∷ moment ∷ period ∷ more ∷ words) s e = absurd cc
+
+places_tick : (places : List (List ℕ)) (s : Step) → tick_of places ≡ Some s → Names (codes "tick" ∷ places) s
+places_tick [] s e = absurd cc
+places_tick (number ∷ []) s e = absurd cc
+places_tick (number ∷ waker ∷ []) s e = tick_spells number waker s e
+places_tick (number ∷ waker ∷ more ∷ words) s e = absurd cc
+
+places_set : (places : List (List ℕ)) (s : Step) → set_of places ≡ Some s → Names (codes "set" ∷ places) s
+places_set [] s e = absurd cc
+places_set (number ∷ []) s e = absurd cc
+places_set (number ∷ choice ∷ []) s e = absurd cc
+places_set (number ∷ choice ∷ moment ∷ []) s e =
+    by_choice (codes "at") choice (λ word. codes "set" ∷ number ∷ word ∷ moment ∷ []) s (set_at_spells number moment s) e
+places_set (number ∷ choice ∷ moment ∷ period ∷ []) s e =
+    by_choice (codes "every") choice (λ word. codes "set" ∷ number ∷ word ∷ moment ∷ period ∷ []) s (set_every_spells number moment period s) e
+places_set (number ∷ choice ∷ moment ∷ period ∷ more ∷ words) s e = absurd cc
+
+places_end : (places : List (List ℕ)) (s : Step) → end_of places ≡ Some s → Names (codes "end" ∷ places) s
+places_end [] s e = absurd cc
+places_end (number ∷ []) s e = end_spells number s e
+places_end (number ∷ more ∷ words) s e = absurd cc
+
+places_now : (places : List (List ℕ)) (s : Step) → now_of places ≡ Some s → Names (codes "now" ∷ places) s
+places_now [] s e = absurd cc
+places_now (moment ∷ []) s e = now_spells moment s e
+places_now (moment ∷ more ∷ words) s e = absurd cc
+
 places_react : (places : List (List ℕ)) (s : Step) → alone step.React places ≡ Some s → Names (codes "react" ∷ places) s
 places_react [] s e = subst (Names (codes "react" ∷ [])) (same_some step.React s e) (record { built = tt; words_are = refl })
 places_react (word ∷ words) s e = absurd cc
@@ -230,11 +369,6 @@ places_add (word ∷ words) s e = absurd cc
 
 names_from : (command text : List ℕ) (places : List (List ℕ)) (s : Step) → bytes_eq command text ≡ true → Names (text ∷ places) s → Names (command ∷ places) s
 names_from command text places s same named = subst (λ word. Names (word ∷ places) s) (sym (same_bytes command text same)) named
-
--- the first test that holds decides
-by_test : {A : Type 0} (test : Bool) (x y z : Option A) → cond test x y ≡ z → ((test ≡ true) × (x ≡ z)) ⊎ ((test ≡ false) × (y ≡ z))
-by_test true x y z e = inl (refl, e)
-by_test false x y z e = inr (refl, e)
 
 -- a command by its text, before the commands behind it
 by_command : (text command : List ℕ) (places : List (List ℕ)) (s : Step) {here rest : Option Step}
@@ -256,8 +390,13 @@ command_names command places s =
     by_command (codes "new") command places s (places_new places s) (
     by_command (codes "step") command places s (places_step places s) (
     by_command (codes "drop") command places s (places_drop places s) (
+    by_command (codes "tick") command places s (places_tick places s) (
+    by_command (codes "timer") command places s (places_timer places s) (
+    by_command (codes "set") command places s (places_set places s) (
+    by_command (codes "end") command places s (places_end places s) (
+    by_command (codes "now") command places s (places_now places s) (
     by_command (codes "fault") command places s (places_fault places s) (λ none. absurd cc)
-    ))))))))
+    )))))))))))))
 
 words_name : (words : List (List ℕ)) (s : Step) → step_of_words words ≡ Some s → Names words s
 words_name [] s e = absurd cc
@@ -296,6 +435,23 @@ read_words (step.StepEar number waker) built =
     ap (option_and_then (λ n. option_and_then (λ w. Some (step.StepEar n (record { 0 = w }))) (number_of (decimal waker.0)))) (number_of_decimal number built.0)
     ∙ ap (option_and_then (λ w. Some (step.StepEar number (record { 0 = w })))) (number_of_decimal waker.0 built.1)
 read_words (step.DropEar number) built = ap (option_and_then (λ n. Some (step.DropEar n))) (number_of_decimal number built)
+read_words (step.TimerAt deadline) built = ap (option_and_then (λ t. Some (step.TimerAt t))) (moment_of_decimal deadline built)
+read_words (step.TimerEvery deadline period) built =
+    ap (option_and_then (λ t. option_and_then (λ p. Some (step.TimerEvery t p)) (period_of (decimal period)))) (moment_of_decimal deadline built.0)
+    ∙ ap (option_and_then (λ p. Some (step.TimerEvery deadline p))) (period_of_decimal period built.1)
+read_words step.TimerNever built = refl
+read_words (step.Tick number waker) built =
+    ap (option_and_then (λ n. option_and_then (λ w. Some (step.Tick n (record { 0 = w }))) (number_of (decimal waker.0)))) (number_of_decimal number built.0)
+    ∙ ap (option_and_then (λ w. Some (step.Tick number (record { 0 = w })))) (number_of_decimal waker.0 built.1)
+read_words (step.SetAt number deadline) built =
+    ap (option_and_then (λ n. option_and_then (λ t. Some (step.SetAt n t)) (moment_of (decimal deadline)))) (number_of_decimal number built.0)
+    ∙ ap (option_and_then (λ t. Some (step.SetAt number t))) (moment_of_decimal deadline built.1)
+read_words (step.SetEvery number deadline period) built =
+    ap (option_and_then (λ n. option_and_then (λ t. option_and_then (λ p. Some (step.SetEvery n t p)) (period_of (decimal period))) (moment_of (decimal deadline)))) (number_of_decimal number built.0)
+    ∙ ap (option_and_then (λ t. option_and_then (λ p. Some (step.SetEvery number t p)) (period_of (decimal period)))) (moment_of_decimal deadline built.1)
+    ∙ ap (option_and_then (λ p. Some (step.SetEvery number deadline p))) (period_of_decimal period built.2)
+read_words (step.End number) built = ap (option_and_then (λ n. Some (step.End n))) (number_of_decimal number built)
+read_words (step.Now moment) built = ap (option_and_then (λ t. Some (step.Now t))) (moment_of_decimal moment built)
 read_words (step.Note event) built =
     ap (option_and_then (λ k. option_and_then (λ on. Some (step.Note (record { key = record { 0 = k }; on = on }))) (flags_named (flags_text event.on)))) (number_of_decimal event.key.0 built)
     ∙ ap (option_and_then (λ on. Some (step.Note (record { key = event.key; on = on })))) (read_flags event.on.read event.on.write)
@@ -314,6 +470,14 @@ joined (step.Poll key dir waker) built = simp append_assoc
 joined (step.New key dir) built = simp append_assoc
 joined (step.StepEar number waker) built = simp append_assoc
 joined (step.DropEar number) built = refl
+joined (step.TimerAt deadline) built = refl
+joined (step.TimerEvery deadline period) built = simp append_assoc
+joined step.TimerNever built = refl
+joined (step.Tick number waker) built = simp append_assoc
+joined (step.SetAt number deadline) built = simp append_assoc
+joined (step.SetEvery number deadline period) built = simp append_assoc
+joined (step.End number) built = refl
+joined (step.Now moment) built = refl
 joined (step.Note event) built = simp append_assoc
 joined (step.Fault kind) built = refl
 joined step.React built = refl
@@ -323,11 +487,27 @@ joined _ built = absurd built
 no_space : (digits : List ℕ) → AllDigits 10 digits → All (λ b. eqb b 32 ≡ false) digits
 no_space digits all = λ k d within. let range = digit_at digits k all within in let same = get_or_default digits k d 0 within in grind (arith, nat_tests)
 
+digits_then : (n : ℕ) (rest : List ℕ) → n < 2 ^ 64 → words_of (decimal n ++ 32 ∷ rest) ≡ decimal n ∷ words_of rest
+digits_then n rest small = slice_split_at (λ b. eqb b 32) (decimal n) 32 rest (no_space (decimal n) (digits_decimal numerals n small)) refl
+
+digits_last : (n : ℕ) → n < 2 ^ 64 → words_of (decimal n) ≡ decimal n ∷ []
+digits_last n small = words_of_one (decimal n) (no_space (decimal n) (digits_decimal numerals n small))
+
 number_then : (n : ℕ) (rest : List ℕ) → n < 2 ^ 32 → words_of (decimal n ++ 32 ∷ rest) ≡ decimal n ∷ words_of rest
-number_then n rest small = slice_split_at (λ b. eqb b 32) (decimal n) 32 rest (no_space (decimal n) (digits_decimal numerals n (omega arith))) refl
+number_then n rest small = digits_then n rest (omega arith)
 
 number_last : (n : ℕ) → n < 2 ^ 32 → words_of (decimal n) ≡ decimal n ∷ []
-number_last n small = words_of_one (decimal n) (no_space (decimal n) (digits_decimal numerals n (omega arith)))
+number_last n small = digits_last n (omega arith)
+
+moment_then : (n : ℕ) (rest : List ℕ) → IsMoment n → words_of (decimal n ++ 32 ∷ rest) ≡ decimal n ∷ words_of rest
+moment_then n rest small = digits_then n rest (omega arith)
+
+moment_last : (n : ℕ) → IsMoment n → words_of (decimal n) ≡ decimal n ∷ []
+moment_last n small = digits_last n (omega arith)
+
+moment_and_period : (moment period : ℕ) → IsMoment moment → IsPeriod period → words_of (decimal moment ++ 32 ∷ decimal period) ≡ decimal moment ∷ decimal period ∷ []
+moment_and_period moment period in_range is_period =
+    moment_then moment (decimal period) in_range ∙ ap (λ words. decimal moment ∷ words) (moment_last period is_period.1)
 
 dir_then : (dir : Dir) (rest : List ℕ) → words_of (dir_text dir ++ 32 ∷ rest) ≡ dir_text dir ∷ words_of rest
 dir_then Read rest = refl
@@ -365,6 +545,26 @@ parted (step.StepEar number waker) built =
     number_then number (decimal waker.0) built.0 ∙ ap (λ words. decimal number ∷ words) (number_last waker.0 built.1)
     )
 parted (step.DropEar number) built = ap (λ words. codes "drop" ∷ words) (number_last number built)
+parted (step.TimerAt deadline) built = ap (λ words. codes "timer" ∷ codes "at" ∷ words) (moment_last deadline built)
+parted (step.TimerEvery deadline period) built =
+    ap (λ words. codes "timer" ∷ codes "every" ∷ words) (moment_and_period deadline period built.0 built.1)
+parted step.TimerNever built = refl
+parted (step.Tick number waker) built =
+    ap (λ words. codes "tick" ∷ words) (
+    number_then number (decimal waker.0) built.0 ∙ ap (λ words. decimal number ∷ words) (number_last waker.0 built.1)
+    )
+parted (step.SetAt number deadline) built =
+    ap (λ words. codes "set" ∷ words) (
+    number_then number (codes "at" ++ 32 ∷ decimal deadline) built.0
+    ∙ ap (λ words. decimal number ∷ codes "at" ∷ words) (moment_last deadline built.1)
+    )
+parted (step.SetEvery number deadline period) built =
+    ap (λ words. codes "set" ∷ words) (
+    number_then number (codes "every" ++ 32 ∷ decimal deadline ++ 32 ∷ decimal period) built.0
+    ∙ ap (λ words. decimal number ∷ codes "every" ∷ words) (moment_and_period deadline period built.1 built.2)
+    )
+parted (step.End number) built = ap (λ words. codes "end" ∷ words) (number_last number built)
+parted (step.Now moment) built = ap (λ words. codes "now" ∷ words) (moment_last moment built)
 parted (step.Note event) built =
     ap (λ words. codes "event" ∷ words) (
     number_then event.key.0 (flags_text event.on) built ∙ ap (λ words. decimal event.key.0 ∷ words) (flags_last event.on.read event.on.write)
@@ -409,8 +609,11 @@ fault_short which.Wait = lit≤ tt
 number_short : (n : ℕ) → n < 2 ^ 32 → length (decimal n) ≤ 10
 number_short n small = length-decimal-le 10 n (omega arith) (omega arith) (omega arith)
 
+moment_short : (n : ℕ) → IsMoment n → length (decimal n) ≤ 19
+moment_short n small = length-decimal-le 19 n (omega arith) (omega arith) (omega arith)
+
 -- a built step's spelling is far shorter than a line may be
-spelling_short : (s : Step) → IsBuilt s → length (spelling s) ≤ 28
+spelling_short : (s : Step) → IsBuilt s → length (spelling s) ≤ 60
 unfolding spelling
 spelling_short step.Add built = lit≤ tt
 spelling_short (step.Del key) built = simp length-append (omega (arith, number_short key.0 built))
@@ -418,6 +621,15 @@ spelling_short (step.Poll key dir waker) built = simp length-append (omega (arit
 spelling_short (step.New key dir) built = simp length-append (omega (arith, number_short key.0 built, dir_short dir))
 spelling_short (step.StepEar number waker) built = simp length-append (omega (arith, number_short number built.0, number_short waker.0 built.1))
 spelling_short (step.DropEar number) built = simp length-append (omega (arith, number_short number built))
+spelling_short (step.TimerAt deadline) built = simp length-append (omega (arith, moment_short deadline built))
+spelling_short (step.TimerEvery deadline period) built = simp length-append (omega (arith, moment_short deadline built.0, moment_short period built.1.1))
+spelling_short step.TimerNever built = lit≤ tt
+spelling_short (step.Tick number waker) built = simp length-append (omega (arith, number_short number built.0, number_short waker.0 built.1))
+spelling_short (step.SetAt number deadline) built = simp length-append (omega (arith, number_short number built.0, moment_short deadline built.1))
+spelling_short (step.SetEvery number deadline period) built =
+    simp length-append (omega (arith, number_short number built.0, moment_short deadline built.1, moment_short period built.2.1))
+spelling_short (step.End number) built = simp length-append (omega (arith, number_short number built))
+spelling_short (step.Now moment) built = simp length-append (omega (arith, moment_short moment built))
 spelling_short (step.Note event) built = simp length-append (omega (arith, number_short event.key.0 built, flags_short event.on.read event.on.write))
 spelling_short (step.Fault kind) built = simp length-append (omega (arith, fault_short kind))
 spelling_short step.React built = lit≤ tt

@@ -4,6 +4,7 @@ pub mod World
 pub mod Timers
 pub mod Rounds
 pub mod Machine
+pub mod Refusals
 pub mod Script
 pub mod Text
 pub mod Trace

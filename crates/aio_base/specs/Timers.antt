@@ -1,5 +1,6 @@
--- The pass over registered timers: those that are due leave, in order.
-use Rattle.std.specs.Prelude.{ℕ, ◌-◌, Bool, not, ◌&&◌, ◌||◌, ◌==◌, nat_lt, nat_le, if◌then◌else◌, List, [], ◌∷◌, map, filter, min, Option, None, Some}
+-- Registered timers: the pass, by which those that are due leave in order, and the book of them that is kept in order.
+use Rattle.std.specs.Prelude.{◌≡◌, ℕ, ◌-◌, ◌<◌, Bool, true, not, ◌&&◌, ◌||◌, ◌==◌, nat_lt, nat_le, if◌then◌else◌, List, [], ◌∷◌, map, filter, min, Option, None, Some, ⊤}
+use Rattle.std.specs.List.{All}
 use Rattle.aio_base.specs.declared.names.Waker.{Waker}
 use Rattle.aio_base.specs.World.{Registration, is_empty_list}
 
@@ -25,6 +26,10 @@ due_wakers moment registrations =
 abbrev pub after_pass : ℕ → List Registration → List Registration
 after_pass moment registrations = filter (λ (r : Registration). not (nat_le r.deadline moment)) registrations
 
+-- every registration has a deadline above this moment
+abbrev pub AllAbove : ℕ → List Registration → Type 0
+AllAbove moment registrations = All (λ (r : Registration). moment < r.deadline) registrations
+
 abbrev pub lesser : Option ℕ → Option ℕ → Option ℕ
 lesser None b = b
 lesser (Some a) None = Some a
@@ -43,3 +48,39 @@ time_to now (Some deadline) = Some (deadline - now)
 abbrev pub limit_of : ℕ → List Registration → Option ℕ → Option ℕ
 limit_of now registrations given =
     if is_empty_list (due_wakers now registrations) then lesser (time_to now (first_deadline (after_pass now registrations))) given else Some 0
+
+-- ## The book of registered timers
+
+-- The book is the list of registrations in the order in which they fire. It is changed by operations: a registration joins, or the one with a
+-- deadline and an id leaves (`async-io` 2, `reactor.rs`, `TimerOp`).
+pub data BookChange : Type 0 where
+  Registers : Registration → BookChange
+  Unregisters : (deadline id : ℕ) → BookChange
+
+-- whether a registration is the one with this deadline and this id
+abbrev pub is_pair : ℕ → ℕ → Registration → Bool
+is_pair deadline id r = (r.deadline == deadline) && (r.id == id)
+
+abbrev pub without_pair : ℕ → ℕ → List Registration → List Registration
+without_pair deadline id book = filter (λ (r : Registration). not (is_pair deadline id r)) book
+
+-- The book after one change. A registration stands at its place, in place of the one with its deadline and id where that was there, whose waker
+-- is so replaced; of one that leaves nothing is there any longer, and one that is not there changes nothing.
+abbrev pub changed : BookChange → List Registration → List Registration
+changed (Registers r) book = placed r (without_pair r.deadline r.id book)
+changed (Unregisters deadline id) book = without_pair deadline id book
+
+-- the deadline and the id that a change concerns
+abbrev pub pair_of : BookChange → ℕ × ℕ
+pair_of (Registers r) = (r.deadline, r.id)
+pair_of (Unregisters deadline id) = (deadline, id)
+
+-- the book after these changes, one after the other
+abbrev pub fold_changes : List Registration → List BookChange → List Registration
+fold_changes book [] = book
+fold_changes book (change ∷ changes) = fold_changes (changed change book) changes
+
+-- each registration fires before all behind it, so no deadline and id stand twice
+abbrev pub IsBook : List Registration → Type 0
+IsBook [] = ⊤
+IsBook (r ∷ book) = All (λ (next : Registration). fires_before r next ≡ true) book × IsBook book

@@ -38,9 +38,21 @@ abbrev pub value_after : ℕ → List ℕ → ℕ
 value_after n [] = n
 value_after n (digit ∷ digits) = value_after (10 * n + (digit - 48)) digits
 
--- the number below 2^32 whose decimal spelling this is
+-- the number below a bound whose decimal spelling this is
+abbrev pub number_below : ℕ → List ℕ → Option ℕ
+number_below bound word = let n = value_after 0 word in if bytes_eq word (decimal n) && nat_lt n bound then Some n else None
+
+-- a key, a waker, or the number of a listener or a timer
 abbrev pub number_of : List ℕ → Option ℕ
-number_of word = let n = value_after 0 word in if bytes_eq word (decimal n) && nat_lt n (2 ^ 32) then Some n else None
+number_of word = number_below (2 ^ 32) word
+
+-- a moment in nanoseconds, at most 10^18
+abbrev pub moment_of : List ℕ → Option ℕ
+moment_of word = number_below (10 ^ 18 + 1) word
+
+-- a period in nanoseconds, 1 to 10^18
+abbrev pub period_of : List ℕ → Option ℕ
+period_of word = moment_of word >>= λ n. if nat_lt 0 n then Some n else None
 
 abbrev pub dir_of : List ℕ → Option Dir
 dir_of word = if bytes_eq word (codes "r") then Some Read else (if bytes_eq word (codes "w") then Some Write else None)
@@ -111,6 +123,51 @@ abbrev pub fault_of : List (List ℕ) → Option Step
 fault_of (kind ∷ []) = fault_named kind >>= λ failing. Some (step.Fault failing)
 fault_of _ = None
 
+abbrev pub timer_at_named : List ℕ → Option Step
+timer_at_named moment = moment_of moment >>= λ t. Some (step.TimerAt t)
+
+abbrev pub timer_every_named : List ℕ → List ℕ → Option Step
+timer_every_named moment period = moment_of moment >>= λ t. period_of period >>= λ p. Some (step.TimerEvery t p)
+
+abbrev pub timer_of : List (List ℕ) → Option Step
+timer_of (choice ∷ []) = if bytes_eq choice (codes "never") then Some step.TimerNever else None
+timer_of (choice ∷ moment ∷ []) = if bytes_eq choice (codes "at") then timer_at_named moment else None
+timer_of (choice ∷ moment ∷ period ∷ []) = if bytes_eq choice (codes "every") then timer_every_named moment period else None
+timer_of _ = None
+
+abbrev pub tick_named : List ℕ → List ℕ → Option Step
+tick_named number waker = number_of number >>= λ n. number_of waker >>= λ w. Some (step.Tick n (record { 0 = w }))
+
+abbrev pub tick_of : List (List ℕ) → Option Step
+tick_of (number ∷ waker ∷ []) = tick_named number waker
+tick_of _ = None
+
+abbrev pub set_at_named : List ℕ → List ℕ → Option Step
+set_at_named number moment = number_of number >>= λ n. moment_of moment >>= λ t. Some (step.SetAt n t)
+
+abbrev pub set_every_named : List ℕ → List ℕ → List ℕ → Option Step
+set_every_named number moment period =
+    number_of number >>= λ n. moment_of moment >>= λ t. period_of period >>= λ p. Some (step.SetEvery n t p)
+
+abbrev pub set_of : List (List ℕ) → Option Step
+set_of (number ∷ choice ∷ moment ∷ []) = if bytes_eq choice (codes "at") then set_at_named number moment else None
+set_of (number ∷ choice ∷ moment ∷ period ∷ []) = if bytes_eq choice (codes "every") then set_every_named number moment period else None
+set_of _ = None
+
+abbrev pub end_named : List ℕ → Option Step
+end_named number = number_of number >>= λ n. Some (step.End n)
+
+abbrev pub end_of : List (List ℕ) → Option Step
+end_of (number ∷ []) = end_named number
+end_of _ = None
+
+abbrev pub now_named : List ℕ → Option Step
+now_named moment = moment_of moment >>= λ t. Some (step.Now t)
+
+abbrev pub now_of : List (List ℕ) → Option Step
+now_of (moment ∷ []) = now_named moment
+now_of _ = None
+
 abbrev pub step_named : List ℕ → List (List ℕ) → Option Step
 step_named command places =
     if bytes_eq command (codes "poll") then poll_of places
@@ -121,16 +178,29 @@ step_named command places =
     else (if bytes_eq command (codes "new") then new_of places
     else (if bytes_eq command (codes "step") then listener_poll_of places
     else (if bytes_eq command (codes "drop") then drop_of places
-    else (if bytes_eq command (codes "fault") then fault_of places else None))))))))
+    else (if bytes_eq command (codes "tick") then tick_of places
+    else (if bytes_eq command (codes "timer") then timer_of places
+    else (if bytes_eq command (codes "set") then set_of places
+    else (if bytes_eq command (codes "end") then end_of places
+    else (if bytes_eq command (codes "now") then now_of places
+    else (if bytes_eq command (codes "fault") then fault_of places else None)))))))))))))
 
 abbrev pub step_of_words : List (List ℕ) → Option Step
 step_of_words [] = None
 step_of_words (command ∷ places) = step_named command places
 
--- The step whose written spelling this line is, among the lines that are built: `add`, `del`, `poll`, `new`, `step`,
--- `drop`, `event`, `fault` of another call than `wait`, and `react`.
+-- The step whose written spelling this line is, among the lines that are built: `add`, `del`, `poll`, `new`, `step`, `drop`, `timer` in its
+-- three forms, `tick`, `set` in its two forms, `end`, `now`, `event`, `fault` of another call than `wait`, and `react`.
 unfoldable pub written_step : List ℕ → Option Step
 written_step line = step_of_words (words_of line)
+
+-- a moment is at most 10^18 nanoseconds
+abbrev pub IsMoment : ℕ → Type 0
+IsMoment moment = moment ≤ 10 ^ 18
+
+-- a period is 1 to 10^18 nanoseconds
+abbrev pub IsPeriod : ℕ → Type 0
+IsPeriod period = (1 ≤ period) × (period ≤ 10 ^ 18)
 
 -- a fault of a call of the poller, among the faults that are built: those of every call but a wait
 abbrev pub IsBuiltFault : Which → Type 0
@@ -145,14 +215,18 @@ IsBuilt (step.Poll key dir waker) = (key.0 < 2 ^ 32) × (waker.0 < 2 ^ 32)
 IsBuilt (step.New key dir) = key.0 < 2 ^ 32
 IsBuilt (step.StepEar number waker) = (number < 2 ^ 32) × (waker.0 < 2 ^ 32)
 IsBuilt (step.DropEar number) = number < 2 ^ 32
+IsBuilt (step.TimerAt deadline) = IsMoment deadline
+IsBuilt (step.TimerEvery deadline period) = IsMoment deadline × IsPeriod period
+IsBuilt step.TimerNever = Unit {0}
+IsBuilt (step.Tick number waker) = (number < 2 ^ 32) × (waker.0 < 2 ^ 32)
+IsBuilt (step.SetAt number deadline) = (number < 2 ^ 32) × IsMoment deadline
+IsBuilt (step.SetEvery number deadline period) = (number < 2 ^ 32) × IsMoment deadline × IsPeriod period
+IsBuilt (step.End number) = number < 2 ^ 32
+IsBuilt (step.Now moment) = IsMoment moment
 IsBuilt (step.Note event) = event.key.0 < 2 ^ 32
 IsBuilt (step.Fault kind) = IsBuiltFault kind
 IsBuilt step.React = Unit {0}
 IsBuilt _ = ⊥
-
--- a period is 1 to 10^18 nanoseconds
-abbrev pub IsPeriod : ℕ → Type 0
-IsPeriod period = (1 ≤ period) × (period ≤ 10 ^ 18)
 
 -- a step in range: its period, if it has one, is a period, and its limit, if it has one, at most 10^18 nanoseconds
 abbrev pub IsInRange : Step → Type 0

@@ -8,6 +8,7 @@
 
 pub mod devices;
 pub mod freshness;
+pub mod later;
 pub mod laws;
 pub mod names;
 pub mod outcomes;
@@ -16,6 +17,7 @@ pub mod steps;
 mod tests;
 
 pub use devices::{Arm, EventWait, Faults, Poller};
+pub use later::Later;
 pub use names::{DIRS, Dir, Event, Interest, Key, Moment, TimerId, Waker};
-pub use outcomes::{ArmFault, CountFault, EndWord, Failed, OutOfMemory, Waited, Which};
+pub use outcomes::{ArmFault, CountFault, EndWord, Failed, OutOfMemory, Poll, Waited, Which};
 pub use steps::{Answer, LineFault, Reason, Step};

@@ -11,6 +11,15 @@ pub enum Waited {
     Interrupted,
 }
 
+/// Whether what was polled for is there (`core::task::Poll`).
+#[derive(Clone, Copy, Debug, Drop, PartialEq, Eq)]
+pub enum Poll<T> {
+    /// It is there, and here it is.
+    Ready(T),
+    /// It is not there yet.
+    Pending,
+}
+
 /// The answer of a device that failed.
 #[derive(Clone, Copy, Debug, PartialEq, Eq)]
 pub struct Failed;

@@ -1,0 +1,210 @@
+-- A pass leaves no registration that is due, and takes the waker of each that was; so it is right after a round begins, and after a whole round.
+use Rattle.std.proofs.Common.{◌≡◌, ℕ, zero, suc, ◌<◌, Bool, true, false, not, ◌&&◌, cond, List, [], ◌∷◌, length, map, Option, None, Some, ⊎_elim, inl, inr, ◌⊎◌, refl, ap, ◌∙◌, subst, arith}
+use Rattle.std.specs.Prelude.{nat_le, is_some, slice_index_or}
+use Rattle.std.specs.List.{All, Contains, filter}
+use Rattle.std.proofs.lemmas.Bool.{cases_Bool, cond-false, leb-false, not-true}
+use Rattle.std.proofs.lemmas.List.Elements.{All-weaker, All-filter, All-same, Contains-append_left, Contains-append_right, Contains-push, filter_passes}
+use Rattle.aio_base.specs.declared.names.Key.{Key}
+use Rattle.aio_base.specs.declared.names.Dir.{Dir}
+use Rattle.aio_base.specs.declared.names.Event.{Event}
+use Rattle.aio_base.specs.World.{PollerAnswer, Succeeds, Gives, IsInterrupted, Fails, Registration, RoundState, World, serial_of, directions_of, is_empty_list}
+use Rattle.aio_base.specs.Timers.{fires_before, placed, in_order, due_wakers, after_pass, AllAbove}
+use Rattle.aio_base.specs.Machine.{Outcome, fails, next_answer, broken_world, armed_world, after_arm, begin_round, wait_answered, wait_in, wait_round, world_taken, without_waiters, rearmed, handle_source, handle_first, handle_in, handle_round, gave_none, is_zero, finish_in, finish_round, hand_of, handle_each, react}
+
+-- ## What a pass leaves and takes
+
+-- whether a registration is due
+abbrev is_due : ℕ → Registration → Bool
+is_due moment r = nat_le r.deadline moment
+
+pub pass_leaves : (moment : ℕ) (registrations : List Registration) → AllAbove moment (after_pass moment registrations)
+pass_leaves moment registrations =
+    All-weaker (λ r. not (is_due moment r) ≡ true) (λ (r : Registration). moment < r.deadline)
+    (λ r later. leb-false r.deadline moment (not-true (is_due moment r) later))
+    (after_pass moment registrations) (filter_passes (λ r. not (is_due moment r)) registrations)
+
+first_is_in : {X : Type 0} (x : X) (xs : List X) → Contains (x ∷ xs) x
+first_is_in x xs = Contains-append_left (x ∷ []) xs x (Contains-push [] x)
+
+later_is_in : {X : Type 0} (x : X) (xs : List X) (y : X) → Contains xs y → Contains (x ∷ xs) y
+later_is_in x xs y among = Contains-append_right (x ∷ []) xs y among
+
+-- an element is the first one, or among the later ones
+at_cases : {X : Type 0} (x : X) (xs : List X) (y : X) (k : ℕ) → k < length (x ∷ xs) → slice_index_or (x ∷ xs) k y ≡ y → (x ≡ y) ⊎ Contains xs y
+at_cases x xs y zero within here = inl here
+at_cases x xs y (suc k) within here = inr (k, omega arith, here)
+
+among_cases : {X : Type 0} (x : X) (xs : List X) (y : X) → Contains (x ∷ xs) y → (x ≡ y) ⊎ Contains xs y
+among_cases x xs y among = at_cases x xs y among.0 among.1 among.2
+
+none_is_in : {X A : Type 0} (y : X) → Contains [] y → A
+none_is_in y among = absurd (let within = among.1 in omega arith)
+
+kept_first : {X : Type 0} (t : Bool) (x : X) (xs : List X) → t ≡ true → Contains (cond t (x ∷ xs) xs) x
+kept_first true x xs passes = first_is_in x xs
+kept_first false x xs wrong = absurd cc
+
+kept_later : {X : Type 0} (t : Bool) (x : X) (xs : List X) (y : X) → Contains xs y → Contains (cond t (x ∷ xs) xs) y
+kept_later true x xs y among = later_is_in x xs y among
+kept_later false x xs y among = among
+
+-- a filter keeps what passes its test
+passing_is_kept : {X : Type 0} (test : X → Bool) (xs : List X) (y : X) → test y ≡ true → Contains xs y → Contains (filter test xs) y
+passing_is_kept test [] y passes among = none_is_in y among
+passing_is_kept test (x ∷ xs) y passes among =
+    ⊎_elim
+    (λ (same : x ≡ y). subst (Contains (filter test (x ∷ xs))) same (kept_first (test x) x (filter test xs) (ap test same ∙ passes)))
+    (λ (later : Contains xs y). kept_later (test x) x (filter test xs) y (passing_is_kept test xs y passes later))
+    (among_cases x xs y among)
+
+-- a map has the image of each element
+image_is_in : {X Y : Type 0} (f : X → Y) (xs : List X) (y : X) → Contains xs y → Contains (map f xs) (f y)
+image_is_in f [] y among = none_is_in y among
+image_is_in f (x ∷ xs) y among =
+    ⊎_elim
+    (λ (same : x ≡ y). subst (λ z. Contains (map f (x ∷ xs)) (f z)) same (first_is_in (f x) (map f xs)))
+    (λ (later : Contains xs y). later_is_in (f x) (map f xs) (f y) (image_is_in f xs y later))
+    (among_cases x xs y among)
+
+-- what is in two lists is in either
+in_either : (test : Bool) (a b : List Registration) (x : Registration) → Contains a x → Contains b x → Contains (cond test a b) x
+in_either true a b x first second = first
+in_either false a b x first second = second
+
+placed_is_in : (r : Registration) (xs : List Registration) → Contains (placed r xs) r
+placed_is_in r [] = first_is_in r []
+placed_is_in r (x ∷ xs) =
+    in_either (fires_before x r) (x ∷ placed r xs) (r ∷ x ∷ xs) r (later_is_in x (placed r xs) r (placed_is_in r xs)) (first_is_in r (x ∷ xs))
+
+other_stays_in : (r : Registration) (xs : List Registration) (y : Registration) → Contains xs y → Contains (placed r xs) y
+other_stays_in r [] y among = none_is_in y among
+other_stays_in r (x ∷ xs) y among =
+    in_either (fires_before x r) (x ∷ placed r xs) (r ∷ x ∷ xs) y
+    (⊎_elim
+    (λ (same : x ≡ y). subst (Contains (x ∷ placed r xs)) same (first_is_in x (placed r xs)))
+    (λ (later : Contains xs y). later_is_in x (placed r xs) y (other_stays_in r xs y later))
+    (among_cases x xs y among))
+    (later_is_in r (x ∷ xs) y among)
+
+pub ordered_is_in : (xs : List Registration) (y : Registration) → Contains xs y → Contains (in_order xs) y
+ordered_is_in [] y among = among
+ordered_is_in (r ∷ xs) y among =
+    ⊎_elim
+    (λ (same : r ≡ y). subst (Contains (placed r (in_order xs))) same (placed_is_in r (in_order xs)))
+    (λ (later : Contains xs y). other_stays_in r (in_order xs) y (ordered_is_in xs y later))
+    (among_cases r xs y among)
+
+-- each registration is left by a pass, or its waker is taken
+pub pass_takes : (moment : ℕ) (registrations : List Registration) (r : Registration) → Contains registrations r
+    → Contains (after_pass moment registrations) r ⊎ Contains (due_wakers moment registrations) r.waker
+pass_takes moment registrations r among =
+    ⊎_elim
+    (λ (due : is_due moment r ≡ true).
+    inr (image_is_in (λ (x : Registration). x.waker) (in_order (filter (is_due moment) registrations)) r
+    (ordered_is_in (filter (is_due moment) registrations) r (passing_is_kept (is_due moment) registrations r due among))))
+    (λ (later : is_due moment r ≡ false). inl (passing_is_kept (λ x. not (is_due moment x)) registrations r (ap not later) among))
+    (cases_Bool (is_due moment r))
+
+-- ## Rounds
+
+begun_registrations : (w : World) (given : Option ℕ) (answers : List PollerAnswer) → w.round ≡ None
+    → (begin_round w given answers).world.registrations ≡ after_pass w.now w.registrations
+begun_registrations w given answers none =
+    ap (λ (o : Outcome). o.world.registrations) (cond-false (is_some w.round) _ _ (ap is_some none))
+
+pub begin_leaves : (w : World) (given : Option ℕ) (answers : List PollerAnswer) → w.round ≡ None
+    → AllAbove w.now (begin_round w given answers).world.registrations
+begin_leaves w given answers none =
+    All-same (λ (r : Registration). w.now < r.deadline) _ _ (begun_registrations w given answers none) (pass_leaves w.now w.registrations)
+
+-- the outcome has these registrations
+abbrev Keeps : List Registration → Outcome → Type 0
+Keeps registrations o = o.world.registrations ≡ registrations
+
+either_keeps : (registrations : List Registration) (test : Bool) (x y : Outcome) → Keeps registrations x → Keeps registrations y → Keeps registrations (cond test x y)
+either_keeps registrations true x y first second = first
+either_keeps registrations false x y first second = second
+
+either_world : (registrations : List Registration) (test : Bool) (x y : World) → x.registrations ≡ registrations → y.registrations ≡ registrations
+    → (cond test x y).registrations ≡ registrations
+either_world registrations true x y first second = first
+either_world registrations false x y first second = second
+
+wait_answered_keeps : (w : World) (round : RoundState) (told : PollerAnswer) (rest : List PollerAnswer) → Keeps w.registrations (wait_answered w round told rest)
+wait_answered_keeps w round Succeeds rest = refl
+wait_answered_keeps w round (Gives events) rest = refl
+wait_answered_keeps w round IsInterrupted rest = refl
+wait_answered_keeps w round Fails rest = refl
+
+-- a wait changes no registration
+pub wait_keeps : (w : World) (round : Option RoundState) (answers : List PollerAnswer) → Keeps w.registrations (wait_in w round answers)
+wait_keeps w None answers = refl
+wait_keeps w (Some round) answers = either_keeps w.registrations _ _ _ (wait_answered_keeps w round _ _) refl
+
+taken_keeps : (w : World) (serial begin : ℕ) (dirs : List Dir) → (world_taken w serial begin dirs).registrations ≡ w.registrations
+taken_keeps w serial begin [] = refl
+taken_keeps w serial begin (dir ∷ dirs) = taken_keeps (without_waiters w serial begin dir) serial begin dirs
+
+arm_keeps : (w : World) (key serial : ℕ) (told : PollerAnswer) → (after_arm w key serial told).registrations ≡ w.registrations
+arm_keeps w key serial told = either_world w.registrations (fails told) (broken_world w serial) (armed_world w key serial) refl refl
+
+rearmed_keeps : (w : World) (round : RoundState) (key : Key) (serial : ℕ) (answers : List PollerAnswer) → Keeps w.registrations (rearmed w round key serial answers)
+rearmed_keeps w round key serial answers =
+    let arm = arm_keeps w key.0 serial (next_answer answers) in
+    either_keeps w.registrations _ _ _ refl (either_world w.registrations _ _ _ arm arm)
+
+handle_source_keeps : (w : World) (round : RoundState) (event : Event) (serial : Option ℕ) (answers : List PollerAnswer)
+    → Keeps w.registrations (handle_source w round event serial answers)
+handle_source_keeps w round event None answers = refl
+handle_source_keeps w round event (Some serial) answers =
+    rearmed_keeps _ _ event.key serial answers ∙ taken_keeps w serial round.begin (directions_of event.on)
+
+handle_first_keeps : (w : World) (round : RoundState) (events : List Event) (answers : List PollerAnswer)
+    → Keeps w.registrations (handle_first w round events answers)
+handle_first_keeps w round [] answers = refl
+handle_first_keeps w round (event ∷ events) answers = handle_source_keeps w _ event (serial_of w event.key.0) answers
+
+-- a handled event changes no registration
+pub handle_keeps : (w : World) (round : Option RoundState) (answers : List PollerAnswer) → Keeps w.registrations (handle_in w round answers)
+handle_keeps w None answers = refl
+handle_keeps w (Some round) answers = handle_first_keeps w round round.in_hand answers
+
+pub handle_each_keeps : (events : List Event) (w : World) (answers : List PollerAnswer) → Keeps w.registrations (handle_each events w answers)
+handle_each_keeps [] w answers = refl
+handle_each_keeps (event ∷ events) w answers =
+    handle_each_keeps events (handle_round w answers).world (handle_round w answers).left ∙ handle_keeps w w.round answers
+
+-- what holds of all registrations
+pub record EachIn (P : Registration → Type 0) (o : Outcome) : Type 0 where
+  pub each : All P o.world.registrations
+
+either_each : (P : Registration → Type 0) (test : Bool) (x y : Outcome) → EachIn P x → EachIn P y → EachIn P (cond test x y)
+either_each P true x y first second = first
+either_each P false x y first second = second
+
+each_of_either : (P : Registration → Type 0) (test : Bool) (a b : List Registration) → All P a → All P b → All P (cond test a b)
+each_of_either P true a b first second = first
+each_of_either P false a b first second = second
+
+-- a round's end adds no registration
+pub finish_each : (P : Registration → Type 0) (w : World) (round : Option RoundState) (answers : List PollerAnswer) → All P w.registrations
+    → EachIn P (finish_in w round answers)
+finish_each P w None answers all = record { each = all }
+finish_each P w (Some round) answers all =
+    let second = gave_none round.last_wait && not (is_zero round.limit) in
+    let passed = All-filter (λ r. not (is_due w.now r)) P w.registrations all in
+    either_each P (is_empty_list round.in_hand) _ _ (record { each = each_of_either P second (after_pass w.now w.registrations) w.registrations passed all }) (record { each = all })
+
+pub react_leaves : (w : World) (given : Option ℕ) (answers : List PollerAnswer) → w.round ≡ None
+    → AllAbove w.now (react w given answers).world.registrations
+react_leaves w given answers none =
+    let Above : Registration → Type 0 = λ r. w.now < r.deadline in
+    let begun = begin_round w given answers in
+    let waited = wait_round begun.world begun.left in
+    let handled = handle_each (hand_of waited.world.round) waited.world waited.left in
+    let kept : handled.world.registrations ≡ begun.world.registrations =
+    handle_each_keeps (hand_of waited.world.round) waited.world waited.left ∙ wait_keeps begun.world begun.world.round begun.left in
+    let ended : EachIn Above (finish_round handled.world handled.left) =
+    finish_each Above handled.world handled.world.round handled.left
+    (All-same Above handled.world.registrations begun.world.registrations kept (begin_leaves w given answers none)) in
+    All-same Above _ _ (ap (λ (o : Outcome). o.world.registrations) (cond-false (is_some w.round) _ _ (ap is_some none))) ended.each
