@@ -2,8 +2,10 @@
 
 ghost use Rattle.std.specs.Prelude.{◌≤◌, ◌<◌, ◌+◌, vec_len, vec_capacity};
 
-use crate::ScriptPoller;
-use aio_base::{Arm, Event, EventWait, Failed, Faults, Interest, Key, Poller, Waited, Which};
+use crate::{Back, ScriptClock, ScriptPoller};
+use aio_base::{
+    Arm, Event, EventWait, Failed, Faults, Interest, Key, Moment, Poller, Waited, Which,
+};
 use std::process::Abort;
 use std::test::Fail;
 
@@ -149,5 +151,18 @@ fn calls_through_the_bound(rt: HostRuntime) -> Result<(), Fail> {
     poller.give(READABLE)?;
     calls_answer(&rt, &mut poller, &mut out);
     assert_eq!(rt; out.as_slice(), [READABLE].as_slice());
+    Ok(())
+}
+
+#[test]
+fn a_clock_goes_on_or_stays_and_never_back(rt: HostRuntime) -> Result<(), Fail> {
+    let mut clock = ScriptClock::new();
+    assert_eq!(rt; clock.now().get(), 0);
+    let four = Moment::new(4).ok_or("no moment")?;
+    let five = Moment::new(5).ok_or("no moment")?;
+    assert_eq!(rt; clock.set(five), Ok(()));
+    assert_eq!(rt; clock.set(five), Ok(()));
+    assert_eq!(rt; clock.set(four), Err(Back(five)));
+    assert_eq!(rt; clock.now(), five);
     Ok(())
 }
