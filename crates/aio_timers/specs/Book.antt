@@ -1,0 +1,22 @@
+-- What the operations on registered timers mean, and the timer that fires first.
+use Rattle.std.specs.Prelude.{ℕ, List, [], ◌∷◌, Option, None, Some}
+use Rattle.aio_base.specs.World.{Registration}
+use Rattle.aio_base.specs.Timers.{BookChange, Registers, Unregisters}
+use Rattle.aio_base.specs.declared.names.TimerId.{TimerId}
+use Rattle.aio_timers.specs.declared.op.TimerOp.{TimerOp}
+use Rattle.aio_timers.specs.declared.op.TimerOp.TheVariants.{Insert, Remove}
+
+-- the change of the book that an operation is
+abbrev pub change_of : TimerOp → BookChange
+change_of (Insert deadline id waker) = Registers (record { id = id.0; deadline = deadline; waker = waker })
+change_of (Remove deadline id) = Unregisters deadline id.0
+
+-- for how many more timers there has to be room
+abbrev pub entries_needed : TimerOp → ℕ
+entries_needed (Insert deadline id waker) = 1
+entries_needed (Remove deadline id) = 0
+
+-- the deadline and the id of the registration at the front
+abbrev pub first_pair : List Registration → Option (ℕ × TimerId)
+first_pair [] = None
+first_pair (r ∷ book) = Some (r.deadline, record { 0 = r.id })

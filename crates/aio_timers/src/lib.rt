@@ -1,0 +1,15 @@
+//! The book of registered timers: which tasks wake at which moments.
+//!
+//! It stands on the names and definitions of `aio_base`. It promises the whole book after each call:
+//! timers stand in the order in which they fire, by deadline and then by id, a change is that of one
+//! pair of a deadline and an id, and a pass takes exactly the wakers that are due, in order.
+#![tactic(auto)]
+
+mod book;
+mod entry;
+mod op;
+#[cfg(test)]
+mod tests;
+
+pub use book::TimerBook;
+pub use op::TimerOp;
