@@ -1,0 +1,230 @@
+-- Timers as contracts see them, the work of each call on one, and what a call that did its work, or not all of it, leaves behind
+-- (`async-io` 2, `lib.rs`, `Timer` as a stream).
+use Rattle.std.specs.Prelude.{◌≡◌, ◌↔◌, ℕ, ◌+◌, ◌^◌, ◌≤◌, Bool, not, ◌&&◌, IsTrue, if◌then◌else◌, nat_le, Option, None, Some, option_map, is_some, IfSome, Result, Ok, Err, ◌⊎◌}
+use Rattle.aio_base.specs.declared.names.TimerId.{TimerId}
+use Rattle.aio_base.specs.declared.names.Waker.{Waker}
+use Rattle.aio_base.specs.declared.outcomes.CountFault.{CountFault}
+use Rattle.aio_base.specs.Machine.{is_waker, next_deadline}
+use Rattle.aio_base.specs.Trace.{IsPeriod}
+use Rattle.aio_react.specs.Hosts.{has_id_left, next_id, NotifierFails}
+use Rattle.aio_base.specs.declared.outcomes.Poll.{Poll}
+use Rattle.aio_base.specs.declared.outcomes.Poll.TheVariants.{Ready, Pending}
+use Rattle.aio_future.specs.declared.answers.TimerFault.{TimerFault}
+use Rattle.aio_future.specs.declared.answers.TimerFault.TheVariants.{IdsSpent, OutOfMemory, Notify}
+
+-- ## Timers
+
+-- a timer: its deadline, its period, the id of its registration, and the waker that it keeps
+pub record TimerValue : Type 0 where
+  pub deadline : Option ℕ
+  pub period : Option ℕ
+  pub id : Option TimerId
+  pub kept : Option Waker
+
+-- a timer that is not registered
+abbrev pub new_timer : Option ℕ → Option ℕ → TimerValue
+new_timer deadline period = record { deadline = deadline; period = period; id = None; kept = None }
+
+-- What stands of every timer: its deadline is a moment and its period is one; and where it is registered it has a deadline and keeps a waker.
+pub record IsTimer (timer : TimerValue) : Type 0 where
+  pub moment : IfSome timer.deadline (λ deadline. deadline ≤ 10 ^ 18)
+  pub span : IfSome timer.period IsPeriod
+  pub registered : IfSome timer.id (λ id. IsTrue (is_some timer.deadline && is_some timer.kept))
+
+-- the registration of a timer: its deadline and its id
+abbrev pub registration_at : Option ℕ → Option TimerId → Option (ℕ × TimerId)
+registration_at None id = None
+registration_at (Some deadline) None = None
+registration_at (Some deadline) (Some id) = Some (deadline, id)
+
+abbrev pub registration_of : TimerValue → Option (ℕ × TimerId)
+registration_of timer = registration_at timer.deadline timer.id
+
+-- ## The work of a call
+
+-- The work of a call on a timer: the registration that leaves first, if any; the deadline and the waker that are registered then, if any; the
+-- timer that is left, to which the id of that new registration comes; and the deadline that was reached, if one was.
+pub record Work : Type 0 where
+  pub removes : Option (ℕ × TimerId)
+  pub inserts : Option (ℕ × Waker)
+  pub after : TimerValue
+  pub reached : Option ℕ
+
+-- a call that finds nothing to do
+abbrev pub no_work : TimerValue → Work
+no_work timer = record { removes = None; inserts = None; after = timer; reached = None }
+
+-- a deadline that was reached, with the one that comes next: a timer with none is over
+abbrev pub firing : TimerValue → ℕ → Waker → Option ℕ → Work
+firing timer deadline waker None =
+    record {
+      removes = registration_of timer;
+      inserts = None;
+      after = record timer { deadline = None; id = None; kept = None };
+      reached = Some deadline;
+    }
+firing timer deadline waker (Some next) =
+    record {
+      removes = registration_of timer;
+      inserts = Some (next, waker);
+      after = record timer { deadline = Some next; id = None; kept = Some waker };
+      reached = Some deadline;
+    }
+
+-- a deadline that is still to come: the timer is registered with this waker, anew where it is with another
+abbrev pub waiting : TimerValue → ℕ → Waker → Work
+waiting timer deadline waker =
+    if is_some timer.id && is_waker waker timer.kept then no_work timer
+    else record {
+      removes = registration_of timer;
+      inserts = Some (deadline, waker);
+      after = record timer { id = None; kept = Some waker };
+      reached = None;
+    }
+
+abbrev pub polling : TimerValue → Option ℕ → ℕ → Waker → Work
+polling timer None now waker = no_work timer
+polling timer (Some deadline) now waker =
+    if nat_le deadline now then firing timer deadline waker (next_deadline deadline timer.period) else waiting timer deadline waker
+
+-- a poll at a moment with a waker
+abbrev pub poll_work : TimerValue → ℕ → Waker → Work
+poll_work timer now waker = polling timer timer.deadline now waker
+
+-- the period that is set, where one is, else the timer's own
+abbrev pub period_set : Option ℕ → Option ℕ → Option ℕ
+period_set None own = own
+period_set (Some period) own = Some period
+
+-- Setting the deadline, and the period where one is given. The timer is registered anew where it keeps a waker, at a deadline in the past too
+-- (`async-io` 2, `lib.rs`, `Timer::set_at` and `set_interval_at`).
+abbrev pub set_work : TimerValue → ℕ → Option ℕ → Work
+set_work timer deadline period =
+    record {
+      removes = registration_of timer;
+      inserts = option_map (λ waker. (deadline, waker)) timer.kept;
+      after = record timer { deadline = Some deadline; period = period_set period timer.period; id = None };
+      reached = None;
+    }
+
+-- the timer that is left where all the work was done, if the pass's next id is this
+abbrev pub timer_left : Work → TimerId → TimerValue
+timer_left work next = record work.after { id = if is_some work.inserts then Some next else work.after.id }
+
+-- whether the work has to draw an id of a pass that has none left
+abbrev pub lacks_id : Work → ℕ → Bool
+lacks_id work drawn = is_some work.inserts && not (has_id_left drawn)
+
+-- ## What a call did
+
+-- the host once a registration left it; where there is none to leave, the host is as it was
+abbrev pub Removes : {H : Type 0} → (H → ℕ → TimerId → H → Type 0) → Option (ℕ × TimerId) → H → H → Type 0
+Removes removed None old new = new ≡ old
+Removes removed (Some registration) old new = removed old registration.0 registration.1 new
+
+-- the host once a deadline and a waker were registered under an id; where there are none, the host is as it was
+abbrev pub Inserts : {H : Type 0} → (H → ℕ → Waker → TimerId → H → Type 0) → Option (ℕ × Waker) → TimerId → H → H → Type 0
+Inserts inserted None id old new = new ≡ old
+Inserts inserted (Some registration) id old new = inserted old registration.0 registration.1 id new
+
+-- the host once it refused to let a registration leave; without one nothing is refused
+abbrev pub RefusesRemoval : {H : Type 0} → (H → ℕ → TimerId → H → Type 0) → Option (ℕ × TimerId) → H → H → Type 0
+RefusesRemoval refused None old new = ⊥
+RefusesRemoval refused (Some registration) old new = refused old registration.0 registration.1 new
+
+-- the host once it refused to register a deadline and a waker; without them nothing is refused
+abbrev pub RefusesInsert : {H : Type 0} → (H → ℕ → Waker → H → Type 0) → Option (ℕ × Waker) → H → H → Type 0
+RefusesInsert refused None old new = ⊥
+RefusesInsert refused (Some registration) old new = refused old registration.0 registration.1 new
+
+-- All the work was done: the old registration left, then the new one joined under the pass's next id, and the timer is the one that is left.
+pub record Done {H : Type 0} (removed : H → ℕ → TimerId → H → Type 0) (inserted : H → ℕ → Waker → TimerId → H → Type 0)
+    (work : Work) (next : TimerId) (old new : H) (after : TimerValue) : Type 0 where
+  pub mid : H
+  pub removal : Removes removed work.removes old mid
+  pub insertion : Inserts inserted work.inserts next mid new
+  pub timer : after ≡ timer_left work next
+
+-- All the work was done, but the host's notifier failed in the insert. The fault tells the deadline that was reached, and the counts of that insert.
+pub record NotNotified {H : Type 0} (removed : H → ℕ → TimerId → H → Type 0) (inserted : H → ℕ → Waker → TimerId → H → Type 0)
+    (faults : H → ℕ) (sure : Bool) (work : Work) (next : TimerId) (old new : H) (after : TimerValue) (fired : Option ℕ) (fault : CountFault) : Type 0 where
+  pub done : Done removed inserted work next old new after
+  pub wanted : IsTrue (is_some work.inserts)
+  pub reached : fired ≡ work.reached
+  pub stays : faults old ≤ faults done.mid
+  pub fails : NotifierFails sure (faults done.mid) (faults new) fault
+
+-- the host refused the removal: the timer is as it was
+pub record RemovalRefused {H : Type 0} (removal_refused : H → ℕ → TimerId → H → Type 0) (work : Work) (old new : H) (before after : TimerValue) : Type 0 where
+  pub refusal : RefusesRemoval removal_refused work.removes old new
+  pub timer : after ≡ before
+
+-- the host refused the insert, after the removal: the timer is as it was, but that it is not registered
+pub record InsertRefused {H : Type 0} (removed : H → ℕ → TimerId → H → Type 0) (insert_refused : H → ℕ → Waker → H → Type 0)
+    (work : Work) (old new : H) (before after : TimerValue) : Type 0 where
+  pub mid : H
+  pub removal : Removes removed work.removes old mid
+  pub refusal : RefusesInsert insert_refused work.inserts mid new
+  pub timer : after ≡ record before { id = None }
+
+-- What a call did with its work, by the fault that it told: all of it, also where the notifier failed; nothing, where ids are spent; and where
+-- memory ran out the removal at most. The host's own relations name its states; `next` is the pass's next id.
+abbrev pub Carried : {H : Type 0} → (removed removal_refused : H → ℕ → TimerId → H → Type 0) → (H → ℕ → Waker → TimerId → H → Type 0)
+    → (H → ℕ → Waker → H → Type 0) → (H → ℕ) → Bool → Work → TimerId → (old new : H) → (before after : TimerValue) → Option TimerFault → Type 0
+Carried removed removal_refused inserted insert_refused faults sure work next old new before after None =
+    Done removed inserted work next old new after
+Carried removed removal_refused inserted insert_refused faults sure work next old new before after (Some IdsSpent) =
+    (new ≡ old) × (after ≡ before)
+Carried removed removal_refused inserted insert_refused faults sure work next old new before after (Some OutOfMemory) =
+    RemovalRefused removal_refused work old new before after ⊎ InsertRefused removed insert_refused work old new before after
+Carried removed removal_refused inserted insert_refused faults sure work next old new before after (Some (Notify fired fault)) =
+    NotNotified removed inserted faults sure work next old new after fired fault
+
+-- how many ids the pass has drawn after a call: one more where it registered the timer
+abbrev pub drawn_after : Work → ℕ → Option TimerFault → ℕ
+drawn_after work drawn None = if is_some work.inserts then drawn + 1 else drawn
+drawn_after work drawn (Some IdsSpent) = drawn
+drawn_after work drawn (Some OutOfMemory) = drawn
+drawn_after work drawn (Some (Notify fired fault)) = drawn + 1
+
+-- A call with this work on a timer and a host, which told this fault, if any: ids are spent exactly where the work has to draw one and none is
+-- left; the host is later, of the same pass, and its notifier's count of faults did not fall, nor rise where that is sure.
+pub record Worked {H : Type 0} (removed removal_refused : H → ℕ → TimerId → H → Type 0) (inserted : H → ℕ → Waker → TimerId → H → Type 0)
+    (insert_refused : H → ℕ → Waker → H → Type 0) (later : H → H → Type 0) (sure : H → Bool) (faults pass drawn : H → ℕ)
+    (work : Work) (old new : H) (before after : TimerValue) (told : Option TimerFault) : Type 0 where
+  pub spent : (told ≡ Some IdsSpent) ↔ IsTrue (lacks_id work (drawn old))
+  pub carried : Carried removed removal_refused inserted insert_refused faults (sure old) work (next_id (pass old) (drawn old)) old new before after told
+  pub ids : drawn new ≡ drawn_after work (drawn old) told
+  pub stays : faults old ≤ faults new
+  pub never : IsTrue (sure old) → faults new ≡ faults old
+  pub is_later : later old new
+  pub same_pass : pass new ≡ pass old
+
+-- ## Answers
+
+-- the fault that a poll told
+abbrev pub poll_fault : Poll (Result ℕ TimerFault) → Option TimerFault
+poll_fault Pending = None
+poll_fault (Ready (Ok deadline)) = None
+poll_fault (Ready (Err fault)) = Some fault
+
+-- The answer of a poll: with a fault, that; else ready with the deadline that was reached, and pending where none was.
+abbrev pub poll_answer : Option ℕ → Option TimerFault → Poll (Result ℕ TimerFault)
+poll_answer reached (Some fault) = Ready (Err fault)
+poll_answer (Some deadline) None = Ready (Ok deadline)
+poll_answer None None = Pending
+
+-- the fault that setting a timer told
+abbrev pub set_fault : Result (Unit {0}) TimerFault → Option TimerFault
+set_fault (Ok done) = None
+set_fault (Err fault) = Some fault
+
+-- the registration that a timer wants: at its deadline with the waker that it keeps
+abbrev pub wanted_at : Option ℕ → Option Waker → Option (ℕ × Waker)
+wanted_at None kept = None
+wanted_at (Some deadline) kept = option_map (λ waker. (deadline, waker)) kept
+
+-- the work of a timer that is to become another one, registered as that wants it
+abbrev pub change_work : TimerValue → TimerValue → Option ℕ → Work
+change_work timer next reached =
+    record { removes = registration_of timer; inserts = wanted_at next.deadline next.kept; after = next; reached = reached }

@@ -1,0 +1,54 @@
+-- What the answers of a host of timers mean: the ids that a pass draws, and the faults of a host's notifier.
+use Rattle.std.specs.Prelude.{◌≡◌, ℕ, ◌+◌, ◌-◌, ◌*◌, ◌^◌, ◌≤◌, Bool, false, not, ◌==◌, Option, None, Some, IfSome, IsTrue, Result, Ok, Err}
+use Rattle.aio_base.specs.declared.names.TimerId.{TimerId}
+use Rattle.aio_base.specs.declared.outcomes.CountFault.{CountFault}
+use Rattle.aio_base.specs.Devices.{Rose}
+use Rattle.aio_react.specs.declared.hosts.InsertRefusal.{InsertRefusal}
+use Rattle.aio_react.specs.declared.hosts.InsertRefusal.TheVariants as refusal
+
+-- ## Ids
+
+-- whether a pass that has drawn so many ids has one left: it draws at most 2^40 - 1 of them
+abbrev pub has_id_left : ℕ → Bool
+has_id_left drawn = not (drawn == 2 ^ 40 - 1)
+
+-- the id that a pass draws after so many others: its ids count from 1, and each pass has 2^40 numbers of its own
+abbrev pub next_id : ℕ → ℕ → TimerId
+next_id pass drawn = record { 0 = pass * 2 ^ 40 + (drawn + 1) }
+
+-- the id of the registration that stands after an insert that was answered so
+abbrev pub registered_id : Result TimerId InsertRefusal → Option TimerId
+registered_id (Ok id) = Some id
+registered_id (Err (refusal.Notify id fault)) = Some id
+registered_id (Err refusal.OutOfMemory) = None
+
+-- An insert that registered its timer drew the pass's next id, by which the host's own relation holds. One that was refused drew none, and the
+-- host's relation of refused inserts holds.
+abbrev pub RegistersAs : (TimerId → Type 0) → (refused : Type 0) → (pass before after : ℕ) → Option TimerId → Type 0
+RegistersAs relation refused pass before after None = refused × (after ≡ before)
+RegistersAs relation refused pass before after (Some id) = relation id × (id ≡ next_id pass before) × (after ≡ before + 1)
+
+-- ## Faults of a notifier
+
+-- A notifier that fails is not sure, its count of faults rose in this call, and the fault carries the count before the call and after it.
+pub record NotifierFails (sure : Bool) (before after : ℕ) (fault : CountFault) : Type 0 where
+  pub unsure : sure ≡ false
+  pub rose : Rose before after
+  pub counts : fault ≡ record { before = before; after = after }
+
+-- the fault of the notifier that an insert told
+abbrev pub insert_fault : Result TimerId InsertRefusal → Option CountFault
+insert_fault (Ok id) = None
+insert_fault (Err (refusal.Notify id fault)) = Some fault
+insert_fault (Err refusal.OutOfMemory) = None
+
+-- the fault of the notifier that a wake told
+abbrev pub wake_fault : Result (Unit {0}) CountFault → Option CountFault
+wake_fault (Ok done) = None
+wake_fault (Err fault) = Some fault
+
+-- the notifier's count of faults does not fall, and of a sure notifier it does not rise; a fault that is told is one of a notifier that fails
+pub record NotifierTells (sure : Bool) (before after : ℕ) (told : Option CountFault) : Type 0 where
+  pub stays : before ≤ after
+  pub never : IsTrue sure → after ≡ before
+  pub fails : IfSome told (NotifierFails sure before after)

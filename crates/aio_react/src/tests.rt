@@ -1,0 +1,202 @@
+//! What no clause says: that the traits can be met, and that code over the bounds alone knows what
+//! its calls have done.
+
+ghost use Rattle.std.specs.Prelude.{◌≡◌, ◌-◌, ◌^◌, ◌≤◌, false, IfSome, None};
+ghost use Rattle.aio_react.specs.Hosts.{NotifierTells, next_id, wake_fault};
+
+use crate::{Host, InsertRefusal, TimerHost};
+use aio_base::{CountFault, Later, Moment, OutOfMemory, TimerId, Waker};
+use std::test::Fail;
+
+const LAST_ID: u64 = 0xff_ffff_ffff;
+
+const PASS: u64 = 3;
+
+/// A host in its third pass that keeps the timer that it registered last and counts what else it
+/// does. Its notifier fails where it is told to.
+#[derive(Drop)]
+struct Counting {
+    drawn: u64,
+    last: Option<(Moment, Waker, TimerId)>,
+    removals: u64,
+    wakes: u64,
+    fails: bool,
+    faults: u64,
+    ghost bound: { drawn ≤ 2 ^ 40 - 1 },
+}
+
+impl Later for Counting {
+    ghost use Rattle.std.specs.Prelude.{◌≤◌, refl, false};
+
+    ghost notifier_is_sure = { λ h. false };
+
+    ghost is_later = { λ old new. old.faults ≤ new.faults };
+
+    ghost use Rattle.std.proofs.Common.{arith};
+
+    ghost later_than_itself = { λ h. Prim.omega arith };
+
+    ghost later_than_later = { λ a b c first second. Prim.omega arith };
+
+    ghost stays_sure = { λ a b later. refl };
+}
+
+impl Counting {
+    /// Makes the notifier's call, and tells its fault.
+    fn notify(&mut self) -> Result<(), CountFault>
+        ensures notifier { NotifierTells false self.old.faults self.new.faults (wake_fault result) }
+        ensures rest { self.new ≡ record self.old { faults = self.new.faults } }
+    {
+        let before = self.faults;
+        if self.fails {
+            self.faults = before.saturating_add(1);
+            return Err(CountFault {
+                before,
+                after: self.faults,
+            });
+        }
+        Ok(())
+    }
+}
+
+impl TimerHost for Counting {
+    ghost use Rattle.std.specs.Prelude.{◌≡◌, ◌+◌, Some};
+
+    ghost pass_number = { λ h. 3 };
+
+    ghost ids_drawn = { λ h. h.drawn };
+
+    ghost notifier_faults = { λ h. h.faults };
+
+    ghost inserted = { λ old at waker id new. new.last ≡ Some (at, waker, id) };
+
+    ghost removed = { λ old at id new. new.removals ≡ old.removals + 1 };
+
+    fn ids_left(&self) -> bool {
+        self.drawn != LAST_ID
+    }
+
+    fn insert_timer(&mut self, at: Moment, waker: Waker) -> Result<TimerId, InsertRefusal> {
+        let drawn = self.drawn + 1;
+        let id = TimerId((PASS << 40) + drawn);
+        self.drawn = drawn;
+        self.last = Some((at, waker, id));
+        match self.notify() {
+            Ok(()) => Ok(id),
+            Err(fault) => Err(InsertRefusal::Notify { id, fault }),
+        }
+    }
+
+    fn remove_timer(&mut self, _at: Moment, _id: TimerId) -> Result<(), OutOfMemory> {
+        if self.removals == u64::MAX {
+            return Err(OutOfMemory);
+        }
+        self.removals += 1;
+        Ok(())
+    }
+}
+
+impl Host for Counting {
+    fn ticker(&mut self) -> u64 {
+        self.removals
+    }
+
+    fn wake(&mut self, _waker: Waker) -> Result<(), CountFault> {
+        self.wakes = self.wakes.saturating_add(1);
+        self.notify()
+    }
+}
+
+/// Registers a timer, where there is an id and nothing fails.
+fn insert<H: TimerHost>(host: &mut H, at: Moment, waker: Waker) -> Option<TimerId>
+    ensures inserted { IfSome result (λ id. H.inserted host.old at waker id host.new) }
+    ensures id { IfSome result (λ id. id ≡ next_id (H.pass_number host.old) (H.ids_drawn host.old)) }
+    ensures later { H.is_later host.old host.new }
+{
+    if host.ids_left() {
+        host.insert_timer(at, waker).ok()
+    } else {
+        None
+    }
+}
+
+/// Registers a timer with each of two wakers, and takes the first out again.
+fn insert_two<H: TimerHost>(
+    host: &mut H,
+    at: Moment,
+    first: Waker,
+    second: Waker,
+) -> Option<(TimerId, TimerId)>
+    ensures calls { IfSome result (λ ids. (one two : H) × H.inserted host.old at first ids.0 one × H.inserted one at second ids.1 two × H.removed two at ids.0 host.new) }
+    ensures later { H.is_later host.old host.new }
+{
+    let one = insert(host, at, first)?;
+    let two = insert(host, at, second)?;
+    host.remove_timer(at, one).ok()?;
+    Some((one, two))
+}
+
+/// Counts the rounds, and wakes a task.
+fn count_and_wake<H: Host>(host: &mut H, waker: Waker) -> (u64, Result<(), CountFault>)
+    ensures later { H.is_later host.old host.new }
+    ensures sure { H.notifier_is_sure host.new ≡ H.notifier_is_sure host.old }
+    ensures ids { H.ids_drawn host.new ≡ H.ids_drawn host.old }
+{
+    let rounds = host.ticker();
+    (rounds, host.wake(waker))
+}
+
+fn make_counting(drawn: u64, fails: bool) -> Counting
+    requires { drawn ≤ 2 ^ 40 - 1 }
+{
+    Counting {
+        drawn,
+        last: None,
+        removals: 0,
+        wakes: 0,
+        fails,
+        faults: 0,
+    }
+}
+
+#[test]
+fn ids_count_from_one_behind_the_pass(rt: HostRuntime) -> Result<(), Fail> {
+    let mut host = make_counting(0, false);
+    let at = Moment::new(10).ok_or("no moment")?;
+    let ids = insert_two(&mut host, at, Waker(1), Waker(2));
+    assert_eq!(rt;
+        ids,
+        Some((TimerId(3_298_534_883_329), TimerId(3_298_534_883_330)))
+    );
+    assert_eq!(rt; (host.removals, host.drawn), (1, 2));
+    assert_eq!(rt; count_and_wake(&mut host, Waker(2)), (1, Ok(())));
+    Ok(())
+}
+
+#[test]
+fn a_pass_ends_at_its_last_id(rt: HostRuntime) -> Result<(), Fail> {
+    let mut host = make_counting(LAST_ID - 1, false);
+    let at = Moment::new(10).ok_or("no moment")?;
+    let last = TimerId(4_398_046_511_103);
+    assert_eq!(rt; insert(&mut host, at, Waker(1)), Some(last));
+    assert_eq!(rt; insert(&mut host, at, Waker(1)), None);
+    Ok(())
+}
+
+#[test]
+fn a_timer_is_registered_where_the_notifier_fails(rt: HostRuntime) -> Result<(), Fail> {
+    let mut host = make_counting(0, true);
+    let at = Moment::new(10).ok_or("no moment")?;
+    assert!(rt; host.ids_left());
+    let id = TimerId(3_298_534_883_329);
+    let fault = CountFault {
+        before: 0,
+        after: 1,
+    };
+    assert_eq!(rt;
+        host.insert_timer(at, Waker(1)),
+        Err(InsertRefusal::Notify { id, fault })
+    );
+    assert_eq!(rt; host.last, Some((at, Waker(1), id)));
+    Ok(())
+}
