@@ -1,29 +1,18 @@
 -- An event takes the waiters of its directions, one direction after the other.
-use Rattle.std.specs.Prelude.{◌≡◌, ℕ, ◌+◌, ◌<◌, ◌≤◌, if◌then◌else◌, Bool, true, false, List, [], ◌∷◌, ◌++◌, length, refl}
+use Rattle.std.specs.Prelude.{◌≡◌, ℕ, ◌+◌, ◌<◌, ◌≤◌, if◌then◌else◌, Bool, true, false, List, [], ◌∷◌, ◌++◌, length}
 use Rattle.std.proofs.Common.{sym, ◌∙◌, ap, subst, arith, length-append, append_assoc, drop, get_or, drop-cons, add-one}
 use Rattle.aio_base.specs.declared.names.Dir.{Dir}
-use Rattle.aio_base.specs.declared.names.Dir.TheVariants.{Read, Write}
 use Rattle.aio_base.specs.declared.names.Waker.{Waker}
 use Rattle.aio_base.specs.declared.names.Interest.{Interest}
 use Rattle.aio_base.specs.World.{directions, has_dir}
 use Rattle.aio_source.specs.Values.{DirectionValue, DirectionValues}
-use Rattle.aio_source.specs.Rules.{waiters_of, direction_of, with_direction, waiters_in, handled, handled_in, taken_in, handled_along, taken_along}
+use Rattle.aio_source.specs.Rules.{waiters_of, direction_of, with_direction, handled, handled_along, taken_along}
 
 -- What is left to be done comes to what was to be done at first, from the directions as they were then; and there is room for it.
 pub record Taking (on : Interest) (round : ℕ) (left : List Dir) (began now : DirectionValues) (before taken : List Waker) (capacity : ℕ) : Type 0 where
   pub values : handled_along on round left now ≡ handled_along on round directions began
   pub wakers : taken ++ taken_along on round left now ≡ before ++ taken_along on round directions began
   pub room : length taken + length (taken_along on round left now) ≤ capacity
-
-taken_within_step : (read write : Bool) (round : ℕ) (ds : DirectionValues) → length (taken_along (record { read = read; write = write }) round directions ds) ≤ length (waiters_in directions ds)
-taken_within_step true true round ds = omega arith
-taken_within_step true false round ds = omega (arith, length-append (waiters_of ds.write) (waiters_of ds.read ++ []))
-taken_within_step false true round ds = omega (arith, length-append (waiters_of ds.write) [], length-append (waiters_of ds.write) (waiters_of ds.read ++ []))
-taken_within_step false false round ds = omega arith
-
--- an event takes no more than all waiters
-pub taken_within : (on : Interest) (round : ℕ) (ds : DirectionValues) → length (taken_along on round directions ds) ≤ length (waiters_in directions ds)
-taken_within on round ds = taken_within_step on.read on.write round ds
 
 -- a direction that the event names is taken next
 taking_named : (on : Interest) (round : ℕ) (dir : Dir) (left : List Dir) (began now : DirectionValues) (before taken : List Waker) (capacity : ℕ) → has_dir on dir ≡ true → Taking on round (dir ∷ left) began now before taken capacity → Taking on round left began (with_direction now dir (handled round (direction_of now dir))) before (taken ++ waiters_of (direction_of now dir)) capacity

@@ -1,18 +1,18 @@
 -- Who waits for a direction, and what its calls make of that.
-use Rattle.std.specs.Prelude.{◌≡◌, ℕ, ◌==◌, Bool, true, false, not, ◌&&◌, ◌||◌, IsTrue, if◌then◌else◌, List, [], ◌∷◌, ◌++◌, length, Option, None, Some, option_to_list, is_none, refl}
-use Rattle.std.proofs.Common.{sym, ◌∙◌, ap, arith}
+use Rattle.std.specs.Prelude.{◌≡◌, ◌==◌, Bool, true, false, not, ◌||◌, IsTrue, if◌then◌else◌, List, [], ◌∷◌, ◌++◌, length, Option, None, Some, option_to_list, refl}
+use Rattle.std.proofs.Common.{ap, arith}
 use Rattle.std.proofs.lemmas.Bool.Decides.{nat_tests}
 use Rattle.aio_base.specs.declared.names.Dir.{Dir}
 use Rattle.aio_base.specs.declared.names.Dir.TheVariants.{Read, Write}
 use Rattle.aio_base.specs.declared.names.Waker.{Waker}
 use Rattle.aio_base.specs.declared.names.Interest.{Interest}
-use Rattle.aio_base.specs.World.{is_empty_list, has_dir}
+use Rattle.aio_base.specs.World.{is_empty_list}
 use Rattle.aio_base.specs.Machine.{is_waker}
 use Rattle.aio_listen.specs.declared.ticket.Ticket.{Ticket}
 use Rattle.aio_listen.specs.Tickets.{same_ticket}
 use Rattle.aio_listen.specs.Listening.{Entry, Holds, has_ticket, wakers_of, with_waker, without, emptied}
 use Rattle.aio_source.specs.Values.{DirectionValue, DirectionValues}
-use Rattle.aio_source.specs.Rules.{waiters_of, is_idle, without_listener, direction_of, with_direction, Covers}
+use Rattle.aio_source.specs.Rules.{is_idle, without_listener, direction_of, with_direction, Covers}
 
 pub empty_by_length : {A : Type 0} (xs : List A) → (length xs == 0) ≡ is_empty_list xs
 empty_by_length [] = refl

@@ -1,10 +1,9 @@
 -- What the calls of a source answer.
 use Rattle.std.specs.Prelude.{Bool, true, false, Option, None, Some, option_map, Result, Ok, Err}
-use Rattle.aio_base.specs.declared.outcomes.Failed.{Failed}
 use Rattle.aio_base.specs.declared.outcomes.ArmFault.{ArmFault}
 use Rattle.aio_listen.specs.declared.ticket.Ticket.{Ticket}
-use Rattle.aio_source.specs.declared.answers.Poll.{Poll}
-use Rattle.aio_source.specs.declared.answers.Poll.TheVariants.{Ready, Pending}
+use Rattle.aio_base.specs.declared.outcomes.Poll.{Poll}
+use Rattle.aio_base.specs.declared.outcomes.Poll.TheVariants.{Ready, Pending}
 use Rattle.aio_source.specs.declared.answers.Listened.{Listened}
 use Rattle.aio_source.specs.declared.answers.ListenRefusal.{ListenRefusal}
 use Rattle.aio_source.specs.declared.answers.ListenRefusal.TheVariants as refusal

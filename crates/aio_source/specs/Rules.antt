@@ -1,5 +1,5 @@
 -- What the calls on a source come to (`async-io` 2, `reactor.rs`, `Source` and `Direction`).
-use Rattle.std.specs.Prelude.{ℕ, ◌+◌, Bool, true, false, not, ◌&&◌, ◌||◌, IsTrue, nat_lt, if◌then◌else◌, List, [], ◌∷◌, ◌++◌, length, max, Option, None, Some, option_to_list}
+use Rattle.std.specs.Prelude.{ℕ, ◌+◌, Bool, true, false, not, ◌&&◌, ◌||◌, IsTrue, nat_lt, if◌then◌else◌, List, [], ◌∷◌, ◌++◌, max, Option, None, Some, option_to_list}
 use Rattle.std.specs.List.{list_any}
 use Rattle.aio_base.specs.declared.names.Dir.{Dir}
 use Rattle.aio_base.specs.declared.names.Dir.TheVariants.{Read, Write}

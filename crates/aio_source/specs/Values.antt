@@ -1,5 +1,5 @@
 -- What contracts see of a source: plain lists and numbers.
-use Rattle.std.specs.Prelude.{ℕ, Bool, Option}
+use Rattle.std.specs.Prelude.{ℕ, Bool, [], Option, None, Some}
 use Rattle.aio_base.specs.declared.names.Key.{Key}
 use Rattle.aio_base.specs.declared.names.Waker.{Waker}
 use Rattle.aio_base.specs.declared.names.Interest.{Interest}
@@ -24,3 +24,8 @@ pub record SourceValue : Type 0 where
   pub directions : DirectionValues
   pub asked : Interest
   pub broken : Bool
+
+-- the listeners of a direction that are there, and none before the first came
+abbrev pub listeners_in : Option (Listening Waker) → Listening Waker
+listeners_in None = record { entries = []; drawn = 0 }
+listeners_in (Some listeners) = listeners

@@ -1,14 +1,7 @@
 //! What the calls of a source answer.
 
-use aio_base::{ArmFault, Waker};
+use aio_base::{ArmFault, Poll, Waker};
 use aio_listen::Ticket;
-
-/// Whether what was polled for is there (`core::task::Poll`).
-#[derive(Clone, Copy, Debug, Drop, PartialEq, Eq)]
-pub enum Poll<T> {
-    Ready(T),
-    Pending,
-}
 
 /// The answer to a poll of a direction.
 #[derive(Clone, Copy, Debug, PartialEq, Eq)]

@@ -2,8 +2,10 @@
 
 ghost use Rattle.std.specs.Prelude.{◌≡◌, ◌<◌, Bool};
 ghost use Rattle.aio_base.specs.Devices.{HasCause, ArmOf};
+ghost use Rattle.aio_source.specs.Rules.{wanted};
 ghost use Rattle.aio_source.specs.Lent.{told, fault_of, ArmsOnce, TellsArmed, asked_after, broken_after};
 
+use crate::directions::Directions;
 use aio_base::{Arm, ArmFault, Interest, Key};
 
 /// No direction.
@@ -20,20 +22,20 @@ pub(crate) struct Arming {
 }
 
 impl Arming {
-    /// Arms the poller for this key and interest where `arms` says so.
+    /// Arms the poller for this key and the directions that have a waiter, where `arms` says so.
     pub(crate) fn arm_where<A: Arm>(
         &mut self,
         arms: bool,
         arm: &mut A,
         key: Key,
-        on: Interest,
+        directions: &Directions,
     ) -> Result<(), ArmFault>
         requires { key.0 < 4096 }
         ensures fault { result ≡ fault_of key (A.fault_count arm.old) (A.fault_count arm.new) (told result) }
-        ensures asked { self.new.asked ≡ asked_after arms on (told result) self.old.asked }
+        ensures asked { self.new.asked ≡ asked_after arms (wanted directions.now) (told result) self.old.asked }
         ensures broken { self.new.broken ≡ broken_after arms (told result) self.old.broken }
-        ensures step { ArmsOnce A.arm_step arms (ArmOf key on) arm.old (told result) arm.new }
-        ensures interests { TellsArmed arms (ArmOf key on) (A.interests arm.old) (told result) (A.interests arm.new) }
+        ensures step { ArmsOnce A.arm_step arms (ArmOf key (wanted directions.now)) arm.old (told result) arm.new }
+        ensures interests { TellsArmed arms (ArmOf key (wanted directions.now)) (A.interests arm.old) (told result) (A.interests arm.new) }
         ensures rest { A.rest arm.new ≡ A.rest arm.old }
         ensures sure { A.is_sure arm.new ≡ A.is_sure arm.old }
         ensures cause { HasCause (A.fault_count arm.old) (A.fault_count arm.new) (A.is_sure arm.old) (told result) }
@@ -41,6 +43,7 @@ impl Arming {
         if !arms {
             return Ok(());
         }
+        let on = directions.wanted();
         let before = arm.faults();
         let armed = arm.arm(key, on);
         if armed.is_ok() {

@@ -5,8 +5,9 @@ ghost use Rattle.aio_base.specs.Machine.{is_waker};
 ghost use Rattle.aio_listen.specs.Listening.{Holds, has_ticket};
 ghost use Rattle.aio_source.specs.Rules.{new_direction, is_above, is_ready, waiters_of, is_idle, seen, stored, listening, listening_again, without_listener, handled};
 
+use crate::late::LateListeners;
 use aio_base::Waker;
-use aio_listen::{AddRefusal, Listeners, Ticket};
+use aio_listen::{AddRefusal, Ticket};
 use std::alloc::Global;
 use std::marker::Model;
 
@@ -21,7 +22,7 @@ pub(crate) struct Direction {
     /// The poll waiter.
     waiter: Option<Waker>,
     /// The listeners in the order of their first poll.
-    listeners: Listeners<Waker>,
+    listeners: LateListeners,
 }
 
 impl Model for Direction {
@@ -40,7 +41,7 @@ impl Direction {
             tick: 0,
             ticks: None,
             waiter: None,
-            listeners: Listeners::new(alloc),
+            listeners: LateListeners::new(alloc),
         }
     }
 

@@ -11,9 +11,11 @@ mod answers;
 mod arming;
 mod direction;
 mod directions;
+mod late;
 mod source;
 #[cfg(test)]
 mod tests;
 
-pub use answers::{ListenRefusal, Listened, Poll, Polled};
+pub use aio_base::Poll;
+pub use answers::{ListenRefusal, Listened, Polled};
 pub use source::{SourceCell, SourceState};

@@ -8,10 +8,10 @@ ghost use Rattle.aio_source.specs.Rules.{new_source, is_above, waiters_of, waite
 ghost use Rattle.aio_source.specs.Lent.{told, fault_of, ArmsOnce, TellsArmed, arm_of, settled};
 ghost use Rattle.aio_source.specs.Answers.{poll_answer, armed_in, armed_first, listened_in, ticket_in};
 
-use crate::answers::{ListenRefusal, Listened, Poll, Polled};
+use crate::answers::{ListenRefusal, Listened, Polled};
 use crate::arming::{Arming, NO_INTEREST};
 use crate::directions::{Directions, names_any};
-use aio_base::{Arm, ArmFault, Dir, Event, Interest, Key, Waker};
+use aio_base::{Arm, ArmFault, Dir, Event, Interest, Key, Poll, Waker};
 use aio_listen::{AddRefusal, Ticket};
 use std::alloc::Global;
 use std::marker::Model;
@@ -22,9 +22,10 @@ use std::marker::Model;
 /// Each direction with a waiter was asked for, or the last arm failed; its key is below 4,096.
 #[derive(Drop)]
 pub struct SourceState {
+    // Fields lie in this order: these two small ones share a word.
     key: Key,
-    directions: Directions,
     arming: Arming,
+    directions: Directions,
 }
 
 impl Model for SourceState {
@@ -55,11 +56,11 @@ impl SourceState {
     {
         SourceState {
             key,
-            directions: Directions::new(alloc),
             arming: Arming {
                 asked: NO_INTEREST,
                 broken: false,
             },
+            directions: Directions::new(alloc),
         }
     }
 
@@ -149,8 +150,7 @@ impl SourceState {
         }
         let arms = direction.is_idle() || self.arming.broken;
         let replaced = direction.store(w, ticker);
-        let on = self.directions.wanted();
-        let armed = self.arming.arm_where(arms, arm, self.key, on);
+        let armed = self.arming.arm_where(arms, arm, self.key, &self.directions);
         Polled {
             answer: pending_unless(armed),
             replaced,
@@ -198,8 +198,7 @@ impl SourceState {
             a: ticker,
             b,
         };
-        let on = self.directions.wanted();
-        match self.arming.arm_where(arms, arm, self.key, on) {
+        match self.arming.arm_where(arms, arm, self.key, &self.directions) {
             Ok(()) => Ok(listened),
             Err(fault) => Err(ListenRefusal::ArmFault { fault, listened }),
         }
@@ -235,8 +234,7 @@ impl SourceState {
         }
         let arms = direction.is_idle() || self.arming.broken;
         direction.listen_again(l.ticket, w);
-        let on = self.directions.wanted();
-        pending_unless(self.arming.arm_where(arms, arm, self.key, on))
+        pending_unless(self.arming.arm_where(arms, arm, self.key, &self.directions))
     }
 
     /// Gives up a listener: it goes with its waker, and nothing that was asked for changes. It takes
@@ -278,8 +276,8 @@ impl SourceState {
     {
         self.directions.take_waiters(e.on, round, taken);
         self.arming.asked = NO_INTEREST;
-        let on = self.directions.wanted();
-        self.arming.arm_where(names_any(on), arm, self.key, on)
+        let left = names_any(self.directions.wanted());
+        self.arming.arm_where(left, arm, self.key, &self.directions)
     }
 }
 

@@ -261,8 +261,8 @@ fn fault(before: u64) -> ArmFault {
     }
 }
 
-/// Takes what may go to another thread, and lets it go.
-fn send_away<T: Send + Drop>(_value: T) {}
+/// Takes what several threads may share, and lets it go.
+fn send_away<T: Send + Sync + Drop>(_value: T) {}
 
 #[test]
 fn a_source_may_go_to_another_thread(rt: HostRuntime) {

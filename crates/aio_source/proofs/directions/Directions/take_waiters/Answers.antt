@@ -1,4 +1,4 @@
-use Rattle.std.proofs.Common.{◌∙◌, sym, ap, rules, Vec, Global, vec_capacity}
+use Rattle.std.proofs.Common.{◌∙◌, sym, ap, Vec, Global, vec_capacity}
 use Rattle.aio_base.specs.declared.names.Waker.{Waker}
 use Rattle.aio_base.specs.World.{directions}
 use Rattle.aio_source.proofs.Taking.{taken_next, passed_next}
