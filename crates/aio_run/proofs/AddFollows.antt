@@ -164,7 +164,7 @@ add_stands kept w key stands free none =
         due = due-add_done kept.script.due w.due none s.due;
         no_wait_fault = s.no_wait_fault;
         no_interrupt = s.no_interrupt;
-        registrations = s.registrations;
+        timing = s.timing;
       },
       stands.1,
     )

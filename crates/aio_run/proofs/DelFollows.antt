@@ -156,7 +156,7 @@ remove_stands kept w key s serial script armed both got found none are long note
         due = due;
         no_wait_fault = no_wait;
         no_interrupt = no_interrupt;
-        registrations = stands.registrations;
+        timing = stands.timing;
       },
       both.1,
     )

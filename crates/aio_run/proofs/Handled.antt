@@ -179,7 +179,7 @@ asked_stands bound kept w key serial s asked stands got there = record {
   due = stands.due;
   no_wait_fault = stands.no_wait_fault;
   no_interrupt = stands.no_interrupt;
-  registrations = stands.registrations;
+  timing = stands.timing;
 }
 
 -- the source as the event leaves it, before the poller is armed

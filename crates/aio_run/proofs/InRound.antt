@@ -9,6 +9,7 @@ use Rattle.aio_base.specs.Rounds.{rounds_at, HasBegun}
 use Rattle.aio_base.specs.Script.{fails_where, after_call, after_calls}
 use Rattle.aio_run.specs.declared.registry.Registered.{Registered}
 use Rattle.aio_run.specs.Kept.{Kept, Handling}
+use Rattle.aio_run.specs.Timing.{Timing}
 use Rattle.aio_run.specs.Ties.{Stands}
 
 -- ## The poller's answers that are left
@@ -63,22 +64,24 @@ after_calls-arms (call ∷ calls) w arms =
 
 -- ## The world in a round
 
--- what a round keeps while it handles its events: where it began, its number, the events that its wait gave, the events that were noted and
--- what was due when it began, and the listeners
+-- what a round keeps while it handles its events: where it began, its number, the limit of its wait, the events that its wait gave, the events
+-- that were noted and what was due when it began, the listeners, and the clock with the timers that its first pass has left
 pub record RoundFacts : Type 0 where
   pub pos : ℕ
   pub ticker : ℕ
+  pub limit : Option ℕ
   pub given : List Event
   pub noted : List Event
   pub told : DueFaults
   pub listeners : List (Option Registered)
+  pub timing : Timing
 
--- a round without a limit, with these events in hand
+-- a round with these events in hand
 abbrev pub round_of : RoundFacts → List Event → Handling → RoundState
 round_of f events h = record {
   number = f.ticker;
   begin = f.pos;
-  limit = None;
+  limit = f.limit;
   in_hand = events;
   taken = h.taken;
   last_wait = Some (Gives f.given);
@@ -86,7 +89,7 @@ round_of f events h = record {
 }
 
 abbrev pub kept_in : RoundFacts → Handling → Kept
-kept_in f h = record { sources = h.sources; listeners = f.listeners; ticker = f.ticker; script = h.script }
+kept_in f h = record { sources = h.sources; listeners = f.listeners; ticker = f.ticker; script = h.script; timing = f.timing }
 
 -- the world with what its calls so far have used up, and without the round
 abbrev pub as_settled : RoundFacts → DueFaults → World → World

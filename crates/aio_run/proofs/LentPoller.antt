@@ -131,7 +131,7 @@ armed_stands bound kept w key serial s position due stands got found told =
       due = told;
       no_wait_fault = stands.no_wait_fault;
       no_interrupt = stands.no_interrupt;
-      registrations = stands.registrations;
+      timing = stands.timing;
     }
 
 -- an arm that fails: the interests stay, and the source is broken
@@ -168,7 +168,7 @@ broken_stands bound kept w key serial s position due stands got found told =
       due = told;
       no_wait_fault = stands.no_wait_fault;
       no_interrupt = stands.no_interrupt;
-      registrations = stands.registrations;
+      timing = stands.timing;
     }
 
 -- the source in place of the one that was prepared

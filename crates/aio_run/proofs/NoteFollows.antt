@@ -44,7 +44,7 @@ note_stands kept w event stands =
         due = s.due;
         no_wait_fault = s.no_wait_fault;
         no_interrupt = s.no_interrupt;
-        registrations = s.registrations;
+        timing = s.timing;
       },
       stands.1,
     )

@@ -10,6 +10,8 @@ use Rattle.aio_script.specs.Script.{nothing_due, new_script}
 use Rattle.aio_script.specs.Script as script
 use Rattle.aio_run.specs.Kept.{listener_at}
 use Rattle.aio_run.specs.Ties.{NothingOf, StandsFor}
+use Rattle.aio_run.specs.Timing.{no_timing}
+use Rattle.aio_run.proofs.EndFollows.{opening_times}
 use Rattle.aio_run.proofs.Bounds.{ListenerStands-as}
 use Rattle.aio_run.proofs.Lookups.{listener_at-none}
 
@@ -38,6 +40,7 @@ pub opening_stands : (entries faults waits : ℕ) → entries ≡ 4096
       listeners = [];
       ticker = 0;
       script = record { armed = replicate entries no_interest; noted = []; due = nothing_due; faults = faults; waits = waits };
+      timing = no_timing;
     }) opening
 opening_stands entries faults waits e = (
   record {
@@ -61,12 +64,12 @@ opening_stands entries faults waits e = (
     due = record { add = refl; arm = refl; remove = refl; wait = refl; interrupt = refl };
     no_wait_fault = refl;
     no_interrupt = refl;
-    registrations = refl;
+    timing = opening_times;
   },
   refl,
 )
 
 -- a new reactor, as its calls make it
-pub new_stands_for : StandsFor (record { sources = []; listeners = []; ticker = 0; script = new_script }) opening
+pub new_stands_for : StandsFor (record { sources = []; listeners = []; ticker = 0; script = new_script; timing = no_timing }) opening
 unfolding script.none_armed
 new_stands_for = opening_stands 4096 0 0 refl

@@ -100,7 +100,7 @@ waiting_stands kept w key serial s dir new waiters marks stands got found stay h
       due = stands.due;
       no_wait_fault = stands.no_wait_fault;
       no_interrupt = stands.no_interrupt;
-      registrations = stands.registrations;
+      timing = stands.timing;
     }
 
 -- the event that came since is seen

@@ -106,7 +106,7 @@ relisted_stands bound later kept w registered relisted count key serial dir s li
       due = stands.due;
       no_wait_fault = stands.no_wait_fault;
       no_interrupt = stands.no_interrupt;
-      registrations = stands.registrations;
+      timing = stands.timing;
     }
 
 pub slice_set-found : (sources : List (Option SourceValue)) (key : ℕ) (s : SourceValue) → source_at sources key ≡ Some s → slice_set sources key (Some s) ≡ sources

@@ -7,6 +7,8 @@ use Rattle.aio_base.specs.Script.{fails_where, script_answers, settled, script_s
 use Rattle.aio_script.specs.declared.poller.Due.{Due}
 use Rattle.aio_run.specs.Kept.{Kept, Stepped}
 use Rattle.aio_run.specs.Ties.{DueStands, Stands, StandsFor, Follows}
+use Rattle.aio_run.specs.Times.{Times, TimersStand, with_times}
+use Rattle.aio_run.specs.Timing.{Timing}
 use Rattle.aio_run.proofs.Bounds.{AllBelow-later, PlaceStands-same, ListenerStands-same, SameOf-lists, NothingOf-lists}
 
 -- what a step gives before its position rises and its calls are settled is what is kept
@@ -48,7 +50,7 @@ Stands-later bound later kept w pos le s = record {
   due = s.due;
   no_wait_fault = s.no_wait_fault;
   no_interrupt = s.no_interrupt;
-  registrations = s.registrations;
+  timing = s.timing;
 }
 
 -- what is kept stands as well one position later
@@ -110,5 +112,33 @@ Stands-due bound later kept w pos due faults told le stands no_wait no_interrupt
       due = stands;
       no_wait_fault = no_wait;
       no_interrupt = no_interrupt;
-      registrations = s.registrations;
+      timing = s.timing;
     }
+
+-- the clock and the timers belong to no source and no listener
+pub Stands-timed : (bound : ℕ) (kept : Kept) (w : World) (timing : Timing) (times : Times) → TimersStand timing times → Stands bound kept w
+    → Stands bound (record kept { timing = timing }) (with_times w times)
+Stands-timed bound kept w timing times stands s = record {
+  sources = λ key. PlaceStands-same bound bound kept.listeners kept.listeners _ w (with_times w times) key _ (omega arith)
+      (λ n e. SameOf-lists bound kept.listeners w (with_times w times) n refl refl refl refl refl refl) (s.sources key);
+  few = s.few;
+  count = s.count;
+  live = s.live;
+  given = s.given;
+  unused = λ serial lt. NothingOf-lists w (with_times w times) serial refl refl refl refl refl refl (s.unused serial lt);
+  listeners = λ number. ListenerStands-same bound bound w (with_times w times) _ _ (omega arith) (λ p lt. refl) (λ r e. refl) (s.listeners number);
+  numbers = s.numbers;
+  holds = s.holds;
+  drawn = s.drawn;
+  rounds = s.rounds;
+  ticker = s.ticker;
+  begun = s.begun;
+  handled = s.handled;
+  armed = s.armed;
+  entries = s.entries;
+  noted = s.noted;
+  due = s.due;
+  no_wait_fault = s.no_wait_fault;
+  no_interrupt = s.no_interrupt;
+  timing = stands;
+}

@@ -211,7 +211,7 @@ taken_one bound pos kept w key serial s dir stands counted among got there =
       due = stands.due;
       no_wait_fault = stands.no_wait_fault;
       no_interrupt = stands.no_interrupt;
-      registrations = stands.registrations;
+      timing = stands.timing;
     }
 
 -- ## The directions of an event

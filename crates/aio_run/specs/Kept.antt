@@ -1,5 +1,5 @@
 -- What the reactor keeps, and what each of its calls makes of it.
-use Rattle.std.specs.Prelude.{◌≡◌, ℕ, zero, suc, ◌+◌, ◌-◌, Bool, true, false, ◌==◌, nat_le, if◌then◌else◌, List, [], ◌∷◌, ◌++◌, length, take, drop, Option, None, Some, is_none, slice_get, slice_set, option_to_list, Result, Ok, Err}
+use Rattle.std.specs.Prelude.{◌≡◌, ℕ, zero, suc, ◌+◌, ◌-◌, Bool, true, false, not, ◌&&◌, ◌==◌, nat_le, if◌then◌else◌, List, [], ◌∷◌, ◌++◌, length, take, drop, Option, None, Some, is_none, slice_get, slice_set, option_to_list, Result, Ok, Err}
 use Rattle.std.specs.List.{list_any, position_or_len}
 use Rattle.aio_base.specs.declared.names.Key.{Key}
 use Rattle.aio_base.specs.declared.names.Dir.{Dir}
@@ -15,26 +15,30 @@ use Rattle.aio_base.specs.declared.steps.Step.TheVariants as step
 use Rattle.aio_base.specs.declared.steps.Answer.{Answer}
 use Rattle.aio_base.specs.declared.steps.Answer.TheVariants as answer
 use Rattle.aio_base.specs.Devices.{AddOf, RemoveOf, raised}
-use Rattle.aio_base.specs.Machine.{first_fault}
-use Rattle.aio_base.specs.World.{directions}
+use Rattle.aio_base.specs.Machine.{first_fault, is_zero}
+use Rattle.aio_base.specs.Timers.{due_wakers, limit_of}
+use Rattle.aio_base.specs.Trace.{IsPeriod}
+use Rattle.aio_base.specs.World.{directions, is_empty_list}
 use Rattle.aio_listen.specs.declared.ticket.Ticket.{Ticket}
 use Rattle.aio_listen.specs.Listening.{has_ticket}
 use Rattle.aio_script.specs.Script.{Script, cleared, script_arm, with_failure}
 use Rattle.aio_base.specs.declared.outcomes.ArmFault.{ArmFault}
-use Rattle.aio_source.specs.declared.answers.Poll.{Poll}
-use Rattle.aio_source.specs.declared.answers.Poll.TheVariants.{Ready, Pending}
+use Rattle.aio_base.specs.declared.outcomes.Poll.{Poll}
+use Rattle.aio_base.specs.declared.outcomes.Poll.TheVariants.{Ready, Pending}
 use Rattle.aio_source.specs.declared.answers.Listened.{Listened}
 use Rattle.aio_source.specs.Values.{SourceValue}
 use Rattle.aio_source.specs.Rules.{new_source, polling, listening_first, polling_again, unlistened, handling, direction_of, taken_along}
 use Rattle.aio_source.specs.Lent.{arm_of, settled}
 use Rattle.aio_run.specs.declared.registry.Registered.{Registered}
+use Rattle.aio_run.specs.Timing.{Timing, Timed, timing_new, timing_tick, timing_set, timing_end, timing_now, passed}
 
--- the sources by their keys, the listeners by their numbers from 1, the rounds begun, and the poller
+-- the sources by their keys, the listeners by their numbers from 1, the rounds begun, the poller, and the clock with the timers
 pub record Kept : Type 0 where
   pub sources : List (Option SourceValue)
   pub listeners : List (Option Registered)
   pub ticker : ℕ
   pub script : Script
+  pub timing : Timing
 
 -- what a step gives: its answer, its wakes in order, and what is kept after it
 pub record Stepped : Type 0 where
@@ -264,16 +268,32 @@ waited_script script = record script {
   waits = raised script.waits;
 }
 
+-- whether a round makes a second pass over the timers at its end: its wait gave no event, and had time to wait
+abbrev pub passes_again : Option ℕ → List Event → Bool
+passes_again limit events = is_empty_list events && not (is_zero limit)
+
+-- what a round is left with once its events are handled: a second pass where it makes one
+abbrev pub ended_round : Bool → List Waker → Timing → List Waker × Timing
+ended_round second taken timing = if second then (taken ++ due_wakers timing.now timing.book, passed timing) else (taken, timing)
+
+-- a whole round: a pass over the timers, whose wakers are taken first, one wait, each event handled, and a second pass where the round makes one
 abbrev pub kept_react : Kept → Stepped
 kept_react kept =
     let round = kept.ticker + 1 in
     let events = take 1024 kept.script.noted in
-    let h = handle_events round events (record { sources = kept.sources; script = waited_script kept.script; taken = []; fault = Clean }) in
+    let limit = limit_of kept.timing.now kept.timing.book None in
+    let taken = due_wakers kept.timing.now kept.timing.book in
+    let h = handle_events round events (record { sources = kept.sources; script = waited_script kept.script; taken = taken; fault = Clean }) in
+    let ended = ended_round (passes_again limit events) h.taken (passed kept.timing) in
     record {
       answer = answer.Round round (length events) h.fault;
-      wakes = h.taken;
-      kept = record kept { sources = h.sources; ticker = round; script = h.script };
+      wakes = ended.0;
+      kept = record kept { sources = h.sources; ticker = round; script = h.script; timing = ended.1 };
     }
+
+-- a call on the clock and the timers
+abbrev pub kept_timed : Kept → Timed → Stepped
+kept_timed kept timed = quiet timed.answer (record kept { timing = timed.timing })
 
 -- the calls of the poller whose failure can be told: all but its waits
 abbrev pub IsTellable : Which → Type 0
@@ -290,6 +310,14 @@ IsRun (step.Poll key dir waker) = Unit {0}
 IsRun (step.New key dir) = Unit {0}
 IsRun (step.StepEar number waker) = Unit {0}
 IsRun (step.DropEar number) = Unit {0}
+IsRun (step.TimerAt deadline) = Unit {0}
+IsRun (step.TimerEvery deadline period) = IsPeriod period
+IsRun step.TimerNever = Unit {0}
+IsRun (step.Tick number waker) = Unit {0}
+IsRun (step.SetAt number deadline) = Unit {0}
+IsRun (step.SetEvery number deadline period) = IsPeriod period
+IsRun (step.End number) = Unit {0}
+IsRun (step.Now moment) = Unit {0}
 IsRun (step.Note event) = Unit {0}
 IsRun (step.Fault which) = IsTellable which
 IsRun step.React = Unit {0}
@@ -303,6 +331,14 @@ StepsKept kept (step.Poll key dir waker) stepped = stepped ≡ kept_poll kept ke
 StepsKept kept (step.New key dir) stepped = stepped ≡ kept_new kept key dir
 StepsKept kept (step.StepEar number waker) stepped = StepsListener kept number waker stepped
 StepsKept kept (step.DropEar number) stepped = stepped ≡ kept_drop kept number
+StepsKept kept (step.TimerAt deadline) stepped = stepped ≡ kept_timed kept (timing_new kept.timing (Some deadline) None)
+StepsKept kept (step.TimerEvery deadline period) stepped = stepped ≡ kept_timed kept (timing_new kept.timing (Some deadline) (Some period))
+StepsKept kept step.TimerNever stepped = stepped ≡ kept_timed kept (timing_new kept.timing None None)
+StepsKept kept (step.Tick number waker) stepped = stepped ≡ kept_timed kept (timing_tick kept.timing number waker)
+StepsKept kept (step.SetAt number deadline) stepped = stepped ≡ kept_timed kept (timing_set kept.timing number deadline None)
+StepsKept kept (step.SetEvery number deadline period) stepped = stepped ≡ kept_timed kept (timing_set kept.timing number deadline (Some period))
+StepsKept kept (step.End number) stepped = stepped ≡ kept_timed kept (timing_end kept.timing number)
+StepsKept kept (step.Now moment) stepped = stepped ≡ kept_timed kept (timing_now kept.timing moment)
 StepsKept kept (step.Note event) stepped = stepped ≡ kept_note kept event
 StepsKept kept (step.Fault which) stepped = stepped ≡ kept_fault kept which
 StepsKept kept step.React stepped = stepped ≡ kept_react kept

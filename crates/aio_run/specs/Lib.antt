@@ -1,4 +1,5 @@
 pub mod Commands
+pub mod Hosting
 pub mod Kept
 pub mod Places
 pub mod Reactors
@@ -6,4 +7,8 @@ pub mod Reading
 pub mod Session
 pub mod Steps
 pub mod Ties
+pub mod Times
+pub mod Timing
+pub mod Timings
+pub mod Within
 pub mod Writing

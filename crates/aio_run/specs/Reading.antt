@@ -2,7 +2,7 @@
 use Rattle.std.specs.Prelude.{◌≡◌, ℕ, List, [], ◌∷◌, Option, None, Some, codes, bytes_eq, if◌then◌else◌}
 use Rattle.aio_base.specs.declared.steps.Step.{Step}
 use Rattle.aio_base.specs.declared.steps.Step.TheVariants as step
-use Rattle.aio_base.specs.Trace.{words_of, alone, del_of, poll_of, new_of, listener_poll_of, drop_of, event_of, fault_of}
+use Rattle.aio_base.specs.Trace.{words_of, alone, del_of, poll_of, new_of, listener_poll_of, drop_of, timer_of, tick_of, set_of, end_of, now_of, event_of, fault_of}
 use Rattle.aio_run.specs.declared.reading.Command.{Command}
 use Rattle.aio_run.specs.declared.reading.Command.TheVariants as command
 
@@ -29,7 +29,12 @@ command_named word =
     else (if bytes_eq word (codes "new") then Some command.New
     else (if bytes_eq word (codes "step") then Some command.Step
     else (if bytes_eq word (codes "drop") then Some command.Drop
-    else (if bytes_eq word (codes "fault") then Some command.Fault else None))))))))
+    else (if bytes_eq word (codes "tick") then Some command.Tick
+    else (if bytes_eq word (codes "timer") then Some command.Timer
+    else (if bytes_eq word (codes "set") then Some command.Set
+    else (if bytes_eq word (codes "end") then Some command.End
+    else (if bytes_eq word (codes "now") then Some command.Now
+    else (if bytes_eq word (codes "fault") then Some command.Fault else None)))))))))))))
 
 -- the step of a line with this command and these further words
 abbrev pub step_of : Command → List (List ℕ) → Option Step
@@ -41,4 +46,9 @@ step_of command.Del places = del_of places
 step_of command.New places = new_of places
 step_of command.Step places = listener_poll_of places
 step_of command.Drop places = drop_of places
+step_of command.Timer places = timer_of places
+step_of command.Tick places = tick_of places
+step_of command.Set places = set_of places
+step_of command.End places = end_of places
+step_of command.Now places = now_of places
 step_of command.Fault places = fault_of places

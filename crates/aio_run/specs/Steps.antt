@@ -11,6 +11,7 @@ use Rattle.aio_run.specs.declared.ends.End.{End}
 use Rattle.aio_run.specs.declared.ends.End.TheVariants as ends
 use Rattle.aio_run.specs.Kept.{Kept}
 use Rattle.aio_run.specs.Ties.{StandsFor}
+use Rattle.aio_run.specs.Timing.{no_timing}
 use Rattle.aio_run.specs.Session.{Unread, LeavesAllBut, EndsSo, bytes_of_end}
 
 -- these steps in front of a trace
@@ -34,7 +35,7 @@ pub record Standing (input : List ℕ) (told out_old out_new : Option (List ℕ)
 pub record Opens (ahead text : List ℕ) (kept : Kept) : Type 0 where
   pub nothing_ahead : ahead ≡ []
   pub no_text : text ≡ []
-  pub fresh : kept ≡ record { sources = []; listeners = []; ticker = 0; script = new_script }
+  pub fresh : kept ≡ record { sources = []; listeners = []; ticker = 0; script = new_script; timing = no_timing }
 
 -- a step was run and its reply stands at the end of the text, from whatever world what was kept stands for
 abbrev pub Answers : Step → Kept → Kept → List ℕ → List ℕ → Type 0

@@ -17,6 +17,7 @@ use Rattle.aio_source.specs.Values.{DirectionValue, SourceValue}
 use Rattle.aio_source.specs.Rules.{direction_of}
 use Rattle.aio_run.specs.declared.registry.Registered.{Registered}
 use Rattle.aio_run.specs.Kept.{Kept, Stepped, source_at, listener_at}
+use Rattle.aio_run.specs.Times.{TimersStand, times_of}
 
 -- each position is below a bound
 abbrev pub AllBelow : ℕ → List ℕ → Type 0
@@ -145,7 +146,7 @@ pub record DueStands (due : Due) (told : DueFaults) : Type 0 where
   pub wait : told.wait ≡ due.wait
   pub interrupt : told.interrupt ≡ due.interrupt
 
--- What is kept stands for the world, all of whose positions are below a bound. The lines that are built make no timer, and fail no wait.
+-- What is kept stands for the world, all of whose positions are below a bound. The lines that are built fail no wait.
 pub record Stands (bound : ℕ) (kept : Kept) (w : World) : Type 0 where
   pub sources : (key : ℕ) → PlaceStands bound kept.listeners (source_at kept.sources key) w key (serial_of w key)
   pub few : length kept.sources ≤ 4096
@@ -167,7 +168,7 @@ pub record Stands (bound : ℕ) (kept : Kept) (w : World) : Type 0 where
   pub due : DueStands kept.script.due w.due
   pub no_wait_fault : kept.script.due.wait ≡ false
   pub no_interrupt : kept.script.due.interrupt ≡ false
-  pub registrations : w.registrations ≡ []
+  pub timing : TimersStand kept.timing (times_of w)
 
 -- what is kept stands for the world between two steps
 abbrev pub StandsFor : Kept → World → Type 0

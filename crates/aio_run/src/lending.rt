@@ -1,6 +1,6 @@
 //! Calls on one source of the reactor, with the poller that it is lent.
 
-ghost use Rattle.std.specs.Prelude.{◌≡◌, ◌++◌, ◌+◌, Some, OnOk, OnErr, IfOk, false, option_to_list, length, vec_len, vec_capacity};
+ghost use Rattle.std.specs.Prelude.{◌≡◌, ◌++◌, ◌+◌, ◌-◌, ◌^◌, ◌<◌, Some, OnOk, OnErr, IfOk, false, option_to_list, length, vec_len, vec_capacity};
 ghost use Rattle.aio_base.specs.World.{directions};
 ghost use Rattle.aio_listen.specs.Listening.{Holds};
 ghost use Rattle.aio_source.specs.Rules.{polling, listening_first, polling_again, handling, direction_of, taken_along};
@@ -55,8 +55,8 @@ fn poll_answer(answer: Poll<Result<(), aio_base::ArmFault>>) -> Answer
     }
 }
 
-/// Polls a direction of a source by a listener for the first time. `Err` where there is no memory, or
-/// no ticket, for it; then all is as it was.
+/// Polls a direction of a source by a listener for the first time. `Err` where there is no memory for
+/// it; then all is as it was.
 #[tactic(auto, using(crate::proofs::LendingLemmas::lend_key, crate::proofs::LendingLemmas::lend_wait, crate::proofs::LendingLemmas::lend_interrupt))]
 pub(crate) fn listen_first(
     source: &mut SourceState,
@@ -65,6 +65,7 @@ pub(crate) fn listen_first(
     waker: Waker,
     ticker: u64,
 ) -> Result<(Answer, Listened), AllocError>
+    requires { (direction_of source.old.directions dir).listeners.drawn < 2 ^ 64 - 1 }
     ensures first { IfOk result (λ r. let p = listening_first source.old dir waker (Some r.1.ticket) in let l = lend p.arms p.source poller.old in
         (r.0 ≡ armed_answer l.answer) × (source.new ≡ l.source) × (poller.new ≡ l.script)) }
     ensures remembers { IfOk result (λ r. (r.1.a ≡ ticker) × (r.1.b ≡ (direction_of source.old.directions dir).tick)) }
@@ -77,7 +78,7 @@ pub(crate) fn listen_first(
     match source.first_listen(poller, dir, waker, ticker) {
         Ok(listened) => Ok((Answer::Pending, listened)),
         Err(ListenRefusal::ArmFault { listened, .. }) => Ok((Answer::FaultArm, listened)),
-        Err(ListenRefusal::TicketsSpent) => Err(AllocError),
+        Err(ListenRefusal::TicketsSpent) => unreachable!(),
         Err(ListenRefusal::OutOfMemory) => Err(AllocError),
     }
 }

@@ -1,5 +1,5 @@
-//! The reactor of the replayer: sources by key, listeners by number, the rounds begun, and the poller
-//! in memory.
+//! The reactor of the replayer: sources by key, listeners by number, the rounds begun, the poller in
+//! memory, and the clock with the timers.
 //!
 //! A plain value: freshness is remembered numbers, never a search of the past.
 
@@ -10,17 +10,16 @@ ghost use Rattle.aio_run.specs.Places.{AreKeyed};
 use crate::lending::{Polled, listen_again, listen_first, poll_source};
 use crate::places::{fill_place, first_free_place, reserve_place};
 use crate::registry::{Registered, find_listener, has_listener};
-use crate::round::handle_all;
-use aio_base::{Answer, Arm, Dir, Event, EventWait, Key, OutOfMemory, Step, Waker, Which};
+use crate::round::{WAIT_ROOM, begin_and_wait, handle_all};
+use crate::schedule::Schedule;
+use aio_base::{Answer, Arm, Dir, Event, Key, OutOfMemory, Step, Waker, Which};
+use aio_future::Timer;
 use aio_script::ScriptPoller;
 use aio_source::{Listened, SourceState};
 use std::alloc::{AllocError, Global};
 
 /// How many sources can be live.
 const SOURCE_LIMIT: usize = 4096;
-
-/// How many events one wait gives at most.
-const WAIT_ROOM: u32 = 1024;
 
 /// A reactor over the poller in memory. No wait of that poller is told to fail.
 #[derive(Drop)]
@@ -32,6 +31,7 @@ pub(crate) struct Reactor {
     pub listeners: Vec<Option<Registered>>,
     pub ticker: u64,
     pub events: Vec<Event>,
+    pub schedule: Schedule,
     pub alloc: Global,
     ghost no_wait_fault: { poller.due.wait ≡ false },
     ghost no_interrupt: { poller.due.interrupt ≡ false },
@@ -47,6 +47,9 @@ impl Reactor {
     ghost use Rattle.aio_script.specs.Script.{new_script};
     ghost use Rattle.aio_run.specs.Kept.{source_at, kept_add, kept_del, kept_poll, kept_new, kept_drop, kept_note, kept_fault, kept_react, StepsListener, SteppedBy, given_up, IsRun, StepsKept};
     ghost use Rattle.aio_run.specs.Reactors.{kept_of};
+    ghost use Rattle.aio_run.specs.Timing.{no_timing};
+    ghost use Rattle.aio_run.specs.Timings.{timing_of};
+    ghost use Rattle.aio_run.specs.Within.{IsWithin};
 
     /// A reactor with no source. `AllocError` where there is no memory for its poller.
     pub(crate) fn new(alloc: Global) -> Result<Reactor, AllocError>
@@ -54,6 +57,7 @@ impl Reactor {
         ensures listeners { IfOk result (λ r. r.listeners.items ≡ []) }
         ensures ticker { IfOk result (λ r. r.ticker ≡ 0) }
         ensures poller { IfOk result (λ r. r.poller ≡ new_script) }
+        ensures schedule { IfOk result (λ r. timing_of r.schedule ≡ no_timing) }
     {
         let events = Vec::with_capacity(alloc, WAIT_ROOM as usize)?;
         match ScriptPoller::new(alloc) {
@@ -64,6 +68,7 @@ impl Reactor {
                 listeners: Vec::new(alloc),
                 ticker: 0,
                 events,
+                schedule: Schedule::new(alloc),
                 alloc,
             }),
             Err(OutOfMemory) => Err(AllocError),
@@ -73,8 +78,7 @@ impl Reactor {
     /// Adds a source under the least key that is not in use. `AllocError` where there is no memory
     /// for it, and then the poller was not asked.
     fn add(&mut self) -> Result<Answer, AllocError>
-        ensures ticker { self.new.ticker ≡ self.old.ticker }
-        ensures step { IfOk result (λ answer. record { answer = answer; wakes = []; kept = kept_of self.new } ≡ kept_add (kept_of self.old)) }
+        ensures { IfOk result (λ answer. record { answer = answer; wakes = []; kept = kept_of self.new } ≡ kept_add (kept_of self.old)) }
     {
         let at = first_free_place(self.sources.as_slice(), self.first_free);
         if at >= SOURCE_LIMIT {
@@ -92,8 +96,7 @@ impl Reactor {
 
     /// Takes a source out, unless a listener of it lives.
     fn del(&mut self, key: Key) -> Answer
-        ensures ticker { self.new.ticker ≡ self.old.ticker }
-        ensures step { record { answer = result; wakes = []; kept = kept_of self.new } ≡ kept_del (kept_of self.old) key }
+        ensures { record { answer = result; wakes = []; kept = kept_of self.new } ≡ kept_del (kept_of self.old) key }
     {
         if !self.is_live(key) {
             return Answer::NoSource;
@@ -112,8 +115,7 @@ impl Reactor {
 
     /// Polls a direction of a source with a waker (`async-io` 2, `reactor.rs`, `poll_ready`).
     fn poll(&mut self, key: Key, dir: Dir, waker: Waker) -> Polled
-        ensures ticker { self.new.ticker ≡ self.old.ticker }
-        ensures step { record { answer = result.answer; wakes = option_to_list result.replaced; kept = kept_of self.new } ≡ kept_poll (kept_of self.old) key dir waker }
+        ensures { record { answer = result.answer; wakes = option_to_list result.replaced; kept = kept_of self.new } ≡ kept_poll (kept_of self.old) key dir waker }
     {
         let at = key.0 as usize;
         if at >= self.sources.len() {
@@ -127,8 +129,7 @@ impl Reactor {
 
     /// Makes a listener of a direction of a source.
     fn new_listener(&mut self, key: Key, dir: Dir) -> Result<Answer, AllocError>
-        ensures ticker { self.new.ticker ≡ self.old.ticker }
-        ensures step { IfOk result (λ answer. record { answer = answer; wakes = []; kept = kept_of self.new } ≡ kept_new (kept_of self.old) key dir) }
+        ensures { IfOk result (λ answer. record { answer = answer; wakes = []; kept = kept_of self.new } ≡ kept_new (kept_of self.old) key dir) }
     {
         if !self.is_live(key) {
             return Ok(Answer::NoSource);
@@ -141,11 +142,10 @@ impl Reactor {
         Ok(Answer::Listener(self.listeners.len() as u64))
     }
 
-    /// Polls a listener with a waker. `AllocError` where its first poll finds no memory, or no ticket,
-    /// for it.
+    /// Polls a listener with a waker. `AllocError` where its first poll finds no memory for it.
     fn step_listener(&mut self, number: u32, waker: Waker) -> Result<Answer, AllocError>
-        ensures ticker { self.new.ticker ≡ self.old.ticker }
-        ensures step { IfOk result (λ answer. StepsListener (kept_of self.old) number waker (record { answer = answer; wakes = []; kept = kept_of self.new })) }
+        requires { IsWithin 1000000 (kept_of self.old) }
+        ensures { IfOk result (λ answer. StepsListener (kept_of self.old) number waker (record { answer = answer; wakes = []; kept = kept_of self.new })) }
     {
         match find_listener(self.listeners.as_slice(), number) {
             None => Ok(Answer::NoListener),
@@ -163,9 +163,9 @@ impl Reactor {
         registered: Registered,
         waker: Waker,
     ) -> Result<Answer, AllocError>
-        requires { (1 ≤ number) × (number ≤ vec_len self.old.listeners) }
-        ensures ticker { self.new.ticker ≡ self.old.ticker }
-        ensures step { IfOk result (λ answer. SteppedBy (kept_of self.old) number waker registered None (source_at self.old.sources.items registered.key.0)
+        requires within { IsWithin 1000000 (kept_of self.old) }
+        requires number { (1 ≤ number) × (number ≤ vec_len self.old.listeners) }
+        ensures { IfOk result (λ answer. SteppedBy (kept_of self.old) number waker registered None (source_at self.old.sources.items registered.key.0)
             (record { answer = answer; wakes = []; kept = kept_of self.new })) }
     {
         let at = registered.key.0 as usize;
@@ -194,8 +194,7 @@ impl Reactor {
 
     /// A later poll of a listener.
     fn step_again(&mut self, registered: Registered, listened: Listened, waker: Waker) -> Answer
-        ensures ticker { self.new.ticker ≡ self.old.ticker }
-        ensures step { (number : ℕ) → SteppedBy (kept_of self.old) number waker registered (Some listened) (source_at self.old.sources.items registered.key.0)
+        ensures { (number : ℕ) → SteppedBy (kept_of self.old) number waker registered (Some listened) (source_at self.old.sources.items registered.key.0)
             (record { answer = result; wakes = []; kept = kept_of self.new }) }
     {
         let at = registered.key.0 as usize;
@@ -215,8 +214,7 @@ impl Reactor {
 
     /// Gives up a listener, whose number stays taken.
     fn drop_listener(&mut self, number: u32) -> Answer
-        ensures ticker { self.new.ticker ≡ self.old.ticker }
-        ensures step { record { answer = result; wakes = []; kept = kept_of self.new } ≡ kept_drop (kept_of self.old) number }
+        ensures { record { answer = result; wakes = []; kept = kept_of self.new } ≡ kept_drop (kept_of self.old) number }
     {
         match find_listener(self.listeners.as_slice(), number) {
             None => Answer::NoListener,
@@ -257,8 +255,7 @@ impl Reactor {
 
     /// Notes an event for the next wait.
     fn note(&mut self, event: Event) -> Result<Answer, AllocError>
-        ensures ticker { self.new.ticker ≡ self.old.ticker }
-        ensures step { IfOk result (λ answer. record { answer = answer; wakes = []; kept = kept_of self.new } ≡ kept_note (kept_of self.old) event) }
+        ensures { IfOk result (λ answer. record { answer = answer; wakes = []; kept = kept_of self.new } ≡ kept_note (kept_of self.old) event) }
     {
         match self.poller.give(event) {
             Ok(()) => Ok(Answer::Noted),
@@ -269,25 +266,29 @@ impl Reactor {
     /// Tells the poller to fail its next call of this kind, which is none of its waits.
     fn fail_next(&mut self, which: Which) -> Answer
         requires { which ≢ Which.Wait }
-        ensures ticker { self.new.ticker ≡ self.old.ticker }
-        ensures step { record { answer = result; wakes = []; kept = kept_of self.new } ≡ kept_fault (kept_of self.old) which }
+        ensures { record { answer = result; wakes = []; kept = kept_of self.new } ≡ kept_fault (kept_of self.old) which }
     {
         self.poller.fail_next(which);
         Answer::Noted
     }
 
-    /// A whole round: one wait, each event of it handled, and the wakers that were taken at the end of
-    /// `wakes`, to be woken in order (`async-io` 2, `reactor.rs`, `ReactorLock::react`). `AllocError`
-    /// where there is no memory for the wakers.
+    /// A whole round: a pass over the timers, one wait, each event of it handled, and a second pass
+    /// where the wait gave no event and had time to wait. The wakers that were taken stand in `wakes`,
+    /// to be woken in order (`async-io` 2, `reactor.rs`, `ReactorLock::react`). `AllocError` where
+    /// there is no memory for the wakers.
     fn react(&mut self, wakes: &mut Vec<Waker>) -> Result<Answer, AllocError>
         requires rounds { self.old.ticker < 2 ^ 64 - 1 }
         requires none { wakes.old.items ≡ [] }
-        ensures ticker { self.new.ticker ≡ self.old.ticker + 1 }
-        ensures step { IfOk result (λ answer. record { answer = answer; wakes = wakes.new.items; kept = kept_of self.new } ≡ kept_react (kept_of self.old)) }
+        ensures { IfOk result (λ answer. record { answer = answer; wakes = wakes.new.items; kept = kept_of self.new } ≡ kept_react (kept_of self.old)) }
     {
         self.ticker += 1;
-        self.events.clear();
-        self.poller.wait(&mut self.events, WAIT_ROOM, None).unwrap();
+        let (limit, waited) = begin_and_wait(
+            &mut self.schedule,
+            &mut self.poller,
+            &mut self.events,
+            wakes,
+        )?;
+        waited.unwrap();
         let events = self.events.as_slice();
         let end = handle_all(
             &mut self.poller,
@@ -296,6 +297,7 @@ impl Reactor {
             self.ticker,
             wakes,
         )?;
+        self.schedule.finish(limit, events, wakes)?;
         Ok(Answer::Round {
             number: self.ticker,
             events: events.len() as u32,
@@ -304,12 +306,11 @@ impl Reactor {
     }
 
     /// Runs a step: its answer, and its wakes in order in place of what `wakes` held. `AllocError`
-    /// where memory ran out, or where a listener's first poll finds no ticket.
+    /// where memory ran out. A trace is too short to spend rounds, tickets or ids.
     pub(crate) fn step(&mut self, step: &Step, wakes: &mut Vec<Waker>) -> Result<Answer, AllocError>
         requires run { IsRun step.now }
-        requires rounds { self.old.ticker < 2 ^ 64 - 1 }
-        ensures step { IfOk result (λ answer. StepsKept (kept_of self.old) step.now (record { answer = answer; wakes = wakes.new.items; kept = kept_of self.new })) }
-        ensures ticker { self.new.ticker ≤ self.old.ticker + 1 }
+        requires within { IsWithin 1000000 (kept_of self.old) }
+        ensures { IfOk result (λ answer. StepsKept (kept_of self.old) step.now (record { answer = answer; wakes = wakes.new.items; kept = kept_of self.new })) }
     {
         wakes.clear();
         match *step {
@@ -325,6 +326,16 @@ impl Reactor {
             Step::New(key, dir) => self.new_listener(key, dir),
             Step::StepEar(number, waker) => self.step_listener(number, waker),
             Step::DropEar(number) => Ok(self.drop_listener(number)),
+            Step::TimerAt(deadline) => self.schedule.add(Timer::at(deadline)),
+            Step::TimerEvery(first, period) => self.schedule.add(Timer::every(first, period)),
+            Step::TimerNever => self.schedule.add(Timer::never()),
+            Step::Tick(number, waker) => self.schedule.tick(number, waker),
+            Step::SetAt(number, deadline) => self.schedule.set_at(number, deadline),
+            Step::SetEvery(number, first, period) => {
+                self.schedule.set_every(number, first, period)
+            }
+            Step::End(number) => Ok(self.schedule.end(number)),
+            Step::Now(moment) => Ok(self.schedule.set_clock(moment)),
             Step::Note(event) => self.note(event),
             Step::Fault(which) => Ok(self.fail_next(which)),
             Step::React => self.react(wakes),

@@ -1,12 +1,15 @@
 //! Reading the step that a line spells. It takes no memory, and looks at each byte a constant number
 //! of times.
 
-ghost use Rattle.std.specs.Prelude.{◌≡◌, [], ◌∷◌, MatchOption};
+ghost use Rattle.std.specs.Prelude.{◌≡◌, ◌+◌, ◌^◌, ◌≤◌, [], ◌∷◌, MatchOption};
 ghost use Rattle.std.specs.Option.{option_copied};
-ghost use Rattle.aio_base.specs.Trace.{alone, del_of, dir_of, drop_of, event_of, fault_named, fault_of, flags_named, listener_poll_of, new_of, number_of, poll_of, words_of, written_step};
+ghost use Rattle.aio_base.specs.Trace.{alone, del_of, dir_of, drop_of, end_of, event_of, fault_named, fault_of, flags_named, listener_poll_of, moment_of, new_of, now_of, number_below, number_of, period_of, poll_of, set_of, tick_of, timer_of, words_of, written_step};
 ghost use Rattle.aio_run.specs.Reading.{HasMore, command_named, step_of, words_behind};
 
-use aio_base::{Dir, Event, Interest, Key, Step, Waker, Which};
+use aio_base::{Dir, Event, Interest, Key, Moment, Step, Waker, Which};
+
+/// The last moment, in nanoseconds.
+const LAST_MOMENT: u64 = 1_000_000_000_000_000_000;
 
 /// The commands of the lines that are built.
 #[derive(Clone, Copy)]
@@ -17,6 +20,11 @@ enum Command {
     New,
     Step,
     Drop,
+    Timer,
+    Tick,
+    Set,
+    End,
+    Now,
     Event,
     Fault,
     React,
@@ -44,6 +52,11 @@ fn read_command(word: &[u8]) -> Option<Command>
         b"new" => Some(Command::New),
         b"step" => Some(Command::Step),
         b"drop" => Some(Command::Drop),
+        b"tick" => Some(Command::Tick),
+        b"timer" => Some(Command::Timer),
+        b"set" => Some(Command::Set),
+        b"end" => Some(Command::End),
+        b"now" => Some(Command::Now),
         b"fault" => Some(Command::Fault),
         _ => None,
     }
@@ -62,6 +75,11 @@ fn read_places(command: Command, places: Option<&[u8]>) -> Option<Step>
         Command::New => read_new(places?),
         Command::Step => read_listener_poll(places?),
         Command::Drop => read_drop(places?),
+        Command::Timer => read_timer(places?),
+        Command::Tick => read_tick(places?),
+        Command::Set => read_set(places?),
+        Command::End => read_end(places?),
+        Command::Now => read_now(places?),
         Command::Fault => read_fault(places?),
     }
 }
@@ -148,6 +166,116 @@ fn read_drop(places: &[u8]) -> Option<Step>
     Some(Step::DropEar(number(listener)?))
 }
 
+/// The step of a line `timer at T`, `timer every T P` or `timer never`, read behind its first word.
+fn read_timer(places: &[u8]) -> Option<Step>
+    ensures { result ≡ timer_of (words_of places.now) }
+{
+    let (choice, rest) = split_word(places);
+    match rest {
+        None => read_timer_never(choice),
+        Some(rest) => {
+            let (moment, period) = split_word(rest);
+            match period {
+                None => read_timer_at(choice, moment),
+                Some(period) => read_timer_every(choice, moment, only_word(period)?),
+            }
+        }
+    }
+}
+
+/// The step of a line `timer never`, by its word behind the first.
+fn read_timer_never(choice: &[u8]) -> Option<Step>
+    ensures { result ≡ timer_of (choice.now ∷ []) }
+{
+    if choice == b"never".as_slice() {
+        Some(Step::TimerNever)
+    } else {
+        None
+    }
+}
+
+/// The step of a line `timer at T`, by its words behind the first.
+fn read_timer_at(choice: &[u8], moment: &[u8]) -> Option<Step>
+    ensures { result ≡ timer_of (choice.now ∷ moment.now ∷ []) }
+{
+    if choice == b"at".as_slice() {
+        Some(Step::TimerAt(read_moment(moment)?))
+    } else {
+        None
+    }
+}
+
+/// The step of a line `timer every T P`, by its words behind the first.
+fn read_timer_every(choice: &[u8], moment: &[u8], period: &[u8]) -> Option<Step>
+    ensures { result ≡ timer_of (choice.now ∷ moment.now ∷ period.now ∷ []) }
+{
+    if choice == b"every".as_slice() {
+        Some(Step::TimerEvery(read_moment(moment)?, read_period(period)?))
+    } else {
+        None
+    }
+}
+
+/// The step of a line `tick N W`, read behind its first word.
+fn read_tick(places: &[u8]) -> Option<Step>
+    ensures { result ≡ tick_of (words_of places.now) }
+{
+    let (timer, waker) = split_word(places);
+    let waker = only_word(waker?)?;
+    Some(Step::Tick(number(timer)?, Waker(number(waker)?)))
+}
+
+/// The step of a line `set N at T` or `set N every T P`, read behind its first word.
+fn read_set(places: &[u8]) -> Option<Step>
+    ensures { result ≡ set_of (words_of places.now) }
+{
+    let (timer, rest) = split_word(places);
+    let (choice, rest) = split_word(rest?);
+    let (moment, period) = split_word(rest?);
+    match period {
+        None => read_set_at(timer, choice, moment),
+        Some(period) => read_set_every(timer, choice, moment, only_word(period)?),
+    }
+}
+
+/// The step of a line `set N at T`, by its words behind the first.
+fn read_set_at(timer: &[u8], choice: &[u8], moment: &[u8]) -> Option<Step>
+    ensures { result ≡ set_of (timer.now ∷ choice.now ∷ moment.now ∷ []) }
+{
+    if choice == b"at".as_slice() {
+        Some(Step::SetAt(number(timer)?, read_moment(moment)?))
+    } else {
+        None
+    }
+}
+
+/// The step of a line `set N every T P`, by its words behind the first.
+fn read_set_every(timer: &[u8], choice: &[u8], moment: &[u8], period: &[u8]) -> Option<Step>
+    ensures { result ≡ set_of (timer.now ∷ choice.now ∷ moment.now ∷ period.now ∷ []) }
+{
+    if choice == b"every".as_slice() {
+        Some(Step::SetEvery(number(timer)?, read_moment(moment)?, read_period(period)?))
+    } else {
+        None
+    }
+}
+
+/// The step of a line `end N`, read behind its first word.
+fn read_end(places: &[u8]) -> Option<Step>
+    ensures { result ≡ end_of (words_of places.now) }
+{
+    let timer = only_word(places)?;
+    Some(Step::End(number(timer)?))
+}
+
+/// The step of a line `now T`, read behind its first word.
+fn read_now(places: &[u8]) -> Option<Step>
+    ensures { result ≡ now_of (words_of places.now) }
+{
+    let moment = only_word(places)?;
+    Some(Step::Now(read_moment(moment)?))
+}
+
 /// The step of a line `event K F`, read behind its first word.
 fn read_event(places: &[u8]) -> Option<Step>
     ensures { result ≡ event_of (words_of places.now) }
@@ -168,11 +296,36 @@ fn read_fault(places: &[u8]) -> Option<Step>
     Some(Step::Fault(read_failing(failing)?))
 }
 
-/// The number below 2^32 whose decimal spelling this word is: no zero stands before another digit.
+/// The key, waker, listener or timer that a word names: the number below 2^32 whose decimal spelling
+/// it is.
 fn number(word: &[u8]) -> Option<u32>
     ensures { result ≡ number_of word.now }
 {
-    if word.len() > 10 || word.is_empty() || (word.len() > 1 && word[0] == b'0') {
+    let number = number_below(word, 1 << 32)?;
+    Some(number as u32)
+}
+
+/// The moment in nanoseconds, at most 10^18, whose decimal spelling a word is.
+fn read_moment(word: &[u8]) -> Option<Moment>
+    ensures { result ≡ moment_of word.now }
+{
+    Moment::new(number_below(word, LAST_MOMENT + 1)?)
+}
+
+/// The period in nanoseconds, 1 to 10^18, whose decimal spelling a word is.
+fn read_period(word: &[u8]) -> Option<u64>
+    ensures { result ≡ period_of word.now }
+{
+    let period = number_below(word, LAST_MOMENT + 1)?;
+    if period > 0 { Some(period) } else { None }
+}
+
+/// The number below a bound whose decimal spelling this word is: no zero stands before another digit.
+fn number_below(word: &[u8], bound: u64) -> Option<u64>
+    requires { bound ≤ 10 ^ 18 + 1 }
+    ensures { result ≡ number_below bound word.now }
+{
+    if word.len() > 19 || word.is_empty() || (word.len() > 1 && word[0] == b'0') {
         return None;
     }
     let mut value: u64 = 0;
@@ -182,7 +335,7 @@ fn number(word: &[u8]) -> Option<u32>
         }
         value = 10 * value + u64::from(*digit - b'0');
     }
-    u32::try_from(value).ok()
+    if value < bound { Some(value) } else { None }
 }
 
 /// The direction that a word names: `r` or `w`.
@@ -280,6 +433,46 @@ mod tests {
     }
 
     #[test]
+    fn lines_of_timers_spell_their_steps(rt: HostRuntime) {
+        let first = Moment::new(0).expect(&rt, "the first moment");
+        let second = Moment::new(1).expect(&rt, "the moment after the first");
+        let last = Moment::new(1_000_000_000_000_000_000).expect(&rt, "the last moment");
+        let longest = 1_000_000_000_000_000_000;
+        for (line, step) in [
+            ("timer at 0", Step::TimerAt(first)),
+            ("timer at 1000000000000000000", Step::TimerAt(last)),
+            ("timer every 0 1", Step::TimerEvery(first, 1)),
+            (
+                "timer every 1 1000000000000000000",
+                Step::TimerEvery(second, longest),
+            ),
+            (
+                "timer every 1000000000000000000 10",
+                Step::TimerEvery(last, 10),
+            ),
+            ("timer never", Step::TimerNever),
+            ("tick 0 4294967295", Step::Tick(0, Waker(4_294_967_295))),
+            ("tick 4294967295 0", Step::Tick(4_294_967_295, Waker(0))),
+            ("set 0 at 1000000000000000000", Step::SetAt(0, last)),
+            ("set 4294967295 at 0", Step::SetAt(4_294_967_295, first)),
+            (
+                "set 0 every 1000000000000000000 1",
+                Step::SetEvery(0, last, 1),
+            ),
+            (
+                "set 4294967295 every 0 1000000000000000000",
+                Step::SetEvery(4_294_967_295, first, longest),
+            ),
+            ("end 0", Step::End(0)),
+            ("end 4294967295", Step::End(4_294_967_295)),
+            ("now 0", Step::Now(first)),
+            ("now 1000000000000000000", Step::Now(last)),
+        ] {
+            assert_eq!(rt; read_step(line.as_bytes()), Some(step), "{line}");
+        }
+    }
+
+    #[test]
     fn other_lines_spell_no_step(rt: HostRuntime) {
         for line in [
             "",
@@ -335,8 +528,54 @@ mod tests {
             "fault add add",
             "faulty add",
             "interrupt",
-            "tick 1 5",
             "wait",
+        ] {
+            assert_eq!(rt; read_step(line.as_bytes()), None, "{line}");
+        }
+    }
+
+    #[test]
+    fn other_lines_of_timers_spell_no_step(rt: HostRuntime) {
+        for line in [
+            "timer",
+            "timer ",
+            "timer at",
+            "timer at ",
+            "timer at 01",
+            "timer at 1000000000000000001",
+            "timer at 1 2",
+            "timer on 1",
+            "timer every 1",
+            "timer every 1 0",
+            "timer every 1 00",
+            "timer every 1 1000000000000000001",
+            "timer every 1 1 1",
+            "timer never 1",
+            "timer never ",
+            "tick",
+            "tick 1",
+            "tick 1 4294967296",
+            "tick 4294967296 1",
+            "tick 1 2 3",
+            "set 1",
+            "set 1 at",
+            "set 1 never",
+            "set 1 at 1 1",
+            "set 1 every 1",
+            "set 1 every 1 0",
+            "set 1 every 1 1 1",
+            "set 4294967296 at 1",
+            "set at 1",
+            "end",
+            "end 1 1",
+            "end 4294967296",
+            "now",
+            "now 1 1",
+            "now 1000000000000000001",
+            "now 9999999999999999999",
+            "now 99999999999999999999",
+            "now 18446744073709551617",
+            "now -1",
         ] {
             assert_eq!(rt; read_step(line.as_bytes()), None, "{line}");
         }

@@ -42,6 +42,7 @@ impl Session {
     ghost use Rattle.aio_run.specs.Steps.{Answers, Standing, LineTaken, GoesOn, Opens};
     ghost use Rattle.aio_run.specs.Kept.{IsRun};
     ghost use Rattle.aio_run.specs.Reactors.{kept_of};
+    ghost use Rattle.aio_run.specs.Within.{IsWithin};
 
     /// A replay that has read nothing. `AllocError` where there is no memory for its parts.
     pub(crate) fn new(alloc: Global) -> Result<Session, AllocError>
@@ -62,10 +63,10 @@ impl Session {
     /// memory ran out; then the text is as it was.
     fn answer(&mut self, step: &Step) -> Result<(), AllocError>
         requires run { IsRun step.now }
-        requires rounds { self.old.reactor.ticker < 2 ^ 64 - 1 }
+        requires within { IsWithin 1000000 (kept_of self.old.reactor) }
         ensures answers { OnOk result (Answers step.now (kept_of self.old.reactor) (kept_of self.new.reactor) self.old.text.items self.new.text.items) }
         ensures kept { OnErr result (self.new.text.items ≡ self.old.text.items) }
-        ensures ticker { self.new.reactor.ticker ≤ self.old.reactor.ticker + 1 }
+        ensures counted { OnOk result ((bound : ℕ) → IsWithin bound (kept_of self.old.reactor) → IsWithin (bound + 1) (kept_of self.new.reactor)) }
         ensures reader { self.new.reader ≡ self.old.reader }
     {
         let answer = self.reactor.step(step, &mut self.wakes)?;
@@ -128,12 +129,12 @@ impl Session {
     ) -> Option<End>
         requires limit { line ≤ 1000000 }
         requires bound { length self.old.reader.ahead ≤ 257 }
-        requires rounds { self.old.reactor.ticker < 2 ^ 64 - 1 }
+        requires within { IsWithin line (kept_of self.old.reactor) }
         ensures goes_on { (all : List ℕ) (first : Option (List ℕ))
             → Standing all (S.remaining input.old) first (K.contents out.old) line self.old.reader.ahead self.old.text.items (kept_of self.old.reactor)
             → GoesOn result all (S.remaining input.new) first (K.contents out.new) (line + 1) self.new.reader.ahead self.new.text.items (kept_of self.new.reactor) }
         ensures bound { length self.new.reader.ahead ≤ 257 }
-        ensures ticker { self.new.reactor.ticker ≤ self.old.reactor.ticker + 1 }
+        ensures within { result ≡ None → IsWithin (line + 1) (kept_of self.new.reactor) }
         ensures read_cause { Causes S.fault_count S.is_sure input.old input.new (goes_on_with is_read_fault result) }
         ensures write_cause { Causes K.fault_count K.is_sure out.old out.new (goes_on_with is_write_fault result) }
     {
@@ -172,11 +173,11 @@ impl Session {
     /// before is written as far as the output takes it.
     fn answer_line<K: Sink>(&mut self, line: u64, out: &mut K) -> Option<End>
         requires limit { line ≤ 1000000 }
-        requires rounds { self.old.reactor.ticker < 2 ^ 64 - 1 }
+        requires within { IsWithin line (kept_of self.old.reactor) }
         ensures goes_on { (input : List ℕ) (told first : Option (List ℕ))
             → LineTaken input told first (K.contents out.old) line self.old.reader.line self.old.reader.ahead self.old.text.items (kept_of self.old.reactor)
             → GoesOn result input told first (K.contents out.new) (line + 1) self.new.reader.ahead self.new.text.items (kept_of self.new.reactor) }
-        ensures ticker { self.new.reactor.ticker ≤ self.old.reactor.ticker + 1 }
+        ensures within { result ≡ None → IsWithin (line + 1) (kept_of self.new.reactor) }
         ensures reader { self.new.reader ≡ self.old.reader }
         ensures reads { goes_on_with is_read_fault result ≡ false }
         ensures cause { Causes K.fault_count K.is_sure out.old out.new (goes_on_with is_write_fault result) }

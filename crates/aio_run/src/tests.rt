@@ -69,7 +69,7 @@ fn run_over<R: Wait + Threads + Sync + Send + Copy + AllocGlobal>(
 }
 
 /// Traces, and what comes of each: its output, its exit status and the text for the user.
-const TRACES: [(&[u8], &[u8], u8, &[u8]); 29] = [
+const TRACES: [(&[u8], &[u8], u8, &[u8]); 30] = [
     (b"trace 1\n", b"", 0, b""),
     (b"trace 1", b"", 0, b""),
     (ORDINARY, ORDINARY_ANSWERS, 0, b""),
@@ -112,6 +112,13 @@ const TRACES: [(&[u8], &[u8], u8, &[u8]); 29] = [
     (
         b"trace 1\nadd\nnew 0 r\nnew 0 r\nnew 0 r\nstep 1 11\nstep 2 12\nstep 3 13\ndrop 2\nnew 0 r\nstep 4 14\nevent 0 r\nreact\nstep 4 14\nstep 4 14\n",
         b"key 0\nlistener 1\nlistener 2\nlistener 3\npending\npending\npending\ndropped\nlistener 4\npending\nnoted\nround 1 events 1 ok\nwake 11\nwake 13\nwake 14\nready\nready\n",
+        0,
+        b"",
+    ),
+    // The order is that of the first polls, and not that of the numbers.
+    (
+        b"trace 1\nadd\nnew 0 r\nnew 0 r\nstep 2 12\nstep 1 11\nevent 0 r\nreact\n",
+        b"key 0\nlistener 1\nlistener 2\npending\npending\nnoted\nround 1 events 1 ok\nwake 12\nwake 11\n",
         0,
         b"",
     ),
@@ -166,6 +173,94 @@ const TRACES: [(&[u8], &[u8], u8, &[u8]); 29] = [
     (b"trace 1\nevent 4294967296 r", b"", 2, b"line 2: stage\n"),
 ];
 
+/// Traces with timers, and what comes of each in the same way.
+const TIMER_TRACES: [(&[u8], &[u8], u8, &[u8]); 13] = [
+    // Timers of one deadline fire in the order in which they were registered.
+    (
+        b"trace 1\ntimer at 150\ntimer at 150\ntick 1 5\ntick 2 4\nnow 150\nreact\n",
+        b"timer 1\ntimer 2\npending\npending\nat 150\nround 1 events 0 ok\nwake 5\nwake 4\n",
+        0,
+        b"",
+    ),
+    // A poll fires one period at most, also where several were missed.
+    (
+        b"trace 1\ntimer every 10 10\nnow 35\ntick 1 5\ntick 1 5\ntick 1 5\ntick 1 5\n",
+        b"timer 1\nat 35\nready 10\nready 20\nready 30\npending\n",
+        0,
+        b"",
+    ),
+    // A period that ends past the last moment is the last one.
+    (
+        b"trace 1\ntimer every 1000000000000000000 1\nnow 1000000000000000000\ntick 1 5\ntick 1 5\n",
+        b"timer 1\nat 1000000000000000000\nready 1000000000000000000\npending\n",
+        0,
+        b"",
+    ),
+    // A timer that is given up fires no more, and its number stays taken.
+    (
+        b"trace 1\ntimer at 50\ntick 1 5\nend 1\nnow 60\nreact\ntick 1 5\n",
+        b"timer 1\npending\nended\nat 60\nround 1 events 0 ok\nno timer\n",
+        0,
+        b"",
+    ),
+    // A timer that is set fires at its new deadline, for the task that waits; the clock stays.
+    (
+        b"trace 1\ntimer at 50\ntick 1 5\nset 1 at 20\ntimer never\ntick 2 6\nset 2 at 20\nnow 20\nreact\ntick 2 6\nnow 19\n",
+        b"timer 1\npending\nset\ntimer 2\npending\nset\nat 20\nround 1 events 0 ok\nwake 5\nready 20\nback 20\n",
+        0,
+        b"",
+    ),
+    // A timer that is set gets a period too.
+    (
+        b"trace 1\ntimer at 50\ntick 1 1\nset 1 every 10 10\nnow 25\ntick 1 1\ntick 1 1\ntick 1 1\n",
+        b"timer 1\npending\nset\nat 25\nready 10\nready 20\npending\n",
+        0,
+        b"",
+    ),
+    // A round wakes for its timers before it wakes for its events; numbers of timers and of listeners
+    // are counted apart.
+    (
+        b"trace 1\nadd\nnew 0 r\nstep 1 1\ntimer at 10\ntick 1 2\nnow 10\nevent 0 r\nreact\n",
+        b"key 0\nlistener 1\npending\ntimer 1\npending\nat 10\nnoted\nround 1 events 1 ok\nwake 2\nwake 1\n",
+        0,
+        b"",
+    ),
+    // The task that polled last is woken, once.
+    (
+        b"trace 1\ntimer at 5\ntick 1 1\ntick 1 2\ntick 1 2\nnow 5\nreact\nreact\ntick 1 3\ntick 1 3\n",
+        b"timer 1\npending\npending\npending\nat 5\nround 1 events 0 ok\nwake 2\nround 2 events 0 ok\nready 5\npending\n",
+        0,
+        b"",
+    ),
+    // A number that no timer has.
+    (
+        b"trace 1\ntick 1 1\nset 0 at 1\nset 4294967295 every 1 1\nend 1\n",
+        b"no timer\nno timer\nno timer\nno timer\n",
+        0,
+        b"",
+    ),
+    (
+        b"trace 1\nnow 1000000000000000000",
+        b"at 1000000000000000000\n",
+        0,
+        b"",
+    ),
+    // Numbers out of their range.
+    (
+        b"trace 1\nnow 1000000000000000001\n",
+        b"",
+        2,
+        b"line 2: stage\n",
+    ),
+    (b"trace 1\ntimer every 1 0\n", b"", 2, b"line 2: stage\n"),
+    (
+        b"trace 1\ntimer never\nset 1 never\n",
+        b"timer 1\n",
+        2,
+        b"line 3: stage\n",
+    ),
+];
+
 #[test]
 fn traces_are_answered_however_they_are_read(rt: HostRuntime) -> Result<(), Fail> {
     for piece in [1, 7, 4096] {
@@ -175,6 +270,19 @@ fn traces_are_answered_however_they_are_read(rt: HostRuntime) -> Result<(), Fail
             assert_eq!(rt; ran.err.bytes(), err, "text for {trace:?}");
             assert_eq!(rt; ran.status.exit, exit, "exit of {trace:?}");
             assert_eq!(rt; ran.status.told, Ok(()), "text for {trace:?}");
+        }
+    }
+    Ok(())
+}
+
+#[test]
+fn timers_fire_in_order_and_once(rt: HostRuntime) -> Result<(), Fail> {
+    for piece in [1, 4096] {
+        for (trace, out, exit, err) in TIMER_TRACES {
+            let ran = run_over(&rt, &["replay"], trace, piece, NOTHING_FAILS)?;
+            assert_eq!(rt; ran.out.bytes(), out, "output of {trace:?}");
+            assert_eq!(rt; ran.err.bytes(), err, "text for {trace:?}");
+            assert_eq!(rt; ran.status.exit, exit, "exit of {trace:?}");
         }
     }
     Ok(())

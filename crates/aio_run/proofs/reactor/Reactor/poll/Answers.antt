@@ -15,13 +15,13 @@ invariant_of-self-clause-keyed c =
     let read = found_at c.args.self.now.sources.items c.args.key.0 c.index_mut.result.now (omega arith) c.index_mut.ensures.value in
     keyed_again _ _ c.in-Some.source _ c.args.self.now.keyed (read ∙ c.in-Some.is) c.poll_source.ensures.key
 
-pub returns-in-Some-clause-step : goal.returns-in-Some-clause-step
-returns-in-Some-clause-step c =
+pub returns-in-Some : goal.returns-in-Some
+returns-in-Some c =
     let read = found_at c.args.self.now.sources.items c.args.key.0 c.index_mut.result.now (omega arith) c.index_mut.ensures.value in
     poll_step (kept_of c.args.self.now) c.args.key c.args.dir c.args.waker _ _ _ _ (read ∙ c.in-Some.is) c.poll_source.ensures.answer c.poll_source.ensures.source c.poll_source.ensures.poller
 
-pub returns-in-None-clause-step : goal.returns-in-None-clause-step
-returns-in-None-clause-step c =
+pub returns-in-None : goal.returns-in-None
+returns-in-None c =
     let read = found_at c.args.self.now.sources.items c.args.key.0 c.index_mut.result.now (omega arith) c.index_mut.ensures.value in
     let at : source_at c.args.self.now.sources.items c.args.key.0 ≡ None = read ∙ c.in-None.is in
     rw (at, c.told-in-None.ensures, set_read _ _ _ c.index_mut.ensures.value)

@@ -26,14 +26,14 @@ invariant_of-self-in-Some-clause-keyed c =
     let read = found_at c.args.self.now.sources.items c.args.registered.key.0 c.index_mut.result.now (omega arith) c.index_mut.ensures.value in
     keyed_again _ _ c.in-Some.source _ c.args.self.now.keyed (read ∙ c.in-Some.is) c.listen_first.ensures.key
 
-pub returns-in_ok-answer-in-Some-clause-step : goal.returns-in_ok-answer-in-Some-clause-step
-returns-in_ok-answer-in-Some-clause-step c =
+pub returns-in_ok-answer-in-Some : goal.returns-in_ok-answer-in-Some
+returns-in_ok-answer-in-Some c =
     let read = found_at c.args.self.now.sources.items c.args.registered.key.0 c.index_mut.result.now (omega arith) c.index_mut.ensures.value in
     first_step (kept_of c.args.self.now) c.args.number c.args.waker c.args.registered c.in-Some.source c.in_ok-answer-in-Some.answer c.in_ok-answer-in-Some.listened
     c.listen_first.new.source c.listen_first.new.poller (read ∙ c.in-Some.is)
     c.in_ok-answer-in-Some.ensures.first c.in_ok-answer-in-Some.ensures.remembers c.in_ok-answer-in-Some.ensures.fresh
 
-pub returns-in-None-clause-step : goal.returns-in-None-clause-step
-returns-in-None-clause-step c =
+pub returns-in-None : goal.returns-in-None
+returns-in-None c =
     let read = found_at c.args.self.now.sources.items c.args.registered.key.0 c.index_mut.result.now (omega arith) c.index_mut.ensures.value in
     unfound_step (kept_of c.args.self.now) c.args.number c.args.waker c.args.registered None _ (read ∙ c.in-None.is) (set_read _ _ _ c.index_mut.ensures.value)

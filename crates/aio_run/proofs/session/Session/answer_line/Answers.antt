@@ -36,3 +36,9 @@ returns-in-Err-flush-clause-goes_on g c = λ input told first taken.
     let some : written_step c.args.self.now.reader.line ≡ Some c.in-Some.step = ap written_step (sym c.line.ensures.value) ∙ sym c.read_step.ensures ∙ c.in-Some.is in
     let after = goes_on input told first _ _ _ _ _ _ _ _ c.in-Some.step taken c.requires.limit some c.in-Ok.ensures.answers in
     stops_between input told first _ _ _ _ _ _ _ after (leaves_more _ _ _ _ (omega (arith, c.requires.limit)) taken.held) c.in-Err-flush.ensures.sends
+
+pub returns-then-len-lt-BLOCK-clause-within : goal.returns-then-len-lt-BLOCK-clause-within
+returns-then-len-lt-BLOCK-clause-within g c = λ none. c.in-Ok.ensures.counted c.args.line c.requires.within
+
+pub returns-in-Ok-flush-clause-within : goal.returns-in-Ok-flush-clause-within
+returns-in-Ok-flush-clause-within g c = λ none. c.in-Ok.ensures.counted c.args.line c.requires.within

@@ -1,7 +1,7 @@
 use Rattle.std.proofs.Common.{◌≡◌, take}
 use Rattle.std.specs.Str.Parse.{AllDigits}
 use Rattle.aio_base.specs.Trace.{value_after}
-use Rattle.aio_run.proofs.reading.number.Given as goal
+use Rattle.aio_run.proofs.reading.number_below.Given as goal
 
 -- the bytes so far are digits, and this is what they stand for
 abbrev pub invariant-loop-digit : goal.invariant-loop-digit
