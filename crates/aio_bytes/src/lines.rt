@@ -1,6 +1,7 @@
 //! A reader of the lines of a source, which holds a bounded number of bytes of it.
 
 ghost use Rattle.std.specs.Prelude.{◌≡◌, ◌+◌, ◌-◌, ◌<◌, ◌≤◌, ◌==◌, ◌++◌, ◌∷◌, [], ◌||◌, ◌↔◌, true, length, take, drop, slice_range, nat_lt, position, IsTrue, IfOk, OnErr};
+ghost use Rattle.std.specs.List.{position_or_len};
 ghost use Rattle.std.specs.Bool.{OnTrue, OnFalse};
 ghost use Rattle.std.specs.Io.KnownBytes.{Keeps, ReadConsumes};
 ghost use Rattle.aio_base.specs.Devices.{HasCause};
@@ -8,8 +9,10 @@ ghost use Rattle.aio_bytes.specs.Held.{HasNoLineFeed, PutsAhead};
 
 use crate::traits::Source;
 use aio_base::Failed;
+use memchr::memchr;
 use std::alloc::{AllocError, Global};
 use std::marker::Model;
+use std::simd::prelude::*;
 
 /// The most bytes of an unfinished line that a reader of lines takes of its source: 257. So a line
 /// may be 256 bytes long before its line feed; where 257 bytes lie ahead and none is a line feed,
@@ -61,6 +64,7 @@ impl LineReader {
     }
 
     /// Whether a whole line lies ahead: then it becomes the line found, without its line feed.
+    #[inline]
     pub fn find_line(&mut self) -> bool
         ensures found { OnTrue result (self.old.ahead ≡ self.new.line ++ 10 ∷ self.new.ahead) }
         ensures first { OnTrue result (HasNoLineFeed self.new.line) }
@@ -163,11 +167,44 @@ impl LineReader {
     }
 }
 
-// The place of the first line feed.
+// How many bytes are compared at once: most lines, with their line feeds, are no longer.
+const NEAR: usize = 32;
+
+// The place of the first line feed, which is mostly near.
+#[inline]
 fn first_line_feed(bytes: &[u8]) -> Option<usize>
     ensures { result ≡ position (λ byte. byte == 10) bytes.now }
 {
-    bytes.iter().position(|byte| *byte == b'\n')
+    if bytes.len() >= NEAR {
+        let len = near_line_feed(bytes);
+        if len < NEAR {
+            return Some(len);
+        }
+    }
+    far_line_feed(bytes)
+}
+
+// The same by a search of any length, where few bytes are held or the line is long.
+#[inline(never)]
+fn far_line_feed(bytes: &[u8]) -> Option<usize>
+    ensures { result ≡ position (λ byte. byte == 10) bytes.now }
+{
+    memchr(b'\n', bytes)
+}
+
+// How many of the first `NEAR` bytes come before the first line feed; all where none of them is one.
+#[inline]
+fn near_line_feed(bytes: &[u8]) -> usize
+    requires { NEAR ≤ length bytes.now }
+    ensures { result ≡ position_or_len (λ byte. byte == 10) (take NEAR bytes.now) }
+{
+    let line_feeds = u8x32::from_slice(bytes)
+        .simd_eq(u8x32::splat(b'\n'))
+        .to_bitmask();
+    if line_feeds == 0 {
+        return NEAR;
+    }
+    line_feeds.trailing_zeros() as usize
 }
 
 // Moves the bytes from `start` to `end` to the front.

@@ -89,13 +89,18 @@ fn joined<S: Source>(alloc: Global, source: &mut S) -> Result<Vec<u8>, AllocErro
 
 #[test]
 fn gives_each_line_of_pieces_of_any_size(rt: HostRuntime) -> Result<(), Fail> {
-    let cases: [(&[u8], &[u8]); 6] = [
+    let cases: [(&[u8], &[u8]); 7] = [
         (b"", b""),
         (b"a\nbb\nccc\n", b"a|bb|ccc|"),
         (b"first\n\nlast", b"first||last"),
         (b"\n\n", b"||"),
         (b"\r\n\x00\xff\n", b"\r|\x00\xff|"),
         (b"no line feed", b"no line feed"),
+        // Lines of 31, 32 and 33 bytes, then one of 3.
+        (
+            b"1234567890123456789012345678901\n12345678901234567890123456789012\n123456789012345678901234567890123\nend\n",
+            b"1234567890123456789012345678901|12345678901234567890123456789012|123456789012345678901234567890123|end|",
+        ),
     ];
     for (text, want) in cases {
         for piece in [1, 2, 3, 5, 300] {
