@@ -10,6 +10,7 @@ pub mod DelFollows
 pub mod DropFollows
 pub mod EndFollows
 pub mod FirstFollows
+pub mod FirstNumber
 pub mod Found
 pub mod Handled
 pub mod IdCounts
@@ -28,6 +29,7 @@ pub mod Order
 pub mod Passes
 pub mod PlaceLemmas
 pub mod PollFollows
+pub mod Prefixes
 pub mod ReactFollows
 pub mod Relisted
 pub mod RoundLemmas

@@ -1,14 +1,14 @@
 -- A step on the clock or a timer: what is kept follows the machine.
-use Rattle.std.proofs.Common.{◌≡◌, ℕ, ◌+◌, [], ◌∷◌, List, Option, None, Some, refl, sym, subst, ap}
+use Rattle.std.proofs.Common.{ℕ, [], None, Some, refl, sym, subst}
 use Rattle.aio_base.specs.declared.names.Waker.{Waker}
 use Rattle.aio_base.specs.declared.steps.Step.{Step}
 use Rattle.aio_base.specs.declared.steps.Step.TheVariants as step
 use Rattle.aio_base.specs.World.{World}
-use Rattle.aio_base.specs.Machine.{Outcome, case_of, new_timer, tick_timer, set_timer, end_timer, set_clock}
+use Rattle.aio_base.specs.Machine.{Outcome, case_of}
 use Rattle.aio_base.specs.Script.{script_answers}
 use Rattle.aio_run.specs.Kept.{Kept, kept_timed}
 use Rattle.aio_run.specs.Ties.{StandsFor, Follows}
-use Rattle.aio_run.specs.Times.{TimingFollows, with_times, times_of}
+use Rattle.aio_run.specs.Times.{TimingFollows, with_times}
 use Rattle.aio_run.specs.Timing.{Timed, timing_new, timing_tick, timing_set, timing_end, timing_now}
 use Rattle.aio_run.proofs.Settling.{Settles, Follows-from, Stands-timed, StandsFor-later}
 use Rattle.aio_run.proofs.EndFollows.{timing_new-follows, timing_end-follows, timing_now-follows}

@@ -1,5 +1,5 @@
 -- A step counts each thing at most once.
-use Rattle.std.proofs.Common.{◌≡◌, ℕ, ◌+◌, ◌≤◌, Bool, true, false, List, [], ◌∷◌, slice_set, Option, None, Some, Result, Ok, Err, refl, sym, subst, arith, lit≤, nat_le}
+use Rattle.std.proofs.Common.{◌≡◌, ℕ, ◌+◌, ◌≤◌, Bool, true, false, List, [], slice_set, Option, None, Some, Result, Ok, Err, refl, sym, subst, arith, nat_le}
 use Rattle.std.specs.Prelude.{if◌then◌else◌, take}
 use Rattle.std.specs.List.{All, list_any}
 use Rattle.std.proofs.lemmas.List.Elements.{All-nil}
@@ -21,7 +21,7 @@ use Rattle.aio_source.specs.declared.answers.Listened.{Listened}
 use Rattle.aio_source.specs.Values.{SourceValue}
 use Rattle.aio_source.specs.Rules.{direction_of, polling, polling_again, unlistened}
 use Rattle.aio_run.specs.declared.registry.Registered.{Registered}
-use Rattle.aio_run.specs.Kept.{Kept, Stepped, lend, quiet, source_at, listener_at, free_key, is_of_source, added, given_up, waited_script, passes_again, ended_round, handle_events, kept_add, kept_del, kept_del_of, kept_poll, kept_poll_of, kept_new, kept_new_of, kept_first, kept_again, kept_drop, kept_drop_of, kept_react, kept_timed, SteppedBy, SteppedOf, StepsListener, StepsKept}
+use Rattle.aio_run.specs.Kept.{Kept, Stepped, lend, quiet, source_at, listener_at, free_key, is_of_source, added, given_up, waited_script, passes_again, ended_round, handle_events, kept_add, kept_del, kept_del_of, kept_poll, kept_poll_of, kept_new, kept_new_of, kept_first, kept_again, kept_drop, kept_drop_of, kept_react, kept_timed, SteppedBy, SteppedOf, StepsKept}
 use Rattle.aio_run.specs.Timing.{Timing, Timed, timing_new, timing_tick, timing_set, timing_end, timing_now, passed}
 use Rattle.aio_run.specs.Within.{PlaceWithin, IsWithin}
 use Rattle.aio_run.proofs.TicketCounts.{within_more, polled_within, first_within, again_within, unlistened_within, set_within, all_more, source_within, placed_within, events_within}

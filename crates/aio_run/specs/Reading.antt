@@ -1,8 +1,9 @@
 -- What the parts of a line say.
-use Rattle.std.specs.Prelude.{◌≡◌, ℕ, List, [], ◌∷◌, Option, None, Some, codes, bytes_eq, if◌then◌else◌}
+use Rattle.std.specs.Prelude.{◌≡◌, ℕ, ◌<◌, ◌≤◌, ◌⊎◌, List, [], ◌∷◌, length, take, slice_index, Option, None, Some, codes, bytes_eq, if◌then◌else◌}
+use Rattle.std.specs.Str.Parse.{AllDigits}
 use Rattle.aio_base.specs.declared.steps.Step.{Step}
 use Rattle.aio_base.specs.declared.steps.Step.TheVariants as step
-use Rattle.aio_base.specs.Trace.{words_of, alone, del_of, poll_of, new_of, listener_poll_of, drop_of, timer_of, tick_of, set_of, end_of, now_of, event_of, fault_of}
+use Rattle.aio_base.specs.Trace.{◌>>=◌, value_after, words_of, number_of, moment_of, period_of, alone, del_of, poll_of, new_of, listener_poll_of, drop_of, timer_of, tick_of, set_of, end_of, now_of, event_of, fault_of}
 use Rattle.aio_run.specs.declared.reading.Command.{Command}
 use Rattle.aio_run.specs.declared.reading.Command.TheVariants as command
 
@@ -17,6 +18,31 @@ pub record HasMore (words : List (List ℕ)) : Type 0 where
   pub second : List ℕ
   pub rest : List (List ℕ)
   pub is : words ≡ first ∷ second ∷ rest
+
+-- The digits at the front of a text, at most ten: how many they are, and what they stand for. No digit follows fewer than ten.
+pub record LeadingDigits (text : List ℕ) (len value : ℕ) : Type 0 where
+  pub few : len ≤ 10
+  pub within : len ≤ length text
+  pub are_digits : AllDigits 10 (take len text)
+  pub stand_for : value ≡ value_after 0 (take len text)
+  pub ends : len < 10 → len < length text → (slice_index text len < 48) ⊎ (57 < slice_index text len)
+
+-- the number that the first word is, and the words behind it
+abbrev pub first_number : List (List ℕ) → Option (ℕ × List (List ℕ))
+first_number [] = None
+first_number (word ∷ words) = number_of word >>= λ n. Some (n, words)
+
+-- the number that the one word is
+abbrev pub one_number : List (List ℕ) → Option ℕ
+one_number (word ∷ []) = number_of word
+one_number _ = None
+
+-- the step of a line that sets this timer, by the words behind the timer
+abbrev pub set_behind : ℕ → List (List ℕ) → Option Step
+set_behind timer (choice ∷ moment ∷ []) = if bytes_eq choice (codes "at") then (moment_of moment >>= λ t. Some (step.SetAt timer t)) else None
+set_behind timer (choice ∷ moment ∷ period ∷ []) =
+    if bytes_eq choice (codes "every") then (moment_of moment >>= λ t. period_of period >>= λ p. Some (step.SetEvery timer t p)) else None
+set_behind timer _ = None
 
 -- the command of a line that begins with this word
 abbrev pub command_named : List ℕ → Option Command

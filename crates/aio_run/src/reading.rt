@@ -1,15 +1,19 @@
 //! Reading the step that a line spells. It takes no memory, and looks at each byte a constant number
-//! of times.
+//! of times. The two commonest lines are told by their first bytes, and what reads them is compiled in
+//! place, so that the step is not copied on its way.
 
-ghost use Rattle.std.specs.Prelude.{◌≡◌, ◌+◌, ◌^◌, ◌≤◌, [], ◌∷◌, MatchOption};
+ghost use Rattle.std.specs.Prelude.{◌≡◌, None, Some, ◌+◌, ◌^◌, ◌≤◌, [], ◌∷◌, MatchOption};
 ghost use Rattle.std.specs.Option.{option_copied};
-ghost use Rattle.aio_base.specs.Trace.{alone, del_of, dir_of, drop_of, end_of, event_of, fault_named, fault_of, flags_named, listener_poll_of, moment_of, new_of, now_of, number_below, number_of, period_of, poll_of, set_of, tick_of, timer_of, words_of, written_step};
-ghost use Rattle.aio_run.specs.Reading.{HasMore, command_named, step_of, words_behind};
+ghost use Rattle.aio_base.specs.Trace.{alone, del_of, dir_of, drop_of, end_of, event_of, fault_named, fault_of, flags_named, listener_poll_of, moment_of, new_of, now_of, number_below, period_of, poll_of, set_of, tick_of, timer_of, words_of, written_step};
+ghost use Rattle.aio_run.specs.Reading.{HasMore, LeadingDigits, command_named, first_number, one_number, set_behind, step_of, words_behind};
 
 use aio_base::{Dir, Event, Interest, Key, Moment, Step, Waker, Which};
 
 /// The last moment, in nanoseconds.
 const LAST_MOMENT: u64 = 1_000_000_000_000_000_000;
+
+/// The most digits of a number below 2^32.
+const NUMBER_DIGITS: usize = 10;
 
 /// The commands of the lines that are built.
 #[derive(Clone, Copy)]
@@ -35,6 +39,13 @@ enum Command {
 pub(crate) fn read_step(line: &[u8]) -> Option<Step>
     ensures { result ≡ written_step line.now }
 {
+    // With nothing behind them these two come to the general case too, which finds no step.
+    if let [b'p', b'o', b'l', b'l', b' ', places @ ..] = line {
+        return read_poll(places);
+    }
+    if let [b'e', b'v', b'e', b'n', b't', b' ', places @ ..] = line {
+        return read_event(places);
+    }
     let (word, places) = split_word(line);
     read_places(read_command(word)?, places)
 }
@@ -122,48 +133,44 @@ fn alone(step: Step, places: Option<&[u8]>) -> Option<Step>
 fn read_del(places: &[u8]) -> Option<Step>
     ensures { result ≡ del_of (words_of places.now) }
 {
-    let key = only_word(places)?;
-    Some(Step::Del(Key(number(key)?)))
+    Some(Step::Del(Key(only_number(places)?)))
 }
 
 /// The step of a line `poll K D W`, read behind its first word.
+#[inline(always)]
 fn read_poll(places: &[u8]) -> Option<Step>
     ensures { result ≡ poll_of (words_of places.now) }
 {
-    let (key, rest) = split_word(places);
+    let (key, rest) = split_number(places)?;
     let (direction, rest) = split_word(rest?);
-    let waker = only_word(rest?)?;
-    Some(Step::Poll(
-        Key(number(key)?),
-        read_direction(direction)?,
-        Waker(number(waker)?),
-    ))
+    let direction = read_direction(direction)?;
+    let waker = only_number(rest?)?;
+    Some(Step::Poll(Key(key), direction, Waker(waker)))
 }
 
 /// The step of a line `new K D`, read behind its first word.
 fn read_new(places: &[u8]) -> Option<Step>
     ensures { result ≡ new_of (words_of places.now) }
 {
-    let (key, rest) = split_word(places);
+    let (key, rest) = split_number(places)?;
     let direction = only_word(rest?)?;
-    Some(Step::New(Key(number(key)?), read_direction(direction)?))
+    Some(Step::New(Key(key), read_direction(direction)?))
 }
 
 /// The step of a line `step N W`, read behind its first word.
 fn read_listener_poll(places: &[u8]) -> Option<Step>
     ensures { result ≡ listener_poll_of (words_of places.now) }
 {
-    let (listener, waker) = split_word(places);
-    let waker = only_word(waker?)?;
-    Some(Step::StepEar(number(listener)?, Waker(number(waker)?)))
+    let (listener, rest) = split_number(places)?;
+    let waker = only_number(rest?)?;
+    Some(Step::StepEar(listener, Waker(waker)))
 }
 
 /// The step of a line `drop N`, read behind its first word.
 fn read_drop(places: &[u8]) -> Option<Step>
     ensures { result ≡ drop_of (words_of places.now) }
 {
-    let listener = only_word(places)?;
-    Some(Step::DropEar(number(listener)?))
+    Some(Step::DropEar(only_number(places)?))
 }
 
 /// The step of a line `timer at T`, `timer every T P` or `timer never`, read behind its first word.
@@ -220,16 +227,16 @@ fn read_timer_every(choice: &[u8], moment: &[u8], period: &[u8]) -> Option<Step>
 fn read_tick(places: &[u8]) -> Option<Step>
     ensures { result ≡ tick_of (words_of places.now) }
 {
-    let (timer, waker) = split_word(places);
-    let waker = only_word(waker?)?;
-    Some(Step::Tick(number(timer)?, Waker(number(waker)?)))
+    let (timer, rest) = split_number(places)?;
+    let waker = only_number(rest?)?;
+    Some(Step::Tick(timer, Waker(waker)))
 }
 
 /// The step of a line `set N at T` or `set N every T P`, read behind its first word.
 fn read_set(places: &[u8]) -> Option<Step>
     ensures { result ≡ set_of (words_of places.now) }
 {
-    let (timer, rest) = split_word(places);
+    let (timer, rest) = split_number(places)?;
     let (choice, rest) = split_word(rest?);
     let (moment, period) = split_word(rest?);
     match period {
@@ -238,23 +245,23 @@ fn read_set(places: &[u8]) -> Option<Step>
     }
 }
 
-/// The step of a line `set N at T`, by its words behind the first.
-fn read_set_at(timer: &[u8], choice: &[u8], moment: &[u8]) -> Option<Step>
-    ensures { result ≡ set_of (timer.now ∷ choice.now ∷ moment.now ∷ []) }
+/// The step of a line `set N at T`, by its timer and the words behind it.
+fn read_set_at(timer: u32, choice: &[u8], moment: &[u8]) -> Option<Step>
+    ensures { result ≡ set_behind timer (choice.now ∷ moment.now ∷ []) }
 {
     if choice == b"at".as_slice() {
-        Some(Step::SetAt(number(timer)?, read_moment(moment)?))
+        Some(Step::SetAt(timer, read_moment(moment)?))
     } else {
         None
     }
 }
 
-/// The step of a line `set N every T P`, by its words behind the first.
-fn read_set_every(timer: &[u8], choice: &[u8], moment: &[u8], period: &[u8]) -> Option<Step>
-    ensures { result ≡ set_of (timer.now ∷ choice.now ∷ moment.now ∷ period.now ∷ []) }
+/// The step of a line `set N every T P`, by its timer and the words behind it.
+fn read_set_every(timer: u32, choice: &[u8], moment: &[u8], period: &[u8]) -> Option<Step>
+    ensures { result ≡ set_behind timer (choice.now ∷ moment.now ∷ period.now ∷ []) }
 {
     if choice == b"every".as_slice() {
-        Some(Step::SetEvery(number(timer)?, read_moment(moment)?, read_period(period)?))
+        Some(Step::SetEvery(timer, read_moment(moment)?, read_period(period)?))
     } else {
         None
     }
@@ -264,8 +271,7 @@ fn read_set_every(timer: &[u8], choice: &[u8], moment: &[u8], period: &[u8]) -> 
 fn read_end(places: &[u8]) -> Option<Step>
     ensures { result ≡ end_of (words_of places.now) }
 {
-    let timer = only_word(places)?;
-    Some(Step::End(number(timer)?))
+    Some(Step::End(only_number(places)?))
 }
 
 /// The step of a line `now T`, read behind its first word.
@@ -277,13 +283,14 @@ fn read_now(places: &[u8]) -> Option<Step>
 }
 
 /// The step of a line `event K F`, read behind its first word.
+#[inline(always)]
 fn read_event(places: &[u8]) -> Option<Step>
     ensures { result ≡ event_of (words_of places.now) }
 {
-    let (key, rest) = split_word(places);
+    let (key, rest) = split_number(places)?;
     let flags = only_word(rest?)?;
     Some(Step::Note(Event {
-        key: Key(number(key)?),
+        key: Key(key),
         on: read_flags(flags)?,
     }))
 }
@@ -296,13 +303,53 @@ fn read_fault(places: &[u8]) -> Option<Step>
     Some(Step::Fault(read_failing(failing)?))
 }
 
-/// The key, waker, listener or timer that a word names: the number below 2^32 whose decimal spelling
-/// it is.
-fn number(word: &[u8]) -> Option<u32>
-    ensures { result ≡ number_of word.now }
+/// The key, waker, listener or timer that a text's first word names, and what follows the space
+/// behind it, `None` where no space follows. `None` where the word is not the decimal spelling of a
+/// number below 2^32.
+#[inline(always)]
+fn split_number(text: &[u8]) -> Option<(u32, Option<&[u8]>)>
+    ensures { MatchOption result (first_number (words_of text.now) ≡ None)
+        (λ r. first_number (words_of text.now) ≡ Some (r.0, words_behind (option_copied r.1))) }
 {
-    let number = number_below(word, 1 << 32)?;
-    Some(number as u32)
+    let (len, value) = leading_digits(text);
+    if len == 0 || (len > 1 && text[0] == b'0') || value > u64::from(u32::MAX) {
+        return None;
+    }
+    if len == text.len() {
+        return Some((value as u32, None));
+    }
+    if text[len] != b' ' {
+        return None;
+    }
+    Some((value as u32, Some(&text[len + 1..])))
+}
+
+/// The key, waker, listener or timer that the one word of a text names; `None` where it names none, or
+/// another word follows.
+#[inline(always)]
+fn only_number(text: &[u8]) -> Option<u32>
+    ensures { result ≡ one_number (words_of text.now) }
+{
+    let (number, rest) = split_number(text)?;
+    match rest {
+        None => Some(number),
+        Some(_) => None,
+    }
+}
+
+/// The digits at the front of a text, at most ten: how many they are, and what they stand for.
+fn leading_digits(text: &[u8]) -> (usize, u64)
+    ensures { LeadingDigits text.now result.0 result.1 }
+{
+    let front = &text[..text.len().min(NUMBER_DIGITS)];
+    let mut value: u64 = 0;
+    for (at, byte) in front.iter().enumerate() {
+        if *byte < b'0' || *byte > b'9' {
+            return (at, value);
+        }
+        value = 10 * value + u64::from(*byte - b'0');
+    }
+    (front.len(), value)
 }
 
 /// The moment in nanoseconds, at most 10^18, whose decimal spelling a word is.
