@@ -70,7 +70,7 @@ impl Session {
         ensures reader { self.new.reader ≡ self.old.reader }
     {
         let answer = self.reactor.step(step, &mut self.wakes)?;
-        push_reply(&mut self.text, &answer, self.wakes.as_slice())?;
+        push_reply(&mut self.text, answer, self.wakes.as_slice())?;
         Ok(())
     }
 
@@ -278,8 +278,32 @@ fn read_more<S: Source, K: Sink>(
     }
 }
 
-/// Finds the next line of the input, or its end, in what is read ahead and in what is read now.
+/// Finds the next line of the input, or its end. The common case, a line that is read ahead, is apart
+/// from those in which more is read.
+#[inline]
 fn next_line<S: Source, K: Sink>(
+    reader: &mut LineReader,
+    text: &mut Vec<u8>,
+    input: &mut S,
+    out: &mut K,
+) -> Result<Next, Stop>
+    requires { length reader.old.ahead ≤ 257 }
+    ensures found { (unread : List ℕ) → Unread (S.remaining input.old) reader.old.ahead unread → FindsNext result (S.remaining input.new) reader.new.line reader.new.ahead unread }
+    ensures bound { length reader.new.ahead ≤ 257 }
+    ensures sends { SendsOrStops result (K.contents out.old) (K.contents out.new) text.old.items text.new.items }
+    ensures read_cause { Causes S.fault_count S.is_sure input.old input.new (stops_with is_read_fault result) }
+    ensures write_cause { Causes K.fault_count K.is_sure out.old out.new (stops_with is_write_fault result) }
+{
+    if reader.find_line() {
+        return Ok(Next::Line);
+    }
+    read_line(reader, text, input, out)
+}
+
+/// Finds the next line of the input, or its end, in what is read ahead and in what is read now. It
+/// looks at what is read ahead once more, so that its clauses stand by themselves.
+#[inline(never)]
+fn read_line<S: Source, K: Sink>(
     reader: &mut LineReader,
     text: &mut Vec<u8>,
     input: &mut S,

@@ -13,10 +13,10 @@ use std::alloc::AllocError;
 /// then `out` is as before.
 pub(crate) fn push_reply(
     out: &mut Vec<u8>,
-    answer: &Answer,
+    answer: Answer,
     wakes: &[Waker],
 ) -> Result<(), AllocError>
-    ensures ok { OnOk result (out.new.items ≡ out.old.items ++ reply_text answer.now wakes.now) }
+    ensures ok { OnOk result (out.new.items ≡ out.old.items ++ reply_text answer wakes.now) }
     ensures err { OnErr result (out.new.items ≡ out.old.items) }
 {
     let written = out.len();
@@ -30,8 +30,8 @@ pub(crate) fn push_reply(
 /// Writes an answer's line and then one line for each wake, maybe a part of them where memory runs
 /// out.
 #[tactic(auto, unfolding(aio_base::specs::Script::reply_text))]
-fn push_lines(out: &mut Vec<u8>, answer: &Answer, wakes: &[Waker]) -> Result<(), AllocError>
-    ensures ok { OnOk result (out.new.items ≡ out.old.items ++ reply_text answer.now wakes.now) }
+fn push_lines(out: &mut Vec<u8>, answer: Answer, wakes: &[Waker]) -> Result<(), AllocError>
+    ensures ok { OnOk result (out.new.items ≡ out.old.items ++ reply_text answer wakes.now) }
     ensures kept { OnErr result (KeepsFront out.old.items out.new.items) }
 {
     push_answer(out, answer)?;
@@ -39,26 +39,42 @@ fn push_lines(out: &mut Vec<u8>, answer: &Answer, wakes: &[Waker]) -> Result<(),
 }
 
 /// Writes one line for each wake.
+#[tactic(auto, unfolding(aio_base::specs::Text::answer_line))]
 fn push_wakes(out: &mut Vec<u8>, wakes: &[Waker]) -> Result<(), AllocError>
     ensures ok { OnOk result (out.new.items ≡ out.old.items
         ++ flat_map (λ waker. ended_line (answer_line (Answer.Wake waker))) wakes.now) }
     ensures kept { OnErr result (KeepsFront out.old.items out.new.items) }
 {
     for waker in wakes {
-        push_answer(out, &Answer::Wake(*waker))?;
+        push_numbered(out, b"wake ", u64::from(waker.0))?;
     }
     Ok(())
 }
 
-/// Writes an answer's line.
-pub(crate) fn push_answer(out: &mut Vec<u8>, answer: &Answer) -> Result<(), AllocError>
-    ensures ok { OnOk result (out.new.items
-        ≡ out.old.items ++ ended_line (answer_line answer.now)) }
+/// Writes an answer's line. The answers that most lines of a trace have come first.
+#[inline]
+#[tactic(auto, unfolding(aio_base::specs::Text::answer_line))]
+fn push_answer(out: &mut Vec<u8>, answer: Answer) -> Result<(), AllocError>
+    ensures ok { OnOk result (out.new.items ≡ out.old.items ++ ended_line (answer_line answer)) }
     ensures kept { OnErr result (KeepsFront out.old.items out.new.items) }
 {
-    match fixed_line(answer) {
+    match answer {
+        Answer::Pending => out.extend_from_slice(b"pending\n"),
+        Answer::Noted => out.extend_from_slice(b"noted\n"),
+        Answer::Ready => out.extend_from_slice(b"ready\n"),
+        _ => push_other_answer(out, answer),
+    }
+}
+
+/// Writes an answer's line, whichever it is: the general case behind the common ones.
+#[inline(never)]
+fn push_other_answer(out: &mut Vec<u8>, answer: Answer) -> Result<(), AllocError>
+    ensures ok { OnOk result (out.new.items ≡ out.old.items ++ ended_line (answer_line answer)) }
+    ensures kept { OnErr result (KeepsFront out.old.items out.new.items) }
+{
+    match fixed_line(&answer) {
         Some(line) => out.extend_from_slice(line),
-        None => push_with_numbers(out, answer),
+        None => push_with_numbers(out, &answer),
     }
 }
 
@@ -320,7 +336,7 @@ mod tests {
             (Answer::Wake(Waker(4_294_967_295)), "wake 4294967295\n"),
         ] {
             let mut out = Vec::new(rt.alloc());
-            push_answer(&mut out, &answer)?;
+            push_answer(&mut out, answer)?;
             assert_eq!(rt; out.as_slice(), line.as_bytes(), "{line}");
         }
         Ok(())
@@ -334,7 +350,7 @@ mod tests {
             events: 1,
             end: EndWord::FaultArm,
         };
-        push_reply(&mut out, &round, &[Waker(2), Waker(1)])?;
+        push_reply(&mut out, round, &[Waker(2), Waker(1)])?;
         push_refusal(&mut out, 12, Reason::Stage)?;
         let want = "round 2 events 1 fault arm\nwake 2\nwake 1\nline 12: stage\n";
         assert_eq!(rt; out.as_slice(), want.as_bytes());

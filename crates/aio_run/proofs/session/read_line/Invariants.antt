@@ -1,6 +1,6 @@
 use Rattle.std.proofs.Common.{◌-◌, ℕ, ◌≤◌, List, length, false}
 use Rattle.aio_run.specs.Session.{Causes, Unread, Sends}
-use Rattle.aio_run.proofs.session.next_line.Given as goal
+use Rattle.aio_run.proofs.session.read_line.Given as goal
 
 -- what was unread still is, a front part of the text is out, and no device has failed
 abbrev pub invariant-loop-reader : goal.invariant-loop-reader

@@ -1,0 +1,46 @@
+use Rattle.std.proofs.Common.{◌≡◌, length, arith, ap, sym, ◌∙◌}
+use Rattle.std.proofs.lemmas.Grind.{common_steps}
+use Rattle.std.specs.List.{list_any}
+use Rattle.aio_bytes.specs.Held.{is_line_feed}
+use Rattle.aio_run.proofs.SessionLemmas.{unread-same, read-none, finds_last, Sends-trans, Sends-part, unread-read, unread-kept, unread-most, takes_line, begins_unread}
+use Rattle.aio_run.proofs.session.read_line.Goals as goal
+
+pub returns-then-find_line-clause-found : goal.returns-then-find_line-clause-found
+returns-then-find_line-clause-found g c = λ unread is.
+    takes_line _ _ _ _ unread (c.loop-reader.invariant.unread unread is) c.if-find_line.ensures.found c.if-find_line.ensures.first c.loop-reader.invariant.bound
+
+pub returns-then-is_full-clause-found : goal.returns-then-is_full-clause-found
+returns-then-is_full-clause-found g c = λ unread is.
+    let stands = c.loop-reader.invariant.unread unread is in
+    (begins_unread _ _ unread stands (ap length (sym c.if-find_line.ensures.kept) ∙ c.is_full.ensures.full.0 c.if-is_full.true) c.if-find_line.ensures.none, unread-most _ _ unread stands c.loop-reader.invariant.bound)
+
+pub returns-in-Ok-eq0-clause-found : goal.returns-in-Ok-eq0-clause-found
+returns-in-Ok-eq0-clause-found g c = λ unread is.
+    let ahead = unread-same _ _ c.find_line.new.self.ahead unread (c.loop-reader.invariant.unread unread is) c.if-find_line.ensures.kept in
+    let read = c.in-Ok-eq0.ensures.read in
+    let zero : c.in-Ok-eq0.field-0 ≡ 0 = cc in
+    let same = read-none _ _ _ _ _ zero read in
+    finds_last _ c.read_more.new.reader.ahead _ _ unread _ (unread-read _ _ _ _ unread _ ahead read) (read.at_end zero)
+    (ap (list_any is_line_feed) (same ∙ c.if-find_line.ensures.kept) ∙ c.if-find_line.ensures.none) c.in-Ok-eq0.ensures.bound c.last_line.ensures.line c.last_line.ensures.end c.last_line.ensures.ahead
+
+pub returns-in-Ok-eq0-clause-sends : goal.returns-in-Ok-eq0-clause-sends
+returns-in-Ok-eq0-clause-sends g c = Sends-trans _ _ _ _ _ _ c.loop-reader.invariant.sends c.in-Ok-eq0.ensures.sends
+
+pub loop-reader-preserved : goal.loop-reader-preserved
+loop-reader-preserved g c = record {
+  bound = c.in-Ok.ensures.bound;
+  unread = λ unread is.
+      unread-read _ _ _ _ unread _ (unread-same _ _ c.find_line.new.self.ahead unread (c.loop-reader.invariant.unread unread is) c.if-find_line.ensures.kept) c.in-Ok.ensures.read;
+  sends = Sends-trans _ _ _ _ _ _ c.loop-reader.invariant.sends c.in-Ok.ensures.sends;
+  read_cause = grind (arith, common_steps);
+  write_cause = grind (arith, common_steps);
+}
+
+pub returns-in-Err-clause-found : goal.returns-in-Err-clause-found
+returns-in-Err-clause-found g c = λ unread is.
+    let ahead = unread-same _ _ c.find_line.new.self.ahead unread (c.loop-reader.invariant.unread unread is) c.if-find_line.ensures.kept in
+    let read = c.in-Err.ensures.read in
+    unread-most _ c.read_more.new.reader.ahead unread (unread-kept _ _ _ _ unread ahead read.0 read.1) c.in-Err.ensures.bound
+
+pub returns-in-Err-clause-sends : goal.returns-in-Err-clause-sends
+returns-in-Err-clause-sends g c = Sends-part _ _ _ _ _ c.loop-reader.invariant.sends c.in-Err.ensures.sends
