@@ -1,10 +1,39 @@
+pub mod Apart
+pub mod BetweenSteps
 pub mod BookChanges
 pub mod BookLemmas
+pub mod CoverReact
+pub mod CoverRounds
+pub mod CoverRuns
+pub mod CoverSources
+pub mod CoverSteps
+pub mod CoverWaiters
+pub mod Following
+pub mod FreeKeys
 pub mod FreshnessLemmas
+pub mod HeldEvents
+pub mod HeldListeners
+pub mod HeldPolls
+pub mod HeldRounds
+pub mod HeldTicks
+pub mod HeldTimers
+pub mod Holding
 pub mod InterestLemmas
+pub mod Kept
+pub mod Membership
+pub mod OnceRuns
 pub mod PassLemmas
+pub mod Places
 pub mod RefusalLemmas
+pub mod Rewaiting
 mod Rows
+pub mod RunLemmas
+mod RunRows
+pub mod Searching
 pub mod Spellings
+pub mod Standing
+pub mod StoringCounts
+pub mod Taking
 mod TimerRows
+pub mod WaiterLemmas
 pub mod Words

@@ -1,9 +1,10 @@
 -- A pass leaves no registration that is due, and takes the waker of each that was; so it is right after a round begins, and after a whole round.
-use Rattle.std.proofs.Common.{◌≡◌, ℕ, zero, suc, ◌<◌, Bool, true, false, not, ◌&&◌, cond, List, [], ◌∷◌, length, map, Option, None, Some, ⊎_elim, inl, inr, ◌⊎◌, refl, ap, ◌∙◌, subst, arith}
-use Rattle.std.specs.Prelude.{nat_le, is_some, slice_index_or}
+use Rattle.std.proofs.Common.{◌≡◌, ℕ, ◌<◌, Bool, true, false, not, ◌&&◌, cond, List, [], ◌∷◌, Option, None, Some, ⊎_elim, inl, inr, ◌⊎◌, refl, ap, ◌∙◌, subst}
+use Rattle.std.specs.Prelude.{nat_le, is_some}
 use Rattle.std.specs.List.{All, Contains, filter}
-use Rattle.std.proofs.lemmas.Bool.{cases_Bool, cond-false, leb-false, not-true}
-use Rattle.std.proofs.lemmas.List.Elements.{All-weaker, All-filter, All-same, Contains-append_left, Contains-append_right, Contains-push, filter_passes}
+use Rattle.std.proofs.lemmas.Bool.{cases_Bool, cond-true, cond-false, leb-false, not-true}
+use Rattle.std.proofs.lemmas.List.Elements.{All-weaker, All-filter, All-same, filter_passes}
+use Rattle.aio_base.proofs.Membership.{first_is_in, later_is_in, among_cases, none_is_in, passing_is_kept, image_is_in}
 use Rattle.aio_base.specs.declared.names.Key.{Key}
 use Rattle.aio_base.specs.declared.names.Dir.{Dir}
 use Rattle.aio_base.specs.declared.names.Event.{Event}
@@ -22,49 +23,6 @@ pass_leaves moment registrations =
     All-weaker (λ r. not (is_due moment r) ≡ true) (λ (r : Registration). moment < r.deadline)
     (λ r later. leb-false r.deadline moment (not-true (is_due moment r) later))
     (after_pass moment registrations) (filter_passes (λ r. not (is_due moment r)) registrations)
-
-first_is_in : {X : Type 0} (x : X) (xs : List X) → Contains (x ∷ xs) x
-first_is_in x xs = Contains-append_left (x ∷ []) xs x (Contains-push [] x)
-
-later_is_in : {X : Type 0} (x : X) (xs : List X) (y : X) → Contains xs y → Contains (x ∷ xs) y
-later_is_in x xs y among = Contains-append_right (x ∷ []) xs y among
-
--- an element is the first one, or among the later ones
-at_cases : {X : Type 0} (x : X) (xs : List X) (y : X) (k : ℕ) → k < length (x ∷ xs) → slice_index_or (x ∷ xs) k y ≡ y → (x ≡ y) ⊎ Contains xs y
-at_cases x xs y zero within here = inl here
-at_cases x xs y (suc k) within here = inr (k, omega arith, here)
-
-among_cases : {X : Type 0} (x : X) (xs : List X) (y : X) → Contains (x ∷ xs) y → (x ≡ y) ⊎ Contains xs y
-among_cases x xs y among = at_cases x xs y among.0 among.1 among.2
-
-none_is_in : {X A : Type 0} (y : X) → Contains [] y → A
-none_is_in y among = absurd (let within = among.1 in omega arith)
-
-kept_first : {X : Type 0} (t : Bool) (x : X) (xs : List X) → t ≡ true → Contains (cond t (x ∷ xs) xs) x
-kept_first true x xs passes = first_is_in x xs
-kept_first false x xs wrong = absurd cc
-
-kept_later : {X : Type 0} (t : Bool) (x : X) (xs : List X) (y : X) → Contains xs y → Contains (cond t (x ∷ xs) xs) y
-kept_later true x xs y among = later_is_in x xs y among
-kept_later false x xs y among = among
-
--- a filter keeps what passes its test
-passing_is_kept : {X : Type 0} (test : X → Bool) (xs : List X) (y : X) → test y ≡ true → Contains xs y → Contains (filter test xs) y
-passing_is_kept test [] y passes among = none_is_in y among
-passing_is_kept test (x ∷ xs) y passes among =
-    ⊎_elim
-    (λ (same : x ≡ y). subst (Contains (filter test (x ∷ xs))) same (kept_first (test x) x (filter test xs) (ap test same ∙ passes)))
-    (λ (later : Contains xs y). kept_later (test x) x (filter test xs) y (passing_is_kept test xs y passes later))
-    (among_cases x xs y among)
-
--- a map has the image of each element
-image_is_in : {X Y : Type 0} (f : X → Y) (xs : List X) (y : X) → Contains xs y → Contains (map f xs) (f y)
-image_is_in f [] y among = none_is_in y among
-image_is_in f (x ∷ xs) y among =
-    ⊎_elim
-    (λ (same : x ≡ y). subst (λ z. Contains (map f (x ∷ xs)) (f z)) same (first_is_in (f x) (map f xs)))
-    (λ (later : Contains xs y). later_is_in (f x) (map f xs) (f y) (image_is_in f xs y later))
-    (among_cases x xs y among)
 
 -- what is in two lists is in either
 in_either : (test : Bool) (a b : List Registration) (x : Registration) → Contains a x → Contains b x → Contains (cond test a b) x
@@ -116,6 +74,16 @@ pub begin_leaves : (w : World) (given : Option ℕ) (answers : List PollerAnswer
     → AllAbove w.now (begin_round w given answers).world.registrations
 begin_leaves w given answers none =
     All-same (λ (r : Registration). w.now < r.deadline) _ _ (begun_registrations w given answers none) (pass_leaves w.now w.registrations)
+
+-- after the second pass of a round no registration is due either
+pub finish_leaves : (w : World) (round : RoundState) (answers : List PollerAnswer) → w.round ≡ Some round → round.in_hand ≡ []
+    → (gave_none round.last_wait && not (is_zero round.limit)) ≡ true → AllAbove w.now (finish_round w answers).world.registrations
+finish_leaves w round answers at none second =
+    let left : (finish_round w answers).world.registrations ≡ after_pass w.now w.registrations =
+    ap (λ r. (finish_in w r answers).world.registrations) at
+    ∙ ap (λ (o : Outcome). o.world.registrations) (cond-true (is_empty_list round.in_hand) _ _ (ap is_empty_list none))
+    ∙ cond-true (gave_none round.last_wait && not (is_zero round.limit)) _ _ second in
+    All-same (λ (r : Registration). w.now < r.deadline) _ _ left (pass_leaves w.now w.registrations)
 
 -- the outcome has these registrations
 abbrev Keeps : List Registration → Outcome → Type 0

@@ -6,6 +6,10 @@ pub mod Rounds
 pub mod Machine
 pub mod Refusals
 pub mod Script
+pub mod Runs
+pub mod Covered
+pub mod Storings
+pub mod Between
 pub mod Text
 pub mod Trace
 pub mod Moves

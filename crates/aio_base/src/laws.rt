@@ -1,13 +1,18 @@
 //! Laws of the trace language and of the machine, as contracts of functions with no work to do.
 
-ghost use Rattle.std.specs.Prelude.{◌≡◌, ◌≢◌, ◌⊎◌, ℕ, ◌≤◌, true, List, length, Option, Some, None};
+ghost use Rattle.std.specs.Prelude.{◌≡◌, ◌≢◌, ◌⊎◌, ◌&&◌, ℕ, ◌≤◌, true, not, List, [], ◌∷◌, ◌++◌, length, Option, Some, None};
 ghost use Rattle.std.specs.List.{Contains};
-ghost use Rattle.aio_base.specs.Machine.{begin_round, react, step_result};
+ghost use Rattle.aio_base.specs.Between.{StandsAfter};
+ghost use Rattle.aio_base.specs.Covered.{Covered};
+ghost use Rattle.aio_base.specs.Machine.{begin_round, finish_round, gave_none, is_zero, react, step_result};
 ghost use Rattle.aio_base.specs.Refusals.{is_refusal, only_counted};
+ghost use Rattle.aio_base.specs.Runs.{PolledStep, answers_of, outcomes_of, scripted, wakes_of, world_of};
+ghost use Rattle.aio_base.specs.Script.{outcomes_from, world_after};
+ghost use Rattle.aio_base.specs.Storings.{Follows, Once, storings_of};
 ghost use Rattle.aio_base.specs.Text.{spelling};
 ghost use Rattle.aio_base.specs.Timers.{AllAbove, BookChange, IsBook, after_pass, changed, due_wakers, in_order, pair_of};
 ghost use Rattle.aio_base.specs.Trace.{IsBuilt, written_step};
-ghost use Rattle.aio_base.specs.World.{PollerAnswer, Registration, World};
+ghost use Rattle.aio_base.specs.World.{PollerAnswer, Registration, RoundState, World, opening};
 ghost use Rattle.aio_base.specs.declared.steps.Step.{Step};
 
 /// A line spells at most one step: it spells a step exactly where that is built and the line is its
@@ -25,8 +30,8 @@ pub fn a_long_line_spells_no_step()
 {}
 
 /// A pass at a moment leaves no registration that is due by then, and takes the waker of each that it
-/// does not leave. So after a round has begun, and after a whole round, every registered timer has a
-/// deadline above the clock's moment.
+/// does not leave. So after a round has begun, after one that ended with a second pass, and after a
+/// whole round, every registered timer has a deadline above the clock's moment.
 pub fn no_due_timer_outlives_a_pass()
     ensures pass { (moment : ℕ) (registrations : List Registration)
         → AllAbove moment (after_pass moment registrations) }
@@ -35,6 +40,9 @@ pub fn no_due_timer_outlives_a_pass()
         → Contains (after_pass moment registrations) r ⊎ Contains (due_wakers moment registrations) r.waker }
     ensures begin { (w : World) (given : Option ℕ) (answers : List PollerAnswer)
         → w.round ≡ None → AllAbove w.now (begin_round w given answers).world.registrations }
+    ensures finish { (w : World) (round : RoundState) (answers : List PollerAnswer)
+        → w.round ≡ Some round → round.in_hand ≡ [] → (gave_none round.last_wait && not (is_zero round.limit)) ≡ true
+        → AllAbove w.now (finish_round w answers).world.registrations }
     ensures react { (w : World) (given : Option ℕ) (answers : List PollerAnswer)
         → w.round ≡ None → AllAbove w.now (react w given answers).world.registrations }
 {}
@@ -58,4 +66,44 @@ pub fn a_change_keeps_the_book()
         → IsBook book → in_order book ≡ book }
     ensures commute { (a b : BookChange) (book : List Registration)
         → pair_of a ≢ pair_of b → IsBook book → changed a (changed b book) ≡ changed b (changed a book) }
+{}
+
+/// After every run, whatever the poller answered in it, each waiter of each live source is covered: its
+/// direction is armed, or an event of its key is in hand, or the source is broken and the answer of the
+/// step at which it broke told that. Since a run that is cut off at a step is a run, this holds between
+/// any two steps.
+pub fn every_waiter_is_covered()
+    ensures { (run : List PolledStep) → Covered (world_of opening run) (answers_of opening run) }
+{}
+
+/// Each storing of a waker gets the next number, and after every run, whatever the poller answered in
+/// it, each number stands in exactly one place, and there once: as a waiter or a registration, among
+/// what the running round has taken, among the wakes of one step, or among those that were given up.
+/// What stands are the waiters and registrations of the world; what the round has taken and what each
+/// step woke are its wakers, in order. Since a run that is cut off at a step is a run, this holds
+/// between any two steps.
+pub fn no_storing_is_lost_or_woken_twice()
+    ensures { (run : List PolledStep) → Once (world_of opening run) (wakes_of opening run) (storings_of opening run) }
+{}
+
+/// What a round has taken stays taken until the round ends, and the step that ends it wakes all of it.
+/// What a step woke or gave up stays so. Only the steps `del`, `drop`, `end`, `set`, `tick` and the poll
+/// of a listener give storings up; a poll of a source gives up none, so one that it replaces it wakes.
+pub fn what_a_round_takes_it_wakes()
+    ensures { (run : List PolledStep) (s : PolledStep)
+        → Follows s.step (storings_of opening run) (storings_of opening (run ++ s ∷ [])) }
+{}
+
+/// The run of a list of steps over the script poller is a run: that in which the poller answers as the
+/// script says, step for step.
+pub fn a_script_is_a_run()
+    ensures outcomes { (w : World) (steps : List Step) → outcomes_of w (scripted w steps) ≡ outcomes_from w steps }
+    ensures world { (w : World) (steps : List Step) → world_of w (scripted w steps) ≡ world_after w steps }
+{}
+
+/// After any steps of a trace over the poller in memory, each waiter of each live source is covered, and
+/// no storing of a waker is lost or woken twice; and right after a pass, where a round began, where one
+/// ended with a second pass or where a whole round was run, no timer is registered that was due at it.
+pub fn a_trace_stands_between_its_steps()
+    ensures { (steps : List Step) → StandsAfter steps }
 {}

@@ -1,4 +1,4 @@
-use Rattle.aio_base.proofs.PassLemmas.{pass_leaves, pass_takes, begin_leaves, react_leaves}
+use Rattle.aio_base.proofs.PassLemmas.{pass_leaves, pass_takes, begin_leaves, finish_leaves, react_leaves}
 use Rattle.aio_base.proofs.laws.no_due_timer_outlives_a_pass.Goals as goal
 
 pub returns-clause-pass : goal.returns-clause-pass
@@ -9,6 +9,9 @@ returns-clause-taken c = pass_takes
 
 pub returns-clause-begin : goal.returns-clause-begin
 returns-clause-begin c = begin_leaves
+
+pub returns-clause-finish : goal.returns-clause-finish
+returns-clause-finish c = finish_leaves
 
 pub returns-clause-react : goal.returns-clause-react
 returns-clause-react c = react_leaves
