@@ -1,7 +1,9 @@
 //! The top call of the program.
 
-ghost use Rattle.std.specs.Prelude.{◌≡◌, ◌≢◌, ℕ, ◌<◌, ◌↔◌, [], List, Option, Some, IfSome, OnOk, OnErr, true, false, string_bytes, map};
+ghost use Rattle.std.specs.Prelude.{◌≡◌, ◌≢◌, ℕ, ◌<◌, ◌↔◌, [], List, Option, Some, IfSome, OnOk, OnErr, true, false, string_bytes, map, take};
 ghost use Rattle.std.specs.Io.KnownBytes.{Appends};
+ghost use Rattle.aio_base.specs.Between.{StandsAfter};
+ghost use Rattle.aio_base.specs.Trace.{trace_of};
 ghost use Rattle.aio_bytes.specs.Sinks.{AppendsPart, HasSinkCause};
 ghost use Rattle.aio_run.specs.Session.{Causes, LeavesAllBut};
 ghost use Rattle.aio_run.specs.Commands.{IsReplay, exit_of, text_of, Replays, TellsCounts, bytes_taken, is_read_fault, is_write_fault};
@@ -55,6 +57,11 @@ pub fn run<R: Wait + Threads + Sync + Send + Copy, S: Source, K: Sink, E: Sink>(
         → Replays result.why bytes (S.remaining input.new) (K.contents out.old) (K.contents out.new) }
     ensures taken { (bytes : List ℕ) → S.remaining input.old ≡ Some bytes
         → LeavesAllBut (bytes_taken result.why) (S.remaining input.new) bytes }
+
+    // Between any two steps of the trace each waiter is covered, no storing of a waker is lost or woken twice,
+    // and right after a whole round no timer is left that was due at it.
+    ensures between { IsReplay (map string_bytes words.now) → (bytes : List ℕ) → S.remaining input.old ≡ Some bytes
+        → (n : ℕ) → StandsAfter (take n (trace_of bytes).steps) }
 
     // A fault comes only of a device that failed, and is told by its counts.
     ensures counts { TellsCounts result.why (S.fault_count input.old) (S.fault_count input.new) (K.fault_count out.old) (K.fault_count out.new) }
