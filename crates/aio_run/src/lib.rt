@@ -17,11 +17,7 @@ mod registry;
 mod round;
 mod schedule;
 mod session;
-#[cfg(test)]
-mod source_tests;
 pub mod status;
-#[cfg(test)]
-mod tests;
 mod writing;
 
 pub use program::run;

@@ -3,9 +3,9 @@
 
 ghost use Rattle.std.specs.Prelude.{None, false};
 
-use crate::{Status, Why, run};
 use aio_base::{CountFault, Failed, Faults, Reason};
 use aio_bytes::{MemSink, MemSource, SinkRefusal, Source};
+use aio_run::{Status, Why, run};
 use std::alloc::{AllocError, Global};
 use std::sync::Wait;
 use std::test::Fail;
