@@ -1,7 +1,8 @@
 -- What the calls of a device mean: its count of faults, what a poller has armed, which calls were made.
-use Rattle.std.specs.Prelude.{◌≡◌, ℕ, ◌+◌, ◌-◌, ◌^◌, ◌≤◌, Bool, false, IsTrue, ◌==◌, if◌then◌else◌, List, [], ◌∷◌, Option, None, Some, Result, Ok, Err, IsOk, OnErr, ⊤, min}
+use Rattle.std.specs.Prelude.{◌≡◌, ℕ, ◌+◌, ◌-◌, ◌^◌, ◌≤◌, Bool, IsTrue, ◌==◌, if◌then◌else◌, List, [], ◌∷◌, Option, None, Some, Result, Ok, Err, ⊤, min}
 use Rattle.aio_base.specs.declared.names.Key.{Key}
 use Rattle.aio_base.specs.declared.names.Interest.{Interest}
+use Rattle.aio_base.specs.declared.names.TheConstants.Interest.{NONE}
 use Rattle.aio_base.specs.declared.names.Event.{Event}
 use Rattle.aio_base.specs.declared.outcomes.Failed.{Failed}
 use Rattle.aio_base.specs.declared.outcomes.Waited.{Waited}
@@ -14,18 +15,20 @@ raised count = min (count + 1) (2 ^ 64 - 1)
 abbrev pub Rose : ℕ → ℕ → Type 0
 Rose before after = raised before ≤ after
 
--- The count of faults over one call: it does not fall, it rose where the call failed, and neither a fault nor a rise comes of a sure object.
-pub record HasCause {T E : Type 0} (before after : ℕ) (sure : Bool) (answer : Result T E) : Type 0 where
+-- The count of faults over one call: it does not fall, it rose where the call failed, and neither a failure nor a rise comes of a sure object.
+pub record HasCause (before after : ℕ) (sure : Bool) (failed : Type 0) : Type 0 where
   pub later : before ≤ after
-  pub failed : OnErr answer (Rose before after)
-  pub never : IsTrue sure → IsOk answer × (after ≡ before)
+  pub rose : failed → Rose before after
+  pub never : IsTrue sure → (¬ failed) × (after ≡ before)
+
+-- the same of an object with such a count, in the states before the call and after it; whether it is sure stays
+pub record TellsFaults {S : Type 0} (count : S → ℕ) (is_sure : S → Bool) (old new : S) (failed : Type 0) : Type 0 where
+  pub cause : HasCause (count old) (count new) (is_sure old) failed
+  pub sure : is_sure new ≡ is_sure old
 
 -- what a poller watches: an interest for each key
 abbrev pub Interests : Type 0
 Interests = ℕ → Interest
-
-abbrev pub no_interest : Interest
-no_interest = record { read = false; write = false }
 
 -- the same, with another interest at one key
 abbrev pub with_interest : ℕ → Interest → Interests → Interests
@@ -34,11 +37,12 @@ with_interest key on interests = λ k. if k == key then on else interests k
 -- an event clears the whole interest of its key (`polling` 3, oneshot mode)
 abbrev pub clear_interests : List Event → Interests → Interests
 clear_interests [] interests = interests
-clear_interests (event ∷ events) interests = clear_interests events (with_interest event.key.0 no_interest interests)
+clear_interests (event ∷ events) interests = clear_interests events (with_interest event.key.0 NONE interests)
 
--- what is told after a change, where it was told before; what is told stays told
+-- what is told after a change, where it was told before; what is told stays told, and what is not told stays untold
 abbrev pub Becomes : Option Interests → Option Interests → (Interests → Interests) → Type 0
-Becomes None new change = ⊤
+Becomes None None change = ⊤
+Becomes None (Some new) change = ⊥
 Becomes (Some old) None change = ⊥
 Becomes (Some old) (Some new) change = (key : ℕ) → new key ≡ change old key
 
@@ -50,9 +54,9 @@ pub data ArmCall : Type 0 where
 
 -- what a call that succeeds makes of the interests: a new source and one taken out have none
 abbrev pub changed_by : ArmCall → Interests → Interests
-changed_by (AddOf key) interests = with_interest key.0 no_interest interests
+changed_by (AddOf key) interests = with_interest key.0 NONE interests
 changed_by (ArmOf key on) interests = with_interest key.0 on interests
-changed_by (RemoveOf key) interests = with_interest key.0 no_interest interests
+changed_by (RemoveOf key) interests = with_interest key.0 NONE interests
 
 -- what a call makes of the interests where they are told; a call that fails leaves them
 abbrev pub Arms : Option Interests → ArmCall → Result (Unit {0}) Failed → Option Interests → Type 0

@@ -1,10 +1,11 @@
 //! The devices of a reactor, as traits with a written meaning.
 //!
 //! What a device tells (its interests, its being sure) and the relation of a call are ghost members:
-//! contracts see them, and no body can branch on them. A generic body can answer a device's fault
-//! only after a call that failed, since only such a call lets the count of faults rise.
+//! contracts see them, and no body can branch on them. What is told stays told, and what is not told
+//! stays untold. A generic body can answer a device's fault only after a call that failed, since only
+//! such a call lets the count of faults rise.
 
-ghost use Rattle.std.specs.Prelude.{◌≡◌, ℕ, ◌+◌, ◌-◌, ◌^◌, ◌<◌, ◌≤◌, ◌++◌, [], Bool, IsTrue, List, Option, Result, length, vec_len, vec_capacity, MatchResult, Ok};
+ghost use Rattle.std.specs.Prelude.{◌≡◌, ℕ, ◌+◌, ◌-◌, ◌^◌, ◌<◌, ◌≤◌, ◌++◌, [], Bool, IsTrue, List, Option, Result, length, vec_len, vec_capacity, IsErr};
 
 use crate::names::{Event, Interest, Key};
 use crate::outcomes::{Failed, Waited};
@@ -34,9 +35,10 @@ pub trait Faults {
 /// and `delete` in oneshot mode).
 pub trait Arm: Faults {
     ghost use Rattle.aio_base.specs.declared.outcomes.Failed.{Failed};
-    ghost use Rattle.aio_base.specs.Devices.{HasCause, Interests, ArmCall, AddOf, ArmOf, RemoveOf, Arms};
+    ghost use Rattle.aio_base.specs.Devices.{TellsFaults, Interests, ArmCall, AddOf, ArmOf, RemoveOf, Arms};
 
-    /// The armed interest of each key, where the object tells it.
+    /// The armed interest of each key, where the object tells it. An object that tells it does so
+    /// after each call, and one that does not never begins to.
     ghost interests: { Self → Option Interests };
 
     /// Numbers that no call of this trait changes.
@@ -51,8 +53,8 @@ pub trait Arm: Faults {
         ensures step { arm_step self.old (AddOf key) result self.new }
         ensures interests { Arms (interests self.old) (AddOf key) result (interests self.new) }
         ensures rest { rest self.new ≡ rest self.old }
-        ensures sure { Self.is_sure self.new ≡ Self.is_sure self.old }
-        ensures cause { HasCause (Self.fault_count self.old) (Self.fault_count self.new) (Self.is_sure self.old) result };
+        ensures faults { TellsFaults Self.fault_count Self.is_sure
+            self.old self.new (IsErr result) };
 
     /// Arms a source: its interest is `on` until an event of it is given. `Failed` only where the
     /// count of faults rose.
@@ -61,8 +63,8 @@ pub trait Arm: Faults {
         ensures step { arm_step self.old (ArmOf key on) result self.new }
         ensures interests { Arms (interests self.old) (ArmOf key on) result (interests self.new) }
         ensures rest { rest self.new ≡ rest self.old }
-        ensures sure { Self.is_sure self.new ≡ Self.is_sure self.old }
-        ensures cause { HasCause (Self.fault_count self.old) (Self.fault_count self.new) (Self.is_sure self.old) result };
+        ensures faults { TellsFaults Self.fault_count Self.is_sure
+            self.old self.new (IsErr result) };
 
     /// Takes a source out. `Failed` only where the count of faults rose.
     fn remove(&mut self, key: Key) -> Result<(), Failed>
@@ -70,8 +72,8 @@ pub trait Arm: Faults {
         ensures step { arm_step self.old (RemoveOf key) result self.new }
         ensures interests { Arms (interests self.old) (RemoveOf key) result (interests self.new) }
         ensures rest { rest self.new ≡ rest self.old }
-        ensures sure { Self.is_sure self.new ≡ Self.is_sure self.old }
-        ensures cause { HasCause (Self.fault_count self.old) (Self.fault_count self.new) (Self.is_sure self.old) result };
+        ensures faults { TellsFaults Self.fault_count Self.is_sure
+            self.old self.new (IsErr result) };
 }
 
 /// What waits for events (`polling` 3, `lib.rs`, `Poller::wait`).
@@ -79,7 +81,7 @@ pub trait EventWait: Faults {
     ghost use Rattle.aio_base.specs.declared.names.Event.{Event};
     ghost use Rattle.aio_base.specs.declared.outcomes.Failed.{Failed};
     ghost use Rattle.aio_base.specs.declared.outcomes.Waited.{Waited};
-    ghost use Rattle.aio_base.specs.Devices.{HasCause, raised, WaitCall};
+    ghost use Rattle.aio_base.specs.Devices.{TellsFaults, raised, WaitCall};
     ghost use Rattle.aio_base.specs.Waits.{AddsEvents};
 
     /// The number of waits so far.
@@ -99,11 +101,13 @@ pub trait EventWait: Faults {
         limit: Option<u64>,
     ) -> Result<Waited, Failed>
         requires { vec_len out.old + room ≤ vec_capacity out.old }
-        ensures added { AddsEvents (wait_step self.old (record { room = room; limit = limit }) result) self.new result room out.old.items out.new.items }
+        ensures added { AddsEvents
+            (wait_step self.old (record { room = room; limit = limit }) result)
+            self.new result room out.old.items out.new.items }
         ensures capacity { vec_capacity out.old ≤ vec_capacity out.new }
         ensures waits { wait_count self.new ≡ raised (wait_count self.old) }
-        ensures sure { Self.is_sure self.new ≡ Self.is_sure self.old }
-        ensures cause { HasCause (Self.fault_count self.old) (Self.fault_count self.new) (Self.is_sure self.old) result };
+        ensures faults { TellsFaults Self.fault_count Self.is_sure
+            self.old self.new (IsErr result) };
 
     /// The number of waits: every wait raises it, or it stands at 2^64 - 1.
     fn waits(&self) -> u64
@@ -123,10 +127,12 @@ pub trait Poller: Arm + EventWait {
     ghost use Rattle.aio_base.specs.Devices.{Becomes, clear_interests, WaitCall};
 
     /// Where interests are told, a wait clears those of the keys that its events name, and no other.
-    ghost wait_clears: { (old new : Self) (call : WaitCall) (answer : Result Waited Failed) (added : List Event)
+    ghost wait_clears: { (old new : Self) (call : WaitCall)
+        (answer : Result Waited Failed) (added : List Event)
         → Self.wait_step old call answer added new
         → Becomes (Self.interests old) (Self.interests new) (clear_interests added) };
 
     /// The number of waits is read off the rest, which no arming changes.
-    ghost waits_in_rest: { (a b : Self) → Self.rest a ≡ Self.rest b → Self.wait_count a ≡ Self.wait_count b };
+    ghost waits_in_rest: { (a b : Self) → Self.rest a ≡ Self.rest b
+        → Self.wait_count a ≡ Self.wait_count b };
 }

@@ -1,10 +1,10 @@
 //! A reader of the lines of a source, which holds a bounded number of bytes of it.
 
-ghost use Rattle.std.specs.Prelude.{◌≡◌, ◌+◌, ◌-◌, ◌<◌, ◌≤◌, ◌==◌, ◌++◌, ◌∷◌, [], ◌||◌, ◌↔◌, true, length, take, drop, slice_range, nat_lt, position, IsTrue, IfOk, OnErr};
+ghost use Rattle.std.specs.Prelude.{◌≡◌, ◌+◌, ◌-◌, ◌<◌, ◌≤◌, ◌==◌, ◌++◌, ◌∷◌, [], ◌||◌, ◌↔◌, true, length, take, drop, slice_range, nat_lt, position, IsTrue, IsErr, IfOk, OnErr};
 ghost use Rattle.std.specs.List.{position_or_len};
 ghost use Rattle.std.specs.Bool.{OnTrue, OnFalse};
 ghost use Rattle.std.specs.Io.KnownBytes.{Keeps, ReadConsumes};
-ghost use Rattle.aio_base.specs.Devices.{HasCause};
+ghost use Rattle.aio_base.specs.Devices.{TellsFaults};
 ghost use Rattle.aio_bytes.specs.Held.{HasNoLineFeed, PutsAhead};
 
 use crate::traits::Source;
@@ -94,15 +94,17 @@ impl LineReader {
     /// as before. No line is found afterwards.
     pub fn read<S: Source>(&mut self, source: &mut S) -> Result<usize, Failed>
         requires { length self.old.ahead < LONGEST }
-        ensures ok { IfOk result (PutsAhead (S.remaining source.old) (S.remaining source.new) self.old.ahead self.new.ahead) }
-        ensures short { IfOk result (λ n. self.new.short ≡ nat_lt n (LONGEST - length self.old.ahead)) }
+        ensures ok { IfOk result (PutsAhead (S.remaining source.old) (S.remaining source.new)
+            self.old.ahead self.new.ahead) }
+        ensures short { IfOk result (λ n.
+            self.new.short ≡ nat_lt n (LONGEST - length self.old.ahead)) }
         ensures ahead { OnErr result (self.new.ahead ≡ self.old.ahead) }
         ensures kept { OnErr result (Keeps (S.remaining source.old) (S.remaining source.new)) }
         ensures failed { OnErr result (self.new.short ≡ true) }
         ensures line { self.new.line ≡ [] }
         ensures bound { length self.new.ahead ≤ LONGEST }
-        ensures sure { S.Faults.is_sure source.new ≡ S.Faults.is_sure source.old }
-        ensures cause { HasCause (S.Faults.fault_count source.old) (S.Faults.fault_count source.new) (S.Faults.is_sure source.old) result }
+        ensures faults { TellsFaults S.Faults.fault_count S.Faults.is_sure
+            source.old source.new (IsErr result) }
     {
         let held = self.end - self.start;
         move_to_front(self.buffer.as_mut_slice(), self.start, self.end);
@@ -223,9 +225,10 @@ fn read_behind<S: Source>(source: &mut S, bytes: &mut [u8], held: usize) -> Resu
     requires { held < length bytes.old }
     ensures front { take held bytes.new ≡ take held bytes.old }
     ensures bound { IfOk result (λ n. held + n ≤ length bytes.new) }
-    ensures bytes { ReadConsumes (S.remaining source.old) (S.remaining source.new) result (drop held bytes.new) }
-    ensures sure { S.Faults.is_sure source.new ≡ S.Faults.is_sure source.old }
-    ensures cause { HasCause (S.Faults.fault_count source.old) (S.Faults.fault_count source.new) (S.Faults.is_sure source.old) result }
+    ensures bytes { ReadConsumes (S.remaining source.old) (S.remaining source.new)
+        result (drop held bytes.new) }
+    ensures faults { TellsFaults S.Faults.fault_count S.Faults.is_sure
+        source.old source.new (IsErr result) }
 {
     source.read(&mut bytes[held..])
 }

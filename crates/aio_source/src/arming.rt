@@ -1,18 +1,12 @@
 //! What a source asks of the poller that it is lent.
 
 ghost use Rattle.std.specs.Prelude.{◌≡◌, ◌<◌, Bool};
-ghost use Rattle.aio_base.specs.Devices.{HasCause, ArmOf};
+ghost use Rattle.aio_base.specs.Devices.{ArmOf};
 ghost use Rattle.aio_source.specs.Rules.{wanted};
-ghost use Rattle.aio_source.specs.Lent.{told, fault_of, ArmsOnce, TellsArmed, asked_after, broken_after};
+ghost use Rattle.aio_source.specs.Lent.{told, fault_of, UsesArm, asked_after, broken_after};
 
 use crate::directions::Directions;
 use aio_base::{Arm, ArmFault, Interest, Key};
-
-/// No direction.
-pub(crate) const NO_INTEREST: Interest = Interest {
-    read: false,
-    write: false,
-};
 
 /// What the last arm of a source asked for, and whether it failed.
 #[derive(Clone, Copy)]
@@ -31,14 +25,13 @@ impl Arming {
         directions: &Directions,
     ) -> Result<(), ArmFault>
         requires { key.0 < 4096 }
-        ensures fault { result ≡ fault_of key (A.fault_count arm.old) (A.fault_count arm.new) (told result) }
-        ensures asked { self.new.asked ≡ asked_after arms (wanted directions.now) (told result) self.old.asked }
+        ensures fault { result
+            ≡ fault_of key (A.fault_count arm.old) (A.fault_count arm.new) (told result) }
+        ensures asked { self.new.asked
+            ≡ asked_after arms (wanted directions.now) (told result) self.old.asked }
         ensures broken { self.new.broken ≡ broken_after arms (told result) self.old.broken }
-        ensures step { ArmsOnce A.arm_step arms (ArmOf key (wanted directions.now)) arm.old (told result) arm.new }
-        ensures interests { TellsArmed arms (ArmOf key (wanted directions.now)) (A.interests arm.old) (told result) (A.interests arm.new) }
-        ensures rest { A.rest arm.new ≡ A.rest arm.old }
-        ensures sure { A.is_sure arm.new ≡ A.is_sure arm.old }
-        ensures cause { HasCause (A.fault_count arm.old) (A.fault_count arm.new) (A.is_sure arm.old) (told result) }
+        ensures lent { UsesArm A.arm_step A.interests A.rest A.fault_count A.is_sure
+            arms (ArmOf key (wanted directions.now)) (told result) arm.old arm.new }
     {
         if !arms {
             return Ok(());
@@ -51,7 +44,7 @@ impl Arming {
             self.broken = false;
             return Ok(());
         }
-        self.asked = NO_INTEREST;
+        self.asked = Interest::NONE;
         self.broken = true;
         Err(ArmFault {
             key,

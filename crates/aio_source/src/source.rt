@@ -1,15 +1,14 @@
 //! The state of a source and its calls.
 
 ghost use Rattle.std.specs.Prelude.{◌≡◌, ◌+◌, ◌-◌, ◌^◌, ◌<◌, ◌≤◌, ◌++◌, ◌↔◌, false, length, IfSome, IsErrOf, vec_len, vec_capacity};
-ghost use Rattle.aio_base.specs.Devices.{HasCause};
 ghost use Rattle.aio_base.specs.World.{directions};
 ghost use Rattle.aio_listen.specs.Listening.{Holds, has_ticket};
 ghost use Rattle.aio_source.specs.Rules.{new_source, is_above, waiters_of, waiters_in, direction_of, taken_along, polling, listening_first, polling_again, unlistened, handling, Covered};
-ghost use Rattle.aio_source.specs.Lent.{told, fault_of, ArmsOnce, TellsArmed, arm_of, settled};
+ghost use Rattle.aio_source.specs.Lent.{told, fault_of, UsesArm, arm_of, settled};
 ghost use Rattle.aio_source.specs.Answers.{poll_answer, armed_in, armed_first, listened_in, ticket_in};
 
 use crate::answers::{ListenRefusal, Listened, Polled};
-use crate::arming::{Arming, NO_INTEREST};
+use crate::arming::Arming;
 use crate::directions::{Directions, names_any};
 use aio_base::{Arm, ArmFault, Dir, Event, Interest, Key, Poll, Waker};
 use aio_listen::{AddRefusal, Ticket};
@@ -57,7 +56,7 @@ impl SourceState {
         SourceState {
             key,
             arming: Arming {
-                asked: NO_INTEREST,
+                asked: Interest::NONE,
                 broken: false,
             },
             directions: Directions::new(alloc),
@@ -127,18 +126,15 @@ impl SourceState {
     pub fn poll_dir<A: Arm>(&mut self, arm: &mut A, dir: Dir, w: Waker, ticker: u64) -> Polled
         ensures answer { let p = polling self.old dir w ticker in
             result ≡ record {
-              answer = poll_answer p.ready (fault_of self.old.key (A.fault_count arm.old) (A.fault_count arm.new) (told (armed_in result.answer)));
+              answer = poll_answer p.ready (fault_of self.old.key (A.fault_count arm.old)
+                  (A.fault_count arm.new) (told (armed_in result.answer)));
               replaced = p.replaced;
             } }
         ensures after { let p = polling self.old dir w ticker in
             self.new ≡ settled p.arms (told (armed_in result.answer)) p.source }
-        ensures step { let p = polling self.old dir w ticker in
-            ArmsOnce A.arm_step p.arms (arm_of p.source) arm.old (told (armed_in result.answer)) arm.new }
-        ensures interests { let p = polling self.old dir w ticker in
-            TellsArmed p.arms (arm_of p.source) (A.interests arm.old) (told (armed_in result.answer)) (A.interests arm.new) }
-        ensures rest { A.rest arm.new ≡ A.rest arm.old }
-        ensures sure { A.is_sure arm.new ≡ A.is_sure arm.old }
-        ensures cause { HasCause (A.fault_count arm.old) (A.fault_count arm.new) (A.is_sure arm.old) (told (armed_in result.answer)) }
+        ensures lent { let p = polling self.old dir w ticker in
+            UsesArm A.arm_step A.interests A.rest A.fault_count A.is_sure
+            p.arms (arm_of p.source) (told (armed_in result.answer)) arm.old arm.new }
     {
         let direction = self.directions.get_mut(dir);
         if direction.is_ready() {
@@ -170,20 +166,21 @@ impl SourceState {
         w: Waker,
         ticker: u64,
     ) -> Result<Listened, ListenRefusal>
-        ensures listened { IfSome (listened_in result) (λ l. (l.a ≡ ticker) × (l.b ≡ (direction_of self.old.directions dir).tick)) }
-        ensures serial { IfSome (ticket_in result) (λ t. t.serial ≡ (direction_of self.old.directions dir).listeners.drawn + 1) }
-        ensures fresh { IfSome (ticket_in result) (λ t. ¬ Holds (direction_of self.old.directions dir).listeners.entries t) }
-        ensures spent { IsErrOf result ListenRefusal.TicketsSpent ↔ ((direction_of self.old.directions dir).listeners.drawn ≡ 2 ^ 64 - 1) }
-        ensures fault { armed_first result ≡ fault_of self.old.key (A.fault_count arm.old) (A.fault_count arm.new) (told (armed_first result)) }
+        ensures listened { IfSome (listened_in result) (λ l.
+            (l.a ≡ ticker) × (l.b ≡ (direction_of self.old.directions dir).tick)) }
+        ensures serial { IfSome (ticket_in result) (λ t.
+            t.serial ≡ (direction_of self.old.directions dir).listeners.drawn + 1) }
+        ensures fresh { IfSome (ticket_in result) (λ t.
+            ¬ Holds (direction_of self.old.directions dir).listeners.entries t) }
+        ensures spent { IsErrOf result ListenRefusal.TicketsSpent
+            ↔ ((direction_of self.old.directions dir).listeners.drawn ≡ 2 ^ 64 - 1) }
+        ensures fault { armed_first result ≡ fault_of self.old.key (A.fault_count arm.old)
+            (A.fault_count arm.new) (told (armed_first result)) }
         ensures after { let p = listening_first self.old dir w (ticket_in result) in
             self.new ≡ settled p.arms (told (armed_first result)) p.source }
-        ensures step { let p = listening_first self.old dir w (ticket_in result) in
-            ArmsOnce A.arm_step p.arms (arm_of p.source) arm.old (told (armed_first result)) arm.new }
-        ensures interests { let p = listening_first self.old dir w (ticket_in result) in
-            TellsArmed p.arms (arm_of p.source) (A.interests arm.old) (told (armed_first result)) (A.interests arm.new) }
-        ensures rest { A.rest arm.new ≡ A.rest arm.old }
-        ensures sure { A.is_sure arm.new ≡ A.is_sure arm.old }
-        ensures cause { HasCause (A.fault_count arm.old) (A.fault_count arm.new) (A.is_sure arm.old) (told (armed_first result)) }
+        ensures lent { let p = listening_first self.old dir w (ticket_in result) in
+            UsesArm A.arm_step A.interests A.rest A.fault_count A.is_sure
+            p.arms (arm_of p.source) (told (armed_first result)) arm.old arm.new }
     {
         let direction = self.directions.get_mut(dir);
         let arms = direction.is_idle() || self.arming.broken;
@@ -217,16 +214,13 @@ impl SourceState {
     ) -> Poll<Result<(), ArmFault>>
         requires { Holds (direction_of self.old.directions dir).listeners.entries l.ticket }
         ensures answer { let p = polling_again self.old dir l w in
-            result ≡ poll_answer p.ready (fault_of self.old.key (A.fault_count arm.old) (A.fault_count arm.new) (told (armed_in result))) }
+            result ≡ poll_answer p.ready (fault_of self.old.key (A.fault_count arm.old)
+            (A.fault_count arm.new) (told (armed_in result))) }
         ensures after { let p = polling_again self.old dir l w in
             self.new ≡ settled p.arms (told (armed_in result)) p.source }
-        ensures step { let p = polling_again self.old dir l w in
-            ArmsOnce A.arm_step p.arms (arm_of p.source) arm.old (told (armed_in result)) arm.new }
-        ensures interests { let p = polling_again self.old dir l w in
-            TellsArmed p.arms (arm_of p.source) (A.interests arm.old) (told (armed_in result)) (A.interests arm.new) }
-        ensures rest { A.rest arm.new ≡ A.rest arm.old }
-        ensures sure { A.is_sure arm.new ≡ A.is_sure arm.old }
-        ensures cause { HasCause (A.fault_count arm.old) (A.fault_count arm.new) (A.is_sure arm.old) (told (armed_in result)) }
+        ensures lent { let p = polling_again self.old dir l w in
+            UsesArm A.arm_step A.interests A.rest A.fault_count A.is_sure
+            p.arms (arm_of p.source) (told (armed_in result)) arm.old arm.new }
     {
         let direction = self.directions.get_mut(dir);
         if direction.is_above(l.a, l.b) {
@@ -260,22 +254,21 @@ impl SourceState {
         taken: &mut Vec<Waker>,
     ) -> Result<(), ArmFault>
         requires key { e.key ≡ self.old.key }
-        requires room { vec_len taken.old + length (waiters_in directions self.old.directions) ≤ vec_capacity taken.old }
-        ensures answer { result ≡ fault_of self.old.key (A.fault_count arm.old) (A.fault_count arm.new) (told result) }
-        ensures taken { taken.new.items ≡ taken.old.items ++ taken_along e.on round directions self.old.directions }
+        requires room { vec_len taken.old + length (waiters_in directions self.old.directions)
+            ≤ vec_capacity taken.old }
+        ensures answer { result ≡ fault_of self.old.key (A.fault_count arm.old)
+            (A.fault_count arm.new) (told result) }
+        ensures taken { taken.new.items
+            ≡ taken.old.items ++ taken_along e.on round directions self.old.directions }
         ensures capacity { vec_capacity taken.new ≡ vec_capacity taken.old }
         ensures after { let p = handling self.old e.on round in
             self.new ≡ settled p.arms (told result) p.source }
-        ensures step { let p = handling self.old e.on round in
-            ArmsOnce A.arm_step p.arms (arm_of p.source) arm.old (told result) arm.new }
-        ensures interests { let p = handling self.old e.on round in
-            TellsArmed p.arms (arm_of p.source) (A.interests arm.old) (told result) (A.interests arm.new) }
-        ensures rest { A.rest arm.new ≡ A.rest arm.old }
-        ensures sure { A.is_sure arm.new ≡ A.is_sure arm.old }
-        ensures cause { HasCause (A.fault_count arm.old) (A.fault_count arm.new) (A.is_sure arm.old) (told result) }
+        ensures lent { let p = handling self.old e.on round in
+            UsesArm A.arm_step A.interests A.rest A.fault_count A.is_sure
+            p.arms (arm_of p.source) (told result) arm.old arm.new }
     {
         self.directions.take_waiters(e.on, round, taken);
-        self.arming.asked = NO_INTEREST;
+        self.arming.asked = Interest::NONE;
         let left = names_any(self.directions.wanted());
         self.arming.arm_where(left, arm, self.key, &self.directions)
     }
