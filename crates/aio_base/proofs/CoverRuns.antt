@@ -12,7 +12,7 @@ use Rattle.aio_base.specs.Covered.{tells_at, Cover, IsArmed, InHand, IsTold, Cov
 use Rattle.aio_base.proofs.Membership.{none_is_in, any_from}
 use Rattle.aio_base.proofs.WaiterLemmas.{same_dir-from, serial_of-live, waiter_wants}
 use Rattle.aio_base.proofs.Standing.{parts_of, Holds, Armed, Handed, Broken, BrokenTold, Standing}
-use Rattle.aio_base.proofs.CoverSteps.{run_step_stands}
+use Rattle.aio_base.proofs.CoverSteps.{step_result_stands}
 
 -- ## What stands makes sure of cover
 
@@ -45,7 +45,7 @@ run_stands : (run : List PolledStep) (w : World) (told : List Answer) → Standi
     → Standing (parts_of (world_of w run)) (told ++ answers_of w run) ⊥
 run_stands [] w told s = rw append-nil s
 run_stands (step ∷ run) w told s =
-    let after = run_step_stands w told step.step step.answers s in
+    let after = step_result_stands w told step.step step.answers s in
     let rest = run_stands run (outcome_of w step).world (told ++ (outcome_of w step).answer ∷ []) after in
     subst (λ answers. Standing (parts_of (world_of (outcome_of w step).world run)) answers ⊥)
     (append_assoc told ((outcome_of w step).answer ∷ []) (answers_of (outcome_of w step).world run)) rest
