@@ -27,6 +27,7 @@ pub mod OnceRuns
 pub mod PassLemmas
 pub mod Places
 pub mod RefusalLemmas
+mod RefusedWorlds
 pub mod Rewaiting
 mod Rows
 pub mod RunLemmas

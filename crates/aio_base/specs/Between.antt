@@ -6,9 +6,9 @@ use Rattle.aio_base.specs.World.{RoundState, World, opening, is_empty_list}
 use Rattle.aio_base.specs.Machine.{gave_none, is_zero}
 use Rattle.aio_base.specs.Runs.{PolledStep, answers_of, scripted, wakes_of, world_of}
 use Rattle.aio_base.specs.Storings.{Follows, Once, storings_of}
-use Rattle.aio_base.specs.Covered.{Covered}
+use Rattle.aio_base.specs.Covered.{Covered, WaitsForLive}
 use Rattle.aio_base.specs.Distinct.{NoDoubles}
-use Rattle.aio_base.specs.Timers.{AllAbove}
+use Rattle.aio_base.specs.Timers.{AllAbove, after_pass}
 
 -- whether the end of this round makes a second pass
 abbrev pub passes_at_end : Option RoundState → Bool
@@ -27,6 +27,8 @@ makes_pass w _ = false
 pub record StandsBetween (run : List PolledStep) : Type 0 where
   -- each waiter of each live source is covered
   pub covered : Covered (world_of opening run) (answers_of opening run)
+  -- whoever waits waits for a live source
+  pub live : WaitsForLive (world_of opening run)
   -- no storing of a waker is lost, and none is woken twice
   pub once : Once (world_of opening run) (wakes_of opening run) (storings_of opening run)
   -- nothing stands twice in the lists of the world
@@ -34,9 +36,11 @@ pub record StandsBetween (run : List PolledStep) : Type 0 where
   -- the last step moved storings as such a step may
   pub follows : (before : List PolledStep) (last : PolledStep) → run ≡ before ++ last ∷ []
       → Follows last.step (storings_of opening before) (storings_of opening run)
-  -- where the last step made a pass, no timer is registered that was due at it
+  -- where the last step made a pass, no timer is registered that was due at it, and each other still is
   pub passed : (before : List PolledStep) (last : PolledStep) → run ≡ before ++ last ∷ [] → makes_pass (world_of opening before) last.step ≡ true
       → AllAbove (world_of opening before).now (world_of opening run).registrations
+  pub others : (before : List PolledStep) (last : PolledStep) → run ≡ before ++ last ∷ [] → makes_pass (world_of opening before) last.step ≡ true
+      → (world_of opening run).registrations ≡ after_pass (world_of opening before).now (world_of opening before).registrations
 
 -- what stands after these steps of a trace over the poller in memory
 abbrev pub StandsAfter : List Step → Type 0

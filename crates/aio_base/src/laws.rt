@@ -3,7 +3,7 @@
 ghost use Rattle.std.specs.Prelude.{◌≡◌, ◌≢◌, ◌⊎◌, ◌&&◌, ◌↔◌, ℕ, ◌<◌, ◌≤◌, nat_le, filter, true, not, List, [], ◌∷◌, ◌++◌, length, map, Option, Some, None};
 ghost use Rattle.std.specs.List.{Contains};
 ghost use Rattle.aio_base.specs.Between.{StandsAfter, StandsBetween};
-ghost use Rattle.aio_base.specs.Covered.{Covered};
+ghost use Rattle.aio_base.specs.Covered.{Covered, WaitsForLive};
 ghost use Rattle.aio_base.specs.Distinct.{NoDoubles};
 ghost use Rattle.aio_base.specs.Machine.{Outcome, begin_round, finish_round, gave_none, is_zero, react, step_result};
 ghost use Rattle.aio_base.specs.Refusals.{is_refusal, only_counted};
@@ -85,10 +85,11 @@ pub fn a_change_keeps_the_book()
 
 /// After every run, whatever the poller answered in it, each waiter of each live source is covered: its
 /// direction is armed, or an event of its key is in hand, or the source is broken and the answer of the
-/// step at which it broke told that. Since a run that is cut off at a step is a run, this holds between
-/// any two steps.
+/// step at which it broke told that. There are no other waiters: whoever waits waits for a live source.
+/// Since a run that is cut off at a step is a run, this holds between any two steps.
 pub fn every_waiter_is_covered()
-    ensures { (run : List PolledStep) → Covered (world_of opening run) (answers_of opening run) }
+    ensures covered { (run : List PolledStep) → Covered (world_of opening run) (answers_of opening run) }
+    ensures live { (run : List PolledStep) → WaitsForLive (world_of opening run) }
 {}
 
 /// Each storing of a waker gets the next number, and after every run, whatever the poller answered in
@@ -135,12 +136,12 @@ pub fn a_script_is_a_run()
         → outcome_without_notes (step_result w s answers) ≡ outcome_without_notes (step_result v s answers) }
 {}
 
-/// After every run, whatever the poller answered in it, each waiter of each live source is covered, no
-/// storing of a waker is lost or woken twice, nothing stands twice in the world's lists, and the last
-/// step moved storings as such a step may; and right after a pass, where a round began, where one ended
-/// with a second pass or where a whole round was run, no timer is registered that was due at it. Since a
-/// run that is cut off at a step is a run, this holds between any two steps; the steps of a trace over
-/// the poller in memory are such a run.
+/// After every run, whatever the poller answered in it, each waiter of each live source is covered and
+/// no other waits, no storing of a waker is lost or woken twice, nothing stands twice in the world's
+/// lists, and the last step moved storings as such a step may; and right after a pass, where a round
+/// began, where one ended with a second pass or where a whole round was run, just those timers are
+/// registered that were not due at it. Since a run that is cut off at a step is a run, this holds
+/// between any two steps; the steps of a trace over the poller in memory are such a run.
 pub fn a_run_stands_between_its_steps()
     ensures run { (run : List PolledStep) → StandsBetween run }
     ensures trace { (steps : List Step) → StandsAfter steps }
