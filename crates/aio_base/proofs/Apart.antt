@@ -1,15 +1,17 @@
 -- Lists whose elements have different numbers.
-use Rattle.std.proofs.Common.{◌≡◌, ◌≢◌, ◌⊎◌, ℕ, Bool, true, false, cond, ◌==◌, List, [], ◌∷◌, ◌++◌, map, Some, ap, ◌∙◌, sym, subst, inl, inr, ⊎_elim}
+use Rattle.std.proofs.Common.{◌≡◌, ◌≢◌, ◌⊎◌, ℕ, Bool, true, false, cond, ◌==◌, List, [], ◌∷◌, ◌++◌, map, Some, ap, ◌∙◌, sym, subst, inl, inr, ⊎_elim, arith}
 use Rattle.std.specs.Prelude.{⊤}
 use Rattle.std.specs.List.{Contains, filter, find}
 use Rattle.std.proofs.lemmas.Bool.{eq-eqb, ne_eqb}
 use Rattle.std.proofs.lemmas.List.Elements.{Contains-push_cases}
+use Rattle.std.proofs.lemmas.List.Kept.{AllPairs-cons}
+use Rattle.aio_base.specs.Distinct.{Differ}
 use Rattle.aio_base.specs.World.{Registration}
 use Rattle.aio_base.specs.Timers.{fires_before, placed, in_order}
-use Rattle.aio_base.proofs.Membership.{none_is_in, first_is_in, later_is_in, among_cases, filtered_is_in, mapped_from}
+use Rattle.aio_base.proofs.Membership.{none_is_in, first_is_in, later_is_in, among_cases, each_in, filtered_is_in, filtered_passes, mapped_from}
 
--- the number of each element differs from those of all behind it
-abbrev pub Apart : {X : Type 0} → (X → ℕ) → List X → Type 0
+-- the number of each element, or whatever it is told apart by, differs from those of all behind it
+abbrev pub Apart : {X K : Type 0} → (X → K) → List X → Type 0
 Apart key [] = ⊤
 Apart {X} key (x ∷ xs) = ((y : X) → Contains xs y → key x ≢ key y) × Apart key xs
 
@@ -32,17 +34,17 @@ same_element key xs a b apart first second same =
 
 -- ## Lists that were changed
 
-filtered_step : {X : Type 0} (key : X → ℕ) (here : Bool) (x : X) (xs : List X) → ((y : X) → Contains xs y → key x ≢ key y) → Apart key xs
+filtered_step : {X K : Type 0} (key : X → K) (here : Bool) (x : X) (xs : List X) → ((y : X) → Contains xs y → key x ≢ key y) → Apart key xs
     → Apart key (cond here (x ∷ xs) xs)
 filtered_step key true x xs first rest = (first, rest)
 filtered_step key false x xs first rest = rest
 
-pub filtered_apart : {X : Type 0} (key : X → ℕ) (p : X → Bool) (xs : List X) → Apart key xs → Apart key (filter p xs)
+pub filtered_apart : {X K : Type 0} (key : X → K) (p : X → Bool) (xs : List X) → Apart key xs → Apart key (filter p xs)
 filtered_apart key p [] apart = apart
 filtered_apart key p (x ∷ xs) apart =
     filtered_step key (p x) x (filter p xs) (λ y among. apart.0 y (filtered_is_in p xs y among)) (filtered_apart key p xs apart.1)
 
-pub mapped_apart : {X : Type 0} (key : X → ℕ) (f : X → X) → ((x : X) → key (f x) ≡ key x) → (xs : List X) → Apart key xs → Apart key (map f xs)
+pub mapped_apart : {X K : Type 0} (key : X → K) (f : X → X) → ((x : X) → key (f x) ≡ key x) → (xs : List X) → Apart key xs → Apart key (map f xs)
 mapped_apart key f same [] apart = apart
 mapped_apart key f same (x ∷ xs) apart = (
   λ y among. let image = mapped_from f xs y among in
@@ -50,7 +52,7 @@ mapped_apart key f same (x ∷ xs) apart = (
   mapped_apart key f same xs apart.1,
 )
 
-pub pushed_apart : {X : Type 0} (key : X → ℕ) (xs : List X) (x : X) → Apart key xs → ((y : X) → Contains xs y → key y ≢ key x) → Apart key (xs ++ x ∷ [])
+pub pushed_apart : {X K : Type 0} (key : X → K) (xs : List X) (x : X) → Apart key xs → ((y : X) → Contains xs y → key y ≢ key x) → Apart key (xs ++ x ∷ [])
 pushed_apart key [] x apart new = (λ y among. none_is_in y among, apart)
 pushed_apart key (z ∷ xs) x apart new = (
   λ y among.
@@ -60,6 +62,18 @@ pushed_apart key (z ∷ xs) x apart new = (
       (Contains-push_cases xs x y among),
   pushed_apart key xs x apart.1 (λ y among. new y (later_is_in z xs y among)),
 )
+
+-- an element that joins in place of those with its number
+pub replaced_apart : {X K : Type 0} (key : X → K) (kept : X → Bool) (xs : List X) (x : X) → ((y : X) → kept y ≡ true → key y ≢ key x) → Apart key xs
+    → Apart key (filter kept xs ++ x ∷ [])
+replaced_apart key kept xs x others apart =
+    pushed_apart key (filter kept xs) x (filtered_apart key kept xs apart) (λ y among. others y (filtered_passes kept xs y among))
+
+-- as what holds of each two places of a list
+pub apart_differ : {X K : Type 0} (key : X → K) (xs : List X) → Apart key xs → Differ key xs
+apart_differ key [] apart = λ i j d before within. absurd (omega arith)
+apart_differ key (x ∷ xs) apart =
+    AllPairs-cons (λ first later. key first ≢ key later) x xs (each_in (λ y. key x ≢ key y) xs apart.0) (apart_differ key xs apart.1)
 
 -- ## Registrations in the order in which they fire
 

@@ -1,72 +1,82 @@
--- What holds after the steps of a trace, from the laws over all runs and of the passes.
-use Rattle.std.proofs.Common.{◌≡◌, ℕ, List, [], ◌∷◌, ◌++◌, Option, None, Some, not, ◌&&◌, refl, sym, ap, ◌∙◌, subst, Bool, true, false, cond}
-use Rattle.aio_base.specs.declared.outcomes.Which.{Which}
-use Rattle.aio_base.specs.declared.outcomes.Which.TheVariants as which
+-- What stands between two steps of a run, from the laws over all runs and of the passes.
+use Rattle.std.proofs.Common.{◌≡◌, ◌<◌, true, not, ◌&&◌, List, [], ◌∷◌, ◌++◌, Option, None, Some, is_some, refl, sym, ap, ◌∙◌, subst}
+use Rattle.std.proofs.lemmas.Bool.{and_parts}
+use Rattle.std.proofs.lemmas.List.Elements.{All-same}
 use Rattle.aio_base.specs.declared.steps.Step.{Step}
 use Rattle.aio_base.specs.declared.steps.Step.TheVariants as step
-use Rattle.aio_base.specs.World.{World, Registration, RoundState, opening}
-use Rattle.aio_base.specs.Machine.{gave_none, is_zero, step_result}
-use Rattle.aio_base.specs.Script.{after_call, after_calls, script_answers, script_step, world_after}
-use Rattle.aio_base.specs.Runs.{scripted, answers_of, wakes_of}
-use Rattle.aio_base.specs.Storings.{Once, storings_of}
+use Rattle.aio_base.specs.World.{Registration, PollerAnswer, World, RoundState, is_empty_list, opening}
+use Rattle.aio_base.specs.Machine.{gave_none, is_zero, finish_in, step_result}
+use Rattle.aio_base.specs.Runs.{PolledStep, outcome_of, world_of, scripted}
+use Rattle.aio_base.specs.Storings.{Follows, storings_of}
+use Rattle.aio_base.specs.Timers.{after_pass}
+use Rattle.aio_base.specs.Between.{passes_at_end, makes_pass, StandsBetween, StandsAfter}
+use Rattle.aio_base.proofs.CoverRuns.{run_covers, run_waits_for_live}
+use Rattle.aio_base.proofs.Following.{run_follows}
 use Rattle.aio_base.proofs.OnceRuns.{run_once}
-use Rattle.aio_base.specs.Covered.{Covered}
-use Rattle.aio_base.specs.Timers.{AllAbove}
-use Rattle.aio_base.specs.Between.{StandsAfter}
-use Rattle.aio_base.proofs.CoverRuns.{run_covers}
-use Rattle.aio_base.proofs.RunLemmas.{scripted_world}
-use Rattle.aio_base.proofs.PassLemmas.{begin_leaves, finish_leaves, react_leaves}
-
--- what calls use up of what is due and noted changes no registration
-either_registrations : (test : Bool) (x y : World) (rs : List Registration) → x.registrations ≡ rs → y.registrations ≡ rs → (cond test x y).registrations ≡ rs
-either_registrations true x y rs first second = first
-either_registrations false x y rs first second = second
-
-call_keeps : (call : Which) (w : World) → (after_call call w).registrations ≡ w.registrations
-call_keeps which.Add w = refl
-call_keeps which.Arm w = refl
-call_keeps which.Remove w = refl
-call_keeps which.Wait w = either_registrations w.due.wait _ _ w.registrations refl (either_registrations w.due.interrupt _ _ w.registrations refl refl)
-
-calls_keep : (calls : List Which) (w : World) → (after_calls calls w).registrations ≡ w.registrations
-calls_keep [] w = refl
-calls_keep (call ∷ calls) w = calls_keep calls (after_call call w) ∙ call_keeps call w
+use Rattle.aio_base.proofs.PassLemmas.{pass_leaves, begin_passes, finish_passes, react_passes}
+use Rattle.aio_base.proofs.Singles.{run_has_no_doubles}
 
 -- the world after one step more
-one_more : (w : World) (before : List Step) (s : Step) → world_after w (before ++ s ∷ []) ≡ (script_step (world_after w before) s).world
-one_more w [] s = refl
-one_more w (first ∷ before) s = one_more (script_step w first).world before s
+one_more : (w : World) (before : List PolledStep) (last : PolledStep) → world_of w (before ++ last ∷ []) ≡ (outcome_of (world_of w before) last).world
+one_more w [] last = refl
+one_more w (first ∷ before) last = one_more (outcome_of w first).world before last
 
-begin_step : (w : World) (limit : Option ℕ) → w.round ≡ None → AllAbove w.now (script_step w (step.Begin limit)).world.registrations
-unfolding script_step step_result
-begin_step w limit none =
-    let o = step_result w (step.Begin limit) [] in
-    subst (AllAbove w.now) (sym (calls_keep o.calls o.world)) (begin_leaves w limit [] none)
+none_is : (round : Option RoundState) → not (is_some round) ≡ true → round ≡ None
+none_is None none = refl
+none_is (Some round) none = absurd cc
 
-finish_step : (w : World) (round : RoundState) → w.round ≡ Some round → round.in_hand ≡ [] → (gave_none round.last_wait && not (is_zero round.limit)) ≡ true
-    → AllAbove w.now (script_step w step.Finish).world.registrations
-unfolding script_step step_result
-finish_step w round at none second =
-    let o = step_result w step.Finish [] in
-    subst (AllAbove w.now) (sym (calls_keep o.calls o.world)) (finish_leaves w round [] at none second)
+round_passes : (w : World) (round : Option RoundState) (answers : List PollerAnswer) → passes_at_end round ≡ true
+    → (finish_in w round answers).world.registrations ≡ after_pass w.now w.registrations
+round_passes w None answers passes = absurd cc
+round_passes w (Some round) answers passes =
+    let parts = and_parts (is_empty_list round.in_hand) (gave_none round.last_wait && not (is_zero round.limit)) passes in
+    finish_passes w round answers parts.0 parts.1
 
-react_step : (w : World) → w.round ≡ None → AllAbove w.now (script_step w step.React).world.registrations
-unfolding script_step step_result
-react_step w none =
-    let o = step_result w step.React (script_answers w step.React) in
-    subst (AllAbove w.now) (sym (calls_keep o.calls o.world)) (react_leaves w None (script_answers w step.React) none)
+-- what stays registered where a step makes a pass
+step_passes : (w : World) (s : Step) (answers : List PollerAnswer) → makes_pass w s ≡ true
+    → (step_result w s answers).world.registrations ≡ after_pass w.now w.registrations
+unfolding step_result
+step_passes w (step.Begin limit) answers passes = begin_passes w limit answers (none_is w.round passes)
+step_passes w step.Finish answers passes = round_passes w w.round answers passes
+step_passes w step.React answers passes = react_passes w None answers (none_is w.round passes)
+step_passes w step.Add answers passes = absurd cc
+step_passes w (step.Del key) answers passes = absurd cc
+step_passes w (step.Poll key dir waker) answers passes = absurd cc
+step_passes w (step.New key dir) answers passes = absurd cc
+step_passes w (step.StepEar number waker) answers passes = absurd cc
+step_passes w (step.DropEar number) answers passes = absurd cc
+step_passes w (step.TimerAt deadline) answers passes = absurd cc
+step_passes w (step.TimerEvery deadline period) answers passes = absurd cc
+step_passes w step.TimerNever answers passes = absurd cc
+step_passes w (step.Tick number waker) answers passes = absurd cc
+step_passes w (step.SetAt number deadline) answers passes = absurd cc
+step_passes w (step.SetEvery number deadline period) answers passes = absurd cc
+step_passes w (step.End number) answers passes = absurd cc
+step_passes w (step.Now moment) answers passes = absurd cc
+step_passes w (step.Note event) answers passes = absurd cc
+step_passes w (step.Fault kind) answers passes = absurd cc
+step_passes w step.Interrupt answers passes = absurd cc
+step_passes w step.Wait answers passes = absurd cc
+step_passes w step.Handle answers passes = absurd cc
 
-last_step : (steps before : List Step) (s : Step) (moment : ℕ) → steps ≡ before ++ s ∷ []
-    → AllAbove moment (script_step (world_after opening before) s).world.registrations → AllAbove moment (world_after opening steps).registrations
-last_step steps before s moment is above =
-    subst (λ (w : World). AllAbove moment w.registrations) (sym (ap (world_after opening) is ∙ one_more opening before s)) above
+last_passes : (run before : List PolledStep) (last : PolledStep) → run ≡ before ++ last ∷ [] → makes_pass (world_of opening before) last.step ≡ true
+    → (world_of opening run).registrations ≡ after_pass (world_of opening before).now (world_of opening before).registrations
+last_passes run before last is passes =
+    ap (λ (w : World). w.registrations) (ap (world_of opening) is ∙ one_more opening before last)
+    ∙ step_passes (world_of opening before) last.step last.answers passes
+
+pub stands_between : (run : List PolledStep) → StandsBetween run
+stands_between run = record {
+  covered = run_covers run;
+  live = run_waits_for_live run;
+  once = run_once run;
+  distinct = run_has_no_doubles run;
+  follows = λ before last is. subst (λ r. Follows last.step (storings_of opening before) (storings_of opening r)) (sym is) (run_follows before last);
+  passed = λ before last is passes.
+      let w = world_of opening before in
+      All-same (λ (r : Registration). w.now < r.deadline) _ _ (last_passes run before last is passes) (pass_leaves w.now w.registrations);
+  others = λ before last is passes. last_passes run before last is passes;
+}
 
 pub stands_after : (steps : List Step) → StandsAfter steps
-stands_after steps = record {
-  covered = subst (λ w. Covered w (answers_of opening (scripted opening steps))) (scripted_world opening steps) (run_covers (scripted opening steps));
-  once = subst (λ w. Once w (wakes_of opening (scripted opening steps)) (storings_of opening (scripted opening steps))) (scripted_world opening steps)
-      (run_once (scripted opening steps));
-  begun = λ before limit is none. last_step steps before (step.Begin limit) _ is (begin_step (world_after opening before) limit none);
-  finished = λ before round is at none second. last_step steps before step.Finish _ is (finish_step (world_after opening before) round at none second);
-  passed = λ before is none. last_step steps before step.React _ is (react_step (world_after opening before) none);
-}
+stands_after steps = stands_between (scripted opening steps)

@@ -5,14 +5,14 @@ use Rattle.std.proofs.lemmas.Bool.{and_from, eq-eqb}
 use Rattle.aio_base.specs.declared.names.Dir.{Dir}
 use Rattle.aio_base.specs.declared.names.Event.{Event}
 use Rattle.aio_base.specs.declared.steps.Answer.{Answer}
-use Rattle.aio_base.specs.World.{ArmedDirection, BrokenSource, World, same_dir, is_armed, opening}
+use Rattle.aio_base.specs.World.{PollWaiter, ListenerEntry, ArmedDirection, BrokenSource, World, same_dir, is_armed, opening}
 use Rattle.aio_base.specs.Machine.{hand_of}
 use Rattle.aio_base.specs.Runs.{PolledStep, outcome_of, answers_of, world_of}
-use Rattle.aio_base.specs.Covered.{tells_at, Cover, IsArmed, InHand, IsTold, Covered}
-use Rattle.aio_base.proofs.Membership.{none_is_in, any_from}
+use Rattle.aio_base.specs.Covered.{tells_at, Cover, IsArmed, InHand, IsTold, Covered, HasSource, WaitsForLive}
+use Rattle.aio_base.proofs.Membership.{none_is_in, each_in, any_from}
 use Rattle.aio_base.proofs.WaiterLemmas.{same_dir-from, serial_of-live, waiter_wants}
 use Rattle.aio_base.proofs.Standing.{parts_of, Holds, Armed, Handed, Broken, BrokenTold, Standing}
-use Rattle.aio_base.proofs.CoverSteps.{run_step_stands}
+use Rattle.aio_base.proofs.CoverSteps.{step_result_stands}
 
 -- ## What stands makes sure of cover
 
@@ -45,7 +45,7 @@ run_stands : (run : List PolledStep) (w : World) (told : List Answer) → Standi
     → Standing (parts_of (world_of w run)) (told ++ answers_of w run) ⊥
 run_stands [] w told s = rw append-nil s
 run_stands (step ∷ run) w told s =
-    let after = run_step_stands w told step.step step.answers s in
+    let after = step_result_stands w told step.step step.answers s in
     let rest = run_stands run (outcome_of w step).world (told ++ (outcome_of w step).answer ∷ []) after in
     subst (λ answers. Standing (parts_of (world_of (outcome_of w step).world run)) answers ⊥)
     (append_assoc told ((outcome_of w step).answer ∷ []) (answers_of (outcome_of w step).world run)) rest
@@ -71,3 +71,12 @@ after_run run = run_stands run opening [] opening_stands
 
 pub run_covers : (run : List PolledStep) → Covered (world_of opening run) (answers_of opening run)
 run_covers run = standing_covers (world_of opening run) (answers_of opening run) (after_run run)
+
+pub run_waits_for_live : (run : List PolledStep) → WaitsForLive (world_of opening run)
+run_waits_for_live run =
+    let w = world_of opening run in
+    let o = (after_run run).ordered in
+    record {
+      poll_waiters = each_in (λ (p : PollWaiter). HasSource w.live p.serial) w.poll_waiters o.polls_live;
+      listeners = each_in (λ (l : ListenerEntry). HasSource w.live l.serial) w.listeners o.listeners_live;
+    }

@@ -8,11 +8,11 @@ use Rattle.aio_base.specs.declared.names.Dir.{Dir}
 use Rattle.aio_base.specs.declared.steps.Answer.{Answer}
 use Rattle.aio_base.specs.World.{PollerAnswer, LiveSource, PollWaiter, ListenerEntry, ArmedDirection, BrokenSource, World, serial_of, set_armed, without_broken}
 use Rattle.aio_base.specs.Machine.{Outcome, quiet, fails, next_answer, free_key, add, remove_source, del_source, source_limit}
-use Rattle.aio_base.specs.Covered.{tells_arm_fault}
+use Rattle.aio_base.specs.Covered.{tells_arm_fault, HasSource}
 use Rattle.aio_base.proofs.Membership.{passing_is_kept, filtered_is_in, filtered_passes, any_from, none_passes}
 use Rattle.aio_base.proofs.WaiterLemmas.{Wants, Polls, Listens, source, serial_of-live}
 use Rattle.aio_base.proofs.FreeKeys.{free_key-free}
-use Rattle.aio_base.proofs.Standing.{Parts, parts_of, HasSource, Ordered, Covers, Standing, weaker, other_key, kept_apart, armed_stays, broken_stays, holds_in, either_world}
+use Rattle.aio_base.proofs.Standing.{Parts, parts_of, Ordered, Covers, Standing, weaker, other_key, kept_apart, armed_stays, broken_stays, holds_in, either_world}
 
 -- what stands after a step: an arm failed in it only where its answer tells that
 pub record Stands (told : List Answer) (o : Outcome) : Type 0 where

@@ -3,15 +3,12 @@ use Rattle.std.proofs.Common.{◌≡◌, ℕ, zero, suc, ◌+◌, Bool, true, fa
 use Rattle.std.specs.Prelude.{nat_lt, nat_le}
 use Rattle.std.proofs.lemmas.List.{get_or_at}
 use Rattle.aio_base.specs.declared.names.Waker.{Waker}
-use Rattle.aio_base.specs.declared.outcomes.Which.{Which}
-use Rattle.aio_base.specs.declared.outcomes.Which.TheVariants as which
 use Rattle.aio_base.specs.declared.steps.Step.{Step}
 use Rattle.aio_base.specs.declared.steps.Step.TheVariants as step
 use Rattle.aio_base.specs.declared.steps.Answer.{Answer}
 use Rattle.aio_base.specs.declared.steps.Answer.TheVariants as answer
 use Rattle.aio_base.specs.World.{PollerAnswer, TimerEntry, World, serial_of}
-use Rattle.aio_base.specs.Machine.{Outcome, quiet, is_waker, is_listener, is_timer, unregistered, registered, next_deadline, fired, waiting, tick_deadline, tick_timer, set_deadline, set_timer, end_timer, set_clock, case_of, moved_on, step_result}
-use Rattle.aio_base.specs.Script.{after_wait, after_call, after_calls, settled, run_step}
+use Rattle.aio_base.specs.Machine.{quiet, is_waker, is_listener, is_timer, unregistered, registered, next_deadline, fired, waiting, tick_deadline, tick_timer, set_deadline, set_timer, end_timer, set_clock, case_of, step_result}
 use Rattle.aio_base.specs.Covered.{tells_arm_fault, tells_at}
 use Rattle.aio_base.proofs.Standing.{Parts, parts_of, Ordered, Standing, holds_in}
 use Rattle.aio_base.proofs.CoverSources.{Stands, either, quiet_stands, add_stands, del_stands}
@@ -147,29 +144,11 @@ moved_stands p told a s = record {
       holds_in p (moved p) k n dir (λ among. among) (λ e among same. among) (λ b among same. among) (s.covers k n dir lives wants);
 }
 
--- ## What a step used up
-
-waited_parts : (w : World) → parts_of (after_wait w) ≡ parts_of w
-waited_parts w = either_parts w w.due.wait _ _ refl (either_parts w w.due.interrupt _ _ refl refl)
-
-call_parts : (call : Which) (w : World) → parts_of (after_call call w) ≡ parts_of w
-call_parts which.Add w = refl
-call_parts which.Arm w = refl
-call_parts which.Remove w = refl
-call_parts which.Wait w = waited_parts w
-
-calls_parts : (calls : List Which) (w : World) → parts_of (after_calls calls w) ≡ parts_of w
-calls_parts [] w = refl
-calls_parts (call ∷ calls) w = calls_parts calls (after_call call w) ∙ call_parts call w
-
-settled_stands : (o : Outcome) (told : List Answer) → Standing (parts_of o.world) told ⊥ → Standing (parts_of (settled o).world) told ⊥
-settled_stands o told s = subst (λ p. Standing p told ⊥) (sym (calls_parts o.calls o.world)) s
-
 -- after each step cover stands, with its answer among those that were told
-pub run_step_stands : (w : World) (told : List Answer) (s : Step) (answers : List PollerAnswer) → Standing (parts_of w) told ⊥
-    → Standing (parts_of (run_step w s answers).world) (told ++ (run_step w s answers).answer ∷ []) ⊥
+pub step_result_stands : (w : World) (told : List Answer) (s : Step) (answers : List PollerAnswer) → Standing (parts_of w) told ⊥
+    → Standing (parts_of (step_result w s answers).world) (told ++ (step_result w s answers).answer ∷ []) ⊥
 unfolding step_result
-run_step_stands w told s answers x =
+step_result_stands w told s answers x =
     let o = case_of w s answers in
     let y = case_stands w told s answers x in
-    settled_stands (moved_on o) (told ++ o.answer ∷ []) (moved_stands (parts_of o.world) told o.answer y.stands)
+    moved_stands (parts_of o.world) told o.answer y.stands

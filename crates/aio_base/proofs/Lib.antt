@@ -8,6 +8,7 @@ pub mod CoverRuns
 pub mod CoverSources
 pub mod CoverSteps
 pub mod CoverWaiters
+pub mod FiringOrder
 pub mod Following
 pub mod FreeKeys
 pub mod FreshnessLemmas
@@ -21,15 +22,18 @@ pub mod Holding
 pub mod InterestLemmas
 pub mod Kept
 pub mod Membership
+pub mod NotesUnread
 pub mod OnceRuns
 pub mod PassLemmas
 pub mod Places
 pub mod RefusalLemmas
+mod RefusedWorlds
 pub mod Rewaiting
 mod Rows
 pub mod RunLemmas
 mod RunRows
 pub mod Searching
+pub mod Singles
 pub mod Spellings
 pub mod Standing
 pub mod StoringCounts

@@ -1,6 +1,6 @@
 -- Which elements a list has that was filtered, mapped, pushed to or searched.
 use Rattle.std.proofs.Common.{◌≡◌, ◌⊎◌, Bool, true, false, cond, List, [], ◌∷◌, map, Some, refl, ap, ◌∙◌, subst, inl, inr, ⊎_elim, arith}
-use Rattle.std.specs.List.{Contains, filter, find, list_any}
+use Rattle.std.specs.List.{All, Contains, filter, find, list_any}
 use Rattle.std.proofs.lemmas.List.Elements.{All-contains, All-contains_itself, All-filter, All-map, All-weaker, Contains-append_cases, Contains-append_left, Contains-append_right, Contains-push, Contains-push_cases, filter_passes}
 use Rattle.std.proofs.lemmas.List.Folds.{Any-from_list_any, list_any-from_Any}
 
@@ -20,6 +20,10 @@ among_cases x xs y among =
     (λ (front : Contains (x ∷ []) y). ⊎_elim (λ (nowhere : Contains [] y). none_is_in y nowhere) (λ (same : x ≡ y). inl same) (Contains-push_cases [] x y front))
     (λ (later : Contains xs y). inr later)
     (Contains-append_cases (x ∷ []) xs y among)
+
+-- what holds of each element holds of all
+pub each_in : {X : Type 0} (P : X → Type 0) (xs : List X) → ((x : X) → Contains xs x → P x) → All P xs
+each_in P xs each = All-weaker (Contains xs) P each xs (All-contains_itself xs)
 
 -- ## Filters
 

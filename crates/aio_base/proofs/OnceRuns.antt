@@ -3,19 +3,16 @@ use Rattle.std.proofs.Common.{◌≡◌, ℕ, Bool, true, false, cond, List, [],
 use Rattle.std.specs.Prelude.{nat_lt, nat_le}
 use Rattle.std.proofs.lemmas.List.{map-append}
 use Rattle.aio_base.specs.declared.names.Waker.{Waker}
-use Rattle.aio_base.specs.declared.outcomes.Which.{Which}
-use Rattle.aio_base.specs.declared.outcomes.Which.TheVariants as which
 use Rattle.aio_base.specs.declared.steps.Answer.TheVariants as answer
 use Rattle.aio_base.specs.declared.steps.Step.{Step}
 use Rattle.aio_base.specs.declared.steps.Step.TheVariants as step
 use Rattle.aio_base.specs.World.{PollerAnswer, World, serial_of, opening}
-use Rattle.aio_base.specs.Machine.{Outcome, fails, next_answer, add, is_listener, is_timer, set_clock, case_of, moved_on, step_result, source_limit}
-use Rattle.aio_base.specs.Script.{after_wait, after_call, after_calls}
+use Rattle.aio_base.specs.Machine.{Outcome, fails, next_answer, add, is_listener, is_timer, set_clock, case_of, step_result, source_limit}
 use Rattle.aio_base.specs.Runs.{PolledStep, outcome_of, world_of, wakes_of}
 use Rattle.aio_base.specs.Storings.{Place, OfPoll, OfListener, OfTimer, Stored, Storings, no_storings, wakers, step_storings, step_ended, storings_from, storings_of, Once}
 use Rattle.aio_base.proofs.Membership.{none_is_in}
 use Rattle.aio_base.proofs.Kept.{ended_kept}
-use Rattle.aio_base.proofs.Holding.{Holding, holding_of, held, waker_at-held, Stands, Leaves, quiet_leaves}
+use Rattle.aio_base.proofs.Holding.{Holding, Orders, holding_of, held, waker_at-held, Stands, Leaves, quiet_leaves}
 use Rattle.aio_base.proofs.HeldPolls.{either_world, del_leaves, poll_leaves}
 use Rattle.aio_base.proofs.HeldListeners.{new_leaves, step_leaves, drop_leaves}
 use Rattle.aio_base.proofs.HeldTicks.{tick_leaves, set_leaves, end_leaves}
@@ -67,22 +64,6 @@ case_leaves w woken l step.Handle answers x = handle_leaves w woken l answers x
 case_leaves w woken l step.Finish answers x = finish_leaves w woken l answers x
 case_leaves w woken l step.React answers x = react_leaves w woken l answers x
 
--- ## What a step used up
-
-waited_holding : (w : World) → holding_of (after_wait w) ≡ holding_of w
-waited_holding w =
-    either_world w.due.wait _ _ (holding_of w) refl (either_world w.due.interrupt _ _ (holding_of w) refl refl)
-
-call_holding : (call : Which) (w : World) → holding_of (after_call call w) ≡ holding_of w
-call_holding which.Add w = refl
-call_holding which.Arm w = refl
-call_holding which.Remove w = refl
-call_holding which.Wait w = waited_holding w
-
-calls_holding : (calls : List Which) (w : World) → holding_of (after_calls calls w) ≡ holding_of w
-calls_holding [] w = refl
-calls_holding (call ∷ calls) w = calls_holding calls (after_call call w) ∙ call_holding call w
-
 -- ## A step ends
 
 -- what stands between two steps: the steps so far woke these storings
@@ -116,8 +97,7 @@ step_stands w s l between =
     let o = case_of w s.step s.answers in
     let m = step_storings w s.step s.answers l in
     let y = case_leaves w l.woken l s.step s.answers between in
-    subst (λ h. Stands h [] (step_ended m).woken (step_ended m)) (sym (calls_holding o.calls (moved_on o).world))
-    (ended_stands (holding_of o.world) o.wakes l.woken m y.stands)
+    ended_stands (holding_of o.world) o.wakes l.woken m y.stands
 
 step_wakes : (w : World) (s : PolledStep) (l : Storings) → Between w l
     → map wakers (after_step w s l).woken ≡ map wakers l.woken ++ (outcome_of w s).wakes ∷ []
@@ -183,3 +163,7 @@ run_once run =
       steps = run_wakes run opening no_storings opening_stands;
       at_rest = at_rest_after run;
     }
+
+-- the numbers and ids of the world differ, and were drawn
+pub run_orders : (run : List PolledStep) → Orders (holding_of (world_of opening run))
+run_orders run = (run_stands run opening no_storings opening_stands).orders

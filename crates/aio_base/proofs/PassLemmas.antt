@@ -1,10 +1,11 @@
 -- A pass leaves no registration that is due, and takes the waker of each that was; so it is right after a round begins, and after a whole round.
-use Rattle.std.proofs.Common.{◌≡◌, ℕ, ◌<◌, Bool, true, false, not, ◌&&◌, cond, List, [], ◌∷◌, Option, None, Some, ⊎_elim, inl, inr, ◌⊎◌, refl, ap, ◌∙◌, subst}
+use Rattle.std.proofs.Common.{◌≡◌, ℕ, ◌<◌, Bool, true, false, not, ◌&&◌, cond, List, [], ◌∷◌, Option, None, Some, ⊎_elim, inl, inr, ◌⊎◌, refl, ap, ◌∙◌, sym, subst}
 use Rattle.std.specs.Prelude.{nat_le, is_some}
-use Rattle.std.specs.List.{All, Contains, filter}
+use Rattle.std.specs.List.{Contains, filter}
 use Rattle.std.proofs.lemmas.Bool.{cases_Bool, cond-true, cond-false, leb-false, not-true}
-use Rattle.std.proofs.lemmas.List.Elements.{All-weaker, All-filter, All-same, filter_passes}
+use Rattle.std.proofs.lemmas.List.Elements.{All-weaker, All-same, filter_passes}
 use Rattle.aio_base.proofs.Membership.{first_is_in, later_is_in, among_cases, none_is_in, passing_is_kept, image_is_in}
+use Rattle.aio_base.proofs.Searching.{refiltered}
 use Rattle.aio_base.specs.declared.names.Key.{Key}
 use Rattle.aio_base.specs.declared.names.Dir.{Dir}
 use Rattle.aio_base.specs.declared.names.Event.{Event}
@@ -65,114 +66,136 @@ pass_takes moment registrations r among =
 
 -- ## Rounds
 
-begun_registrations : (w : World) (given : Option ℕ) (answers : List PollerAnswer) → w.round ≡ None
+pub begin_passes : (w : World) (given : Option ℕ) (answers : List PollerAnswer) → w.round ≡ None
     → (begin_round w given answers).world.registrations ≡ after_pass w.now w.registrations
-begun_registrations w given answers none =
+begin_passes w given answers none =
     ap (λ (o : Outcome). o.world.registrations) (cond-false (is_some w.round) _ _ (ap is_some none))
 
 pub begin_leaves : (w : World) (given : Option ℕ) (answers : List PollerAnswer) → w.round ≡ None
     → AllAbove w.now (begin_round w given answers).world.registrations
 begin_leaves w given answers none =
-    All-same (λ (r : Registration). w.now < r.deadline) _ _ (begun_registrations w given answers none) (pass_leaves w.now w.registrations)
+    All-same (λ (r : Registration). w.now < r.deadline) _ _ (begin_passes w given answers none) (pass_leaves w.now w.registrations)
+
+pub finish_passes : (w : World) (round : RoundState) (answers : List PollerAnswer) → is_empty_list round.in_hand ≡ true
+    → (gave_none round.last_wait && not (is_zero round.limit)) ≡ true
+    → (finish_in w (Some round) answers).world.registrations ≡ after_pass w.now w.registrations
+finish_passes w round answers none second =
+    ap (λ (o : Outcome). o.world.registrations) (cond-true (is_empty_list round.in_hand) _ _ none)
+    ∙ cond-true (gave_none round.last_wait && not (is_zero round.limit)) _ _ second
 
 -- after the second pass of a round no registration is due either
 pub finish_leaves : (w : World) (round : RoundState) (answers : List PollerAnswer) → w.round ≡ Some round → round.in_hand ≡ []
     → (gave_none round.last_wait && not (is_zero round.limit)) ≡ true → AllAbove w.now (finish_round w answers).world.registrations
 finish_leaves w round answers at none second =
     let left : (finish_round w answers).world.registrations ≡ after_pass w.now w.registrations =
-    ap (λ r. (finish_in w r answers).world.registrations) at
-    ∙ ap (λ (o : Outcome). o.world.registrations) (cond-true (is_empty_list round.in_hand) _ _ (ap is_empty_list none))
-    ∙ cond-true (gave_none round.last_wait && not (is_zero round.limit)) _ _ second in
+    ap (λ r. (finish_in w r answers).world.registrations) at ∙ finish_passes w round answers (ap is_empty_list none) second in
     All-same (λ (r : Registration). w.now < r.deadline) _ _ left (pass_leaves w.now w.registrations)
 
--- the outcome has these registrations
-abbrev Keeps : List Registration → Outcome → Type 0
-Keeps registrations o = o.world.registrations ≡ registrations
+-- the clock of a world and its registrations
+record Timed : Type 0 where
+  now : ℕ
+  registrations : List Registration
 
-either_keeps : (registrations : List Registration) (test : Bool) (x y : Outcome) → Keeps registrations x → Keeps registrations y → Keeps registrations (cond test x y)
-either_keeps registrations true x y first second = first
-either_keeps registrations false x y first second = second
+abbrev timed : World → Timed
+timed w = record { now = w.now; registrations = w.registrations }
 
-either_world : (registrations : List Registration) (test : Bool) (x y : World) → x.registrations ≡ registrations → y.registrations ≡ registrations
-    → (cond test x y).registrations ≡ registrations
-either_world registrations true x y first second = first
-either_world registrations false x y first second = second
+-- the outcome has these
+abbrev Keeps : Timed → Outcome → Type 0
+Keeps t o = timed o.world ≡ t
 
-wait_answered_keeps : (w : World) (round : RoundState) (told : PollerAnswer) (rest : List PollerAnswer) → Keeps w.registrations (wait_answered w round told rest)
+either_keeps : (t : Timed) (test : Bool) (x y : Outcome) → Keeps t x → Keeps t y → Keeps t (cond test x y)
+either_keeps t true x y first second = first
+either_keeps t false x y first second = second
+
+either_world : (t : Timed) (test : Bool) (x y : World) → timed x ≡ t → timed y ≡ t → timed (cond test x y) ≡ t
+either_world t true x y first second = first
+either_world t false x y first second = second
+
+wait_answered_keeps : (w : World) (round : RoundState) (told : PollerAnswer) (rest : List PollerAnswer) → Keeps (timed w) (wait_answered w round told rest)
 wait_answered_keeps w round Succeeds rest = refl
 wait_answered_keeps w round (Gives events) rest = refl
 wait_answered_keeps w round IsInterrupted rest = refl
 wait_answered_keeps w round Fails rest = refl
 
--- a wait changes no registration
-pub wait_keeps : (w : World) (round : Option RoundState) (answers : List PollerAnswer) → Keeps w.registrations (wait_in w round answers)
+-- a wait changes neither
+wait_keeps : (w : World) (round : Option RoundState) (answers : List PollerAnswer) → Keeps (timed w) (wait_in w round answers)
 wait_keeps w None answers = refl
-wait_keeps w (Some round) answers = either_keeps w.registrations _ _ _ (wait_answered_keeps w round _ _) refl
+wait_keeps w (Some round) answers = either_keeps (timed w) _ _ _ (wait_answered_keeps w round _ _) refl
 
-taken_keeps : (w : World) (serial begin : ℕ) (dirs : List Dir) → (world_taken w serial begin dirs).registrations ≡ w.registrations
+taken_keeps : (w : World) (serial begin : ℕ) (dirs : List Dir) → timed (world_taken w serial begin dirs) ≡ timed w
 taken_keeps w serial begin [] = refl
 taken_keeps w serial begin (dir ∷ dirs) = taken_keeps (without_waiters w serial begin dir) serial begin dirs
 
-arm_keeps : (w : World) (key serial : ℕ) (told : PollerAnswer) → (after_arm w key serial told).registrations ≡ w.registrations
-arm_keeps w key serial told = either_world w.registrations (fails told) (broken_world w serial) (armed_world w key serial) refl refl
+arm_keeps : (w : World) (key serial : ℕ) (told : PollerAnswer) → timed (after_arm w key serial told) ≡ timed w
+arm_keeps w key serial told = either_world (timed w) (fails told) (broken_world w serial) (armed_world w key serial) refl refl
 
-rearmed_keeps : (w : World) (round : RoundState) (key : Key) (serial : ℕ) (answers : List PollerAnswer) → Keeps w.registrations (rearmed w round key serial answers)
+rearmed_keeps : (w : World) (round : RoundState) (key : Key) (serial : ℕ) (answers : List PollerAnswer) → Keeps (timed w) (rearmed w round key serial answers)
 rearmed_keeps w round key serial answers =
     let arm = arm_keeps w key.0 serial (next_answer answers) in
-    either_keeps w.registrations _ _ _ refl (either_world w.registrations _ _ _ arm arm)
+    either_keeps (timed w) _ _ _ refl (either_world (timed w) _ _ _ arm arm)
 
 handle_source_keeps : (w : World) (round : RoundState) (event : Event) (serial : Option ℕ) (answers : List PollerAnswer)
-    → Keeps w.registrations (handle_source w round event serial answers)
+    → Keeps (timed w) (handle_source w round event serial answers)
 handle_source_keeps w round event None answers = refl
 handle_source_keeps w round event (Some serial) answers =
     rearmed_keeps _ _ event.key serial answers ∙ taken_keeps w serial round.begin (directions_of event.on)
 
 handle_first_keeps : (w : World) (round : RoundState) (events : List Event) (answers : List PollerAnswer)
-    → Keeps w.registrations (handle_first w round events answers)
+    → Keeps (timed w) (handle_first w round events answers)
 handle_first_keeps w round [] answers = refl
 handle_first_keeps w round (event ∷ events) answers = handle_source_keeps w _ event (serial_of w event.key.0) answers
 
--- a handled event changes no registration
-pub handle_keeps : (w : World) (round : Option RoundState) (answers : List PollerAnswer) → Keeps w.registrations (handle_in w round answers)
+-- nor does a handled event
+handle_keeps : (w : World) (round : Option RoundState) (answers : List PollerAnswer) → Keeps (timed w) (handle_in w round answers)
 handle_keeps w None answers = refl
 handle_keeps w (Some round) answers = handle_first_keeps w round round.in_hand answers
 
-pub handle_each_keeps : (events : List Event) (w : World) (answers : List PollerAnswer) → Keeps w.registrations (handle_each events w answers)
+handle_each_keeps : (events : List Event) (w : World) (answers : List PollerAnswer) → Keeps (timed w) (handle_each events w answers)
 handle_each_keeps [] w answers = refl
 handle_each_keeps (event ∷ events) w answers =
     handle_each_keeps events (handle_round w answers).world (handle_round w answers).left ∙ handle_keeps w w.round answers
 
--- what holds of all registrations
-pub record EachIn (P : Registration → Type 0) (o : Outcome) : Type 0 where
-  pub each : All P o.world.registrations
+-- ## What stays registered
 
-either_each : (P : Registration → Type 0) (test : Bool) (x y : Outcome) → EachIn P x → EachIn P y → EachIn P (cond test x y)
-either_each P true x y first second = first
-either_each P false x y first second = second
+-- what a pass left it leaves again
+pass_again : (moment : ℕ) (registrations : List Registration) → after_pass moment (after_pass moment registrations) ≡ after_pass moment registrations
+pass_again moment registrations = refiltered (λ r. not (is_due moment r)) (λ r. not (is_due moment r)) (λ r due. due) registrations
 
-each_of_either : (P : Registration → Type 0) (test : Bool) (a b : List Registration) → All P a → All P b → All P (cond test a b)
-each_of_either P true a b first second = first
-each_of_either P false a b first second = second
+either_registrations : (rs : List Registration) (test : Bool) (x y : Outcome) → x.world.registrations ≡ rs → y.world.registrations ≡ rs
+    → (cond test x y).world.registrations ≡ rs
+either_registrations rs true x y first second = first
+either_registrations rs false x y first second = second
 
--- a round's end adds no registration
-pub finish_each : (P : Registration → Type 0) (w : World) (round : Option RoundState) (answers : List PollerAnswer) → All P w.registrations
-    → EachIn P (finish_in w round answers)
-finish_each P w None answers all = record { each = all }
-finish_each P w (Some round) answers all =
-    let second = gave_none round.last_wait && not (is_zero round.limit) in
-    let passed = All-filter (λ r. not (is_due w.now r)) P w.registrations all in
-    either_each P (is_empty_list round.in_hand) _ _ (record { each = each_of_either P second (after_pass w.now w.registrations) w.registrations passed all }) (record { each = all })
+either_list : (rs : List Registration) (test : Bool) (a b : List Registration) → a ≡ rs → b ≡ rs → cond test a b ≡ rs
+either_list rs true a b first second = first
+either_list rs false a b first second = second
+
+-- a round's end changes no registration where a pass would take none
+finish_keeps : (w : World) (round : Option RoundState) (answers : List PollerAnswer) → after_pass w.now w.registrations ≡ w.registrations
+    → (finish_in w round answers).world.registrations ≡ w.registrations
+finish_keeps w None answers passed = refl
+finish_keeps w (Some round) answers passed =
+    either_registrations w.registrations (is_empty_list round.in_hand) _ _
+    (either_list w.registrations (gave_none round.last_wait && not (is_zero round.limit)) _ _ passed refl) refl
+
+pub react_passes : (w : World) (given : Option ℕ) (answers : List PollerAnswer) → w.round ≡ None
+    → (react w given answers).world.registrations ≡ after_pass w.now w.registrations
+react_passes w given answers none =
+    let begun = begin_round w given answers in
+    let waited = wait_round begun.world begun.left in
+    let handled = handle_each (hand_of waited.world.round) waited.world waited.left in
+    let kept : timed handled.world ≡ timed begun.world =
+    handle_each_keeps (hand_of waited.world.round) waited.world waited.left ∙ wait_keeps begun.world begun.world.round begun.left in
+    let began : timed begun.world ≡ record { now = w.now; registrations = after_pass w.now w.registrations } =
+    ap (λ (o : Outcome). timed o.world) (cond-false (is_some w.round) _ _ (ap is_some none)) in
+    let at = kept ∙ began in
+    let same : after_pass handled.world.now handled.world.registrations ≡ handled.world.registrations =
+    ap (λ (t : Timed). after_pass t.now t.registrations) at ∙ pass_again w.now w.registrations ∙ sym (ap (λ (t : Timed). t.registrations) at) in
+    ap (λ (o : Outcome). o.world.registrations) (cond-false (is_some w.round) _ _ (ap is_some none))
+    ∙ finish_keeps handled.world handled.world.round handled.left same
+    ∙ ap (λ (t : Timed). t.registrations) at
 
 pub react_leaves : (w : World) (given : Option ℕ) (answers : List PollerAnswer) → w.round ≡ None
     → AllAbove w.now (react w given answers).world.registrations
 react_leaves w given answers none =
-    let Above : Registration → Type 0 = λ r. w.now < r.deadline in
-    let begun = begin_round w given answers in
-    let waited = wait_round begun.world begun.left in
-    let handled = handle_each (hand_of waited.world.round) waited.world waited.left in
-    let kept : handled.world.registrations ≡ begun.world.registrations =
-    handle_each_keeps (hand_of waited.world.round) waited.world waited.left ∙ wait_keeps begun.world begun.world.round begun.left in
-    let ended : EachIn Above (finish_round handled.world handled.left) =
-    finish_each Above handled.world handled.world.round handled.left
-    (All-same Above handled.world.registrations begun.world.registrations kept (begin_leaves w given answers none)) in
-    All-same Above _ _ (ap (λ (o : Outcome). o.world.registrations) (cond-false (is_some w.round) _ _ (ap is_some none))) ended.each
+    All-same (λ (r : Registration). w.now < r.deadline) _ _ (react_passes w given answers none) (pass_leaves w.now w.registrations)

@@ -5,7 +5,8 @@ use Rattle.aio_base.specs.declared.names.Dir.{Dir}
 use Rattle.aio_base.specs.declared.steps.Answer.{Answer}
 use Rattle.aio_base.specs.World.{PollWaiter, ListenerEntry}
 use Rattle.aio_base.proofs.WaiterLemmas.{Wants, Polls, Listens}
-use Rattle.aio_base.proofs.Standing.{Parts, HasSource, Ordered, Holds, Standing, StandingBut, holds_in}
+use Rattle.aio_base.specs.Covered.{HasSource}
+use Rattle.aio_base.proofs.Standing.{Parts, Ordered, Holds, Standing, StandingBut, holds_in}
 
 -- A listener's entry comes from one of a list: of the same number and direction, and with a waker only where that had one or one was stored.
 pub record Comes (before : List ListenerEntry) (Stored : ℕ → Dir → Type 0) (l : ListenerEntry) : Type 0 where

@@ -8,7 +8,7 @@ use Rattle.aio_base.specs.declared.names.Event.{Event}
 use Rattle.aio_base.specs.declared.steps.Answer.{Answer}
 use Rattle.aio_base.specs.World.{PollerAnswer, LiveSource, PollWaiter, ListenerEntry, ArmedDirection, BrokenSource, World, set_armed, without_broken, wanted}
 use Rattle.aio_base.specs.Machine.{fails, broken_world, armed_world, after_arm, hand_of}
-use Rattle.aio_base.specs.Covered.{tells_at}
+use Rattle.aio_base.specs.Covered.{tells_at, HasSource}
 use Rattle.aio_base.proofs.Membership.{passing_is_kept, filtered_is_in, image_is_in}
 use Rattle.aio_base.proofs.WaiterLemmas.{Wants, source, wants_wanted}
 
@@ -40,10 +40,6 @@ parts_with w hand = record {
 
 abbrev pub parts_of : World → Parts
 parts_of w = parts_with w (hand_of w.round)
-
--- a serial is that of a live source
-abbrev pub HasSource : List LiveSource → ℕ → Type 0
-HasSource live serial = (key : ℕ) × Contains live (source key serial)
 
 -- The sources, the poll waiters and the listeners agree: keys and serials of live sources differ, whoever waits waits for a live source, and
 -- listeners of one number are of one direction.

@@ -1,6 +1,6 @@
 -- How each waiter is covered: what its wake hangs on, or where it was told that nothing is armed for it.
 use Rattle.std.specs.Prelude.{◌≡◌, ℕ, Bool, true, false, ◌==◌, List, slice_index_or, Some}
-use Rattle.std.specs.List.{Contains, list_any}
+use Rattle.std.specs.List.{All, Contains, list_any}
 use Rattle.aio_base.specs.declared.names.Waker.{Waker}
 use Rattle.aio_base.specs.declared.names.Dir.{Dir}
 use Rattle.aio_base.specs.declared.names.Event.{Event}
@@ -8,7 +8,7 @@ use Rattle.aio_base.specs.declared.outcomes.EndWord.{EndWord}
 use Rattle.aio_base.specs.declared.outcomes.EndWord.TheVariants.{Clean, FaultWait, FaultArm}
 use Rattle.aio_base.specs.declared.steps.Answer.{Answer}
 use Rattle.aio_base.specs.declared.steps.Answer.TheVariants as answer
-use Rattle.aio_base.specs.World.{World, serial_of, waiters_of, is_armed}
+use Rattle.aio_base.specs.World.{LiveSource, PollWaiter, ListenerEntry, World, serial_of, waiters_of, is_armed}
 use Rattle.aio_base.specs.Machine.{hand_of}
 
 -- whether a round's first fault was that of an arm
@@ -42,3 +42,12 @@ pub data Cover (w : World) (answered : List Answer) (key serial : ℕ) (dir : Di
 abbrev pub Covered : World → List Answer → Type 0
 Covered w answered = (key serial : ℕ) (dir : Dir) (waiter : Waker) → serial_of w key ≡ Some serial → Contains (waiters_of w serial dir) waiter
     → Cover w answered key serial dir
+
+-- a serial is that of a live source
+abbrev pub HasSource : List LiveSource → ℕ → Type 0
+HasSource live serial = (key : ℕ) × Contains live (record { key = key; serial = serial })
+
+-- whoever waits waits for a live source; so each waiter there is is covered
+pub record WaitsForLive (w : World) : Type 0 where
+  pub poll_waiters : All (λ (p : PollWaiter). HasSource w.live p.serial) w.poll_waiters
+  pub listeners : All (λ (l : ListenerEntry). HasSource w.live l.serial) w.listeners

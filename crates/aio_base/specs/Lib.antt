@@ -8,6 +8,7 @@ pub mod Refusals
 pub mod Script
 pub mod Runs
 pub mod Covered
+pub mod Distinct
 pub mod Storings
 pub mod Between
 pub mod Text

@@ -3,18 +3,18 @@ use Rattle.std.specs.Prelude.{List, [], ◌∷◌, map}
 use Rattle.aio_base.specs.declared.steps.Step.{Step}
 use Rattle.aio_base.specs.declared.steps.Answer.{Answer}
 use Rattle.aio_base.specs.declared.names.Waker.{Waker}
-use Rattle.aio_base.specs.World.{PollerAnswer, World}
-use Rattle.aio_base.specs.Machine.{Outcome}
-use Rattle.aio_base.specs.Script.{run_step, script_answers, script_step}
+use Rattle.aio_base.specs.World.{PollerAnswer, World, nothing_due}
+use Rattle.aio_base.specs.Machine.{Outcome, step_result}
+use Rattle.aio_base.specs.Script.{script_answers, script_step}
 
 -- a step with what the poller answers to the calls that the step makes
 pub record PolledStep : Type 0 where
   pub step : Step
   pub answers : List PollerAnswer
 
--- what a step gives, from a world; what is noted and due is used up by the rule of the poller in memory, and read by that poller alone
+-- what a step gives, from a world
 abbrev pub outcome_of : World → PolledStep → Outcome
-outcome_of w s = run_step w s.step s.answers
+outcome_of w s = step_result w s.step s.answers
 
 -- what each step of a run gives, by its position, each from the world that the one before it left
 abbrev pub outcomes_of : World → List PolledStep → List Outcome
@@ -30,7 +30,8 @@ abbrev pub world_of : World → List PolledStep → World
 world_of w [] = w
 world_of w (s ∷ run) = world_of (outcome_of w s).world run
 
--- the run of a list of steps in which the poller answers as the script says
+-- The run of a list of steps in which the poller answers as the script says. It is the script that uses up what is noted and due; the machine
+-- reads neither.
 abbrev pub scripted : World → List Step → List PolledStep
 scripted w [] = []
 scripted w (s ∷ steps) = record { step = s; answers = script_answers w s } ∷ scripted (script_step w s).world steps
@@ -38,3 +39,11 @@ scripted w (s ∷ steps) = record { step = s; answers = script_answers w s } ∷
 -- the wakes of each step of a run, by its position
 abbrev pub wakes_of : World → List PolledStep → List (List Waker)
 wakes_of w run = map (λ (o : Outcome). o.wakes) (outcomes_of w run)
+
+-- the world but for what is noted and due
+abbrev pub without_notes : World → World
+without_notes w = record w { noted = []; due = nothing_due }
+
+-- what a step gives but for what is noted and due
+abbrev pub outcome_without_notes : Outcome → Outcome
+outcome_without_notes o = record o { world = without_notes o.world }

@@ -54,13 +54,9 @@ after_calls (call ∷ calls) w = after_calls calls (after_call call w)
 abbrev pub settled : Outcome → Outcome
 settled o = record o { world = after_calls o.calls o.world }
 
--- a step of a run, for any answers of a poller: what it used up is due and noted no longer
-abbrev pub run_step : World → Step → List PollerAnswer → Outcome
-run_step w s answers = settled (step_result w s answers)
-
--- a step over the script poller
+-- a step over the script poller: the machine's, and what it used up is due and noted no longer
 unfoldable pub script_step : World → Step → Outcome
-script_step w s = run_step w s (script_answers w s)
+script_step w s = settled (step_result w s (script_answers w s))
 
 -- the text of an answer: its line and then one line for each wake
 unfoldable pub reply_text : Answer → List Waker → List ℕ

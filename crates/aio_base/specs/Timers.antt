@@ -1,6 +1,7 @@
 -- Registered timers: the pass, by which those that are due leave in order, and the book of them that is kept in order.
-use Rattle.std.specs.Prelude.{◌≡◌, ℕ, ◌-◌, ◌<◌, Bool, true, not, ◌&&◌, ◌||◌, ◌==◌, nat_lt, nat_le, if◌then◌else◌, List, [], ◌∷◌, map, filter, min, Option, None, Some, ⊤}
-use Rattle.std.specs.List.{All}
+use Rattle.std.specs.Prelude.{◌≡◌, ℕ, ◌-◌, ◌<◌, Bool, true, false, not, ◌&&◌, ◌||◌, ◌==◌, nat_lt, nat_le, if◌then◌else◌, List, [], ◌∷◌, map, filter, min, Option, None, Some, ⊤}
+use Rattle.std.specs.List.{All, AllPairs}
+use Rattle.std.specs.List.Sorted.{IsPermutation}
 use Rattle.aio_base.specs.declared.names.Waker.{Waker}
 use Rattle.aio_base.specs.World.{Registration, is_empty_list}
 
@@ -16,6 +17,11 @@ placed r (x ∷ xs) = if fires_before x r then x ∷ placed r xs else r ∷ x �
 abbrev pub in_order : List Registration → List Registration
 in_order [] = []
 in_order (r ∷ rs) = placed r (in_order rs)
+
+-- A list is these registrations in the order in which they fire: the same ones, each as often, and none stands behind one that it fires before.
+pub record IsFiringOrder (registrations ordered : List Registration) : Type 0 where
+  pub same : IsPermutation registrations ordered
+  pub sorted : AllPairs (λ (first later : Registration). fires_before later first ≡ false) ordered
 
 -- the wakers of a pass at a moment, in order: those of all registrations with a deadline at most the moment
 abbrev pub due_wakers : ℕ → List Registration → List Waker

@@ -1,16 +1,17 @@
 //! Laws of the trace language and of the machine, as contracts of functions with no work to do.
 
-ghost use Rattle.std.specs.Prelude.{◌≡◌, ◌≢◌, ◌⊎◌, ◌&&◌, ℕ, ◌≤◌, true, not, List, [], ◌∷◌, ◌++◌, length, Option, Some, None};
+ghost use Rattle.std.specs.Prelude.{◌≡◌, ◌≢◌, ◌⊎◌, ◌&&◌, ◌↔◌, ℕ, ◌<◌, ◌≤◌, nat_le, filter, true, not, List, [], ◌∷◌, ◌++◌, length, map, Option, Some, None};
 ghost use Rattle.std.specs.List.{Contains};
-ghost use Rattle.aio_base.specs.Between.{StandsAfter};
-ghost use Rattle.aio_base.specs.Covered.{Covered};
-ghost use Rattle.aio_base.specs.Machine.{begin_round, finish_round, gave_none, is_zero, react, step_result};
+ghost use Rattle.aio_base.specs.Between.{StandsAfter, StandsBetween};
+ghost use Rattle.aio_base.specs.Covered.{Covered, WaitsForLive};
+ghost use Rattle.aio_base.specs.Distinct.{NoDoubles};
+ghost use Rattle.aio_base.specs.Machine.{Outcome, begin_round, finish_round, gave_none, is_zero, react, step_result};
 ghost use Rattle.aio_base.specs.Refusals.{is_refusal, only_counted};
-ghost use Rattle.aio_base.specs.Runs.{PolledStep, answers_of, outcomes_of, scripted, wakes_of, world_of};
+ghost use Rattle.aio_base.specs.Runs.{PolledStep, answers_of, outcome_without_notes, scripted, wakes_of, without_notes, world_of};
 ghost use Rattle.aio_base.specs.Script.{outcomes_from, world_after};
 ghost use Rattle.aio_base.specs.Storings.{Follows, Once, storings_of};
 ghost use Rattle.aio_base.specs.Text.{spelling};
-ghost use Rattle.aio_base.specs.Timers.{AllAbove, BookChange, IsBook, after_pass, changed, due_wakers, in_order, pair_of};
+ghost use Rattle.aio_base.specs.Timers.{AllAbove, BookChange, IsBook, IsFiringOrder, after_pass, changed, due_wakers, fires_before, in_order, pair_of};
 ghost use Rattle.aio_base.specs.Trace.{IsBuilt, written_step};
 ghost use Rattle.aio_base.specs.World.{PollerAnswer, Registration, RoundState, World, opening};
 ghost use Rattle.aio_base.specs.declared.steps.Step.{Step};
@@ -47,6 +48,20 @@ pub fn no_due_timer_outlives_a_pass()
         → w.round ≡ None → AllAbove w.now (react w given answers).world.registrations }
 {}
 
+/// Registrations fire by their deadlines, and those of one deadline by their ids. Put in order they are
+/// the same ones, each as often. What a pass takes are, in this order, the wakers of the registrations
+/// that are due at its moment, of all of them and of no other.
+pub fn registrations_fire_in_order()
+    ensures before { (a b : Registration)
+        → (fires_before a b ≡ true) ↔ ((a.deadline < b.deadline) ⊎ ((a.deadline ≡ b.deadline) × (a.id < b.id))) }
+    ensures ordered { (registrations : List Registration)
+        → IsFiringOrder registrations (in_order registrations) }
+    ensures taken { (moment : ℕ) (registrations : List Registration)
+        → (fired : List Registration)
+        × IsFiringOrder (filter (λ (r : Registration). nat_le r.deadline moment) registrations) fired
+        × (due_wakers moment registrations ≡ map (λ (r : Registration). r.waker) fired) }
+{}
+
 /// A step that is refused takes its position and changes nothing else: no wake, no call of the poller.
 pub fn a_refused_step_changes_nothing()
     ensures { (w : World) (s : Step) (answers : List PollerAnswer)
@@ -70,10 +85,11 @@ pub fn a_change_keeps_the_book()
 
 /// After every run, whatever the poller answered in it, each waiter of each live source is covered: its
 /// direction is armed, or an event of its key is in hand, or the source is broken and the answer of the
-/// step at which it broke told that. Since a run that is cut off at a step is a run, this holds between
-/// any two steps.
+/// step at which it broke told that. There are no other waiters: whoever waits waits for a live source.
+/// Since a run that is cut off at a step is a run, this holds between any two steps.
 pub fn every_waiter_is_covered()
-    ensures { (run : List PolledStep) → Covered (world_of opening run) (answers_of opening run) }
+    ensures covered { (run : List PolledStep) → Covered (world_of opening run) (answers_of opening run) }
+    ensures live { (run : List PolledStep) → WaitsForLive (world_of opening run) }
 {}
 
 /// Each storing of a waker gets the next number, and after every run, whatever the poller answered in
@@ -94,16 +110,39 @@ pub fn what_a_round_takes_it_wakes()
         → Follows s.step (storings_of opening run) (storings_of opening (run ++ s ∷ [])) }
 {}
 
-/// The run of a list of steps over the script poller is a run: that in which the poller answers as the
-/// script says, step for step.
-pub fn a_script_is_a_run()
-    ensures outcomes { (w : World) (steps : List Step) → outcomes_of w (scripted w steps) ≡ outcomes_from w steps }
-    ensures world { (w : World) (steps : List Step) → world_of w (scripted w steps) ≡ world_after w steps }
+/// After every run, whatever the poller answered in it, nothing stands twice in the lists of the world:
+/// a live key, a serial, the poll waiter and the mark of a direction, a broken source, a listener's
+/// number, a timer's number and the id of a registration are each there once. No serial, number or id
+/// stands there that was not given.
+pub fn nothing_stands_twice()
+    ensures { (run : List PolledStep) → NoDoubles (world_of opening run) }
 {}
 
-/// After any steps of a trace over the poller in memory, each waiter of each live source is covered, and
-/// no storing of a waker is lost or woken twice; and right after a pass, where a round began, where one
-/// ended with a second pass or where a whole round was run, no timer is registered that was due at it.
-pub fn a_trace_stands_between_its_steps()
-    ensures { (steps : List Step) → StandsAfter steps }
+/// The run of a list of steps over the script poller is a run of the machine: that in which the poller
+/// answers as the script says. It gives the same answers and the same wakes, step for step, and leaves
+/// the same world but for what is noted and due. The script's poller alone reads those: a step of the
+/// machine gives the same from two worlds that differ in nothing else.
+pub fn a_script_is_a_run()
+    ensures steps { (w : World) (steps : List Step)
+        → map (λ (s : PolledStep). s.step) (scripted w steps) ≡ steps }
+    ensures answers { (w : World) (steps : List Step)
+        → answers_of w (scripted w steps) ≡ map (λ (o : Outcome). o.answer) (outcomes_from w steps) }
+    ensures wakes { (w : World) (steps : List Step)
+        → wakes_of w (scripted w steps) ≡ map (λ (o : Outcome). o.wakes) (outcomes_from w steps) }
+    ensures world { (w : World) (steps : List Step)
+        → without_notes (world_of w (scripted w steps)) ≡ without_notes (world_after w steps) }
+    ensures unread { (w v : World) (s : Step) (answers : List PollerAnswer)
+        → without_notes w ≡ without_notes v
+        → outcome_without_notes (step_result w s answers) ≡ outcome_without_notes (step_result v s answers) }
+{}
+
+/// After every run, whatever the poller answered in it, each waiter of each live source is covered and
+/// no other waits, no storing of a waker is lost or woken twice, nothing stands twice in the world's
+/// lists, and the last step moved storings as such a step may; and right after a pass, where a round
+/// began, where one ended with a second pass or where a whole round was run, just those timers are
+/// registered that were not due at it. Since a run that is cut off at a step is a run, this holds
+/// between any two steps; the steps of a trace over the poller in memory are such a run.
+pub fn a_run_stands_between_its_steps()
+    ensures run { (run : List PolledStep) → StandsBetween run }
+    ensures trace { (steps : List Step) → StandsAfter steps }
 {}

@@ -1,6 +1,7 @@
 //! The names of a reactor: sources, tasks, timers, moments, directions and events.
 
-ghost use Rattle.std.specs.Prelude.{◌≡◌, ℕ, ◌^◌, ◌<◌, ◌≤◌, SomeIff};
+ghost use Rattle.std.specs.Prelude.{◌≡◌, ℕ, ◌^◌, ◌<◌, ◌≤◌, [], ◌∷◌, SomeIff};
+ghost use Rattle.aio_base.specs.World.{directions};
 
 use std::marker::Model;
 
@@ -66,6 +67,12 @@ pub enum Dir {
 /// All directions, in the order in which one event takes waiters: the published reactor looks at
 /// writability first (`async-io` 2, `reactor.rs`, `react`).
 pub const DIRS: [Dir; 2] = [Dir::Write, Dir::Read];
+
+/// `DIRS` is Write and then Read, and these are the directions of the machine in its order.
+pub fn writability_comes_first()
+    ensures order { DIRS ≡ Dir.Write ∷ Dir.Read ∷ [] }
+    ensures machine { DIRS ≡ directions }
+{}
 
 /// The directions that a source is watched for, or that an event names.
 #[derive(Clone, Copy, Debug, PartialEq, Eq, PartialOrd, Ord, Hash)]

@@ -1,0 +1,36 @@
+-- That nothing stands twice in the lists of a world, and no number in them was not given.
+use Rattle.std.specs.Prelude.{◌≢◌, ℕ, ◌≤◌, List}
+use Rattle.std.specs.List.{All, AllPairs}
+use Rattle.aio_base.specs.declared.names.Dir.{Dir}
+use Rattle.aio_base.specs.World.{LiveSource, PollWaiter, Mark, ListenerEntry, BrokenSource, Registration, TimerEntry, World}
+
+-- no two elements of a list have the same number, or whatever else they are told apart by
+abbrev pub Differ : {X K : Type 0} → (X → K) → List X → Type 0
+Differ key xs = AllPairs (λ first later. key first ≢ key later) xs
+
+-- the serial and the direction that a poll waiter, or a mark, is of
+abbrev pub waiter_direction : PollWaiter → ℕ × Dir
+waiter_direction p = (p.serial, p.dir)
+
+abbrev pub mark_direction : Mark → ℕ × Dir
+mark_direction m = (m.serial, m.dir)
+
+pub record NoDoubles (w : World) : Type 0 where
+  -- a key is that of one live source, and a serial too; each serial was given
+  pub keys : Differ (λ (s : LiveSource). s.key) w.live
+  pub serials : Differ (λ (s : LiveSource). s.serial) w.live
+  pub serials_given : All (λ (s : LiveSource). s.serial ≤ w.serials) w.live
+  -- a direction has one poll waiter, and one position at which its last was stored
+  pub poll_waiters : Differ waiter_direction w.poll_waiters
+  pub marks : Differ mark_direction w.marks
+  -- a source is broken once
+  pub broken : Differ (λ (b : BrokenSource). b.serial) w.broken
+  -- a number is that of one listener, and each number was drawn
+  pub listeners : Differ (λ (l : ListenerEntry). l.number) w.listeners
+  pub listeners_drawn : All (λ (l : ListenerEntry). l.number ≤ w.listeners_drawn) w.listeners
+  -- an id is that of one registration, and each id was drawn
+  pub registrations : Differ (λ (r : Registration). r.id) w.registrations
+  pub ids_drawn : All (λ (r : Registration). r.id ≤ w.ids_drawn) w.registrations
+  -- a number is that of one timer, and each number was given
+  pub timers : Differ (λ (t : TimerEntry). t.number) w.timers
+  pub timers_made : All (λ (t : TimerEntry). t.number ≤ w.timers_made) w.timers
