@@ -8,6 +8,7 @@ pub mod CoverRuns
 pub mod CoverSources
 pub mod CoverSteps
 pub mod CoverWaiters
+mod FalseHistories
 pub mod Following
 pub mod FreeKeys
 pub mod FreshnessLemmas
@@ -20,12 +21,14 @@ pub mod HeldTimers
 pub mod Holding
 pub mod InterestLemmas
 pub mod Kept
+pub mod Leaving
 pub mod Membership
 pub mod OnceRuns
 pub mod PassLemmas
 pub mod Places
 pub mod RefusalLemmas
 pub mod Rewaiting
+pub mod RoundLemmas
 mod Rows
 pub mod RunLemmas
 mod RunRows
@@ -35,5 +38,6 @@ pub mod Standing
 pub mod StoringCounts
 pub mod Taking
 mod TimerRows
+pub mod UnmovedLemmas
 pub mod WaiterLemmas
 pub mod Words

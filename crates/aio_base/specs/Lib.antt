@@ -9,6 +9,7 @@ pub mod Script
 pub mod Runs
 pub mod Covered
 pub mod Storings
+pub mod Succession
 pub mod Between
 pub mod Text
 pub mod Trace
