@@ -5,11 +5,12 @@ use Rattle.std.proofs.lemmas.List.Elements.{All-same}
 use Rattle.aio_base.specs.declared.steps.Step.{Step}
 use Rattle.aio_base.specs.declared.steps.Step.TheVariants as step
 use Rattle.aio_base.specs.World.{Registration, PollerAnswer, World, RoundState, is_empty_list, opening}
-use Rattle.aio_base.specs.Machine.{gave_none, is_zero, finish_in, step_result}
+use Rattle.aio_base.specs.Machine.{ends_with_pass, makes_second_pass, finish_in, step_result}
 use Rattle.aio_base.specs.Runs.{PolledStep, outcome_of, world_of, scripted}
-use Rattle.aio_base.specs.Storings.{Follows, storings_of}
+use Rattle.aio_base.specs.Storings.{storings_of}
+use Rattle.aio_base.specs.Succession.{StoringsFollow}
 use Rattle.aio_base.specs.Timers.{after_pass}
-use Rattle.aio_base.specs.Between.{passes_at_end, makes_pass, StandsBetween, StandsAfter}
+use Rattle.aio_base.specs.Between.{makes_pass, StandsBetween, StandsAfter}
 use Rattle.aio_base.proofs.CoverRuns.{run_covers, run_waits_for_live}
 use Rattle.aio_base.proofs.Following.{run_follows}
 use Rattle.aio_base.proofs.OnceRuns.{run_once}
@@ -25,11 +26,11 @@ none_is : (round : Option RoundState) → not (is_some round) ≡ true → round
 none_is None none = refl
 none_is (Some round) none = absurd cc
 
-round_passes : (w : World) (round : Option RoundState) (answers : List PollerAnswer) → passes_at_end round ≡ true
+round_passes : (w : World) (round : Option RoundState) (answers : List PollerAnswer) → ends_with_pass round ≡ true
     → (finish_in w round answers).world.registrations ≡ after_pass w.now w.registrations
 round_passes w None answers passes = absurd cc
 round_passes w (Some round) answers passes =
-    let parts = and_parts (is_empty_list round.in_hand) (gave_none round.last_wait && not (is_zero round.limit)) passes in
+    let parts = and_parts (is_empty_list round.in_hand) (makes_second_pass round.last_wait round.limit) passes in
     finish_passes w round answers parts.0 parts.1
 
 -- what stays registered where a step makes a pass
@@ -71,7 +72,7 @@ stands_between run = record {
   live = run_waits_for_live run;
   once = run_once run;
   distinct = run_has_no_doubles run;
-  follows = λ before last is. subst (λ r. Follows last.step (storings_of opening before) (storings_of opening r)) (sym is) (run_follows before last);
+  follows = λ before last is. subst (λ r. StoringsFollow (world_of opening before) last.step last.answers (storings_of opening before) (storings_of opening r)) (sym is) (run_follows before last);
   passed = λ before last is passes.
       let w = world_of opening before in
       All-same (λ (r : Registration). w.now < r.deadline) _ _ (last_passes run before last is passes) (pass_leaves w.now w.registrations);

@@ -1,295 +1,580 @@
--- How the storings of a run follow from step to step: what a round takes stays taken until the round ends, and is woken then.
-use Rattle.std.proofs.Common.{◌≡◌, ◌⊎◌, ℕ, ◌+◌, Bool, true, false, not, cond, ◌&&◌, List, [], ◌∷◌, ◌++◌, map, flat_map, find, Option, None, Some, is_some, refl, ap, ◌∙◌, sym, inl, inr, append_assoc, append-nil}
-use Rattle.std.specs.Prelude.{nat_le}
-use Rattle.std.proofs.lemmas.Bool.{cond_both}
+-- How the storings of a run follow from step to step.
+use Rattle.std.proofs.Common.{◌≡◌, ◌⊎◌, ℕ, ◌+◌, Bool, true, false, not, cond, ◌&&◌, ◌||◌, List, [], ◌∷◌, ◌++◌, length, map, find, Option, None, Some, is_some, refl, ap, ◌∙◌, sym, subst, inl, inr, ⊎_elim, arith, append-nil}
+use Rattle.std.specs.Prelude.{nat_le, nat_lt, flat_map, take, option_map, option_to_list, option_and_then}
+use Rattle.std.specs.List.{Contains}
+use Rattle.std.proofs.lemmas.Bool.{cond_both, cond-true, cond-false, eqb-true, lt-ltb, le-ltb}
+use Rattle.std.proofs.lemmas.List.Elements.{Contains-append_left, Contains-append_cases}
+use Rattle.aio_base.specs.declared.names.Key.{Key}
 use Rattle.aio_base.specs.declared.names.Waker.{Waker}
 use Rattle.aio_base.specs.declared.names.Dir.{Dir}
 use Rattle.aio_base.specs.declared.names.Event.{Event}
 use Rattle.aio_base.specs.declared.steps.Step.{Step}
 use Rattle.aio_base.specs.declared.steps.Step.TheVariants as step
-use Rattle.aio_base.specs.World.{PollerAnswer, ListenerEntry, TimerEntry, RoundState, World, directions, directions_of, serial_of, is_empty_list, opening}
-use Rattle.aio_base.specs.Machine.{is_listener, is_timer, begin_round, wait_round, handle_round, handle_each, hand_of, gave_none, is_zero}
-use Rattle.aio_base.specs.Runs.{PolledStep, outcome_of}
-use Rattle.aio_base.specs.Storings.{Place, OfPoll, OfListener, OfTimer, Stored, Storings, no_storings, standing_at, stored_at, given_up_at, woken_at, taken_at, each_taken, each_given_up, round_woken, timer_place, places_of, due_places, poll_moves, listener_moves, registered_anew, tick_moves_at, tick_moves, set_moves, end_moves, drop_moves, del_moves, begin_moves, event_moves, handle_moves_first, handle_moves, finish_moves_in, finish_moves, handle_each_moves, react_moves, step_storings, step_ended, storings_from, storings_of, IsFront, may_give_up, may_take, may_end_round, Follows}
+use Rattle.aio_base.specs.declared.steps.Answer.{Answer}
+use Rattle.aio_base.specs.declared.steps.Answer.TheVariants as answer
+use Rattle.aio_base.specs.World.{PollerAnswer, ListenerEntry, TimerEntry, RoundState, World, directions, directions_of, poll_waiter, mark_of, serial_of, is_empty_list, opening}
+use Rattle.aio_base.specs.Machine.{Outcome, next_answer, fails, pending, poll_source, step_listener, unregistered, registered, fired, set_deadline, tick_deadline, tick_timer, set_timer, next_deadline, is_waker, is_fresh_since, is_listener, is_timer, begin_round, wait_round, handle_round, handle_each, hand_of, gave_none, is_zero, ends_with_pass, finish_in, react, step_result}
+use Rattle.aio_base.specs.Refusals.{is_refusal}
+use Rattle.aio_base.specs.Runs.{PolledStep, outcome_of, world_of}
+use Rattle.aio_base.specs.Storings.{Place, OfPoll, OfListener, OfTimer, Stored, Storings, no_storings, standing_at, none_at, stored_at, given_up_at, woken_at, each_taken, each_given_up, round_woken, timer_place, places_of, due_places, poll_moves, listener_moves, registered_anew, tick_moves_at, tick_moves, set_moves, end_moves, drop_moves, del_moves, begin_moves, event_moves, handle_moves_first, handle_moves, finish_moves_in, finish_moves, handle_each_moves, react_moves, step_storings, step_ended, storings_from, storings_of}
+use Rattle.aio_base.specs.Succession.{poll_places, waker_kept, id_kept, stored_as, own_storing, has_to_wait, stores, event_places, events_given, taken_places, may_give_up, ends_round, is_poll, StoringsFollow}
+use Rattle.aio_base.proofs.Membership.{none_is_in, first_is_in, found_is_in}
+use Rattle.aio_base.proofs.Leaving.{Leave, one_leaves, Taking, none_taken, both_taken, all_taken, GivingUp, none_given_up, one_given_up, all_given_up}
+use Rattle.aio_base.proofs.RoundLemmas.{Same, listeners_places, same_events, in_hand_of, event_handled, all_handled, is_handled, handled_out, hand_is, round_begun, round_waited, none_due_left}
+use Rattle.aio_base.proofs.UnmovedLemmas.{refused_moves_nothing}
 
--- ## Fronts
+-- ## What is stored
 
-whole_front : (xs ys : List Stored) → ys ≡ xs → IsFront xs ys
-whole_front xs ys same = record { more = []; is = same ∙ sym (append-nil xs) }
-
-longer_front : (xs ys zs : List Stored) → IsFront xs ys → IsFront ys zs → IsFront xs zs
-longer_front xs ys zs first second = record {
-  more = first.more ++ second.more;
-  is = second.is ∙ ap (λ (front : List Stored). front ++ second.more) first.is ∙ append_assoc xs first.more second.more;
-}
-
--- ## What changes nothing but what stands and what is on its way
-
-record Wakes (l m : Storings) : Type 0 where
-  pub woken : m.woken ≡ l.woken
-  pub given_up : m.given_up ≡ l.given_up
-  pub taken : m.taken ≡ l.taken
-
-wakes_none : (l : Storings) → Wakes l l
-wakes_none l = record { woken = refl; given_up = refl; taken = refl }
-
-poll_wakes : (w : World) (dir : Dir) (waker : Waker) (serial : Option ℕ) (l : Storings) → Wakes l (poll_moves w dir waker serial l)
-poll_wakes w dir waker None l = wakes_none l
-poll_wakes w dir waker (Some serial) l =
-    cond_both _ l (stored_at (OfPoll serial dir) waker (woken_at (OfPoll serial dir) l)) (Wakes l) (λ kept. wakes_none l)
-    (λ new. record { woken = refl; given_up = refl; taken = refl })
-
--- ## What may give storings up
-
-record GivesUp (l m : Storings) : Type 0 where
+-- How a step may move storings that gives some up and then stores `may`, where it `does` store.
+record Storing (P : Place → Type 0) (does : Bool) (may : List Stored) (l m : Storings) : Type 0 where
+  pub stored : List Stored
+  pub is : stored ≡ cond does may []
   pub now : List Stored
-  pub woken : m.woken ≡ l.woken
+  pub given : m.given ≡ l.given + length stored
+  pub stands : (x : Stored) → Contains m.standing x → Contains l.standing x ⊎ Contains stored x
+  pub stood : (x : Stored) → Contains l.standing x → Contains m.standing x ⊎ Contains now x
+  pub from : (x : Stored) → Contains now x → Contains l.standing x × P x.place
   pub given_up : m.given_up ≡ l.given_up ++ now
+  pub waking : m.waking ≡ l.waking
+  pub woken : m.woken ≡ l.woken
   pub taken : m.taken ≡ l.taken
 
-gives_up_none : (l : Storings) → GivesUp l l
-gives_up_none l = record { now = []; woken = refl; given_up = sym (append-nil l.given_up); taken = refl }
-
-place_given_up : (p : Place) (l : Storings) → GivesUp l (given_up_at p l)
-place_given_up p l = record { now = standing_at p l.standing; woken = refl; given_up = refl; taken = refl }
-
-gives_up_both : (l m n : Storings) → GivesUp l m → GivesUp m n → GivesUp l n
-gives_up_both l m n first second = record {
-  now = first.now ++ second.now;
-  woken = second.woken ∙ first.woken;
-  given_up = second.given_up ∙ ap (λ (front : List Stored). front ++ second.now) first.given_up ∙ append_assoc l.given_up first.now second.now;
-  taken = second.taken ∙ first.taken;
+nothing_stored : (P : Place → Type 0) (may : List Stored) (l m : Storings) → GivingUp P l m → Storing P false may l m
+nothing_stored P may l m g = record {
+  stored = [];
+  is = refl;
+  now = g.now;
+  given = g.given ∙ omega arith;
+  stands = λ x here. inl (g.leave.stays x here);
+  stood = g.leave.goes;
+  from = g.leave.from;
+  given_up = g.given_up;
+  waking = g.waking;
+  woken = g.woken;
+  taken = g.taken;
 }
 
-each_gives_up : (ps : List Place) (l : Storings) → GivesUp l (each_given_up ps l)
-each_gives_up [] l = gives_up_none l
-each_gives_up (p ∷ ps) l = gives_up_both l (given_up_at p l) (each_given_up ps (given_up_at p l)) (place_given_up p l) (each_gives_up ps (given_up_at p l))
+nothing_moved : (P : Place → Type 0) (may : List Stored) (l : Storings) → Storing P false may l l
+nothing_moved P may l = nothing_stored P may l l (none_given_up P l)
 
-then_stored : (p : Place) (waker : Waker) (l m : Storings) → GivesUp l m → GivesUp l (stored_at p waker m)
-then_stored p waker l m g = record { now = g.now; woken = g.woken; given_up = g.given_up; taken = g.taken }
+then_stored : (P : Place → Type 0) (p : Place) (waker : Waker) (l m : Storings) → GivingUp P l m
+    → Storing P true (stored_as l.given p waker ∷ []) l (stored_at p waker m)
+then_stored P p waker l m g =
+    let last : List Stored = stored_as m.given p waker ∷ [] in
+    record {
+      stored = last;
+      is = ap (λ n. stored_as n p waker ∷ []) g.given;
+      now = g.now;
+      given = ap (λ n. n + 1) g.given;
+      stands = λ x here.
+          ⊎_elim (λ (before : Contains m.standing x). inl (g.leave.stays x before)) (λ (now : Contains last x). inr now) (Contains-append_cases m.standing last x here);
+      stood = λ x here.
+          ⊎_elim (λ (stays : Contains m.standing x). inl (Contains-append_left m.standing last x stays)) (λ (goes : Contains g.now x). inr goes) (g.leave.goes x here);
+      from = g.leave.from;
+      given_up = g.given_up;
+      waking = g.waking;
+      woken = g.woken;
+      taken = g.taken;
+    }
 
-del_gives_up : (w : World) (serial : Option ℕ) (l : Storings) → GivesUp l (del_moves w serial l)
-del_gives_up w None l = gives_up_none l
-del_gives_up w (Some serial) l =
-    cond_both _ l (each_given_up (map (OfPoll serial) directions) l) (GivesUp l) (λ used. gives_up_none l)
-    (λ free. each_gives_up (map (OfPoll serial) directions) l)
+-- one of two cases, with the storings of the same one
+by_case : {X : Type 0} (f : X → Bool) (C : Bool → Storings → Type 0) (test : Bool) (x y : X) (l m : Storings) → C (f x) l → C (f y) m
+    → C (f (cond test x y)) (cond test l m)
+by_case f C true x y l m first second = first
+by_case f C false x y l m first second = second
 
-step_gives_up : (w : World) (waker : Waker) (entry : Option ListenerEntry) (l : Storings) → GivesUp l (listener_moves w waker entry l)
-step_gives_up w waker None l = gives_up_none l
-step_gives_up w waker (Some entry) l =
-    cond_both _ l (stored_at (OfListener entry.number) waker (given_up_at (OfListener entry.number) l)) (GivesUp l) (λ ready. gives_up_none l)
-    (λ waits. then_stored (OfListener entry.number) waker l (given_up_at (OfListener entry.number) l) (place_given_up (OfListener entry.number) l))
+-- ## Sources and listeners
 
-drop_gives_up : (entry : Option ListenerEntry) (l : Storings) → GivesUp l (drop_moves entry l)
-drop_gives_up None l = gives_up_none l
-drop_gives_up (Some entry) l = place_given_up (OfListener entry.number) l
+del_stores : (w : World) (serial : Option ℕ) (l : Storings) → Storing (Contains (poll_places serial directions)) false [] l (del_moves w serial l)
+del_stores w None l = nothing_moved _ [] l
+del_stores w (Some serial) l =
+    let places : List Place = map (OfPoll serial) directions in
+    cond_both _ l (each_given_up places l) (Storing (Contains places) false [] l) (λ used. nothing_moved _ [] l)
+    (λ free. nothing_stored _ [] l _ (all_given_up (Contains places) places (λ p among. among) l))
 
-registers_gives_up : (w : World) (entry : TimerEntry) (waker : Option Waker) (l : Storings) → GivesUp l (registered_anew w entry waker l)
-registers_gives_up w entry None l = each_gives_up (timer_place entry.id) l
-registers_gives_up w entry (Some waker) l =
-    then_stored (OfTimer (w.ids_drawn + 1)) waker l (each_given_up (timer_place entry.id) l) (each_gives_up (timer_place entry.id) l)
+found_number : (number : ℕ) (listeners : List ListenerEntry) (entry : ListenerEntry) → find (is_listener number) listeners ≡ Some entry → entry.number ≡ number
+found_number number listeners entry found = eqb-true entry.number number ((found_is_in (is_listener number) listeners entry found).1)
 
-tick_gives_up_at : (w : World) (waker : Waker) (entry : TimerEntry) (deadline : Option ℕ) (l : Storings) → GivesUp l (tick_moves_at w waker entry deadline l)
-tick_gives_up_at w waker entry None l = gives_up_none l
-tick_gives_up_at w waker entry (Some deadline) l =
-    cond_both (nat_le deadline w.now) _ _ (GivesUp l) (λ due. registers_gives_up w entry _ l)
-    (λ later. cond_both _ l _ (GivesUp l) (λ kept. gives_up_none l) (λ new. registers_gives_up w entry (Some waker) l))
+drop_stores : (number : ℕ) (listeners : List ListenerEntry) (entry : Option ListenerEntry) (l : Storings)
+    → find (is_listener number) listeners ≡ entry → Storing (Contains (OfListener number ∷ [])) false [] l (drop_moves entry l)
+drop_stores number listeners None l found = nothing_moved _ [] l
+drop_stores number listeners (Some entry) l found =
+    let place : Place = OfListener entry.number in
+    subst (λ n. Storing (Contains (OfListener n ∷ [])) false [] l (given_up_at place l)) (found_number number listeners entry found)
+    (nothing_stored _ [] l _ (one_given_up (Contains (place ∷ [])) place (first_is_in place []) l))
 
-tick_gives_up : (w : World) (waker : Waker) (entry : Option TimerEntry) (l : Storings) → GivesUp l (tick_moves w waker entry l)
-tick_gives_up w waker None l = gives_up_none l
-tick_gives_up w waker (Some entry) l = tick_gives_up_at w waker entry entry.deadline l
+either_waits : (test : Bool) (a b : Answer) → has_to_wait a ≡ true → has_to_wait b ≡ true → has_to_wait (cond test a b) ≡ true
+either_waits true a b first second = first
+either_waits false a b first second = second
 
-set_gives_up : (w : World) (entry : Option TimerEntry) (l : Storings) → GivesUp l (set_moves w entry l)
-set_gives_up w None l = gives_up_none l
-set_gives_up w (Some entry) l = registers_gives_up w entry entry.kept l
+pending_waits : (test : Bool) (w : World) (key serial : ℕ) (wakes : List Waker) (answers : List PollerAnswer)
+    → has_to_wait (pending test w key serial wakes answers).answer ≡ true
+pending_waits false w key serial wakes answers = refl
+pending_waits true w key serial wakes answers = either_waits (fails (next_answer answers)) answer.FaultArm answer.Pending refl refl
 
-end_gives_up : (entry : Option TimerEntry) (l : Storings) → GivesUp l (end_moves entry l)
-end_gives_up None l = gives_up_none l
-end_gives_up (Some entry) l = each_gives_up (timer_place entry.id) l
+-- what a listener's poll stores and gives up; where it stores nothing, nothing has moved
+Listens : (number : ℕ) (waker : Waker) (l : Storings) (does : Bool) (m : Storings) → Type 0
+Listens number waker l does m =
+    (x : Storing (Contains (OfListener number ∷ [])) does (stored_as l.given (OfListener number) waker ∷ []) l m) × (x.stored ≡ [] → m ≡ l)
 
--- ## What may take storings
+listen_stores : (w : World) (number : ℕ) (waker : Waker) (entry : Option ListenerEntry) (answers : List PollerAnswer) (l : Storings)
+    → find (is_listener number) w.listeners ≡ entry
+    → Listens number waker l (has_to_wait (step_listener w waker entry answers).answer) (listener_moves w waker entry l)
+unfolding Listens then_stored
+listen_stores w number waker None answers l found = (nothing_moved _ _ l, λ none. refl)
+listen_stores w number waker (Some entry) answers l found =
+    let place : Place = OfListener entry.number in
+    let m : Storings = stored_at place waker (given_up_at place l) in
+    let stores : Listens entry.number waker l true m
+    = (then_stored _ place waker l _ (one_given_up (Contains (place ∷ [])) place (first_is_in place []) l), λ none. absurd cc) in
+    by_case (λ (o : Outcome). has_to_wait o.answer) (Listens number waker l) (is_fresh_since w entry.serial entry.dir entry.position) _ _ l m
+    (nothing_moved _ _ l, λ none. refl)
+    (subst (λ does. Listens number waker l does m) (sym (pending_waits _ _ _ _ _ _))
+    (subst (λ n. Listens n waker l true m) (found_number number w.listeners entry found) stores))
 
-record Takes (l m : Storings) : Type 0 where
-  pub woken : m.woken ≡ l.woken
-  pub waking : m.waking ≡ l.waking
-  pub given_up : m.given_up ≡ l.given_up
-  pub front : IsFront l.taken m.taken
+-- ## Timers
 
-takes_none : (l : Storings) → Takes l l
-takes_none l = record { woken = refl; waking = refl; given_up = refl; front = whole_front l.taken l.taken refl }
+-- what stands with a timer's registration is given up
+registration_given_up : (entry : TimerEntry) (l : Storings) → GivingUp (Contains (timer_place entry.id)) l (each_given_up (timer_place entry.id) l)
+registration_given_up entry l = all_given_up (Contains (timer_place entry.id)) (timer_place entry.id) (λ p among. among) l
 
-place_taken : (p : Place) (l : Storings) → Takes l (taken_at p l)
-place_taken p l = record { woken = refl; waking = refl; given_up = refl; front = record { more = standing_at p l.standing; is = refl } }
+-- whether a world has drawn an id since
+abbrev has_drawn : World → World → Bool
+has_drawn w v = nat_lt w.ids_drawn v.ids_drawn
 
-takes_both : (l m n : Storings) → Takes l m → Takes m n → Takes l n
-takes_both l m n first second = record {
-  woken = second.woken ∙ first.woken;
-  waking = second.waking ∙ first.waking;
-  given_up = second.given_up ∙ first.given_up;
-  front = longer_front l.taken m.taken n.taken first.front second.front;
-}
+unregistered_ids : (w : World) (id : Option ℕ) → (unregistered w id).ids_drawn ≡ w.ids_drawn
+unregistered_ids w None = refl
+unregistered_ids w (Some id) = refl
 
-each_takes : (ps : List Place) (l : Storings) → Takes l (each_taken ps l)
-each_takes [] l = takes_none l
-each_takes (p ∷ ps) l = takes_both l (taken_at p l) (each_taken ps (taken_at p l)) (place_taken p l) (each_takes ps (taken_at p l))
+drawn_none : (w v : World) → v.ids_drawn ≡ w.ids_drawn → has_drawn w v ≡ false
+drawn_none w v same = le-ltb w.ids_drawn v.ids_drawn (omega (arith, same))
 
-begin_takes : (w : World) (l : Storings) → Takes l (begin_moves w l)
-begin_takes w l =
-    cond_both (is_some w.round) l (each_taken (due_places w.now w.registrations) l) (Takes l) (λ runs. takes_none l)
-    (λ none. each_takes (due_places w.now w.registrations) l)
+drawn_one : (w v : World) → v.ids_drawn ≡ w.ids_drawn + 1 → has_drawn w v ≡ true
+drawn_one w v next = lt-ltb w.ids_drawn v.ids_drawn (omega (arith, next))
 
-event_takes : (w : World) (event : Event) (serial : Option ℕ) (l : Storings) → Takes l (event_moves w event serial l)
-event_takes w event None l = takes_none l
-event_takes w event (Some serial) l = each_takes (flat_map (places_of w serial) (directions_of event.on)) l
+-- what a step of a timer stores and gives up
+abbrev Registers : World → TimerEntry → List Stored → Storings → Bool → Storings → Type 0
+Registers w entry may l does m = Storing (Contains (timer_place entry.id)) does may l m
 
-first_takes : (w : World) (events : List Event) (l : Storings) → Takes l (handle_moves_first w events l)
-first_takes w [] l = takes_none l
-first_takes w (event ∷ events) l = event_takes w event (serial_of w event.key.0) l
+registered_one : (w : World) (entry set : TimerEntry) (deadline : ℕ) (waker : Waker) (l : Storings)
+    → Registers w entry (stored_as l.given (OfTimer (w.ids_drawn + 1)) waker ∷ []) l (has_drawn w (registered (unregistered w entry.id) set deadline waker))
+    (registered_anew w entry (Some waker) l)
+registered_one w entry set deadline waker l =
+    subst (λ does. Registers w entry (stored_as l.given (OfTimer (w.ids_drawn + 1)) waker ∷ []) l does (registered_anew w entry (Some waker) l))
+    (sym (drawn_one w (registered (unregistered w entry.id) set deadline waker) (ap (λ n. n + 1) (unregistered_ids w entry.id))))
+    (then_stored _ (OfTimer (w.ids_drawn + 1)) waker l _ (registration_given_up entry l))
 
-handle_takes : (w : World) (l : Storings) → Takes l (handle_moves w l)
-handle_takes w l = first_takes w (hand_of w.round) l
+registered_none : (w v : World) (entry : TimerEntry) (may : List Stored) (l : Storings) → v.ids_drawn ≡ w.ids_drawn
+    → Registers w entry may l (has_drawn w v) (registered_anew w entry None l)
+registered_none w v entry may l same =
+    subst (λ does. Registers w entry may l does (registered_anew w entry None l)) (sym (drawn_none w v same))
+    (nothing_stored _ may l _ (registration_given_up entry l))
 
-hand_takes : (events : List Event) (w : World) (answers : List PollerAnswer) (l : Storings) → Takes l (handle_each_moves events w answers l)
-hand_takes [] w answers l = takes_none l
-hand_takes (event ∷ events) w answers l =
-    let first = handle_round w answers in
-    takes_both l (handle_moves w l) (handle_each_moves events first.world first.left (handle_moves w l)) (handle_takes w l)
-    (hand_takes events first.world first.left (handle_moves w l))
+unregistered_none : (w v : World) (entry : TimerEntry) (may : List Stored) (l : Storings) → v.ids_drawn ≡ w.ids_drawn
+    → Registers w entry may l (has_drawn w v) l
+unregistered_none w v entry may l same = subst (λ does. Registers w entry may l does l) (sym (drawn_none w v same)) (nothing_moved _ may l)
+
+set_anew : (w : World) (entry set : TimerEntry) (deadline : ℕ) (waker : Option Waker) (l : Storings)
+    → Registers w entry (map (stored_as l.given (OfTimer (w.ids_drawn + 1))) (option_to_list waker)) l
+    (has_drawn w (set_deadline (unregistered w entry.id) set deadline waker)) (registered_anew w entry waker l)
+set_anew w entry set deadline None l = registered_none w (set_deadline (unregistered w entry.id) set deadline None) entry _ l (unregistered_ids w entry.id)
+set_anew w entry set deadline (Some waker) l = registered_one w entry set deadline waker l
+
+-- a timer that is not there stores nothing
+no_timer : (P : Place → Type 0) (w : World) (may : List Stored) (l : Storings) → Storing P (has_drawn w w) may l l
+no_timer P w may l = subst (λ does. Storing P does may l l) (sym (drawn_none w w refl)) (nothing_moved P may l)
+
+set_stores : (w : World) (deadline : ℕ) (period : Option ℕ) (entry : Option TimerEntry) (answers : List PollerAnswer) (l : Storings)
+    → Storing (Contains (timer_place (id_kept entry))) (has_drawn w (set_timer w deadline period entry answers).world)
+    (map (stored_as l.given (OfTimer (w.ids_drawn + 1))) (option_to_list (waker_kept entry))) l (set_moves w entry l)
+set_stores w deadline period None answers l = no_timer _ w _ l
+set_stores w deadline period (Some entry) answers l = set_anew w entry (cond (is_some period) (record entry { period = period }) entry) deadline entry.kept l
+
+fired_anew : (w : World) (waker : Waker) (entry : TimerEntry) (next : Option ℕ) (l : Storings)
+    → Registers w entry (stored_as l.given (OfTimer (w.ids_drawn + 1)) waker ∷ []) l (has_drawn w (fired (unregistered w entry.id) entry waker next))
+    (registered_anew w entry (option_map (λ later. waker) next) l)
+fired_anew w waker entry None l = registered_none w (fired (unregistered w entry.id) entry waker None) entry _ l (unregistered_ids w entry.id)
+fired_anew w waker entry (Some deadline) l = registered_one w entry entry deadline waker l
+
+tick_stores_at : (w : World) (waker : Waker) (entry : TimerEntry) (deadline : Option ℕ) (answers : List PollerAnswer) (l : Storings)
+    → Registers w entry (stored_as l.given (OfTimer (w.ids_drawn + 1)) waker ∷ []) l (has_drawn w (tick_deadline w entry waker deadline answers).world)
+    (tick_moves_at w waker entry deadline l)
+tick_stores_at w waker entry None answers l = unregistered_none w w entry _ l refl
+tick_stores_at w waker entry (Some deadline) answers l =
+    let C : Bool → Storings → Type 0 = Registers w entry (stored_as l.given (OfTimer (w.ids_drawn + 1)) waker ∷ []) l in
+    by_case (λ (o : Outcome). has_drawn w o.world) C (nat_le deadline w.now) _ _ _ _ (fired_anew w waker entry (next_deadline deadline entry.period) l)
+    (by_case (has_drawn w) C (is_some entry.id && is_waker waker entry.kept) _ _ l _ (unregistered_none w w entry _ l refl)
+    (registered_one w entry entry deadline waker l))
+
+tick_stores : (w : World) (waker : Waker) (entry : Option TimerEntry) (answers : List PollerAnswer) (l : Storings)
+    → Storing (Contains (timer_place (id_kept entry))) (has_drawn w (tick_timer w waker entry answers).world)
+    (stored_as l.given (OfTimer (w.ids_drawn + 1)) waker ∷ []) l (tick_moves w waker entry l)
+tick_stores w waker None answers l = no_timer _ w _ l
+tick_stores w waker (Some entry) answers l = tick_stores_at w waker entry entry.deadline answers l
+
+end_stores : (entry : Option TimerEntry) (l : Storings) → Storing (Contains (timer_place (id_kept entry))) false [] l (end_moves entry l)
+end_stores None l = nothing_moved _ [] l
+end_stores (Some entry) l = nothing_stored _ [] l _ (registration_given_up entry l)
+
+-- ## What a round takes
+
+-- nothing is taken after that
+nothing_after : (places : List Place) (l m : Storings) → Taking places l m → Taking (places ++ []) l m
+nothing_after places l m t = subst (λ ps. Taking ps l m) (sym (append-nil places)) t
+
+named_taken : (w : World) (event : Event) (serial : Option ℕ) (l : Storings)
+    → Taking (flat_map (λ s. flat_map (places_of w s) (directions_of event.on)) (option_to_list serial)) l (event_moves w event serial l)
+named_taken w event None l = none_taken l
+named_taken w event (Some serial) l =
+    let places : List Place = flat_map (places_of w serial) (directions_of event.on) in nothing_after places l _ (all_taken places l)
+
+event_taken : (w : World) (event : Event) (serial : Option ℕ) (l : Storings) → serial_of w event.key.0 ≡ serial
+    → Taking (event_places w event) l (event_moves w event serial l)
+event_taken w event serial l at =
+    subst (λ o. Taking (flat_map (λ s. flat_map (places_of w s) (directions_of event.on)) (option_to_list o)) l (event_moves w event serial l)) (sym at)
+    (named_taken w event serial l)
+
+first_taken : (w : World) (events : List Event) (l : Storings) → Taking (flat_map (event_places w) (take 1 events)) l (handle_moves_first w events l)
+first_taken w [] l = none_taken l
+first_taken w (event ∷ events) l = nothing_after (event_places w event) l _ (event_taken w event (serial_of w event.key.0) l refl)
+
+hand_taken : (events : List Event) (v : World) (answers : List PollerAnswer) (l : Storings) → in_hand_of v.round ≡ Some events
+    → Taking (flat_map (event_places v) events) l (handle_each_moves events v answers l)
+hand_taken [] v answers l at = none_taken l
+hand_taken (event ∷ events) v answers l at =
+    let first = handle_round v answers in
+    let one = event_handled v event events answers at in
+    both_taken (event_places v event) (flat_map (event_places v) events) l (handle_moves v l) (handle_each_moves events first.world first.left (handle_moves v l))
+    (subst (λ hand. Taking (event_places v event) l (handle_moves_first v hand l)) (sym (hand_is v.round (event ∷ events) at))
+    (event_taken v event (serial_of v event.key.0) l refl))
+    (subst (λ places. Taking places (handle_moves v l) (handle_each_moves events first.world first.left (handle_moves v l)))
+    (same_events first.world v one.same events) (hand_taken events first.world first.left (handle_moves v l) one.hand))
+
+-- one of two takings, at the places of the same one
+either_taken : (test : Bool) (ps qs : List Place) (l m n : Storings) → Taking ps l m → Taking qs l n → Taking (cond test ps qs) l (cond test m n)
+either_taken true ps qs l m n first second = first
+either_taken false ps qs l m n first second = second
+
+begin_taken : (w : World) (l : Storings) → Taking (cond (is_some w.round) [] (due_places w.now w.registrations)) l (begin_moves w l)
+begin_taken w l =
+    let due : List Place = due_places w.now w.registrations in
+    either_taken (is_some w.round) [] due l l (each_taken due l) (none_taken l) (all_taken due l)
 
 -- ## What may end a round
 
-record Ends (l m : Storings) : Type 0 where
+record Ending (places : List Place) (ends : Bool) (l m : Storings) : Type 0 where
+  pub now : List Stored
+  pub leave : Leave (Contains places) l.standing m.standing now
+  pub emptied : (x : Stored) → Contains m.standing x → Contains places x.place → ⊥
+  pub given : m.given ≡ l.given
   pub woken : m.woken ≡ l.woken
   pub given_up : m.given_up ≡ l.given_up
-  pub ended : IsFront l.taken m.taken ⊎ ((m.taken ≡ []) × IsFront l.taken m.waking)
+  pub ended : ends ≡ true → (m.waking ≡ l.waking ++ (l.taken ++ now)) × (m.taken ≡ [])
+  pub goes_on : ends ≡ false → (m.waking ≡ l.waking) × (m.taken ≡ l.taken ++ now)
 
-takes_on : (l m : Storings) → Takes l m → Ends l m
-takes_on l m t = record { woken = t.woken; given_up = t.given_up; ended = inl t.front }
-
--- nothing was on its way before the step, so all that is woken was taken
-round_ends : (l m : Storings) → l.waking ≡ [] → Takes l m → Ends l (round_woken m)
-round_ends l m rests t = record {
+going_on : (places : List Place) (l m : Storings) → Taking places l m → Ending places false l m
+going_on places l m t = record {
+  now = t.now;
+  leave = t.leave;
+  emptied = t.emptied;
+  given = t.given;
   woken = t.woken;
   given_up = t.given_up;
-  ended = inr (refl, record { more = t.front.more; is = ap (λ (front : List Stored). front ++ m.taken) (t.waking ∙ rests) ∙ t.front.is });
+  ended = λ ends. absurd cc;
+  goes_on = λ runs. (t.waking, t.taken);
 }
 
-second_pass_takes : (second : Bool) (w : World) (l : Storings) → Takes l (cond second (each_taken (due_places w.now w.registrations) l) l)
-second_pass_takes true w l = each_takes (due_places w.now w.registrations) l
-second_pass_takes false w l = takes_none l
+all_woken : (places : List Place) (l m : Storings) → Taking places l m → Ending places true l (round_woken m)
+all_woken places l m t = record {
+  now = t.now;
+  leave = t.leave;
+  emptied = t.emptied;
+  given = t.given;
+  woken = t.woken;
+  given_up = t.given_up;
+  ended = λ ends. (ap (λ (front : List Stored). front ++ m.taken) t.waking ∙ ap (λ (more : List Stored). l.waking ++ more) t.taken, refl);
+  goes_on = λ runs. absurd cc;
+}
 
-finish_ends_in : (w : World) (round : Option RoundState) (l m : Storings) → l.waking ≡ [] → Takes l m → Ends l (finish_moves_in w round m)
-finish_ends_in w None l m rests t = takes_on l m t
-finish_ends_in w (Some round) l m rests t =
-    let second = gave_none round.last_wait && not (is_zero round.limit) in
-    let passed = cond second (each_taken (due_places w.now w.registrations) m) m in
-    cond_both (is_empty_list round.in_hand) (round_woken passed) m (Ends l)
-    (λ none. round_ends l passed rests (takes_both l m passed t (second_pass_takes second w m))) (λ some. takes_on l m t)
+-- a round with nothing in hand ends, after its second pass where it makes one
+ended_by : (empty second : Bool) (due : List Place) (l m : Storings) → Taking due m (each_taken due m) → (places : List Place) → Taking places l m
+    → Ending (places ++ cond (empty && second) due []) empty l (cond empty (round_woken (cond second (each_taken due m) m)) m)
+ended_by true true due l m pass places t = all_woken (places ++ due) l (each_taken due m) (both_taken places due l m (each_taken due m) t pass)
+ended_by true false due l m pass places t = all_woken (places ++ []) l m (both_taken places [] l m m t (none_taken m))
+ended_by false second due l m pass places t = going_on (places ++ []) l m (both_taken places [] l m m t (none_taken m))
 
-finish_ends : (w : World) (l m : Storings) → l.waking ≡ [] → Takes l m → Ends l (finish_moves w m)
-finish_ends w l m rests t = finish_ends_in w w.round l m rests t
+finish_ends : (w : World) (round : Option RoundState) (places : List Place) (l m : Storings) → Taking places l m
+    → Ending (places ++ cond (ends_with_pass round) (due_places w.now w.registrations) []) (is_handled round) l (finish_moves_in w round m)
+finish_ends w None places l m t = going_on (places ++ []) l m (both_taken places [] l m m t (none_taken m))
+finish_ends w (Some round) places l m t =
+    let due : List Place = due_places w.now w.registrations in
+    ended_by (is_empty_list round.in_hand) (gave_none round.last_wait && not (is_zero round.limit)) due l m (all_taken due m) places t
 
-react_ends : (w : World) (answers : List PollerAnswer) (l : Storings) → l.waking ≡ [] → Ends l (react_moves w answers l)
-react_ends w answers l rests =
+react_by : (runs : Bool) (places : List Place) (l m : Storings) → (runs ≡ false → Ending places true l m)
+    → Ending (cond runs [] places) (not runs) l (cond runs l m)
+react_by true places l m ends = going_on [] l l (none_taken l)
+react_by false places l m ends = ends refl
+
+-- nothing is due any longer at the second pass of a whole round
+nothing_more : (test : Bool) (due : List Place) → due ≡ [] → cond test due [] ≡ []
+nothing_more true due none = none
+nothing_more false due none = refl
+
+react_ends : (w : World) (answers : List PollerAnswer) (l : Storings)
+    → Ending (taken_places w step.React answers) (not (is_some w.round)) l (react_moves w answers l)
+react_ends w answers l =
+    let due : List Place = due_places w.now w.registrations in
+    let named : List Place = flat_map (event_places w) (events_given (next_answer answers)) in
     let begun = begin_round w None answers in
     let waited = wait_round begun.world begun.left in
     let hand = hand_of waited.world.round in
     let handled = handle_each hand waited.world waited.left in
-    let m = handle_each_moves hand waited.world waited.left (begin_moves w l) in
-    cond_both (is_some w.round) l (finish_moves handled.world m) (Ends l) (λ runs. takes_on l l (takes_none l))
-    (λ none. finish_ends handled.world l m rests
-    (takes_both l (begin_moves w l) m (begin_takes w l) (hand_takes hand waited.world waited.left (begin_moves w l))))
+    react_by (is_some w.round) (due ++ named) l _
+    (λ none.
+    let b = round_begun w answers none in
+    let wt = round_waited begun.world begun.world.round begun.left b.hand in
+    let hand_given : hand ≡ events_given (next_answer begun.left) = hand_is waited.world.round _ wt.hand in
+    let in_hand : in_hand_of waited.world.round ≡ Some hand = wt.hand ∙ ap Some (sym hand_given) in
+    let events : hand ≡ events_given (next_answer answers) = hand_given ∙ ap (λ left. events_given (next_answer left)) b.left in
+    let out = all_handled hand waited.world waited.left in_hand in
+    let same : Same w (record waited.world { registrations = w.registrations }) = record {
+      live = wt.same.live ∙ b.live;
+      now = wt.same.now ∙ b.now;
+      registrations = refl;
+      places = λ s d. wt.same.places s d ∙ listeners_places w begun.world s d b.listeners;
+    } in
+    let before : Storings = begin_moves w l in
+    let m : Storings = handle_each_moves hand waited.world waited.left before in
+    let begins : Taking due l before = subst (λ runs. Taking (cond runs [] due) l before) none (begin_taken w l) in
+    let takes : Taking named before m =
+    subst (λ places. Taking places before m)
+    (same_events (record waited.world { registrations = w.registrations }) w same hand ∙ ap (flat_map (event_places w)) events)
+    (hand_taken hand waited.world waited.left before in_hand) in
+    let nothing_due : due_places handled.world.now handled.world.registrations ≡ [] =
+    ap (λ moment. due_places moment handled.world.registrations) (out.same.now ∙ wt.same.now ∙ b.now)
+    ∙ ap (due_places w.now) (out.same.registrations ∙ wt.same.registrations ∙ b.registrations)
+    ∙ none_due_left w.now w.registrations in
+    let no_more : (due ++ named) ++ cond (ends_with_pass handled.world.round) (due_places handled.world.now handled.world.registrations) [] ≡ due ++ named =
+    ap (λ more. (due ++ named) ++ more) (nothing_more (ends_with_pass handled.world.round) _ nothing_due) ∙ append-nil (due ++ named) in
+    subst (λ places. Ending places true l (finish_moves handled.world m)) no_more
+    (subst (λ ends. Ending ((due ++ named) ++ cond (ends_with_pass handled.world.round) (due_places handled.world.now handled.world.registrations) []) ends l
+    (finish_moves handled.world m)) (handled_out handled.world.round out.hand)
+    (finish_ends handled.world handled.world.round (due ++ named) l m (both_taken due named l before m begins takes))))
+
+-- a `finish` ends its round where nothing is in hand, and a whole round where no other runs
+proceeds_by : (test : Bool) (x y : Outcome) (first second : Bool) → is_refusal x.answer ≡ first → is_refusal y.answer ≡ second
+    → not (is_refusal (cond test x y).answer) ≡ cond test (not first) (not second)
+proceeds_by true x y first second refuses proceeds = ap not refuses
+proceeds_by false x y first second refuses proceeds = ap not proceeds
+
+by_itself : (test : Bool) → cond test true false ≡ test
+by_itself true = refl
+by_itself false = refl
+
+by_its_contrary : (test : Bool) → cond test false true ≡ not test
+by_its_contrary true = refl
+by_its_contrary false = refl
+
+finish_proceeds : (w : World) (round : Option RoundState) (answers : List PollerAnswer) → not (is_refusal (finish_in w round answers).answer) ≡ is_handled round
+finish_proceeds w None answers = refl
+finish_proceeds w (Some round) answers = proceeds_by (is_empty_list round.in_hand) _ _ false true refl refl ∙ by_itself (is_empty_list round.in_hand)
+
+react_proceeds : (w : World) (answers : List PollerAnswer) → not (is_refusal (react w None answers).answer) ≡ not (is_some w.round)
+react_proceeds w answers = proceeds_by (is_some w.round) _ _ true false refl refl ∙ by_its_contrary (is_some w.round)
 
 -- ## Steps
 
-waking_follows : (s : Step) (l m : Storings) → Wakes l m → Follows s l (step_ended m)
-waking_follows s l m x = record {
-  woken_now = m.waking;
-  given_up_now = [];
-  woken = ap (λ (woken : List (List Stored)). woken ++ m.waking ∷ []) x.woken;
-  given_up = x.given_up ∙ sym (append-nil l.given_up);
-  few = λ no_giver. refl;
-  untaken = λ no_taker. x.taken;
-  kept = λ no_end. whole_front l.taken m.taken x.taken;
-  ended = inl (whole_front l.taken m.taken x.taken);
-}
+-- what was woken before and what is on its way
+woken_with : (l m : Storings) (now : List Stored) → m.woken ≡ l.woken → m.waking ≡ now → (step_ended m).woken ≡ l.woken ++ now ∷ []
+woken_with l m now before waking =
+    ap (λ (woken : List (List Stored)). woken ++ m.waking ∷ []) before ∙ ap (λ (last : List Stored). l.woken ++ last ∷ []) waking
 
-giving_up_follows : (s : Step) (l m : Storings) → may_give_up s ≡ true → GivesUp l m → Follows s l (step_ended m)
-giving_up_follows s l m gives x = record {
-  woken_now = m.waking;
+-- a step that may give storings up and then store one
+giving_follows : (w : World) (s : Step) (answers : List PollerAnswer) (l m : Storings) → l.waking ≡ [] → ends_round w s answers ≡ false
+    → taken_places w s answers ≡ [] → (x : Storing (Contains (may_give_up w s)) (stores w s answers) (own_storing w s l.given) l m)
+    → (is_poll s ≡ true → x.stored ≡ [] → m ≡ l) → (is_refusal (step_result w s answers).answer ≡ true → m ≡ l)
+    → StoringsFollow w s answers l (step_ended m)
+giving_follows w s answers l m rests runs takes_none x polls refused = record {
+  stored_now = x.stored;
+  replaced_now = [];
+  taken_now = [];
   given_up_now = x.now;
-  woken = ap (λ (woken : List (List Stored)). woken ++ m.waking ∷ []) x.woken;
-  given_up = x.given_up;
-  few = λ no_giver. absurd cc;
-  untaken = λ no_taker. x.taken;
-  kept = λ no_end. whole_front l.taken m.taken x.taken;
-  ended = inl (whole_front l.taken m.taken x.taken);
+  stored = x.is;
+  given = x.given;
+  stands = x.stands;
+  stood = x.stood;
+  replaced = λ y gone. none_is_in y gone;
+  taken = λ y gone. none_is_in y gone;
+  given_up = x.from;
+  emptied = λ y here nowhere. none_is_in y.place (subst (λ places. Contains places y.place) takes_none nowhere);
+  ends = λ ends. absurd cc;
+  goes_on = λ on. (woken_with l m [] x.woken (x.waking ∙ rests), x.taken ∙ sym (append-nil l.taken));
+  gone = x.given_up;
+  rests = refl;
+  polls = λ poll none. ap step_ended (polls poll none);
+  refused = λ no_step. ap step_ended (refused no_step);
 }
 
-taking_follows : (s : Step) (l m : Storings) → may_take s ≡ true → Takes l m → Follows s l (step_ended m)
-taking_follows s l m takes x = record {
-  woken_now = m.waking;
+still_follows : (w : World) (s : Step) (answers : List PollerAnswer) (l : Storings) → l.waking ≡ [] → ends_round w s answers ≡ false
+    → taken_places w s answers ≡ [] → stores w s answers ≡ false → StoringsFollow w s answers l (step_ended l)
+still_follows w s answers l rests runs takes_none stores_none =
+    giving_follows w s answers l l rests runs takes_none
+    (subst (λ does. Storing (Contains (may_give_up w s)) does (own_storing w s l.given) l l) (sym stores_none) (nothing_moved _ _ l))
+    (λ poll none. refl) (λ refused. refl)
+
+-- a step in which a round takes storings, and may end
+taking_follows : (w : World) (s : Step) (answers : List PollerAnswer) (l m : Storings) → l.waking ≡ [] → is_poll s ≡ false → stores w s answers ≡ false
+    → Ending (taken_places w s answers) (ends_round w s answers) l m → (is_refusal (step_result w s answers).answer ≡ true → m ≡ l)
+    → StoringsFollow w s answers l (step_ended m)
+taking_follows w s answers l m rests no_poll stores_none x refused = record {
+  stored_now = [];
+  replaced_now = [];
+  taken_now = x.now;
   given_up_now = [];
-  woken = ap (λ (woken : List (List Stored)). woken ++ m.waking ∷ []) x.woken;
-  given_up = x.given_up ∙ sym (append-nil l.given_up);
-  few = λ no_giver. refl;
-  untaken = λ no_taker. absurd cc;
-  kept = λ no_end. x.front;
-  ended = inl x.front;
+  stored = sym (cond-false (stores w s answers) (own_storing w s l.given) [] stores_none);
+  given = x.given ∙ omega arith;
+  stands = λ y here. inl (x.leave.stays y here);
+  stood = λ y here.
+      ⊎_elim (λ (stays : Contains m.standing y). inl stays) (λ (goes : Contains x.now y). inr (Contains-append_left x.now [] y goes)) (x.leave.goes y here);
+  replaced = λ y gone. none_is_in y gone;
+  taken = x.leave.from;
+  given_up = λ y gone. none_is_in y gone;
+  emptied = x.emptied;
+  ends = λ ends. (woken_with l m (l.taken ++ x.now) x.woken ((x.ended ends).0 ∙ ap (λ (front : List Stored). front ++ (l.taken ++ x.now)) rests), (x.ended ends).1);
+  goes_on = λ on. (woken_with l m [] x.woken ((x.goes_on on).0 ∙ rests), (x.goes_on on).1);
+  gone = x.given_up ∙ sym (append-nil l.given_up);
+  rests = refl;
+  polls = λ poll none. absurd cc;
+  refused = λ no_step. ap step_ended (refused no_step);
 }
 
-ending_follows : (s : Step) (l m : Storings) → may_take s ≡ true → may_end_round s ≡ true → Ends l m → Follows s l (step_ended m)
-ending_follows s l m takes ends x = record {
-  woken_now = m.waking;
-  given_up_now = [];
-  woken = ap (λ (woken : List (List Stored)). woken ++ m.waking ∷ []) x.woken;
-  given_up = x.given_up ∙ sym (append-nil l.given_up);
-  few = λ no_giver. refl;
-  untaken = λ no_taker. absurd cc;
-  kept = λ no_end. absurd cc;
-  ended = x.ended;
-}
+-- a poll of a source, which wakes what it replaces
+replacing_follows : (w : World) (key : Key) (dir : Dir) (waker : Waker) (answers : List PollerAnswer) (serial : ℕ) (l : Storings)
+    → l.waking ≡ [] → serial_of w key.0 ≡ Some serial → stores w (step.Poll key dir waker) answers ≡ true
+    → (is_refusal (step_result w (step.Poll key dir waker) answers).answer ≡ true → stored_at (OfPoll serial dir) waker (woken_at (OfPoll serial dir) l) ≡ l)
+    → StoringsFollow w (step.Poll key dir waker) answers l (step_ended (stored_at (OfPoll serial dir) waker (woken_at (OfPoll serial dir) l)))
+replacing_follows w key dir waker answers serial l rests at does refused =
+    let place : Place = OfPoll serial dir in
+    let new : List Stored = stored_as l.given place waker ∷ [] in
+    let old : List Stored = standing_at place l.standing in
+    let left : List Stored = none_at place l.standing in
+    let leave : Leave (Contains (place ∷ [])) l.standing left old = one_leaves (Contains (place ∷ [])) place (first_is_in place []) l.standing in
+    let places : poll_places (serial_of w key.0) (dir ∷ []) ≡ place ∷ [] = ap (λ o. poll_places o (dir ∷ [])) at in
+    record {
+      stored_now = new;
+      replaced_now = old;
+      taken_now = [];
+      given_up_now = [];
+      stored = sym (cond-true (stores w (step.Poll key dir waker) answers) (own_storing w (step.Poll key dir waker) l.given) [] does
+          ∙ ap (map (λ p. stored_as l.given p waker)) places);
+      given = refl;
+      stands = λ x here.
+          ⊎_elim (λ (before : Contains left x). inl (leave.stays x before)) (λ (now : Contains new x). inr now) (Contains-append_cases left new x here);
+      stood = λ x here.
+          ⊎_elim (λ (stays : Contains left x). inl (Contains-append_left left new x stays))
+          (λ (goes : Contains old x). inr (Contains-append_left (old ++ []) [] x (Contains-append_left old [] x goes))) (leave.goes x here);
+      replaced = λ x gone. let from = leave.from x gone in (from.0, subst (λ ps. Contains ps x.place) (sym places) from.1);
+      taken = λ x gone. none_is_in x gone;
+      given_up = λ x gone. none_is_in x gone;
+      emptied = λ x here nowhere. none_is_in x.place nowhere;
+      ends = λ ends. absurd cc;
+      goes_on = λ on. (ap (λ (front : List Stored). l.woken ++ (front ++ old) ∷ []) rests, sym (append-nil l.taken));
+      gone = sym (append-nil l.given_up);
+      rests = refl;
+      polls = λ poll none. absurd cc;
+      refused = λ no_step. ap step_ended (refused no_step);
+    }
 
-still_follows : (s : Step) (l : Storings) → Follows s l (step_ended l)
-still_follows s l = waking_follows s l l (wakes_none l)
+and-false : (test : Bool) → (test && false) ≡ false
+and-false true = refl
+and-false false = refl
 
-step_follows : (w : World) (s : Step) (answers : List PollerAnswer) (l : Storings) → l.waking ≡ []
-    → Follows s l (step_ended (step_storings w s answers l))
-step_follows w step.Add answers l rests = still_follows step.Add l
-step_follows w (step.Del key) answers l rests = giving_up_follows (step.Del key) l _ refl (del_gives_up w (serial_of w key.0) l)
-step_follows w (step.Poll key dir waker) answers l rests = waking_follows (step.Poll key dir waker) l _ (poll_wakes w dir waker (serial_of w key.0) l)
-step_follows w (step.New key dir) answers l rests = still_follows (step.New key dir) l
-step_follows w (step.StepEar number waker) answers l rests =
-    giving_up_follows (step.StepEar number waker) l _ refl (step_gives_up w waker (find (is_listener number) w.listeners) l)
-step_follows w (step.DropEar number) answers l rests =
-    giving_up_follows (step.DropEar number) l _ refl (drop_gives_up (find (is_listener number) w.listeners) l)
-step_follows w (step.TimerAt deadline) answers l rests = still_follows (step.TimerAt deadline) l
-step_follows w (step.TimerEvery deadline period) answers l rests = still_follows (step.TimerEvery deadline period) l
-step_follows w step.TimerNever answers l rests = still_follows step.TimerNever l
-step_follows w (step.Tick number waker) answers l rests =
-    giving_up_follows (step.Tick number waker) l _ refl (tick_gives_up w waker (find (is_timer number) w.timers) l)
-step_follows w (step.SetAt number deadline) answers l rests =
-    giving_up_follows (step.SetAt number deadline) l _ refl (set_gives_up w (find (is_timer number) w.timers) l)
-step_follows w (step.SetEvery number deadline period) answers l rests =
-    giving_up_follows (step.SetEvery number deadline period) l _ refl (set_gives_up w (find (is_timer number) w.timers) l)
-step_follows w (step.End number) answers l rests = giving_up_follows (step.End number) l _ refl (end_gives_up (find (is_timer number) w.timers) l)
-step_follows w (step.Now moment) answers l rests = still_follows (step.Now moment) l
-step_follows w (step.Note event) answers l rests = still_follows (step.Note event) l
-step_follows w (step.Fault kind) answers l rests = still_follows (step.Fault kind) l
-step_follows w step.Interrupt answers l rests = still_follows step.Interrupt l
-step_follows w (step.Begin limit) answers l rests = taking_follows (step.Begin limit) l _ refl (begin_takes w l)
-step_follows w step.Wait answers l rests = still_follows step.Wait l
-step_follows w step.Handle answers l rests = taking_follows step.Handle l _ refl (handle_takes w l)
-step_follows w step.Finish answers l rests = ending_follows step.Finish l _ refl refl (finish_ends w l l rests (takes_none l))
-step_follows w step.React answers l rests = ending_follows step.React l _ refl refl (react_ends w answers l rests)
+-- a poll stores where it is not ready and its waker not there already
+poll_stores : (fresh same : Bool) (x y z : Outcome) → has_to_wait x.answer ≡ false → has_to_wait z.answer ≡ true
+    → (has_to_wait (cond fresh x (cond same y z)).answer && not same) ≡ not (fresh || same)
+poll_stores true same x y z ready waits = ap (λ test. test && not same) ready
+poll_stores false true x y z ready waits = and-false (has_to_wait y.answer)
+poll_stores false false x y z ready waits = ap (λ test. test && true) waits
+
+poll_follows : (w : World) (key : Key) (dir : Dir) (waker : Waker) (answers : List PollerAnswer) (serial : Option ℕ) (l : Storings)
+    → l.waking ≡ [] → serial_of w key.0 ≡ serial
+    → (is_refusal (step_result w (step.Poll key dir waker) answers).answer ≡ true → poll_moves w dir waker serial l ≡ l)
+    → StoringsFollow w (step.Poll key dir waker) answers l (step_ended (poll_moves w dir waker serial l))
+unfolding step_result
+poll_follows w key dir waker answers None l rests at refused =
+    still_follows w (step.Poll key dir waker) answers l rests refl refl
+    (ap (λ o. has_to_wait (poll_source w key.0 dir waker o answers).answer && not (is_waker waker (option_and_then (λ serial. poll_waiter w.poll_waiters serial dir) o))) at)
+poll_follows w key dir waker answers (Some serial) l rests at refused =
+    let Follows : Storings → Type 0 = λ m. (is_refusal (step_result w (step.Poll key dir waker) answers).answer ≡ true → m ≡ l)
+    → StoringsFollow w (step.Poll key dir waker) answers l (step_ended m) in
+    let fresh : Bool = is_fresh_since w serial dir (mark_of w.marks serial dir) in
+    let same : Bool = is_waker waker (poll_waiter w.poll_waiters serial dir) in
+    let does : stores w (step.Poll key dir waker) answers ≡ not (fresh || same) =
+    ap (λ o. has_to_wait (poll_source w key.0 dir waker o answers).answer && not (is_waker waker (option_and_then (λ serial. poll_waiter w.poll_waiters serial dir) o))) at
+    ∙ poll_stores fresh same _ _ _ refl (pending_waits _ _ _ _ _ _) in
+    cond_both (fresh || same) l (stored_at (OfPoll serial dir) waker (woken_at (OfPoll serial dir) l)) Follows
+    (λ kept refused. still_follows w (step.Poll key dir waker) answers l rests refl refl (does ∙ ap not kept))
+    (λ new refused. replacing_follows w key dir waker answers serial l rests at (does ∙ ap not new) refused) refused
+
+moves_follow : (w : World) (s : Step) (answers : List PollerAnswer) (l : Storings) → l.waking ≡ []
+    → (is_refusal (step_result w s answers).answer ≡ true → step_storings w s answers l ≡ l)
+    → StoringsFollow w s answers l (step_ended (step_storings w s answers l))
+unfolding Listens step_result
+moves_follow w (step.Del key) answers l rests refused =
+    giving_follows w (step.Del key) answers l _ rests refl refl (del_stores w (serial_of w key.0) l) (λ poll. absurd cc) refused
+moves_follow w (step.Poll key dir waker) answers l rests refused = poll_follows w key dir waker answers (serial_of w key.0) l rests refl refused
+moves_follow w (step.StepEar number waker) answers l rests refused =
+    let listens = listen_stores w number waker (find (is_listener number) w.listeners) answers l refl in
+    giving_follows w (step.StepEar number waker) answers l _ rests refl refl listens.0 (λ poll. listens.1) refused
+moves_follow w (step.DropEar number) answers l rests refused =
+    giving_follows w (step.DropEar number) answers l _ rests refl refl
+    (drop_stores number w.listeners (find (is_listener number) w.listeners) l refl) (λ poll. absurd cc) refused
+moves_follow w (step.Tick number waker) answers l rests refused =
+    giving_follows w (step.Tick number waker) answers l _ rests refl refl
+    (tick_stores w waker (find (is_timer number) w.timers) answers l) (λ poll. absurd cc) refused
+moves_follow w (step.SetAt number deadline) answers l rests refused =
+    giving_follows w (step.SetAt number deadline) answers l _ rests refl refl
+    (set_stores w deadline None (find (is_timer number) w.timers) answers l) (λ poll. absurd cc) refused
+moves_follow w (step.SetEvery number deadline period) answers l rests refused =
+    giving_follows w (step.SetEvery number deadline period) answers l _ rests refl refl
+    (set_stores w deadline (Some period) (find (is_timer number) w.timers) answers l) (λ poll. absurd cc) refused
+moves_follow w (step.End number) answers l rests refused =
+    giving_follows w (step.End number) answers l _ rests refl refl
+    (end_stores (find (is_timer number) w.timers) l) (λ poll. absurd cc) refused
+moves_follow w (step.Begin limit) answers l rests refused =
+    taking_follows w (step.Begin limit) answers l _ rests refl refl (going_on _ l _ (begin_taken w l)) refused
+moves_follow w step.Handle answers l rests refused =
+    taking_follows w step.Handle answers l _ rests refl refl (going_on _ l _ (first_taken w (hand_of w.round) l)) refused
+moves_follow w step.Finish answers l rests refused =
+    taking_follows w step.Finish answers l _ rests refl refl
+    (subst (λ ends. Ending (taken_places w step.Finish answers) ends l (finish_moves w l)) (sym (finish_proceeds w w.round answers)) (finish_ends w w.round [] l l (none_taken l)))
+    refused
+moves_follow w step.React answers l rests refused =
+    taking_follows w step.React answers l _ rests refl refl
+    (subst (λ ends. Ending (taken_places w step.React answers) ends l (react_moves w answers l)) (sym (react_proceeds w answers)) (react_ends w answers l)) refused
+moves_follow w step.Add answers l rests refused = still_follows w step.Add answers l rests refl refl refl
+moves_follow w (step.New key dir) answers l rests refused = still_follows w (step.New key dir) answers l rests refl refl refl
+moves_follow w (step.TimerAt deadline) answers l rests refused = still_follows w (step.TimerAt deadline) answers l rests refl refl refl
+moves_follow w (step.TimerEvery deadline period) answers l rests refused = still_follows w (step.TimerEvery deadline period) answers l rests refl refl refl
+moves_follow w step.TimerNever answers l rests refused = still_follows w step.TimerNever answers l rests refl refl refl
+moves_follow w (step.Now moment) answers l rests refused = still_follows w (step.Now moment) answers l rests refl refl refl
+moves_follow w (step.Note event) answers l rests refused = still_follows w (step.Note event) answers l rests refl refl refl
+moves_follow w (step.Fault kind) answers l rests refused = still_follows w (step.Fault kind) answers l rests refl refl refl
+moves_follow w step.Interrupt answers l rests refused = still_follows w step.Interrupt answers l rests refl refl refl
+moves_follow w step.Wait answers l rests refused = still_follows w step.Wait answers l rests refl refl refl
+
+pub step_follows : (w : World) (s : Step) (answers : List PollerAnswer) (l : Storings) → l.waking ≡ []
+    → StoringsFollow w s answers l (step_ended (step_storings w s answers l))
+step_follows w s answers l rests = moves_follow w s answers l rests (refused_moves_nothing w s answers l)
 
 -- ## Runs
 
 follows_from : (run : List PolledStep) (w : World) (l : Storings) (s : PolledStep) → l.waking ≡ []
-    → Follows s.step (storings_from w l run) (storings_from w l (run ++ s ∷ []))
+    → StoringsFollow (world_of w run) s.step s.answers (storings_from w l run) (storings_from w l (run ++ s ∷ []))
 follows_from [] w l s rests = step_follows w s.step s.answers l rests
 follows_from (first ∷ run) w l s rests =
     follows_from run (outcome_of w first).world (step_ended (step_storings w first.step first.answers l)) s refl
 
-pub run_follows : (run : List PolledStep) (s : PolledStep) → Follows s.step (storings_of opening run) (storings_of opening (run ++ s ∷ []))
+pub run_follows : (run : List PolledStep) (s : PolledStep)
+    → StoringsFollow (world_of opening run) s.step s.answers (storings_of opening run) (storings_of opening (run ++ s ∷ []))
 run_follows run s = follows_from run opening no_storings s refl

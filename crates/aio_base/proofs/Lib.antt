@@ -9,6 +9,7 @@ pub mod CoverSources
 pub mod CoverSteps
 pub mod CoverWaiters
 pub mod FiringOrder
+mod FalseHistories
 pub mod Following
 pub mod FreeKeys
 pub mod FreshnessLemmas
@@ -21,6 +22,7 @@ pub mod HeldTimers
 pub mod Holding
 pub mod InterestLemmas
 pub mod Kept
+pub mod Leaving
 pub mod Membership
 pub mod NotesUnread
 pub mod OnceRuns
@@ -29,6 +31,7 @@ pub mod Places
 pub mod RefusalLemmas
 mod RefusedWorlds
 pub mod Rewaiting
+pub mod RoundLemmas
 mod Rows
 pub mod RunLemmas
 mod RunRows
@@ -39,5 +42,6 @@ pub mod Standing
 pub mod StoringCounts
 pub mod Taking
 mod TimerRows
+pub mod UnmovedLemmas
 pub mod WaiterLemmas
 pub mod Words

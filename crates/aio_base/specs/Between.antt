@@ -1,24 +1,20 @@
 -- What stands between any two steps of a run.
-use Rattle.std.specs.Prelude.{◌≡◌, Bool, true, false, not, ◌&&◌, List, [], ◌∷◌, ◌++◌, Option, None, Some, is_some}
+use Rattle.std.specs.Prelude.{◌≡◌, Bool, true, false, not, List, [], ◌∷◌, ◌++◌, is_some}
 use Rattle.aio_base.specs.declared.steps.Step.{Step}
 use Rattle.aio_base.specs.declared.steps.Step.TheVariants as step
-use Rattle.aio_base.specs.World.{RoundState, World, opening, is_empty_list}
-use Rattle.aio_base.specs.Machine.{gave_none, is_zero}
+use Rattle.aio_base.specs.World.{World, opening}
+use Rattle.aio_base.specs.Machine.{ends_with_pass}
 use Rattle.aio_base.specs.Runs.{PolledStep, answers_of, scripted, wakes_of, world_of}
-use Rattle.aio_base.specs.Storings.{Follows, Once, storings_of}
+use Rattle.aio_base.specs.Storings.{Once, storings_of}
+use Rattle.aio_base.specs.Succession.{StoringsFollow}
 use Rattle.aio_base.specs.Covered.{Covered, WaitsForLive}
 use Rattle.aio_base.specs.Distinct.{NoDoubles}
 use Rattle.aio_base.specs.Timers.{AllAbove, after_pass}
 
--- whether the end of this round makes a second pass
-abbrev pub passes_at_end : Option RoundState → Bool
-passes_at_end None = false
-passes_at_end (Some round) = is_empty_list round.in_hand && (gave_none round.last_wait && not (is_zero round.limit))
-
 -- whether a step makes a pass over the registered timers: where a round begins, where one ends with a second pass, and where a whole round is run
 abbrev pub makes_pass : World → Step → Bool
 makes_pass w (step.Begin limit) = not (is_some w.round)
-makes_pass w step.Finish = passes_at_end w.round
+makes_pass w step.Finish = ends_with_pass w.round
 makes_pass w step.React = not (is_some w.round)
 makes_pass w _ = false
 
@@ -35,7 +31,7 @@ pub record StandsBetween (run : List PolledStep) : Type 0 where
   pub distinct : NoDoubles (world_of opening run)
   -- the last step moved storings as such a step may
   pub follows : (before : List PolledStep) (last : PolledStep) → run ≡ before ++ last ∷ []
-      → Follows last.step (storings_of opening before) (storings_of opening run)
+      → StoringsFollow (world_of opening before) last.step last.answers (storings_of opening before) (storings_of opening run)
   -- where the last step made a pass, no timer is registered that was due at it, and each other still is
   pub passed : (before : List PolledStep) (last : PolledStep) → run ≡ before ++ last ∷ [] → makes_pass (world_of opening before) last.step ≡ true
       → AllAbove (world_of opening before).now (world_of opening run).registrations

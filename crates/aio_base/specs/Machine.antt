@@ -408,10 +408,14 @@ abbrev pub is_zero : Option ℕ → Bool
 is_zero None = false
 is_zero (Some n) = n == 0
 
+-- whether a round that ends makes a second pass over the timers: its last wait gave no event, and was not to return at once
+abbrev pub makes_second_pass : Option PollerAnswer → Option ℕ → Bool
+makes_second_pass last_wait limit = gave_none last_wait && not (is_zero limit)
+
 abbrev pub finish_in : World → Option RoundState → List PollerAnswer → Outcome
 finish_in w None answers = quiet answer.NoRound w answers
 finish_in w (Some round) answers =
-    let second = gave_none round.last_wait && not (is_zero round.limit) in
+    let second = makes_second_pass round.last_wait round.limit in
     if is_empty_list round.in_hand
     then record {
       answer = answer.End round.fault;
@@ -424,6 +428,11 @@ finish_in w (Some round) answers =
 
 abbrev pub finish_round : World → List PollerAnswer → Outcome
 finish_round w answers = finish_in w w.round answers
+
+-- whether a `finish` of what runs ends it with a second pass: a round with nothing in hand that makes one
+abbrev pub ends_with_pass : Option RoundState → Bool
+ends_with_pass None = false
+ends_with_pass (Some round) = is_empty_list round.in_hand && makes_second_pass round.last_wait round.limit
 
 -- one handling for each of these events
 abbrev pub handle_each : List Event → World → List PollerAnswer → Outcome

@@ -1,5 +1,5 @@
 -- The storings of wakers, by number: where each of them stands, or how it went.
-use Rattle.std.specs.Prelude.{◌≡◌, ◌⊎◌, ℕ, ◌+◌, ◌<◌, ◌≤◌, Bool, true, false, not, ◌&&◌, ◌||◌, ◌==◌, nat_le, if◌then◌else◌, List, [], ◌∷◌, ◌++◌, map, filter, find, flat_map, Option, None, Some, is_some, option_map, option_to_list, option_and_then}
+use Rattle.std.specs.Prelude.{◌≡◌, ℕ, ◌+◌, ◌<◌, ◌≤◌, Bool, false, not, ◌&&◌, ◌||◌, ◌==◌, nat_le, if◌then◌else◌, List, [], ◌∷◌, ◌++◌, map, filter, find, flat_map, Option, None, Some, is_some, option_map, option_to_list, option_and_then}
 use Rattle.std.specs.List.{list_any}
 use Rattle.aio_base.specs.declared.names.Waker.{Waker}
 use Rattle.aio_base.specs.declared.names.Dir.{Dir}
@@ -8,7 +8,7 @@ use Rattle.aio_base.specs.declared.steps.Step.{Step}
 use Rattle.aio_base.specs.declared.steps.Step.TheVariants as step
 use Rattle.aio_base.specs.World.{PollerAnswer, ListenerEntry, Registration, TimerEntry, RoundState, World, directions, directions_of, is_of, same_dir, serial_of, poll_waiter, mark_of, is_empty_list}
 use Rattle.aio_base.specs.Timers.{in_order}
-use Rattle.aio_base.specs.Machine.{is_waker, is_fresh_since, is_listener, is_timer, next_deadline, begin_round, wait_round, handle_round, handle_each, hand_of, gave_none, is_zero}
+use Rattle.aio_base.specs.Machine.{is_waker, is_fresh_since, is_listener, is_timer, next_deadline, begin_round, wait_round, handle_round, handle_each, hand_of, makes_second_pass}
 use Rattle.aio_base.specs.Runs.{PolledStep, outcome_of}
 
 -- where a waker is stored: as the poll waiter of a direction, with a listener, or with the registration of an id
@@ -164,7 +164,7 @@ abbrev pub finish_moves_in : World → Option RoundState → Storings → Storin
 finish_moves_in w None l = l
 finish_moves_in w (Some round) l =
     if is_empty_list round.in_hand
-    then round_woken (if gave_none round.last_wait && not (is_zero round.limit) then each_taken (due_places w.now w.registrations) l else l)
+    then round_woken (if makes_second_pass round.last_wait round.limit then each_taken (due_places w.now w.registrations) l else l)
     else l
 
 abbrev pub finish_moves : World → Storings → Storings
@@ -248,49 +248,3 @@ pub record Once (w : World) (wakes : List (List Waker)) (l : Storings) : Type 0 
   -- what each step woke are its wakes, in order; between two steps nothing is on its way
   pub steps : map wakers l.woken ≡ wakes
   pub at_rest : l.waking ≡ []
-
--- ## How storings go from step to step
-
--- one list stands at the front of another
-pub record IsFront (front whole : List Stored) : Type 0 where
-  pub more : List Stored
-  pub is : whole ≡ front ++ more
-
--- the steps that may give a storing up
-abbrev pub may_give_up : Step → Bool
-may_give_up (step.Del key) = true
-may_give_up (step.StepEar number waker) = true
-may_give_up (step.DropEar number) = true
-may_give_up (step.Tick number waker) = true
-may_give_up (step.SetAt number deadline) = true
-may_give_up (step.SetEvery number deadline period) = true
-may_give_up (step.End number) = true
-may_give_up _ = false
-
--- the steps in which a round may take storings
-abbrev pub may_take : Step → Bool
-may_take (step.Begin limit) = true
-may_take step.Handle = true
-may_take step.Finish = true
-may_take step.React = true
-may_take _ = false
-
--- the steps that may end a round
-abbrev pub may_end_round : Step → Bool
-may_end_round step.Finish = true
-may_end_round step.React = true
-may_end_round _ = false
-
--- How the storings after a step follow those before it.
-pub record Follows (s : Step) (before after : Storings) : Type 0 where
-  -- what this step woke and what it gave up; what was woken or given up before stays so
-  pub woken_now : List Stored
-  pub given_up_now : List Stored
-  pub woken : after.woken ≡ before.woken ++ woken_now ∷ []
-  pub given_up : after.given_up ≡ before.given_up ++ given_up_now
-  -- only some steps give storings up
-  pub few : may_give_up s ≡ false → given_up_now ≡ []
-  -- what a round has taken stays taken until the round ends; the step that ends it wakes all of it, and leaves nothing taken
-  pub untaken : may_take s ≡ false → after.taken ≡ before.taken
-  pub kept : may_end_round s ≡ false → IsFront before.taken after.taken
-  pub ended : IsFront before.taken after.taken ⊎ ((after.taken ≡ []) × IsFront before.taken woken_now)

@@ -5,11 +5,12 @@ ghost use Rattle.std.specs.List.{Contains};
 ghost use Rattle.aio_base.specs.Between.{StandsAfter, StandsBetween};
 ghost use Rattle.aio_base.specs.Covered.{Covered, WaitsForLive};
 ghost use Rattle.aio_base.specs.Distinct.{NoDoubles};
-ghost use Rattle.aio_base.specs.Machine.{Outcome, begin_round, finish_round, gave_none, is_zero, react, step_result};
+ghost use Rattle.aio_base.specs.Machine.{Outcome, begin_round, finish_round, makes_second_pass, react, step_result};
 ghost use Rattle.aio_base.specs.Refusals.{is_refusal, only_counted};
 ghost use Rattle.aio_base.specs.Runs.{PolledStep, answers_of, outcome_without_notes, scripted, wakes_of, without_notes, world_of};
 ghost use Rattle.aio_base.specs.Script.{outcomes_from, world_after};
-ghost use Rattle.aio_base.specs.Storings.{Follows, Once, storings_of};
+ghost use Rattle.aio_base.specs.Storings.{Once, Storings, step_ended, step_storings, storings_of};
+ghost use Rattle.aio_base.specs.Succession.{StoringsFollow};
 ghost use Rattle.aio_base.specs.Text.{spelling};
 ghost use Rattle.aio_base.specs.Timers.{AllAbove, BookChange, IsBook, IsFiringOrder, after_pass, changed, due_wakers, fires_before, in_order, pair_of};
 ghost use Rattle.aio_base.specs.Trace.{IsBuilt, written_step};
@@ -42,7 +43,7 @@ pub fn no_due_timer_outlives_a_pass()
     ensures begin { (w : World) (given : Option ℕ) (answers : List PollerAnswer)
         → w.round ≡ None → AllAbove w.now (begin_round w given answers).world.registrations }
     ensures finish { (w : World) (round : RoundState) (answers : List PollerAnswer)
-        → w.round ≡ Some round → round.in_hand ≡ [] → (gave_none round.last_wait && not (is_zero round.limit)) ≡ true
+        → w.round ≡ Some round → round.in_hand ≡ [] → makes_second_pass round.last_wait round.limit ≡ true
         → AllAbove w.now (finish_round w answers).world.registrations }
     ensures react { (w : World) (given : Option ℕ) (answers : List PollerAnswer)
         → w.round ≡ None → AllAbove w.now (react w given answers).world.registrations }
@@ -102,12 +103,29 @@ pub fn no_storing_is_lost_or_woken_twice()
     ensures { (run : List PolledStep) → Once (world_of opening run) (wakes_of opening run) (storings_of opening run) }
 {}
 
-/// What a round has taken stays taken until the round ends, and the step that ends it wakes all of it.
-/// What a step woke or gave up stays so. Only the steps `del`, `drop`, `end`, `set`, `tick` and the poll
-/// of a listener give storings up; a poll of a source gives up none, so one that it replaces it wakes.
-pub fn what_a_round_takes_it_wakes()
-    ensures { (run : List PolledStep) (s : PolledStep)
-        → Follows s.step (storings_of opening run) (storings_of opening (run ++ s ∷ [])) }
+/// How the storings of wakers follow from step to step (`StoringsFollow`): a storing keeps its number,
+/// its place and its waker for good. A step stores one waker or none, under the next number and at the
+/// place of which it speaks. What stood before a step stands on, or leaves where that step may empty a
+/// place: a poll replaces what stood with its direction, and wakes it; a round takes what is due at a
+/// pass and the waiters of each event that it handles, all of them; what is given up stood with the
+/// source that `del` takes out, with the listener that `step` or `drop` names, or with the
+/// registration of the timer that `tick`, `set` or `end` names. What a round has taken stays taken
+/// until the step that ends it, a `finish` or a `react` that is not refused: that one wakes all of it,
+/// in order, also what it took itself, and leaves nothing taken. A step that is refused moves nothing.
+///
+/// `step` says so of any world and any storings between two steps, `run` of each step of every run,
+/// whatever the poller answered. Histories that break it, by the kind of the step, are a table of their
+/// own (`proofs/FalseHistories.antt`). In its first four each number is in one place, and what stands
+/// agrees with the wakers that the wrong machine holds, and yet it drops a waker or wakes a wrong one:
+/// `a_poll_drops_the_waker_of_another_listener`, `a_round_wakes_a_waker_that_it_did_not_take`,
+/// `a_round_leaves_a_waker_at_another_place` and `a_poll_stores_under_an_old_number`.
+pub fn storings_follow_from_step_to_step()
+    ensures step { (w : World) (s : Step) (answers : List PollerAnswer) (before : Storings)
+        → before.waking ≡ []
+        → StoringsFollow w s answers before (step_ended (step_storings w s answers before)) }
+    ensures run { (run : List PolledStep) (s : PolledStep)
+        → StoringsFollow (world_of opening run) s.step s.answers
+        (storings_of opening run) (storings_of opening (run ++ s ∷ [])) }
 {}
 
 /// After every run, whatever the poller answered in it, nothing stands twice in the lists of the world:
