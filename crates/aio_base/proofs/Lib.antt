@@ -28,6 +28,7 @@ pub mod PassLemmas
 pub mod Places
 pub mod RefusalLemmas
 mod RefusedWorlds
+pub mod Registering
 pub mod Rewaiting
 mod Rows
 pub mod RunLemmas
