@@ -1,70 +1,64 @@
 -- What stands between two steps of a run, from the laws over all runs and of the passes.
-use Rattle.std.proofs.Common.{◌≡◌, ◌<◌, true, not, ◌&&◌, List, [], ◌∷◌, ◌++◌, Option, None, Some, is_some, refl, sym, ap, ◌∙◌, subst}
-use Rattle.std.proofs.lemmas.Bool.{and_parts}
+use Rattle.std.proofs.Common.{◌≡◌, ◌<◌, true, false, List, [], ◌∷◌, ◌++◌, refl, sym, ap, ◌∙◌, subst}
+use Rattle.std.proofs.lemmas.Bool.{cond-true}
 use Rattle.std.proofs.lemmas.List.Elements.{All-same}
 use Rattle.aio_base.specs.declared.steps.Step.{Step}
 use Rattle.aio_base.specs.declared.steps.Step.TheVariants as step
-use Rattle.aio_base.specs.World.{Registration, PollerAnswer, World, RoundState, is_empty_list, opening}
-use Rattle.aio_base.specs.Machine.{ends_with_pass, makes_second_pass, finish_in, step_result}
+use Rattle.aio_base.specs.World.{Registration, World, opening}
 use Rattle.aio_base.specs.Runs.{PolledStep, outcome_of, world_of, scripted}
 use Rattle.aio_base.specs.Storings.{storings_of}
 use Rattle.aio_base.specs.Succession.{StoringsFollow}
 use Rattle.aio_base.specs.Timers.{after_pass}
-use Rattle.aio_base.specs.Between.{makes_pass, StandsBetween, StandsAfter}
+use Rattle.aio_base.specs.Between.{makes_pass, is_of_timer, registrations_after, StandsBetween, StandsAfter}
 use Rattle.aio_base.proofs.CoverRuns.{run_covers, run_waits_for_live}
 use Rattle.aio_base.proofs.Following.{run_follows}
 use Rattle.aio_base.proofs.OnceRuns.{run_once}
-use Rattle.aio_base.proofs.PassLemmas.{pass_leaves, begin_passes, finish_passes, react_passes}
-use Rattle.aio_base.proofs.Singles.{run_has_no_doubles}
+use Rattle.aio_base.proofs.PassLemmas.{pass_leaves}
+use Rattle.aio_base.proofs.Registering.{step_registers}
+use Rattle.aio_base.proofs.Singles.{run_has_no_doubles, run_registers_timers}
 
 -- the world after one step more
 one_more : (w : World) (before : List PolledStep) (last : PolledStep) → world_of w (before ++ last ∷ []) ≡ (outcome_of (world_of w before) last).world
 one_more w [] last = refl
 one_more w (first ∷ before) last = one_more (outcome_of w first).world before last
 
-none_is : (round : Option RoundState) → not (is_some round) ≡ true → round ≡ None
-none_is None none = refl
-none_is (Some round) none = absurd cc
+last_registers : (run before : List PolledStep) (last : PolledStep) → run ≡ before ++ last ∷ [] → is_of_timer last.step ≡ false
+    → (world_of opening run).registrations ≡ registrations_after (world_of opening before) last.step
+last_registers run before last is other =
+    ap (λ (w : World). w.registrations) (ap (world_of opening) is ∙ one_more opening before last)
+    ∙ step_registers (world_of opening before) last.step last.answers other
 
-round_passes : (w : World) (round : Option RoundState) (answers : List PollerAnswer) → ends_with_pass round ≡ true
-    → (finish_in w round answers).world.registrations ≡ after_pass w.now w.registrations
-round_passes w None answers passes = absurd cc
-round_passes w (Some round) answers passes =
-    let parts = and_parts (is_empty_list round.in_hand) (makes_second_pass round.last_wait round.limit) passes in
-    finish_passes w round answers parts.0 parts.1
-
--- what stays registered where a step makes a pass
-step_passes : (w : World) (s : Step) (answers : List PollerAnswer) → makes_pass w s ≡ true
-    → (step_result w s answers).world.registrations ≡ after_pass w.now w.registrations
-unfolding step_result
-step_passes w (step.Begin limit) answers passes = begin_passes w limit answers (none_is w.round passes)
-step_passes w step.Finish answers passes = round_passes w w.round answers passes
-step_passes w step.React answers passes = react_passes w None answers (none_is w.round passes)
-step_passes w step.Add answers passes = absurd cc
-step_passes w (step.Del key) answers passes = absurd cc
-step_passes w (step.Poll key dir waker) answers passes = absurd cc
-step_passes w (step.New key dir) answers passes = absurd cc
-step_passes w (step.StepEar number waker) answers passes = absurd cc
-step_passes w (step.DropEar number) answers passes = absurd cc
-step_passes w (step.TimerAt deadline) answers passes = absurd cc
-step_passes w (step.TimerEvery deadline period) answers passes = absurd cc
-step_passes w step.TimerNever answers passes = absurd cc
-step_passes w (step.Tick number waker) answers passes = absurd cc
-step_passes w (step.SetAt number deadline) answers passes = absurd cc
-step_passes w (step.SetEvery number deadline period) answers passes = absurd cc
-step_passes w (step.End number) answers passes = absurd cc
-step_passes w (step.Now moment) answers passes = absurd cc
-step_passes w (step.Note event) answers passes = absurd cc
-step_passes w (step.Fault kind) answers passes = absurd cc
-step_passes w step.Interrupt answers passes = absurd cc
-step_passes w step.Wait answers passes = absurd cc
-step_passes w step.Handle answers passes = absurd cc
+-- a step that makes a pass is not of a timer
+pass_is_other : (w : World) (s : Step) → makes_pass w s ≡ true → is_of_timer s ≡ false
+pass_is_other w step.Add passes = refl
+pass_is_other w (step.Del key) passes = refl
+pass_is_other w (step.Poll key dir waker) passes = refl
+pass_is_other w (step.New key dir) passes = refl
+pass_is_other w (step.StepEar number waker) passes = refl
+pass_is_other w (step.DropEar number) passes = refl
+pass_is_other w (step.TimerAt deadline) passes = refl
+pass_is_other w (step.TimerEvery deadline period) passes = refl
+pass_is_other w step.TimerNever passes = refl
+pass_is_other w (step.Tick number waker) passes = absurd cc
+pass_is_other w (step.SetAt number deadline) passes = absurd cc
+pass_is_other w (step.SetEvery number deadline period) passes = absurd cc
+pass_is_other w (step.End number) passes = absurd cc
+pass_is_other w (step.Now moment) passes = refl
+pass_is_other w (step.Note event) passes = refl
+pass_is_other w (step.Fault kind) passes = refl
+pass_is_other w step.Interrupt passes = refl
+pass_is_other w (step.Begin limit) passes = refl
+pass_is_other w step.Wait passes = refl
+pass_is_other w step.Handle passes = refl
+pass_is_other w step.Finish passes = refl
+pass_is_other w step.React passes = refl
 
 last_passes : (run before : List PolledStep) (last : PolledStep) → run ≡ before ++ last ∷ [] → makes_pass (world_of opening before) last.step ≡ true
     → (world_of opening run).registrations ≡ after_pass (world_of opening before).now (world_of opening before).registrations
 last_passes run before last is passes =
-    ap (λ (w : World). w.registrations) (ap (world_of opening) is ∙ one_more opening before last)
-    ∙ step_passes (world_of opening before) last.step last.answers passes
+    let w = world_of opening before in
+    last_registers run before last is (pass_is_other w last.step passes)
+    ∙ cond-true (makes_pass w last.step) (after_pass w.now w.registrations) w.registrations passes
 
 pub stands_between : (run : List PolledStep) → StandsBetween run
 stands_between run = record {
@@ -72,11 +66,12 @@ stands_between run = record {
   live = run_waits_for_live run;
   once = run_once run;
   distinct = run_has_no_doubles run;
+  timed = run_registers_timers run;
   follows = λ before last is. subst (λ r. StoringsFollow (world_of opening before) last.step last.answers (storings_of opening before) (storings_of opening r)) (sym is) (run_follows before last);
   passed = λ before last is passes.
       let w = world_of opening before in
       All-same (λ (r : Registration). w.now < r.deadline) _ _ (last_passes run before last is passes) (pass_leaves w.now w.registrations);
-  others = λ before last is passes. last_passes run before last is passes;
+  others = λ before last is other. last_registers run before last is other;
 }
 
 pub stands_after : (steps : List Step) → StandsAfter steps

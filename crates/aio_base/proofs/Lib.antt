@@ -30,6 +30,7 @@ pub mod PassLemmas
 pub mod Places
 pub mod RefusalLemmas
 mod RefusedWorlds
+pub mod Registering
 pub mod Rewaiting
 pub mod RoundLemmas
 mod Rows

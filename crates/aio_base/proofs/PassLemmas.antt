@@ -66,7 +66,7 @@ pass_takes moment registrations r among =
 
 -- ## Rounds
 
-pub begin_passes : (w : World) (given : Option ℕ) (answers : List PollerAnswer) → w.round ≡ None
+begin_passes : (w : World) (given : Option ℕ) (answers : List PollerAnswer) → w.round ≡ None
     → (begin_round w given answers).world.registrations ≡ after_pass w.now w.registrations
 begin_passes w given answers none =
     ap (λ (o : Outcome). o.world.registrations) (cond-false (is_some w.round) _ _ (ap is_some none))
@@ -76,7 +76,7 @@ pub begin_leaves : (w : World) (given : Option ℕ) (answers : List PollerAnswer
 begin_leaves w given answers none =
     All-same (λ (r : Registration). w.now < r.deadline) _ _ (begin_passes w given answers none) (pass_leaves w.now w.registrations)
 
-pub finish_passes : (w : World) (round : RoundState) (answers : List PollerAnswer) → is_empty_list round.in_hand ≡ true
+finish_passes : (w : World) (round : RoundState) (answers : List PollerAnswer) → is_empty_list round.in_hand ≡ true
     → (gave_none round.last_wait && not (is_zero round.limit)) ≡ true
     → (finish_in w (Some round) answers).world.registrations ≡ after_pass w.now w.registrations
 finish_passes w round answers none second =
@@ -92,11 +92,11 @@ finish_leaves w round answers at none second =
     All-same (λ (r : Registration). w.now < r.deadline) _ _ left (pass_leaves w.now w.registrations)
 
 -- the clock of a world and its registrations
-record Timed : Type 0 where
-  now : ℕ
-  registrations : List Registration
+pub record Timed : Type 0 where
+  pub now : ℕ
+  pub registrations : List Registration
 
-abbrev timed : World → Timed
+abbrev pub timed : World → Timed
 timed w = record { now = w.now; registrations = w.registrations }
 
 -- the outcome has these
@@ -118,7 +118,7 @@ wait_answered_keeps w round IsInterrupted rest = refl
 wait_answered_keeps w round Fails rest = refl
 
 -- a wait changes neither
-wait_keeps : (w : World) (round : Option RoundState) (answers : List PollerAnswer) → Keeps (timed w) (wait_in w round answers)
+pub wait_keeps : (w : World) (round : Option RoundState) (answers : List PollerAnswer) → Keeps (timed w) (wait_in w round answers)
 wait_keeps w None answers = refl
 wait_keeps w (Some round) answers = either_keeps (timed w) _ _ _ (wait_answered_keeps w round _ _) refl
 
@@ -126,7 +126,7 @@ taken_keeps : (w : World) (serial begin : ℕ) (dirs : List Dir) → timed (worl
 taken_keeps w serial begin [] = refl
 taken_keeps w serial begin (dir ∷ dirs) = taken_keeps (without_waiters w serial begin dir) serial begin dirs
 
-arm_keeps : (w : World) (key serial : ℕ) (told : PollerAnswer) → timed (after_arm w key serial told) ≡ timed w
+pub arm_keeps : (w : World) (key serial : ℕ) (told : PollerAnswer) → timed (after_arm w key serial told) ≡ timed w
 arm_keeps w key serial told = either_world (timed w) (fails told) (broken_world w serial) (armed_world w key serial) refl refl
 
 rearmed_keeps : (w : World) (round : RoundState) (key : Key) (serial : ℕ) (answers : List PollerAnswer) → Keeps (timed w) (rearmed w round key serial answers)
@@ -146,7 +146,7 @@ handle_first_keeps w round [] answers = refl
 handle_first_keeps w round (event ∷ events) answers = handle_source_keeps w _ event (serial_of w event.key.0) answers
 
 -- nor does a handled event
-handle_keeps : (w : World) (round : Option RoundState) (answers : List PollerAnswer) → Keeps (timed w) (handle_in w round answers)
+pub handle_keeps : (w : World) (round : Option RoundState) (answers : List PollerAnswer) → Keeps (timed w) (handle_in w round answers)
 handle_keeps w None answers = refl
 handle_keeps w (Some round) answers = handle_first_keeps w round round.in_hand answers
 

@@ -1,5 +1,5 @@
 -- Worlds and answers that a wrong machine would leave, each refused by what stands between two steps.
-use Rattle.std.proofs.Common.{◌≡◌, ℕ, ◌<◌, ◌==◌, true, false, List, [], ◌∷◌, None, Some, refl, ap, sym, subst, ⊎_elim, arith}
+use Rattle.std.proofs.Common.{◌≡◌, ℕ, ◌<◌, ◌==◌, true, false, List, [], ◌∷◌, None, Some, refl, ap, sym, subst, ⊎_elim, arith, ◌+◌, ◌∙◌}
 use Rattle.std.specs.List.{Contains, list_any}
 use Rattle.std.proofs.lemmas.List.Elements.{All-head}
 use Rattle.aio_base.specs.declared.names.Waker.{Waker}
@@ -9,12 +9,15 @@ use Rattle.aio_base.specs.declared.names.Event.{Event}
 use Rattle.aio_base.specs.declared.steps.Answer.{Answer}
 use Rattle.aio_base.specs.declared.steps.Answer.TheVariants as answer
 use Rattle.aio_base.specs.declared.outcomes.EndWord.TheVariants.{Clean}
-use Rattle.aio_base.specs.World.{World, BrokenSource, PollWaiter, Registration, RoundState, opening, is_armed}
+use Rattle.aio_base.specs.World.{World, BrokenSource, PollWaiter, Registration, RoundState, opening, is_armed, TimerEntry}
 use Rattle.aio_base.specs.Machine.{hand_of}
 use Rattle.aio_base.specs.Timers.{AllAbove}
 use Rattle.aio_base.specs.Covered.{tells_at, Cover, IsArmed, InHand, IsTold, Covered, HasSource, WaitsForLive}
-use Rattle.aio_base.specs.Distinct.{NoDoubles}
+use Rattle.aio_base.specs.Distinct.{IsOfTimer, NoDoubles}
 use Rattle.aio_base.proofs.Membership.{none_is_in, first_is_in, among_cases}
+
+some_is : (m n : ℕ) → Some m ≡ Some n → m ≡ n
+some_is m n same = cc
 
 -- a source of key 0 and serial 1 whose direction has this poll waiter
 abbrev waiting : Dir → World
@@ -88,3 +91,17 @@ a_timer_left_at_its_moment_is_refused id waker above =
 pub a_key_given_twice_is_refused :
     NoDoubles (record opening { live = record { key = 0; serial = 1 } ∷ record { key = 0; serial = 2 } ∷ []; serials = 2 }) → ⊥
 a_key_given_twice_is_refused distinct = distinct.keys 0 1 (record { key = 0; serial = 0 }) (omega arith) (omega arith) refl
+
+-- a timer that ends and leaves its registration
+pub a_registration_without_its_timer_is_refused : (r : Registration) → IsOfTimer [] r → ⊥
+a_registration_without_its_timer_is_refused r of = none_is_in of.timer of.among
+
+-- a timer that is set anew, registered under another id, and leaves its earlier registration
+pub a_registration_that_its_timer_left_is_refused :
+    (timer : TimerEntry) (r : Registration) → timer.id ≡ Some (r.id + 1) → IsOfTimer (timer ∷ []) r → ⊥
+a_registration_that_its_timer_left_is_refused timer r later of =
+    ⊎_elim
+    (λ (same : timer ≡ of.timer). let both : Some (r.id + 1) ≡ Some r.id = sym later ∙ ap (λ (t : TimerEntry). t.id) same ∙ of.id in
+    absurd (let one : r.id + 1 ≡ r.id = some_is (r.id + 1) r.id both in omega arith))
+    (λ (none : Contains [] of.timer). none_is_in of.timer none)
+    (among_cases timer [] of.timer of.among)

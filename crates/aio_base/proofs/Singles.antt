@@ -1,10 +1,10 @@
--- Nothing stands twice in the lists of a world, after each step and so after every run. Of listeners and registrations it is said where
--- storings are counted.
-use Rattle.std.proofs.Common.{◌≡◌, ◌≢◌, ℕ, ◌+◌, ◌≤◌, Bool, true, false, not, cond, ◌&&◌, ◌||◌, ◌==◌, List, [], ◌∷◌, ◌++◌, length, map, find, Option, None, Some, is_some, refl, ap, ◌∙◌, sym, ⊎_elim, arith}
+-- Nothing stands twice in the lists of a world, and each registration is that of a timer, after each step and so after every run. That listeners
+-- and registrations differ is said where storings are counted.
+use Rattle.std.proofs.Common.{◌≡◌, ◌≢◌, ℕ, ◌+◌, ◌≤◌, Bool, true, false, not, cond, ◌&&◌, ◌||◌, ◌==◌, List, [], ◌∷◌, ◌++◌, length, map, find, Option, None, Some, is_some, refl, ap, ◌∙◌, sym, ⊎_elim, arith, ◌⊎◌, inl, inr, subst}
 use Rattle.std.specs.Prelude.{nat_lt, nat_le, option_to_list, unwrap_or}
-use Rattle.std.specs.List.{Contains, filter, list_any}
-use Rattle.std.proofs.lemmas.Bool.{eq-eqb, eqb-true}
-use Rattle.std.proofs.lemmas.List.Elements.{Contains-push_cases}
+use Rattle.std.specs.List.{All, Contains, filter, list_any}
+use Rattle.std.proofs.lemmas.Bool.{cond-true, cond-false, eq-eqb, eqb-true, ne_eqb, not_from_false}
+use Rattle.std.proofs.lemmas.List.Elements.{Contains-append_left, Contains-push_cases}
 use Rattle.aio_base.specs.declared.names.Key.{Key}
 use Rattle.aio_base.specs.declared.names.Waker.{Waker}
 use Rattle.aio_base.specs.declared.names.Dir.{Dir}
@@ -12,12 +12,13 @@ use Rattle.aio_base.specs.declared.names.Event.{Event}
 use Rattle.aio_base.specs.declared.steps.Step.{Step}
 use Rattle.aio_base.specs.declared.steps.Step.TheVariants as step
 use Rattle.aio_base.specs.World.{PollerAnswer, Succeeds, Gives, IsInterrupted, Fails, LiveSource, PollWaiter, Mark, ListenerEntry, BrokenSource, Registration, TimerEntry, RoundState, World, opening, directions_of, is_of, serial_of, key_of, poll_waiter, mark_of, is_empty_list, is_idle, wanted, is_broken}
-use Rattle.aio_base.specs.Machine.{Outcome, fails, next_answer, later_answers, broken_world, armed_world, after_arm, pending, source_limit, free_key, add, del_source, is_fresh_since, is_waker, with_waiter, poll_source, new_listener, is_listener, with_listening, step_listener, drop_listener, is_timer, new_timer, with_timer, unregistered, registered, next_deadline, fired, tick_deadline, tick_timer, set_deadline, set_timer, end_timer, set_clock, begin_round, wait_answered, wait_in, wait_round, without_waiters, world_taken, rearmed, handle_source, handle_first, handle_in, handle_round, finish_in, handle_each, hand_of, react, case_of, step_result}
-use Rattle.aio_base.specs.Distinct.{waiter_direction, mark_direction, NoDoubles}
+use Rattle.aio_base.specs.Machine.{Outcome, fails, next_answer, later_answers, broken_world, armed_world, after_arm, pending, source_limit, free_key, add, del_source, is_fresh_since, is_waker, with_waiter, poll_source, new_listener, is_listener, with_listening, step_listener, drop_listener, is_timer, new_timer, with_timer, unregistered, registered, next_deadline, fired, tick_deadline, tick_timer, set_deadline, set_timer, end_timer, set_clock, begin_round, wait_answered, wait_in, wait_round, without_waiters, world_taken, rearmed, handle_source, handle_first, handle_in, handle_round, finish_in, handle_each, hand_of, react, case_of, step_result, gave_none, is_zero}
+use Rattle.aio_base.specs.Timers.{after_pass}
+use Rattle.aio_base.specs.Distinct.{waiter_direction, mark_direction, IsOfTimer, NoDoubles}
 use Rattle.aio_base.specs.Runs.{PolledStep, outcome_of, world_of}
-use Rattle.aio_base.proofs.Apart.{Apart, filtered_apart, mapped_apart, pushed_apart, replaced_apart, apart_differ}
+use Rattle.aio_base.proofs.Apart.{Apart, same_element, filtered_apart, mapped_apart, pushed_apart, replaced_apart, apart_differ}
 use Rattle.aio_base.proofs.FreeKeys.{free_key-free}
-use Rattle.aio_base.proofs.Membership.{none_is_in, each_in, filtered_is_in, mapped_from, none_passes}
+use Rattle.aio_base.proofs.Membership.{none_is_in, each_in, filtered_is_in, filtered_passes, passing_is_kept, mapped_from, image_is_in, found_is_in, none_passes}
 use Rattle.aio_base.proofs.OnceRuns.{run_orders}
 use Rattle.aio_base.proofs.WaiterLemmas.{is_of-from}
 
@@ -30,6 +31,7 @@ record Lists : Type 0 where
   broken : List BrokenSource
   timers : List TimerEntry
   made : ℕ
+  registrations : List Registration
 
 abbrev lists_of : World → Lists
 lists_of w = record {
@@ -40,6 +42,7 @@ lists_of w = record {
   broken = w.broken;
   timers = w.timers;
   made = w.timers_made;
+  registrations = w.registrations;
 }
 
 -- keys and serials differ, and the serials were given
@@ -53,6 +56,10 @@ record TimersDiffer (timers : List TimerEntry) (made : ℕ) : Type 0 where
   numbers : Apart (λ (t : TimerEntry). t.number) timers
   were_made : (t : TimerEntry) → Contains timers t → t.number ≤ made
 
+-- each registration is that of a timer
+abbrev Timed : List TimerEntry → List Registration → Type 0
+Timed timers registrations = (r : Registration) → Contains registrations r → IsOfTimer timers r
+
 -- nothing stands twice in these lists
 record Singles (l : Lists) : Type 0 where
   sources : SourcesDiffer l.live l.serials
@@ -60,6 +67,7 @@ record Singles (l : Lists) : Type 0 where
   marks : Apart mark_direction l.marks
   broken : Apart (λ (b : BrokenSource). b.serial) l.broken
   timers : TimersDiffer l.timers l.made
+  timed : Timed l.timers l.registrations
 
 -- what a step, or a section of a round, leaves
 record Leaves (o : Outcome) : Type 0 where
@@ -92,6 +100,7 @@ arm_singles w key serial told s =
       broken = replaced_apart (λ (b : BrokenSource). b.serial) (λ (b : BrokenSource). not (b.serial == serial)) w.broken
           (record { serial = serial; position = w.pos }) (broken_apart serial) s.broken;
       timers = s.timers;
+      timed = s.timed;
     })
     (record {
       sources = s.sources;
@@ -99,6 +108,7 @@ arm_singles w key serial told s =
       marks = s.marks;
       broken = filtered_apart (λ (b : BrokenSource). b.serial) (λ (b : BrokenSource). not (b.serial == serial)) w.broken s.broken;
       timers = s.timers;
+      timed = s.timed;
     })
 
 pending_leaves : (arms : Bool) (w : World) (key serial : ℕ) (wakes : List Waker) (answers : List PollerAnswer) → Singles (lists_of w)
@@ -133,6 +143,7 @@ add_leaves w answers s =
             marks = s.marks;
             broken = s.broken;
             timers = s.timers;
+            timed = s.timed;
           });
     })
 
@@ -151,6 +162,7 @@ del_leaves w key (Some serial) answers s =
         marks = filtered_apart mark_direction (λ (m : Mark). not (m.serial == serial)) w.marks s.marks;
         broken = filtered_apart (λ (b : BrokenSource). b.serial) (λ (b : BrokenSource). not (b.serial == serial)) w.broken s.broken;
         timers = s.timers;
+        timed = s.timed;
       };
     })
 
@@ -163,6 +175,7 @@ waiter_singles w serial dir waker s = record {
       (record { serial = serial; dir = dir; position = w.pos }) (λ y kept. direction_apart serial dir (mark_direction y) _ refl refl kept) s.marks;
   broken = s.broken;
   timers = s.timers;
+  timed = s.timed;
 }
 
 poll_leaves : (w : World) (key : ℕ) (dir : Dir) (waker : Waker) (serial : Option ℕ) (answers : List PollerAnswer) → Singles (lists_of w)
@@ -178,6 +191,7 @@ poll_leaves w key dir waker (Some serial) answers s =
         marks = filtered_apart mark_direction (λ (m : Mark). not (is_of serial dir m.serial m.dir)) w.marks s.marks;
         broken = s.broken;
         timers = s.timers;
+        timed = s.timed;
       };
     })
     (either (is_waker waker waiter) _ _ (pending_leaves (is_broken w serial) w key serial [] answers s)
@@ -217,86 +231,211 @@ one_more_made timers made timer next d = record {
       (Contains-push_cases timers timer y among);
 }
 
--- the world with other timers
-with_timers : (w : World) (timers : List TimerEntry) (made : ℕ) → Singles (lists_of w) → TimersDiffer timers made
-    → Singles (lists_of (record w { timers = timers; timers_made = made }))
-with_timers w timers made s d = record { sources = s.sources; polls = s.polls; marks = s.marks; broken = s.broken; timers = d }
+-- the world with other timers and registrations
+with_timers : (w : World) (timers : List TimerEntry) (made : ℕ) (registrations : List Registration) → Singles (lists_of w) → TimersDiffer timers made
+    → Timed timers registrations → Singles (lists_of (record w { timers = timers; timers_made = made; registrations = registrations }))
+with_timers w timers made registrations s differ timed = record {
+  sources = s.sources;
+  polls = s.polls;
+  marks = s.marks;
+  broken = s.broken;
+  timers = differ;
+  timed = timed;
+}
+
+still_timed : (timers later : List TimerEntry) (r : Registration) → ((t : TimerEntry) → Contains timers t → Contains later t) → IsOfTimer timers r
+    → IsOfTimer later r
+still_timed timers later r stays of = record { timer = of.timer; among = stays of.timer of.among; id = of.id; deadline = of.deadline; kept = of.kept }
+
+-- fewer registrations are those of timers too
+fewer_timed : (w : World) (p : Registration → Bool) → Singles (lists_of w) → Singles (lists_of (record w { registrations = filter p w.registrations }))
+fewer_timed w p s =
+    with_timers w w.timers w.timers_made (filter p w.registrations) s s.timers (λ r among. s.timed r (filtered_is_in p w.registrations r among))
 
 made_leaves : (w : World) (deadline period : Option ℕ) (answers : List PollerAnswer) → Singles (lists_of w) → Leaves (new_timer w deadline period answers)
 made_leaves w deadline period answers s =
     let timer : TimerEntry = record { number = w.timers_made + 1; deadline = deadline; period = period; id = None; kept = None } in
-    record { stands = with_timers w (w.timers ++ timer ∷ []) (w.timers_made + 1) s (one_more_made w.timers w.timers_made timer refl s.timers) }
+    record {
+      stands = with_timers w (w.timers ++ timer ∷ []) (w.timers_made + 1) w.registrations s (one_more_made w.timers w.timers_made timer refl s.timers)
+          (λ r among. still_timed w.timers (w.timers ++ timer ∷ []) r (λ t here. Contains-append_left w.timers (timer ∷ []) t here) (s.timed r among));
+    }
 
 number_stays : (entry t : TimerEntry) (here : Bool) → (t.number == entry.number) ≡ here → (cond here entry t).number ≡ t.number
 number_stays entry t true same = sym (eqb-true t.number entry.number same)
 number_stays entry t false other = refl
 
-timer_singles : (w : World) (entry : TimerEntry) → Singles (lists_of w) → Singles (lists_of (with_timer w entry))
-timer_singles w entry s =
-    let f : TimerEntry → TimerEntry = λ t. cond (is_timer entry.number t) entry t in
-    with_timers w (map f w.timers) w.timers_made s
+-- ### A timer is changed
+
+-- a registration is that of a timer of another number
+record IsOfOther (timers : List TimerEntry) (number : ℕ) (r : Registration) : Type 0 where
+  of : IsOfTimer timers r
+  other : of.timer.number ≢ number
+
+abbrev Others : List TimerEntry → ℕ → List Registration → Type 0
+Others timers number registrations = (r : Registration) → Contains registrations r → IsOfOther timers number r
+
+-- what a timer that is to be changed leaves: the other timers' registrations alone
+record Freed (w : World) (entry : TimerEntry) : Type 0 where
+  singles : Singles (lists_of w)
+  here : Contains w.timers entry
+  others : Others w.timers entry.number w.registrations
+
+none_is_some : (id : Option ℕ) (n : ℕ) → id ≡ None → id ≡ Some n → ⊥
+none_is_some id n none some = let wrong : None ≡ Some n = sym none ∙ some in cc
+
+same_id : (id : Option ℕ) (m n : ℕ) → id ≡ Some m → id ≡ Some n → n ≡ m
+same_id id m n first second = let same : Some n ≡ Some m = sym second ∙ first in cc
+
+freed : (w : World) (entry : TimerEntry) (id : Option ℕ) → entry.id ≡ id → Contains w.timers entry → Singles (lists_of w) → Freed (unregistered w id) entry
+freed w entry None at here s = record {
+  singles = s;
+  here = here;
+  others = λ r among.
+      let of = s.timed r among in
+      record {
+        of = of;
+        other = λ same.
+            let entry_is = same_element (λ (t : TimerEntry). t.number) w.timers of.timer entry s.timers.numbers of.among here same in
+            none_is_some entry.id r.id at (ap (λ (t : TimerEntry). t.id) (sym entry_is) ∙ of.id);
+      };
+}
+freed w entry (Some id) at here s = record {
+  singles = fewer_timed w (λ (r : Registration). not (r.id == id)) s;
+  here = here;
+  others = λ r among.
+      let of = s.timed r (filtered_is_in (λ (r : Registration). not (r.id == id)) w.registrations r among) in
+      record {
+        of = of;
+        other = λ same.
+            let entry_is = same_element (λ (t : TimerEntry). t.number) w.timers of.timer entry s.timers.numbers of.among here same in
+            let gone = eq-eqb r.id id (same_id entry.id id r.id at (ap (λ (t : TimerEntry). t.id) (sym entry_is) ∙ of.id)) in
+            let kept = filtered_passes (λ (r : Registration). not (r.id == id)) w.registrations r among in
+            let wrong : false ≡ true = sym (ap not gone) ∙ kept in cc;
+      };
+}
+
+-- with the changed timer in its place, and these registrations
+changed_singles : (w : World) (entry now : TimerEntry) (registrations : List Registration) → Freed w entry → now.number ≡ entry.number
+    → ((r : Registration) → Contains registrations r
+    → Contains w.registrations r ⊎ ((now.id ≡ Some r.id) × (now.deadline ≡ Some r.deadline) × (now.kept ≡ Some r.waker)))
+    → Singles (lists_of (record (with_timer w now) { registrations = registrations }))
+changed_singles w entry now registrations f same cases =
+    let s = f.singles in
+    let g : TimerEntry → TimerEntry = λ t. cond (is_timer now.number t) now t in
+    with_timers w (map g w.timers) w.timers_made registrations s
     (record {
-      numbers = mapped_apart (λ (t : TimerEntry). t.number) f (λ t. number_stays entry t (t.number == entry.number) refl) w.timers s.timers.numbers;
+      numbers = mapped_apart (λ (t : TimerEntry). t.number) g (λ t. number_stays now t (t.number == now.number) refl) w.timers s.timers.numbers;
       were_made = λ y among.
-          let image = mapped_from f w.timers y among in
+          let image = mapped_from g w.timers y among in
           let before = s.timers.were_made image.0 image.1 in
-          let same : y.number ≡ image.0.number = ap (λ (t : TimerEntry). t.number) (sym image.2) ∙ number_stays entry image.0 (image.0.number == entry.number) refl in
+          let kept : y.number ≡ image.0.number = ap (λ (t : TimerEntry). t.number) (sym image.2) ∙ number_stays now image.0 (image.0.number == now.number) refl in
           omega arith;
     })
+    (λ r among.
+    ⊎_elim
+    (λ (old : Contains w.registrations r).
+    let o = f.others r old in
+    let stays : g o.of.timer ≡ o.of.timer = cond-false (is_timer now.number o.of.timer) _ _ (ne_eqb o.of.timer.number now.number (λ e. o.other (e ∙ same))) in
+    record {
+      timer = o.of.timer;
+      among = subst (Contains (map g w.timers)) stays (image_is_in g w.timers o.of.timer o.of.among);
+      id = o.of.id;
+      deadline = o.of.deadline;
+      kept = o.of.kept;
+    })
+    (λ (new : (now.id ≡ Some r.id) × (now.deadline ≡ Some r.deadline) × (now.kept ≡ Some r.waker)).
+    let becomes : g entry ≡ now = cond-true (is_timer now.number entry) _ _ (eq-eqb entry.number now.number (sym same)) in
+    record {
+      timer = now;
+      among = subst (Contains (map g w.timers)) becomes (image_is_in g w.timers entry f.here);
+      id = new.0;
+      deadline = new.1;
+      kept = new.2;
+    })
+    (cases r among))
 
-unregistered_singles : (w : World) (id : Option ℕ) → Singles (lists_of w) → Singles (lists_of (unregistered w id))
-unregistered_singles w None s = s
-unregistered_singles w (Some id) s = s
+-- with no registration of its own
+quiet_singles : (w : World) (entry now : TimerEntry) → Freed w entry → now.number ≡ entry.number → Singles (lists_of (with_timer w now))
+quiet_singles w entry now f same = changed_singles w entry now w.registrations f same (λ r among. inl among)
 
-registered_singles : (w : World) (entry : TimerEntry) (deadline : ℕ) (waker : Waker) → Singles (lists_of w)
-    → Singles (lists_of (registered w entry deadline waker))
-registered_singles w entry deadline waker s =
-    timer_singles w (record entry { deadline = Some deadline; id = Some (w.ids_drawn + 1); kept = Some waker }) s
+registered_singles : (w : World) (entry now : TimerEntry) (deadline : ℕ) (waker : Waker) → Freed w entry → now.number ≡ entry.number
+    → Singles (lists_of (registered w now deadline waker))
+registered_singles w entry now deadline waker f same =
+    let new : Registration = record { id = w.ids_drawn + 1; deadline = deadline; waker = waker } in
+    changed_singles w entry (record now { deadline = Some deadline; id = Some (w.ids_drawn + 1); kept = Some waker }) (w.registrations ++ new ∷ []) f same
+    (λ r among.
+    ⊎_elim
+    (λ (old : Contains w.registrations r). inl old)
+    (λ (is : new ≡ r).
+    inr (ap (λ (x : Registration). Some x.id) is, ap (λ (x : Registration). Some x.deadline) is, ap (λ (x : Registration). Some x.waker) is))
+    (Contains-push_cases w.registrations new r among))
 
-fired_singles : (w : World) (entry : TimerEntry) (waker : Waker) (next : Option ℕ) → Singles (lists_of w) → Singles (lists_of (fired w entry waker next))
-fired_singles w entry waker None s = timer_singles w (record entry { deadline = None; id = None; kept = None }) s
-fired_singles w entry waker (Some deadline) s = registered_singles w entry deadline waker s
+fired_singles : (w : World) (entry : TimerEntry) (waker : Waker) (next : Option ℕ) → Freed w entry → Singles (lists_of (fired w entry waker next))
+fired_singles w entry waker None f = quiet_singles w entry (record entry { deadline = None; id = None; kept = None }) f refl
+fired_singles w entry waker (Some deadline) f = registered_singles w entry entry deadline waker f refl
 
-set_singles : (w : World) (entry : TimerEntry) (deadline : ℕ) (kept : Option Waker) → Singles (lists_of w)
-    → Singles (lists_of (set_deadline w entry deadline kept))
-set_singles w entry deadline None s = timer_singles w (record entry { deadline = Some deadline; id = None }) s
-set_singles w entry deadline (Some waker) s = registered_singles w entry deadline waker s
+set_singles : (w : World) (entry set : TimerEntry) (deadline : ℕ) (kept : Option Waker) → Freed w entry → set.number ≡ entry.number
+    → Singles (lists_of (set_deadline w set deadline kept))
+set_singles w entry set deadline None f same = quiet_singles w entry (record set { deadline = Some deadline; id = None }) f same
+set_singles w entry set deadline (Some waker) f same = registered_singles w entry set deadline waker f same
 
-tick_leaves_at : (w : World) (entry : TimerEntry) (waker : Waker) (deadline : Option ℕ) (answers : List PollerAnswer) → Singles (lists_of w)
-    → Leaves (tick_deadline w entry waker deadline answers)
-tick_leaves_at w entry waker None answers s = record { stands = s }
-tick_leaves_at w entry waker (Some deadline) answers s =
-    let gone = unregistered_singles w entry.id s in
+tick_leaves_at : (w : World) (entry : TimerEntry) (waker : Waker) (deadline : Option ℕ) (answers : List PollerAnswer) → Contains w.timers entry
+    → Singles (lists_of w) → Leaves (tick_deadline w entry waker deadline answers)
+tick_leaves_at w entry waker None answers here s = record { stands = s }
+tick_leaves_at w entry waker (Some deadline) answers here s =
+    let gone = freed w entry entry.id refl here s in
     either (nat_le deadline w.now) _ _
     (record { stands = fired_singles (unregistered w entry.id) entry waker (next_deadline deadline entry.period) gone })
     (record {
-      stands = either_world (is_some entry.id && is_waker waker entry.kept) w _ s (registered_singles (unregistered w entry.id) entry deadline waker gone);
+      stands = either_world (is_some entry.id && is_waker waker entry.kept) w _ s (registered_singles (unregistered w entry.id) entry entry deadline waker gone refl);
     })
 
-tick_leaves : (w : World) (waker : Waker) (entry : Option TimerEntry) (answers : List PollerAnswer) → Singles (lists_of w)
-    → Leaves (tick_timer w waker entry answers)
-tick_leaves w waker None answers s = record { stands = s }
-tick_leaves w waker (Some entry) answers s = tick_leaves_at w entry waker entry.deadline answers s
+tick_leaves : (w : World) (number : ℕ) (waker : Waker) (entry : Option TimerEntry) (answers : List PollerAnswer)
+    → find (is_timer number) w.timers ≡ entry → Singles (lists_of w) → Leaves (tick_timer w waker entry answers)
+tick_leaves w number waker None answers found s = record { stands = s }
+tick_leaves w number waker (Some entry) answers found s =
+    tick_leaves_at w entry waker entry.deadline answers (found_is_in (is_timer number) w.timers entry found).0 s
 
-set_leaves : (w : World) (deadline : ℕ) (period : Option ℕ) (entry : Option TimerEntry) (answers : List PollerAnswer) → Singles (lists_of w)
-    → Leaves (set_timer w deadline period entry answers)
-set_leaves w deadline period None answers s = record { stands = s }
-set_leaves w deadline period (Some entry) answers s =
+either_number : (test : Bool) (a b : TimerEntry) (number : ℕ) → a.number ≡ number → b.number ≡ number → (cond test a b).number ≡ number
+either_number true a b number first second = first
+either_number false a b number first second = second
+
+set_leaves : (w : World) (number deadline : ℕ) (period : Option ℕ) (entry : Option TimerEntry) (answers : List PollerAnswer)
+    → find (is_timer number) w.timers ≡ entry → Singles (lists_of w) → Leaves (set_timer w deadline period entry answers)
+set_leaves w number deadline period None answers found s = record { stands = s }
+set_leaves w number deadline period (Some entry) answers found s =
     let set : TimerEntry = cond (is_some period) (record entry { period = period }) entry in
-    record { stands = set_singles (unregistered w entry.id) set deadline entry.kept (unregistered_singles w entry.id s) }
+    let gone = freed w entry entry.id refl (found_is_in (is_timer number) w.timers entry found).0 s in
+    record {
+      stands = set_singles (unregistered w entry.id) entry set deadline entry.kept gone
+          (either_number (is_some period) (record entry { period = period }) entry entry.number refl refl);
+    }
 
-ended_singles : (w : World) (number : ℕ) → Singles (lists_of w)
-    → Singles (lists_of (record w { timers = filter (λ t. not (is_timer number t)) w.timers }))
-ended_singles w number s =
-    with_timers w (filter (λ t. not (is_timer number t)) w.timers) w.timers_made s
+ended_singles : (w : World) (entry : TimerEntry) → Freed w entry
+    → Singles (lists_of (record w { timers = filter (λ t. not (is_timer entry.number t)) w.timers }))
+ended_singles w entry f =
+    let s = f.singles in
+    let p : TimerEntry → Bool = λ t. not (is_timer entry.number t) in
+    with_timers w (filter p w.timers) w.timers_made w.registrations s
     (record {
-      numbers = filtered_apart (λ (t : TimerEntry). t.number) (λ t. not (is_timer number t)) w.timers s.timers.numbers;
-      were_made = λ y among. s.timers.were_made y (filtered_is_in (λ t. not (is_timer number t)) w.timers y among);
+      numbers = filtered_apart (λ (t : TimerEntry). t.number) p w.timers s.timers.numbers;
+      were_made = λ y among. s.timers.were_made y (filtered_is_in p w.timers y among);
+    })
+    (λ r among.
+    let o = f.others r among in
+    record {
+      timer = o.of.timer;
+      among = passing_is_kept p w.timers o.of.timer (not_from_false (o.of.timer.number == entry.number) (ne_eqb o.of.timer.number entry.number o.other)) o.of.among;
+      id = o.of.id;
+      deadline = o.of.deadline;
+      kept = o.of.kept;
     })
 
-end_leaves : (w : World) (entry : Option TimerEntry) (answers : List PollerAnswer) → Singles (lists_of w) → Leaves (end_timer w entry answers)
-end_leaves w None answers s = record { stands = s }
-end_leaves w (Some entry) answers s = record { stands = ended_singles (unregistered w entry.id) entry.number (unregistered_singles w entry.id s) }
+end_leaves : (w : World) (number : ℕ) (entry : Option TimerEntry) (answers : List PollerAnswer) → find (is_timer number) w.timers ≡ entry
+    → Singles (lists_of w) → Leaves (end_timer w entry answers)
+end_leaves w number None answers found s = record { stands = s }
+end_leaves w number (Some entry) answers found s =
+    record { stands = ended_singles (unregistered w entry.id) entry (freed w entry entry.id refl (found_is_in (is_timer number) w.timers entry found).0 s) }
 
 clock_leaves : (w : World) (moment : ℕ) (answers : List PollerAnswer) → Singles (lists_of w) → Leaves (set_clock w moment answers)
 clock_leaves w moment answers s = either (nat_lt moment w.now) _ _ (record { stands = s }) (record { stands = s })
@@ -304,7 +443,8 @@ clock_leaves w moment answers s = either (nat_lt moment w.now) _ _ (record { sta
 -- ## Rounds
 
 begin_leaves : (w : World) (given : Option ℕ) (answers : List PollerAnswer) → Singles (lists_of w) → Leaves (begin_round w given answers)
-begin_leaves w given answers s = either (is_some w.round) _ _ (record { stands = s }) (record { stands = s })
+begin_leaves w given answers s =
+    either (is_some w.round) _ _ (record { stands = s }) (record { stands = fewer_timed w (λ (r : Registration). not (nat_le r.deadline w.now)) s })
 
 answered_leaves : (w : World) (round : RoundState) (told : PollerAnswer) (rest : List PollerAnswer) → Singles (lists_of w)
     → Leaves (wait_answered w round told rest)
@@ -328,6 +468,7 @@ taken_singles w serial begin (dir ∷ dirs) s =
       marks = s.marks;
       broken = s.broken;
       timers = s.timers;
+      timed = s.timed;
     })
 
 rearmed_leaves : (w : World) (round : RoundState) (key : Key) (serial : ℕ) (answers : List PollerAnswer) → Singles (lists_of w)
@@ -352,9 +493,21 @@ handle_leaves : (w : World) (round : Option RoundState) (answers : List PollerAn
 handle_leaves w None answers s = record { stands = s }
 handle_leaves w (Some round) answers s = first_leaves w round round.in_hand answers s
 
+either_timed : (test : Bool) (timers : List TimerEntry) (a b : List Registration) → Timed timers a → Timed timers b → Timed timers (cond test a b)
+either_timed true timers a b first second = first
+either_timed false timers a b first second = second
+
 finish_leaves : (w : World) (round : Option RoundState) (answers : List PollerAnswer) → Singles (lists_of w) → Leaves (finish_in w round answers)
 finish_leaves w None answers s = record { stands = s }
-finish_leaves w (Some round) answers s = either (is_empty_list round.in_hand) _ _ (record { stands = s }) (record { stands = s })
+finish_leaves w (Some round) answers s =
+    let second = gave_none round.last_wait && not (is_zero round.limit) in
+    either (is_empty_list round.in_hand) _ _
+    (record {
+      stands = with_timers w w.timers w.timers_made (cond second (after_pass w.now w.registrations) w.registrations) s s.timers
+          (either_timed second w.timers (after_pass w.now w.registrations) w.registrations
+          (λ r among. s.timed r (filtered_is_in (λ (r : Registration). not (nat_le r.deadline w.now)) w.registrations r among)) s.timed);
+    })
+    (record { stands = s })
 
 each_leaves : (events : List Event) (w : World) (answers : List PollerAnswer) → Singles (lists_of w) → Leaves (handle_each events w answers)
 each_leaves [] w answers s = record { stands = s }
@@ -384,10 +537,10 @@ case_leaves w (step.DropEar number) answers x = drop_leaves w number (find (is_l
 case_leaves w (step.TimerAt deadline) answers x = made_leaves w (Some deadline) None answers x
 case_leaves w (step.TimerEvery deadline period) answers x = made_leaves w (Some deadline) (Some period) answers x
 case_leaves w step.TimerNever answers x = made_leaves w None None answers x
-case_leaves w (step.Tick number waker) answers x = tick_leaves w waker (find (is_timer number) w.timers) answers x
-case_leaves w (step.SetAt number deadline) answers x = set_leaves w deadline None (find (is_timer number) w.timers) answers x
-case_leaves w (step.SetEvery number deadline period) answers x = set_leaves w deadline (Some period) (find (is_timer number) w.timers) answers x
-case_leaves w (step.End number) answers x = end_leaves w (find (is_timer number) w.timers) answers x
+case_leaves w (step.Tick number waker) answers x = tick_leaves w number waker (find (is_timer number) w.timers) answers refl x
+case_leaves w (step.SetAt number deadline) answers x = set_leaves w number deadline None (find (is_timer number) w.timers) answers refl x
+case_leaves w (step.SetEvery number deadline period) answers x = set_leaves w number deadline (Some period) (find (is_timer number) w.timers) answers refl x
+case_leaves w (step.End number) answers x = end_leaves w number (find (is_timer number) w.timers) answers refl x
 case_leaves w (step.Now moment) answers x = clock_leaves w moment answers x
 case_leaves w (step.Note event) answers x = record { stands = x }
 case_leaves w (step.Fault kind) answers x = record { stands = x }
@@ -413,6 +566,7 @@ opening_singles = record {
   marks = tt;
   broken = tt;
   timers = record { numbers = tt; were_made = λ t among. none_is_in t among };
+  timed = λ r among. none_is_in r among;
 }
 
 pub run_has_no_doubles : (run : List PolledStep) → NoDoubles (world_of opening run)
@@ -434,3 +588,7 @@ run_has_no_doubles run =
       timers = apart_differ (λ (t : TimerEntry). t.number) w.timers s.timers.numbers;
       timers_made = each_in (λ (t : TimerEntry). t.number ≤ w.timers_made) w.timers s.timers.were_made;
     }
+
+pub run_registers_timers : (run : List PolledStep) → All (IsOfTimer (world_of opening run).timers) (world_of opening run).registrations
+run_registers_timers run =
+    let w = world_of opening run in each_in (IsOfTimer w.timers) w.registrations (run_singles run opening opening_singles).timed

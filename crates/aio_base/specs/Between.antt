@@ -1,14 +1,15 @@
 -- What stands between any two steps of a run.
-use Rattle.std.specs.Prelude.{◌≡◌, Bool, true, false, not, List, [], ◌∷◌, ◌++◌, is_some}
+use Rattle.std.specs.Prelude.{◌≡◌, Bool, true, false, not, if◌then◌else◌, List, [], ◌∷◌, ◌++◌, is_some}
+use Rattle.std.specs.List.{All}
 use Rattle.aio_base.specs.declared.steps.Step.{Step}
 use Rattle.aio_base.specs.declared.steps.Step.TheVariants as step
-use Rattle.aio_base.specs.World.{World, opening}
+use Rattle.aio_base.specs.World.{Registration, World, opening}
 use Rattle.aio_base.specs.Machine.{ends_with_pass}
 use Rattle.aio_base.specs.Runs.{PolledStep, answers_of, scripted, wakes_of, world_of}
 use Rattle.aio_base.specs.Storings.{Once, storings_of}
 use Rattle.aio_base.specs.Succession.{StoringsFollow}
 use Rattle.aio_base.specs.Covered.{Covered, WaitsForLive}
-use Rattle.aio_base.specs.Distinct.{NoDoubles}
+use Rattle.aio_base.specs.Distinct.{IsOfTimer, NoDoubles}
 use Rattle.aio_base.specs.Timers.{AllAbove, after_pass}
 
 -- whether a step makes a pass over the registered timers: where a round begins, where one ends with a second pass, and where a whole round is run
@@ -17,6 +18,18 @@ makes_pass w (step.Begin limit) = not (is_some w.round)
 makes_pass w step.Finish = ends_with_pass w.round
 makes_pass w step.React = not (is_some w.round)
 makes_pass w _ = false
+
+-- what stays registered where a step made its pass, if it makes one
+abbrev pub registrations_after : World → Step → List Registration
+registrations_after w s = if makes_pass w s then after_pass w.now w.registrations else w.registrations
+
+-- the steps that register a timer or take its registration out
+abbrev pub is_of_timer : Step → Bool
+is_of_timer (step.Tick number waker) = true
+is_of_timer (step.SetAt number deadline) = true
+is_of_timer (step.SetEvery number deadline period) = true
+is_of_timer (step.End number) = true
+is_of_timer _ = false
 
 -- What stands after a run of the machine, whatever the poller answered in it. A run that is cut off after a step is a run, so this stands
 -- between any two steps.
@@ -29,14 +42,17 @@ pub record StandsBetween (run : List PolledStep) : Type 0 where
   pub once : Once (world_of opening run) (wakes_of opening run) (storings_of opening run)
   -- nothing stands twice in the lists of the world
   pub distinct : NoDoubles (world_of opening run)
+  -- each registration is that of a timer
+  pub timed : All (IsOfTimer (world_of opening run).timers) (world_of opening run).registrations
   -- the last step moved storings as such a step may
   pub follows : (before : List PolledStep) (last : PolledStep) → run ≡ before ++ last ∷ []
       → StoringsFollow (world_of opening before) last.step last.answers (storings_of opening before) (storings_of opening run)
-  -- where the last step made a pass, no timer is registered that was due at it, and each other still is
+  -- where the last step made a pass, no timer is registered that was due at it
   pub passed : (before : List PolledStep) (last : PolledStep) → run ≡ before ++ last ∷ [] → makes_pass (world_of opening before) last.step ≡ true
       → AllAbove (world_of opening before).now (world_of opening run).registrations
-  pub others : (before : List PolledStep) (last : PolledStep) → run ≡ before ++ last ∷ [] → makes_pass (world_of opening before) last.step ≡ true
-      → (world_of opening run).registrations ≡ after_pass (world_of opening before).now (world_of opening before).registrations
+  -- a last step that was not of a timer took out what was due, where it made a pass, and no other registration
+  pub others : (before : List PolledStep) (last : PolledStep) → run ≡ before ++ last ∷ [] → is_of_timer last.step ≡ false
+      → (world_of opening run).registrations ≡ registrations_after (world_of opening before) last.step
 
 -- what stands after these steps of a trace over the poller in memory
 abbrev pub StandsAfter : List Step → Type 0

@@ -1,6 +1,6 @@
--- That nothing stands twice in the lists of a world, and no number in them was not given.
-use Rattle.std.specs.Prelude.{◌≢◌, ℕ, ◌≤◌, List}
-use Rattle.std.specs.List.{All, AllPairs}
+-- That nothing stands twice in the lists of a world, that no number in them was not given, and that each registration is that of a timer.
+use Rattle.std.specs.Prelude.{◌≡◌, ◌≢◌, ℕ, ◌≤◌, List, Some}
+use Rattle.std.specs.List.{All, AllPairs, Contains}
 use Rattle.aio_base.specs.declared.names.Dir.{Dir}
 use Rattle.aio_base.specs.World.{LiveSource, PollWaiter, Mark, ListenerEntry, BrokenSource, Registration, TimerEntry, World}
 
@@ -34,3 +34,11 @@ pub record NoDoubles (w : World) : Type 0 where
   -- a number is that of one timer, and each number was given
   pub timers : Differ (λ (t : TimerEntry). t.number) w.timers
   pub timers_made : All (λ (t : TimerEntry). t.number ≤ w.timers_made) w.timers
+
+-- a registration is that of a timer, which keeps its id and its waker and waits for its deadline
+pub record IsOfTimer (timers : List TimerEntry) (r : Registration) : Type 0 where
+  pub timer : TimerEntry
+  pub among : Contains timers timer
+  pub id : timer.id ≡ Some r.id
+  pub deadline : timer.deadline ≡ Some r.deadline
+  pub kept : timer.kept ≡ Some r.waker

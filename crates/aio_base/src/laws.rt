@@ -1,10 +1,10 @@
 //! Laws of the trace language and of the machine, as contracts of functions with no work to do.
 
 ghost use Rattle.std.specs.Prelude.{◌≡◌, ◌≢◌, ◌⊎◌, ◌&&◌, ◌↔◌, ℕ, ◌<◌, ◌≤◌, nat_le, filter, true, not, List, [], ◌∷◌, ◌++◌, length, map, Option, Some, None};
-ghost use Rattle.std.specs.List.{Contains};
+ghost use Rattle.std.specs.List.{All, Contains};
 ghost use Rattle.aio_base.specs.Between.{StandsAfter, StandsBetween};
 ghost use Rattle.aio_base.specs.Covered.{Covered, WaitsForLive};
-ghost use Rattle.aio_base.specs.Distinct.{NoDoubles};
+ghost use Rattle.aio_base.specs.Distinct.{IsOfTimer, NoDoubles};
 ghost use Rattle.aio_base.specs.Machine.{Outcome, begin_round, finish_round, makes_second_pass, react, step_result};
 ghost use Rattle.aio_base.specs.Refusals.{is_refusal, only_counted};
 ghost use Rattle.aio_base.specs.Runs.{PolledStep, answers_of, outcome_without_notes, scripted, wakes_of, without_notes, world_of};
@@ -136,6 +136,14 @@ pub fn nothing_stands_twice()
     ensures { (run : List PolledStep) → NoDoubles (world_of opening run) }
 {}
 
+/// After every run, whatever the poller answered in it, each registration is that of a timer, which
+/// keeps its id and its waker and waits for its deadline. So none outlives its timer, and none is left
+/// where a timer was set anew.
+pub fn each_registration_is_of_a_timer()
+    ensures { (run : List PolledStep)
+        → All (IsOfTimer (world_of opening run).timers) (world_of opening run).registrations }
+{}
+
 /// The run of a list of steps over the script poller is a run of the machine: that in which the poller
 /// answers as the script says. It gives the same answers and the same wakes, step for step, and leaves
 /// the same world but for what is noted and due. The script's poller alone reads those: a step of the
@@ -156,9 +164,10 @@ pub fn a_script_is_a_run()
 
 /// After every run, whatever the poller answered in it, each waiter of each live source is covered and
 /// no other waits, no storing of a waker is lost or woken twice, nothing stands twice in the world's
-/// lists, and the last step moved storings as such a step may; and right after a pass, where a round
-/// began, where one ended with a second pass or where a whole round was run, just those timers are
-/// registered that were not due at it. Since a run that is cut off at a step is a run, this holds
+/// lists, each registration is that of a timer, and the last step moved storings as such a step may.
+/// Right after a pass, where a round began, where one ended with a second pass or where a whole round
+/// was run, no timer is registered that was due at it; and a step that is not of a timer takes out what
+/// its pass does and no other registration. Since a run that is cut off at a step is a run, this holds
 /// between any two steps; the steps of a trace over the poller in memory are such a run.
 pub fn a_run_stands_between_its_steps()
     ensures run { (run : List PolledStep) → StandsBetween run }
