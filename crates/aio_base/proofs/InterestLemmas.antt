@@ -9,7 +9,9 @@ use Rattle.aio_base.specs.Devices.{Interests, Becomes, Arms, ArmOf, with_interes
 -- what is told after one change and then another
 pub Becomes-both : (old mid new : Option Interests) (first second : Interests → Interests)
     → Becomes old mid first → Becomes mid new second → Becomes old new (λ told. second (first told))
-Becomes-both None mid new first second once more = tt
+Becomes-both None None None first second once more = tt
+Becomes-both None None (Some new) first second once more = absurd more
+Becomes-both None (Some mid) new first second once more = absurd once
 Becomes-both (Some old) None new first second once more = absurd once
 Becomes-both (Some old) (Some mid) None first second once more = absurd more
 Becomes-both (Some old) (Some mid) (Some new) first second once more =

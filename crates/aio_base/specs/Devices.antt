@@ -36,9 +36,10 @@ abbrev pub clear_interests : List Event → Interests → Interests
 clear_interests [] interests = interests
 clear_interests (event ∷ events) interests = clear_interests events (with_interest event.key.0 no_interest interests)
 
--- what is told after a change, where it was told before; what is told stays told
+-- what is told after a change, where it was told before; what is told stays told, and what is not told stays untold
 abbrev pub Becomes : Option Interests → Option Interests → (Interests → Interests) → Type 0
-Becomes None new change = ⊤
+Becomes None None change = ⊤
+Becomes None (Some new) change = ⊥
 Becomes (Some old) None change = ⊥
 Becomes (Some old) (Some new) change = (key : ℕ) → new key ≡ change old key
 

@@ -1,8 +1,9 @@
 //! The devices of a reactor, as traits with a written meaning.
 //!
 //! What a device tells (its interests, its being sure) and the relation of a call are ghost members:
-//! contracts see them, and no body can branch on them. A generic body can answer a device's fault
-//! only after a call that failed, since only such a call lets the count of faults rise.
+//! contracts see them, and no body can branch on them. What is told stays told, and what is not told
+//! stays untold. A generic body can answer a device's fault only after a call that failed, since only
+//! such a call lets the count of faults rise.
 
 ghost use Rattle.std.specs.Prelude.{◌≡◌, ℕ, ◌+◌, ◌-◌, ◌^◌, ◌<◌, ◌≤◌, ◌++◌, [], Bool, IsTrue, List, Option, Result, length, vec_len, vec_capacity, MatchResult, Ok};
 
@@ -36,7 +37,8 @@ pub trait Arm: Faults {
     ghost use Rattle.aio_base.specs.declared.outcomes.Failed.{Failed};
     ghost use Rattle.aio_base.specs.Devices.{HasCause, Interests, ArmCall, AddOf, ArmOf, RemoveOf, Arms};
 
-    /// The armed interest of each key, where the object tells it.
+    /// The armed interest of each key, where the object tells it. An object that tells it does so
+    /// after each call, and one that does not never begins to.
     ghost interests: { Self → Option Interests };
 
     /// Numbers that no call of this trait changes.
