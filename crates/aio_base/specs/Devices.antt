@@ -2,6 +2,7 @@
 use Rattle.std.specs.Prelude.{◌≡◌, ℕ, ◌+◌, ◌-◌, ◌^◌, ◌≤◌, Bool, false, IsTrue, ◌==◌, if◌then◌else◌, List, [], ◌∷◌, Option, None, Some, Result, Ok, Err, IsOk, OnErr, ⊤, min}
 use Rattle.aio_base.specs.declared.names.Key.{Key}
 use Rattle.aio_base.specs.declared.names.Interest.{Interest}
+use Rattle.aio_base.specs.declared.names.TheConstants.Interest.{NONE}
 use Rattle.aio_base.specs.declared.names.Event.{Event}
 use Rattle.aio_base.specs.declared.outcomes.Failed.{Failed}
 use Rattle.aio_base.specs.declared.outcomes.Waited.{Waited}
@@ -24,9 +25,6 @@ pub record HasCause {T E : Type 0} (before after : ℕ) (sure : Bool) (answer : 
 abbrev pub Interests : Type 0
 Interests = ℕ → Interest
 
-abbrev pub no_interest : Interest
-no_interest = record { read = false; write = false }
-
 -- the same, with another interest at one key
 abbrev pub with_interest : ℕ → Interest → Interests → Interests
 with_interest key on interests = λ k. if k == key then on else interests k
@@ -34,7 +32,7 @@ with_interest key on interests = λ k. if k == key then on else interests k
 -- an event clears the whole interest of its key (`polling` 3, oneshot mode)
 abbrev pub clear_interests : List Event → Interests → Interests
 clear_interests [] interests = interests
-clear_interests (event ∷ events) interests = clear_interests events (with_interest event.key.0 no_interest interests)
+clear_interests (event ∷ events) interests = clear_interests events (with_interest event.key.0 NONE interests)
 
 -- what is told after a change, where it was told before; what is told stays told, and what is not told stays untold
 abbrev pub Becomes : Option Interests → Option Interests → (Interests → Interests) → Type 0
@@ -51,9 +49,9 @@ pub data ArmCall : Type 0 where
 
 -- what a call that succeeds makes of the interests: a new source and one taken out have none
 abbrev pub changed_by : ArmCall → Interests → Interests
-changed_by (AddOf key) interests = with_interest key.0 no_interest interests
+changed_by (AddOf key) interests = with_interest key.0 NONE interests
 changed_by (ArmOf key on) interests = with_interest key.0 on interests
-changed_by (RemoveOf key) interests = with_interest key.0 no_interest interests
+changed_by (RemoveOf key) interests = with_interest key.0 NONE interests
 
 -- what a call makes of the interests where they are told; a call that fails leaves them
 abbrev pub Arms : Option Interests → ArmCall → Result (Unit {0}) Failed → Option Interests → Type 0

@@ -76,6 +76,32 @@ pub struct Interest {
     pub write: bool,
 }
 
+impl Interest {
+    /// No direction.
+    pub const NONE: Interest = Interest {
+        read: false,
+        write: false,
+    };
+
+    /// Readability alone.
+    pub const READ: Interest = Interest {
+        read: true,
+        write: false,
+    };
+
+    /// Writability alone.
+    pub const WRITE: Interest = Interest {
+        read: false,
+        write: true,
+    };
+
+    /// Both directions.
+    pub const BOTH: Interest = Interest {
+        read: true,
+        write: true,
+    };
+}
+
 /// An event of a poller: the directions of the source `key` that are ready, maybe none
 /// (`polling` 3, `lib.rs`, `Event`).
 #[derive(Clone, Copy, Debug, PartialEq, Eq, PartialOrd, Ord, Hash)]

@@ -11,14 +11,9 @@ use crate::names::{Event, Interest, Key, Moment};
 use crate::outcomes::{Failed, Waited};
 use std::test::Fail;
 
-const READ: Interest = Interest {
-    read: true,
-    write: false,
-};
-
 const READABLE: Event = Event {
     key: Key(3),
-    on: READ,
+    on: Interest::READ,
 };
 
 /// Arms one key and then waits: both answers.
@@ -165,11 +160,11 @@ fn a_poller_that_tells_nothing_is_called_through_the_bounds(rt: HostRuntime) -> 
         waits: 0,
     };
     let mut out = Vec::with_capacity(rt.alloc(), 2)?;
-    let answers = arm_then_wait(&mut poller, Key(3), READ, &mut out, 2, Some(5));
+    let answers = arm_then_wait(&mut poller, Key(3), Interest::READ, &mut out, 2, Some(5));
     assert_eq!(rt; answers, (Err(Failed), Ok(Waited::Given(1))));
     assert_eq!(rt; out.as_slice(), [READABLE].as_slice());
     assert_eq!(rt; poller.faults(), 1);
-    let answers = arm_twice(&mut poller, Key(3), Key(4), READ);
+    let answers = arm_twice(&mut poller, Key(3), Key(4), Interest::READ);
     assert_eq!(rt; answers, (Err(Failed), Err(Failed)));
     assert_eq!(rt; poller.faults(), 3);
     assert_eq!(rt; poller.waits(), 1);

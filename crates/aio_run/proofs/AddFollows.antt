@@ -7,7 +7,8 @@ use Rattle.aio_base.specs.declared.names.Dir.TheVariants.{Read, Write}
 use Rattle.aio_base.specs.declared.outcomes.Which.TheVariants as which
 use Rattle.aio_base.specs.declared.steps.Step.TheVariants as step
 use Rattle.aio_base.specs.declared.steps.Answer.TheVariants as answer
-use Rattle.aio_base.specs.Devices.{AddOf, no_interest, raised}
+use Rattle.aio_base.specs.Devices.{AddOf, raised}
+use Rattle.aio_base.specs.declared.names.TheConstants.Interest.{NONE}
 use Rattle.aio_base.specs.World.{World, ListenerEntry, set_armed, serial_of}
 use Rattle.aio_base.specs.Machine.{Outcome, is_live}
 use Rattle.aio_base.specs.Machine as machine
@@ -159,7 +160,7 @@ add_stands kept w key stands free none =
         begun = AllBelow-later w.pos (w.pos + 1) w.begun (omega arith) s.begun;
         handled = s.handled;
         armed = AreArmed-clear w.armed kept.script.armed key s.armed;
-        entries = length-set kept.script.armed key no_interest ∙ s.entries;
+        entries = length-set kept.script.armed key NONE ∙ s.entries;
         noted = s.noted;
         due = due-add_done kept.script.due w.due none s.due;
         no_wait_fault = s.no_wait_fault;

@@ -8,7 +8,7 @@ use Rattle.aio_base.specs.declared.names.Dir.TheVariants.{Read, Write}
 use Rattle.aio_base.specs.declared.names.Interest.{Interest}
 use Rattle.aio_base.specs.declared.names.Waker.{Waker}
 use Rattle.aio_base.specs.declared.names.Event.{Event}
-use Rattle.aio_base.specs.Devices.{no_interest}
+use Rattle.aio_base.specs.declared.names.TheConstants.Interest.{NONE}
 use Rattle.aio_base.specs.World.{is_armed, World, ArmedDirection, same_dir, has_dir, poll_waiter, is_empty_list, is_idle, wanted, set_armed, clear_armed}
 use Rattle.aio_script.specs.Script.{cleared}
 use Rattle.aio_run.proofs.Found.{list_any-filter_kept, list_any-filter_lost, list_any-congr, list_any-map}
@@ -63,7 +63,7 @@ is_armed-set_other armed key dirs other dir apart =
 
 -- the machine's interests and a poller's entries say the same
 abbrev pub AreArmed : List ArmedDirection → List Interest → Type 0
-AreArmed armed entries = (key : ℕ) (dir : Dir) → is_armed armed key dir ≡ has_dir (slice_index_or entries key no_interest) dir
+AreArmed armed entries = (key : ℕ) (dir : Dir) → is_armed armed key dir ≡ has_dir (slice_index_or entries key NONE) dir
 
 pub AreArmed-set : (armed : List ArmedDirection) (entries : List Interest) (key : ℕ) (dirs : List Dir) (on : Interest) → AreArmed armed entries
     → key < length entries → ((dir : Dir) → list_any (λ d. same_dir d dir) dirs ≡ has_dir on dir)
@@ -71,12 +71,12 @@ pub AreArmed-set : (armed : List ArmedDirection) (entries : List Interest) (key 
 AreArmed-set armed entries key dirs on are lt same k dir =
     ⊎_elim
     (λ (here : k ≡ key). rw here (is_armed-set_same armed key dirs dir ∙ same dir
-    ∙ ap (λ (i : Interest). has_dir i dir) (sym (get_or-set_same entries key on no_interest lt))))
+    ∙ ap (λ (i : Interest). has_dir i dir) (sym (get_or-set_same entries key on NONE lt))))
     (λ (away : k ≢ key). is_armed-set_other armed key dirs k dir away ∙ are k dir
-    ∙ ap (λ (i : Interest). has_dir i dir) (sym (get_or-set_other entries key k on no_interest away)))
+    ∙ ap (λ (i : Interest). has_dir i dir) (sym (get_or-set_other entries key k on NONE away)))
     (cases_eq k key)
 
-no_dir : (dir : Dir) → false ≡ has_dir no_interest dir
+no_dir : (dir : Dir) → false ≡ has_dir NONE dir
 no_dir Read = refl
 no_dir Write = refl
 
@@ -87,20 +87,20 @@ get_or-set_default (x ∷ xs) (suc i) d = get_or-set_default xs i d
 
 -- at any key, also one past the last entry
 pub AreArmed-clear : (armed : List ArmedDirection) (entries : List Interest) (key : ℕ) → AreArmed armed entries
-    → AreArmed (set_armed armed key []) (slice_set entries key no_interest)
+    → AreArmed (set_armed armed key []) (slice_set entries key NONE)
 AreArmed-clear armed entries key are k dir =
     ⊎_elim
     (λ (here : k ≡ key). rw here (is_armed-set_same armed key [] dir ∙ no_dir dir
-    ∙ ap (λ (i : Interest). has_dir i dir) (sym (get_or-set_default entries key no_interest))))
+    ∙ ap (λ (i : Interest). has_dir i dir) (sym (get_or-set_default entries key NONE))))
     (λ (away : k ≢ key). is_armed-set_other armed key [] k dir away ∙ are k dir
-    ∙ ap (λ (i : Interest). has_dir i dir) (sym (get_or-set_other entries key k no_interest no_interest away)))
+    ∙ ap (λ (i : Interest). has_dir i dir) (sym (get_or-set_other entries key k NONE NONE away)))
     (cases_eq k key)
 
 pub AreArmed-cleared : (events : List Event) (armed : List ArmedDirection) (entries : List Interest) → AreArmed armed entries
     → AreArmed (clear_armed armed events) (cleared events entries)
 AreArmed-cleared [] armed entries are = are
 AreArmed-cleared (event ∷ events) armed entries are =
-    AreArmed-cleared events (set_armed armed event.key.0 []) (slice_set entries event.key.0 no_interest) (AreArmed-clear armed entries event.key.0 are)
+    AreArmed-cleared events (set_armed armed event.key.0 []) (slice_set entries event.key.0 NONE) (AreArmed-clear armed entries event.key.0 are)
 
 -- ## The directions that a source's waiters want
 

@@ -6,7 +6,8 @@ use Rattle.aio_base.specs.declared.names.Key.{Key}
 use Rattle.aio_base.specs.declared.outcomes.Which.TheVariants as which
 use Rattle.aio_base.specs.declared.steps.Step.TheVariants as step
 use Rattle.aio_base.specs.declared.steps.Answer.TheVariants as answer
-use Rattle.aio_base.specs.Devices.{RemoveOf, no_interest}
+use Rattle.aio_base.specs.Devices.{RemoveOf}
+use Rattle.aio_base.specs.declared.names.TheConstants.Interest.{NONE}
 use Rattle.aio_base.specs.World.{World, LiveSource, PollWaiter, Mark, ListenerEntry, ArmedDirection, set_armed, serial_of, without_broken}
 use Rattle.aio_base.specs.Machine.{Outcome, is_listener, del_source}
 use Rattle.aio_base.specs.Machine as machine
@@ -202,7 +203,7 @@ settles_by kept w key s serial false e both got found none = let stands = both.0
   answer = refl;
   wakes = refl;
   stands = remove_stands kept w key s serial _ (set_armed w.armed key.0 []) both got found none
-      (AreArmed-clear w.armed kept.script.armed key.0 stands.armed) (length-set kept.script.armed key.0 no_interest ∙ stands.entries) refl
+      (AreArmed-clear w.armed kept.script.armed key.0 stands.armed) (length-set kept.script.armed key.0 NONE ∙ stands.entries) refl
       (due-remove_done kept.script.due w.due e stands.due) stands.no_wait_fault stands.no_interrupt;
 }
 

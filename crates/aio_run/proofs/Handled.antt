@@ -9,7 +9,7 @@ use Rattle.aio_base.specs.declared.outcomes.EndWord.{EndWord}
 use Rattle.aio_base.specs.declared.outcomes.EndWord.TheVariants.{Clean, FaultWait, FaultArm}
 use Rattle.aio_base.specs.declared.outcomes.Which.TheVariants as which
 use Rattle.aio_base.specs.declared.steps.Answer.TheVariants as answer
-use Rattle.aio_base.specs.Devices.{no_interest}
+use Rattle.aio_base.specs.declared.names.TheConstants.Interest.{NONE}
 use Rattle.aio_base.specs.World.{PollerAnswer, World, RoundState, DueFaults, directions, directions_of, is_empty_list, serial_of}
 use Rattle.aio_base.specs.World as machine
 use Rattle.aio_base.specs.Machine.{Outcome, quiet, next_answer, later_answers, fails, first_fault, after_arm, without_waiters, world_taken, wakers_taken, rearmed, handle_source, handle_in, handle_round, handle_each}
@@ -190,8 +190,8 @@ prepared_stands : (bound pos : ℕ) (kept : Kept) (w : World) (key serial : ℕ)
 prepared_stands bound pos kept w key serial s on stands counted among got after there =
     let taken : SourceValue = taken_value on kept.ticker s in
     subst (λ (sources : List (Option SourceValue)). Stands bound (with_sources kept sources) (world_taken w serial pos (directions_of on)))
-    (slice_set-twice kept.sources key (Some taken) (Some (record taken { asked = no_interest })))
-    (asked_stands bound (with_sources kept (slice_set kept.sources key (Some taken))) (world_taken w serial pos (directions_of on)) key serial taken no_interest
+    (slice_set-twice kept.sources key (Some taken) (Some (record taken { asked = NONE })))
+    (asked_stands bound (with_sources kept (slice_set kept.sources key (Some taken))) (world_taken w serial pos (directions_of on)) key serial taken NONE
     (Stands-taken bound pos kept w key serial s on stands counted among got there) (source_at-set_same kept.sources key s (Some taken) got) after)
 
 -- taking waiters changes only who waits and what was handled

@@ -4,7 +4,7 @@ use Rattle.std.proofs.lemmas.List.{length-replicate}
 use Rattle.aio_base.specs.declared.names.Dir.{Dir}
 use Rattle.aio_base.specs.declared.names.Dir.TheVariants.{Read, Write}
 use Rattle.aio_base.specs.declared.names.Interest.{Interest}
-use Rattle.aio_base.specs.Devices.{no_interest}
+use Rattle.aio_base.specs.declared.names.TheConstants.Interest.{NONE}
 use Rattle.aio_base.specs.World.{has_dir, opening}
 use Rattle.aio_script.specs.Script.{nothing_due, new_script}
 use Rattle.aio_script.specs.Script as script
@@ -20,7 +20,7 @@ get_or-replicate_default zero i d = refl
 get_or-replicate_default (suc n) zero d = refl
 get_or-replicate_default (suc n) (suc i) d = get_or-replicate_default n i d
 
-none_armed : (on : Interest) (dir : Dir) → on ≡ no_interest → false ≡ has_dir on dir
+none_armed : (on : Interest) (dir : Dir) → on ≡ NONE → false ≡ has_dir on dir
 none_armed on Read e = rw e
 none_armed on Write e = rw e
 
@@ -39,7 +39,7 @@ pub opening_stands : (entries faults waits : ℕ) → entries ≡ 4096
       sources = [];
       listeners = [];
       ticker = 0;
-      script = record { armed = replicate entries no_interest; noted = []; due = nothing_due; faults = faults; waits = waits };
+      script = record { armed = replicate entries NONE; noted = []; due = nothing_due; faults = faults; waits = waits };
       timing = no_timing;
     }) opening
 opening_stands entries faults waits e = (
@@ -58,8 +58,8 @@ opening_stands entries faults waits e = (
     ticker = refl;
     begun = tt;
     handled = tt;
-    armed = λ key dir. none_armed _ dir (get_or-replicate_default entries key no_interest);
-    entries = length-replicate entries no_interest ∙ e;
+    armed = λ key dir. none_armed _ dir (get_or-replicate_default entries key NONE);
+    entries = length-replicate entries NONE ∙ e;
     noted = refl;
     due = record { add = refl; arm = refl; remove = refl; wait = refl; interrupt = refl };
     no_wait_fault = refl;

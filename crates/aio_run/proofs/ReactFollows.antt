@@ -7,7 +7,7 @@ use Rattle.aio_base.specs.declared.outcomes.EndWord.TheVariants.{Clean}
 use Rattle.aio_base.specs.declared.outcomes.Which.TheVariants as which
 use Rattle.aio_base.specs.declared.steps.Step.TheVariants as step
 use Rattle.aio_base.specs.declared.steps.Answer.TheVariants as answer
-use Rattle.aio_base.specs.Devices.{no_interest}
+use Rattle.aio_base.specs.declared.names.TheConstants.Interest.{NONE}
 use Rattle.aio_base.specs.World.{World, Registration, DueFaults, clear_armed}
 use Rattle.aio_base.specs.Timers.{due_wakers, after_pass, limit_of}
 use Rattle.aio_base.specs.Machine.{Outcome, finish_round, handle_each, fault_of}
@@ -53,7 +53,7 @@ before_round-is kept w stands =
 length-cleared : (events : List Event) (entries : List Interest) → length (cleared events entries) ≡ length entries
 length-cleared [] entries = refl
 length-cleared (event ∷ events) entries =
-    length-cleared events (slice_set entries event.key.0 no_interest) ∙ length-set entries event.key.0 no_interest
+    length-cleared events (slice_set entries event.key.0 NONE) ∙ length-set entries event.key.0 NONE
 
 -- the events that the wait of a round gives
 abbrev given : Kept → List Event

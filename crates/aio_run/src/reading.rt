@@ -401,22 +401,10 @@ fn read_flags(word: &[u8]) -> Option<Interest>
     ensures { result ≡ flags_named word.now }
 {
     match word {
-        b"-" => Some(Interest {
-            read: false,
-            write: false,
-        }),
-        b"r" => Some(Interest {
-            read: true,
-            write: false,
-        }),
-        b"w" => Some(Interest {
-            read: false,
-            write: true,
-        }),
-        b"rw" => Some(Interest {
-            read: true,
-            write: true,
-        }),
+        b"-" => Some(Interest::NONE),
+        b"r" => Some(Interest::READ),
+        b"w" => Some(Interest::WRITE),
+        b"rw" => Some(Interest::BOTH),
         _ => None,
     }
 }

@@ -7,7 +7,8 @@ use Rattle.aio_base.specs.declared.outcomes.Waited.{Waited}
 use Rattle.aio_base.specs.declared.outcomes.Waited.TheVariants.{Given, Interrupted}
 use Rattle.aio_base.specs.declared.outcomes.Which.{Which}
 use Rattle.aio_base.specs.declared.outcomes.Which.TheVariants.{Add, Arm, Remove, Wait}
-use Rattle.aio_base.specs.Devices.{Interests, no_interest, raised, ArmCall, AddOf, ArmOf, RemoveOf, WaitCall}
+use Rattle.aio_base.specs.Devices.{Interests, raised, ArmCall, AddOf, ArmOf, RemoveOf, WaitCall}
+use Rattle.aio_base.specs.declared.names.TheConstants.Interest.{NONE}
 use Rattle.aio_script.specs.declared.poller.Due.{Due}
 
 -- A poller in memory: the interest of each key in the order of the keys, the events that are noted and not yet given, what its next calls are told to answer, and its counts of faults and of waits.
@@ -20,11 +21,11 @@ pub record Script : Type 0 where
 
 -- the interest of each key; a key past the last entry has none
 abbrev pub interests_of : Script → Interests
-interests_of script key = slice_index_or script.armed key no_interest
+interests_of script key = slice_index_or script.armed key NONE
 
 -- no interest for each of the 4,096 keys
 unfoldable pub none_armed : List Interest
-none_armed = replicate 4096 no_interest
+none_armed = replicate 4096 NONE
 
 abbrev pub nothing_due : Due
 nothing_due = record { add = false; arm = false; remove = false; wait = false; interrupt = false }
@@ -54,9 +55,9 @@ without_failure (RemoveOf key) due = record due { remove = false }
 
 -- the entries after a call that did not fail
 abbrev pub entries_after : ArmCall → List Interest → List Interest
-entries_after (AddOf key) armed = slice_set armed key.0 no_interest
+entries_after (AddOf key) armed = slice_set armed key.0 NONE
 entries_after (ArmOf key on) armed = slice_set armed key.0 on
-entries_after (RemoveOf key) armed = slice_set armed key.0 no_interest
+entries_after (RemoveOf key) armed = slice_set armed key.0 NONE
 
 -- what a call that changes one key's interest comes to: its answer, and the poller after it
 pub record ArmOutcome : Type 0 where
@@ -80,7 +81,7 @@ ScriptArms old call result new = script_arm old call ≡ record { answer = resul
 -- the entries once these events were given: the entry of each key that they name is none
 abbrev pub cleared : List Event → List Interest → List Interest
 cleared [] armed = armed
-cleared (event ∷ events) armed = cleared events (slice_set armed event.key.0 no_interest)
+cleared (event ∷ events) armed = cleared events (slice_set armed event.key.0 NONE)
 
 -- what a wait comes to: its answer, the events that it adds, and the poller after it
 pub record WaitOutcome : Type 0 where

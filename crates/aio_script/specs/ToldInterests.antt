@@ -7,32 +7,33 @@ use Rattle.aio_base.specs.declared.names.Interest.{Interest}
 use Rattle.aio_base.specs.declared.names.Event.{Event}
 use Rattle.aio_base.specs.declared.outcomes.Failed.{Failed}
 use Rattle.aio_base.specs.declared.outcomes.Waited.{Waited}
-use Rattle.aio_base.specs.Devices.{Interests, no_interest, with_interest, clear_interests, WaitCall}
+use Rattle.aio_base.specs.Devices.{Interests, with_interest, clear_interests, WaitCall}
+use Rattle.aio_base.specs.declared.names.TheConstants.Interest.{NONE}
 use Rattle.aio_script.specs.Script.{Script, WaitOutcome, interests_of, cleared, failed_wait, interrupted_wait, giving_wait, ScriptWaits}
 
 -- an entry that was cleared is none, and so is one past the end
-none-at_cleared : (armed : List Interest) (key : ℕ) → slice_index_or (slice_set armed key no_interest) key no_interest ≡ no_interest
+none-at_cleared : (armed : List Interest) (key : ℕ) → slice_index_or (slice_set armed key NONE) key NONE ≡ NONE
 none-at_cleared armed key =
     ⊎_elim
-    (λ within. get_or-set_same armed key no_interest no_interest within)
-    (λ past. ap (λ (entries : List Interest). slice_index_or entries key no_interest) (set_past armed key no_interest past) ∙ get_or_past armed key no_interest past)
+    (λ within. get_or-set_same armed key NONE NONE within)
+    (λ past. ap (λ (entries : List Interest). slice_index_or entries key NONE) (set_past armed key NONE past) ∙ get_or_past armed key NONE past)
     (cases_lt key (length armed))
 
 -- clearing one entry clears that key's interest, and no other
-interest-after_clearing : (armed : List Interest) (gone key : ℕ) → slice_index_or (slice_set armed gone no_interest) key no_interest ≡ (if key == gone then no_interest else slice_index_or armed key no_interest)
+interest-after_clearing : (armed : List Interest) (gone key : ℕ) → slice_index_or (slice_set armed gone NONE) key NONE ≡ (if key == gone then NONE else slice_index_or armed key NONE)
 interest-after_clearing armed gone key =
-    let chosen : Bool → Interest = λ same. if same then no_interest else slice_index_or armed key no_interest in
+    let chosen : Bool → Interest = λ same. if same then NONE else slice_index_or armed key NONE in
     ⊎_elim
-    (λ same. ap (λ (k : ℕ). slice_index_or (slice_set armed gone no_interest) k no_interest) same ∙ none-at_cleared armed gone ∙ sym (ap chosen (eq-eqb key gone same)))
-    (λ other. get_or-set_other armed gone key no_interest no_interest other ∙ sym (ap chosen (ne_eqb key gone other)))
+    (λ same. ap (λ (k : ℕ). slice_index_or (slice_set armed gone NONE) k NONE) same ∙ none-at_cleared armed gone ∙ sym (ap chosen (eq-eqb key gone same)))
+    (λ other. get_or-set_other armed gone key NONE NONE other ∙ sym (ap chosen (ne_eqb key gone other)))
     (cases_eq key gone)
 
 -- the entries tell what `clear_interests` makes of the interests that they told before
-interests-cleared : (events : List Event) (armed : List Interest) (interests : Interests) → ((key : ℕ) → slice_index_or armed key no_interest ≡ interests key) → (key : ℕ) → slice_index_or (cleared events armed) key no_interest ≡ clear_interests events interests key
+interests-cleared : (events : List Event) (armed : List Interest) (interests : Interests) → ((key : ℕ) → slice_index_or armed key NONE ≡ interests key) → (key : ℕ) → slice_index_or (cleared events armed) key NONE ≡ clear_interests events interests key
 interests-cleared [] armed interests told key = told key
 interests-cleared (event ∷ events) armed interests told key =
-    interests-cleared events (slice_set armed event.key.0 no_interest) (with_interest event.key.0 no_interest interests)
-    (λ k. interest-after_clearing armed event.key.0 k ∙ ap (λ (on : Interest). if k == event.key.0 then no_interest else on) (told k))
+    interests-cleared events (slice_set armed event.key.0 NONE) (with_interest event.key.0 NONE interests)
+    (λ k. interest-after_clearing armed event.key.0 k ∙ ap (λ (on : Interest). if k == event.key.0 then NONE else on) (told k))
     key
 
 interests-wait : (fails interrupted : Bool) (old : Script) (room key : ℕ) → let outcome : WaitOutcome = if fails then failed_wait old else (if interrupted then interrupted_wait old else giving_wait old room) in interests_of outcome.after key ≡ clear_interests outcome.added (interests_of old) key

@@ -14,11 +14,6 @@ use std::mem;
 /// How many keys have an interest: one for each source that a reactor can hold.
 const KEYS: usize = 4096;
 
-const NO_INTEREST: Interest = Interest {
-    read: false,
-    write: false,
-};
-
 /// What the next calls are told to answer: a failure of the next call of a kind, and an interrupt
 /// of the next wait that does not fail.
 #[derive(Clone, Copy, Debug, PartialEq, Eq)]
@@ -53,16 +48,16 @@ impl Model for ScriptPoller {
 }
 
 impl ScriptPoller {
-    ghost use Rattle.aio_base.specs.Devices.{no_interest, raised};
+    ghost use Rattle.aio_base.specs.Devices.{raised};
     ghost use Rattle.aio_script.specs.Script.{interests_of, new_script, with_failure};
 
     /// A poller with room for 4,096 keys that has nothing armed, noted or due, and no faults or
     /// waits counted. `OutOfMemory` where memory ran out.
     pub fn new(alloc: Global) -> Result<ScriptPoller, OutOfMemory>
         ensures fresh { IfOk result (λ p. p ≡ new_script) }
-        ensures unarmed { IfOk result (λ p. (key : ℕ) → interests_of p key ≡ no_interest) }
+        ensures unarmed { IfOk result (λ p. (key : ℕ) → interests_of p key ≡ Interest.NONE) }
     {
-        let Ok(armed) = vec![in alloc; NO_INTEREST; KEYS] else {
+        let Ok(armed) = vec![in alloc; Interest::NONE; KEYS] else {
             return Err(OutOfMemory);
         };
         Ok(ScriptPoller {
@@ -117,7 +112,7 @@ impl ScriptPoller {
         if index < self.armed.len() {
             self.armed[index]
         } else {
-            NO_INTEREST
+            Interest::NONE
         }
     }
 
@@ -171,7 +166,7 @@ impl Arm for ScriptPoller {
         if mem::replace(&mut self.due.add, false) {
             return Err(self.fault());
         }
-        self.armed[key.0 as usize] = NO_INTEREST;
+        self.armed[key.0 as usize] = Interest::NONE;
         Ok(())
     }
 
@@ -191,7 +186,7 @@ impl Arm for ScriptPoller {
         if mem::replace(&mut self.due.remove, false) {
             return Err(self.fault());
         }
-        self.armed[key.0 as usize] = NO_INTEREST;
+        self.armed[key.0 as usize] = Interest::NONE;
         Ok(())
     }
 }
@@ -250,7 +245,7 @@ fn clear_interests(armed: &mut [Interest], events: &[Event])
     for event in events {
         let index = event.key.0 as usize;
         if index < armed.len() {
-            armed[index] = NO_INTEREST;
+            armed[index] = Interest::NONE;
         }
     }
 }

@@ -9,46 +9,31 @@ use aio_base::{
 use std::process::Abort;
 use std::test::Fail;
 
-const NONE: Interest = Interest {
-    read: false,
-    write: false,
-};
-
-const READ: Interest = Interest {
-    read: true,
-    write: false,
-};
-
-const WRITE: Interest = Interest {
-    read: false,
-    write: true,
-};
-
 const READABLE: Event = Event {
     key: Key(3),
-    on: READ,
+    on: Interest::READ,
 };
 
 const WRITABLE: Event = Event {
     key: Key(5),
-    on: WRITE,
+    on: Interest::WRITE,
 };
 
 const EMPTY: Event = Event {
     key: Key(3),
-    on: NONE,
+    on: Interest::NONE,
 };
 
 /// A key that no test adds.
 const STRANGER: Event = Event {
     key: Key(9),
-    on: READ,
+    on: Interest::READ,
 };
 
 /// A key above every interest.
 const OUTSIDE: Event = Event {
     key: Key(4096),
-    on: WRITE,
+    on: Interest::WRITE,
 };
 
 #[test]
@@ -56,16 +41,16 @@ fn events_come_in_order_and_clear_their_keys(rt: HostRuntime) -> Result<(), Fail
     let mut poller = ScriptPoller::new(rt.alloc())?;
     let mut out = Vec::with_capacity(rt.alloc(), 8)?;
     assert_eq!(rt; poller.add(Key(3)), Ok(()));
-    assert_eq!(rt; poller.arm(Key(3), READ), Ok(()));
-    assert_eq!(rt; poller.arm(Key(7), READ), Ok(()));
+    assert_eq!(rt; poller.arm(Key(3), Interest::READ), Ok(()));
+    assert_eq!(rt; poller.arm(Key(7), Interest::READ), Ok(()));
     for event in [READABLE, WRITABLE, EMPTY] {
         poller.give(event)?;
     }
     assert_eq!(rt; poller.wait(&mut out, 2, None), Ok(Waited::Given(2)));
     assert_eq!(rt; out.as_slice(), [READABLE, WRITABLE].as_slice());
     assert_eq!(rt; poller.noted(), [EMPTY].as_slice());
-    assert_eq!(rt; poller.armed(Key(3)), NONE);
-    assert_eq!(rt; poller.armed(Key(7)), READ);
+    assert_eq!(rt; poller.armed(Key(3)), Interest::NONE);
+    assert_eq!(rt; poller.armed(Key(7)), Interest::READ);
     Ok(())
 }
 
@@ -73,13 +58,13 @@ fn events_come_in_order_and_clear_their_keys(rt: HostRuntime) -> Result<(), Fail
 fn strangers_are_given_too(rt: HostRuntime) -> Result<(), Fail> {
     let mut poller = ScriptPoller::new(rt.alloc())?;
     let mut out = Vec::with_capacity(rt.alloc(), 4)?;
-    assert_eq!(rt; poller.arm(Key(7), READ), Ok(()));
+    assert_eq!(rt; poller.arm(Key(7), Interest::READ), Ok(()));
     poller.give(STRANGER)?;
     poller.give(OUTSIDE)?;
     assert_eq!(rt; poller.wait(&mut out, 4, Some(0)), Ok(Waited::Given(2)));
     assert_eq!(rt; out.as_slice(), [STRANGER, OUTSIDE].as_slice());
-    assert_eq!(rt; poller.armed(Key(7)), READ);
-    assert_eq!(rt; poller.armed(Key(4096)), NONE);
+    assert_eq!(rt; poller.armed(Key(7)), Interest::READ);
+    assert_eq!(rt; poller.armed(Key(4096)), Interest::NONE);
     assert!(rt; poller.noted().is_empty());
     Ok(())
 }
@@ -94,11 +79,11 @@ fn told_twice_fails_once(rt: HostRuntime) -> Result<(), Fail> {
     poller.give(READABLE)?;
     assert_eq!(rt; poller.add(Key(3)), Err(Failed));
     assert_eq!(rt; poller.add(Key(3)), Ok(()));
-    assert_eq!(rt; poller.arm(Key(3), READ), Err(Failed));
-    assert_eq!(rt; poller.armed(Key(3)), NONE);
-    assert_eq!(rt; poller.arm(Key(3), READ), Ok(()));
+    assert_eq!(rt; poller.arm(Key(3), Interest::READ), Err(Failed));
+    assert_eq!(rt; poller.armed(Key(3)), Interest::NONE);
+    assert_eq!(rt; poller.arm(Key(3), Interest::READ), Ok(()));
     assert_eq!(rt; poller.remove(Key(3)), Err(Failed));
-    assert_eq!(rt; poller.armed(Key(3)), READ);
+    assert_eq!(rt; poller.armed(Key(3)), Interest::READ);
     assert_eq!(rt; poller.remove(Key(3)), Ok(()));
     let mut out = Vec::with_capacity(rt.alloc(), 2)?;
     assert_eq!(rt; poller.wait(&mut out, 1, None), Err(Failed));
@@ -137,7 +122,7 @@ fn calls_answer<P: Poller>(rt: &impl Abort, poller: &mut P, out: &mut Vec<Event>
     requires { vec_len out.old + 1 ≤ vec_capacity out.old }
 {
     assert_eq!(rt; poller.add(Key(3)), Ok(()));
-    assert_eq!(rt; poller.arm(Key(3), READ), Ok(()));
+    assert_eq!(rt; poller.arm(Key(3), Interest::READ), Ok(()));
     assert_eq!(rt; poller.wait(out, 1, None), Ok(Waited::Given(1)));
     assert_eq!(rt; poller.remove(Key(3)), Ok(()));
     assert_eq!(rt; poller.faults(), 0);

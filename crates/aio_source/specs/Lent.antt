@@ -4,7 +4,8 @@ use Rattle.aio_base.specs.declared.names.Key.{Key}
 use Rattle.aio_base.specs.declared.names.Interest.{Interest}
 use Rattle.aio_base.specs.declared.outcomes.Failed.{Failed}
 use Rattle.aio_base.specs.declared.outcomes.ArmFault.{ArmFault}
-use Rattle.aio_base.specs.Devices.{Interests, no_interest, ArmCall, ArmOf, Arms}
+use Rattle.aio_base.specs.Devices.{Interests, ArmCall, ArmOf, Arms}
+use Rattle.aio_base.specs.declared.names.TheConstants.Interest.{NONE}
 use Rattle.aio_source.specs.Values.{SourceValue}
 use Rattle.aio_source.specs.Rules.{wanted}
 
@@ -36,7 +37,7 @@ arm_of s = ArmOf s.key (wanted s.directions)
 abbrev pub asked_after : Bool → Interest → Result (Unit {0}) Failed → Interest → Interest
 asked_after false on answer asked = asked
 asked_after true on (Ok done) asked = on
-asked_after true on (Err failed) asked = no_interest
+asked_after true on (Err failed) asked = NONE
 
 -- an arm that fails breaks a source, and one that succeeds mends it (the project's own repair)
 abbrev pub broken_after : Bool → Result (Unit {0}) Failed → Bool → Bool

@@ -6,7 +6,7 @@ use Rattle.aio_base.specs.declared.names.Dir.TheVariants.{Read, Write}
 use Rattle.aio_base.specs.declared.names.Key.{Key}
 use Rattle.aio_base.specs.declared.names.Waker.{Waker}
 use Rattle.aio_base.specs.declared.names.Interest.{Interest}
-use Rattle.aio_base.specs.Devices.{no_interest}
+use Rattle.aio_base.specs.declared.names.TheConstants.Interest.{NONE}
 use Rattle.aio_base.specs.World.{directions, has_dir, is_empty_list}
 use Rattle.aio_base.specs.Machine.{is_waker}
 use Rattle.aio_listen.specs.declared.ticket.Ticket.{Ticket}
@@ -108,7 +108,7 @@ taken_along on round (dir ∷ dirs) ds = taken_in on dir ds ++ taken_along on ro
 -- ## A source
 
 abbrev pub new_source : Key → SourceValue
-new_source key = record { key = key; directions = new_directions; asked = no_interest; broken = false }
+new_source key = record { key = key; directions = new_directions; asked = NONE; broken = false }
 
 abbrev pub with_source_direction : SourceValue → Dir → DirectionValue → SourceValue
 with_source_direction s dir d = record s { directions = with_direction s.directions dir d }
@@ -156,7 +156,7 @@ unlistened s dir ticket = with_source_direction s dir (without_listener ticket (
 abbrev pub handling : SourceValue → Interest → ℕ → Prepared
 handling s on round =
     let ds = handled_along on round directions s.directions in
-    record { source = record s { directions = ds; asked = no_interest }; arms = has_any (wanted ds) }
+    record { source = record s { directions = ds; asked = NONE }; arms = has_any (wanted ds) }
 
 -- a direction with a waiter is armed for, or the source is broken
 abbrev pub Covers : DirectionValues → Interest → Bool → Type 0

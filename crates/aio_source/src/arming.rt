@@ -8,12 +8,6 @@ ghost use Rattle.aio_source.specs.Lent.{told, fault_of, ArmsOnce, TellsArmed, as
 use crate::directions::Directions;
 use aio_base::{Arm, ArmFault, Interest, Key};
 
-/// No direction.
-pub(crate) const NO_INTEREST: Interest = Interest {
-    read: false,
-    write: false,
-};
-
 /// What the last arm of a source asked for, and whether it failed.
 #[derive(Clone, Copy)]
 pub(crate) struct Arming {
@@ -51,7 +45,7 @@ impl Arming {
             self.broken = false;
             return Ok(());
         }
-        self.asked = NO_INTEREST;
+        self.asked = Interest::NONE;
         self.broken = true;
         Err(ArmFault {
             key,

@@ -9,7 +9,7 @@ ghost use Rattle.aio_source.specs.Lent.{told, fault_of, ArmsOnce, TellsArmed, ar
 ghost use Rattle.aio_source.specs.Answers.{poll_answer, armed_in, armed_first, listened_in, ticket_in};
 
 use crate::answers::{ListenRefusal, Listened, Polled};
-use crate::arming::{Arming, NO_INTEREST};
+use crate::arming::Arming;
 use crate::directions::{Directions, names_any};
 use aio_base::{Arm, ArmFault, Dir, Event, Interest, Key, Poll, Waker};
 use aio_listen::{AddRefusal, Ticket};
@@ -57,7 +57,7 @@ impl SourceState {
         SourceState {
             key,
             arming: Arming {
-                asked: NO_INTEREST,
+                asked: Interest::NONE,
                 broken: false,
             },
             directions: Directions::new(alloc),
@@ -275,7 +275,7 @@ impl SourceState {
         ensures cause { HasCause (A.fault_count arm.old) (A.fault_count arm.new) (A.is_sure arm.old) (told result) }
     {
         self.directions.take_waiters(e.on, round, taken);
-        self.arming.asked = NO_INTEREST;
+        self.arming.asked = Interest::NONE;
         let left = names_any(self.directions.wanted());
         self.arming.arm_where(left, arm, self.key, &self.directions)
     }

@@ -10,26 +10,6 @@ use aio_base::{Arm, ArmFault, Dir, Event, Failed, Faults, Interest, Key, Waker};
 use std::process::Abort;
 use std::test::Fail;
 
-const NONE: Interest = Interest {
-    read: false,
-    write: false,
-};
-
-const READ: Interest = Interest {
-    read: true,
-    write: false,
-};
-
-const WRITE: Interest = Interest {
-    read: false,
-    write: true,
-};
-
-const BOTH: Interest = Interest {
-    read: true,
-    write: true,
-};
-
 const KEY: Key = Key(7);
 
 /// A poller that counts its arms and remembers the last of them. It fails where it is told to.
@@ -90,7 +70,7 @@ impl Arm for CountingArm {
 fn counting() -> CountingArm {
     CountingArm {
         arms: 0,
-        last: NONE,
+        last: Interest::NONE,
         fails: false,
         faults: 0,
     }
@@ -121,10 +101,10 @@ fn polls_wait_for_an_event_of_a_later_round(rt: HostRuntime) -> Result<(), Fail>
     let mut source = SourceState::new(rt.alloc(), KEY);
     let mut arm = counting();
     let polls = [
-        (Dir::Read, Waker(1), None, 1, READ),
-        (Dir::Read, Waker(1), None, 1, READ),
-        (Dir::Read, Waker(2), Some(Waker(1)), 1, READ),
-        (Dir::Write, Waker(3), None, 2, BOTH),
+        (Dir::Read, Waker(1), None, 1, Interest::READ),
+        (Dir::Read, Waker(1), None, 1, Interest::READ),
+        (Dir::Read, Waker(2), Some(Waker(1)), 1, Interest::READ),
+        (Dir::Write, Waker(3), None, 2, Interest::BOTH),
     ];
     for (dir, waker, replaced, arms, last) in polls {
         let polled = source.poll_dir(&mut arm, dir, waker, 0);
@@ -136,11 +116,11 @@ fn polls_wait_for_an_event_of_a_later_round(rt: HostRuntime) -> Result<(), Fail>
     assert_eq!(rt; source.waiting(Dir::Read), 1);
     let mut taken = Vec::with_capacity(rt.alloc(), 8)?;
     assert_eq!(rt;
-        handle(&rt, &mut source, &mut arm, READ, 1, &mut taken),
+        handle(&rt, &mut source, &mut arm, Interest::READ, 1, &mut taken),
         Ok(())
     );
     assert_eq!(rt; taken.as_slice(), [Waker(2)].as_slice());
-    assert_eq!(rt; arm.last, WRITE);
+    assert_eq!(rt; arm.last, Interest::WRITE);
     assert!(rt; source.ready_since(Dir::Read, 0, 0));
     let ready = source.poll_dir(&mut arm, Dir::Read, Waker(2), 1);
     assert_eq!(rt; ready.answer, Poll::Ready(Ok(())));
@@ -160,19 +140,26 @@ fn an_event_arms_what_still_waits(rt: HostRuntime) -> Result<(), Fail> {
         assert_eq!(rt; polled.answer, Poll::Pending);
     }
     assert_eq!(rt;
-        handle(&rt, &mut source, &mut arm, NONE, 1, &mut taken),
+        handle(&rt, &mut source, &mut arm, Interest::NONE, 1, &mut taken),
         Ok(())
     );
     assert!(rt; taken.is_empty());
     assert_eq!(rt; arm.arms, 3);
-    assert_eq!(rt; arm.last, BOTH);
+    assert_eq!(rt; arm.last, Interest::BOTH);
     for round in [5, 3] {
         assert_eq!(rt;
-            handle(&rt, &mut source, &mut arm, BOTH, round, &mut taken),
+            handle(
+                &rt,
+                &mut source,
+                &mut arm,
+                Interest::BOTH,
+                round,
+                &mut taken
+            ),
             Ok(())
         );
         assert_eq!(rt; source.tick(Dir::Read), 5);
-        assert_eq!(rt; source.asked(), NONE);
+        assert_eq!(rt; source.asked(), Interest::NONE);
     }
     assert_eq!(rt; taken.as_slice(), [Waker(2), Waker(1)].as_slice());
     assert_eq!(rt; arm.arms, 3);
@@ -187,7 +174,7 @@ fn listeners_stay_ready(rt: HostRuntime) -> Result<(), Fail> {
     let second = source.first_listen(&mut arm, Dir::Read, Waker(12), 4)?;
     let third = source.first_listen(&mut arm, Dir::Read, Waker(13), 4)?;
     assert_eq!(rt; (third.a, third.b), (4, 0));
-    assert_eq!(rt; (arm.arms, arm.last), (1, READ));
+    assert_eq!(rt; (arm.arms, arm.last), (1, Interest::READ));
     assert!(rt; source.holds(Dir::Read, second.ticket));
     source.unlisten(Dir::Read, second.ticket);
     assert!(rt; !source.holds(Dir::Read, second.ticket));
@@ -199,7 +186,7 @@ fn listeners_stay_ready(rt: HostRuntime) -> Result<(), Fail> {
     let waits = source.listen_again(&mut arm, Dir::Read, first, Waker(14));
     assert_eq!(rt; waits, Poll::Pending);
     assert_eq!(rt;
-        handle(&rt, &mut source, &mut arm, READ, 5, &mut taken),
+        handle(&rt, &mut source, &mut arm, Interest::READ, 5, &mut taken),
         Ok(())
     );
     assert_eq!(rt;
@@ -225,12 +212,12 @@ fn a_failed_arm_is_told_and_made_again(rt: HostRuntime) -> Result<(), Fail> {
     }
     arm.fails = true;
     assert_eq!(rt;
-        handle(&rt, &mut source, &mut arm, READ, 1, &mut taken),
+        handle(&rt, &mut source, &mut arm, Interest::READ, 1, &mut taken),
         Err(fault(0))
     );
     assert_eq!(rt; taken.as_slice(), [Waker(1)].as_slice());
     assert!(rt; source.broken());
-    assert_eq!(rt; source.asked(), NONE);
+    assert_eq!(rt; source.asked(), Interest::NONE);
     let told = source.poll_dir(&mut arm, Dir::Write, Waker(2), 1);
     assert_eq!(rt; told.answer, Poll::Ready(Err(fault(1))));
     let Err(
@@ -248,7 +235,7 @@ fn a_failed_arm_is_told_and_made_again(rt: HostRuntime) -> Result<(), Fail> {
     let mended = source.poll_dir(&mut arm, Dir::Write, Waker(2), 1);
     assert_eq!(rt; mended.answer, Poll::Pending);
     assert!(rt; !source.broken());
-    assert_eq!(rt; source.asked(), BOTH);
+    assert_eq!(rt; source.asked(), Interest::BOTH);
     Ok(())
 }
 

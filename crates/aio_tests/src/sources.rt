@@ -9,21 +9,6 @@ use aio_source::{Poll, SourceState};
 use std::process::Abort;
 use std::test::Fail;
 
-const NONE: Interest = Interest {
-    read: false,
-    write: false,
-};
-
-const READ: Interest = Interest {
-    read: true,
-    write: false,
-};
-
-const WRITE: Interest = Interest {
-    read: false,
-    write: true,
-};
-
 /// Handles an event of the source, with room for eight wakers.
 fn handle<A: Arm>(
     rt: &impl Abort,
@@ -52,18 +37,25 @@ fn listeners_are_armed_and_stay_ready(rt: HostRuntime) -> Result<(), Fail> {
     let mut taken = Vec::with_capacity(rt.alloc(), 8)?;
     let listened = source.first_listen(&mut poller, Dir::Read, Waker(11), 4)?;
     assert_eq!(rt; (listened.a, listened.b), (4, 0));
-    assert_eq!(rt; poller.armed(key), READ);
+    assert_eq!(rt; poller.armed(key), Interest::READ);
     // An event of no direction takes nobody, and arms what still waits.
     assert_eq!(rt;
-        handle(&rt, &mut source, &mut poller, NONE, 5, &mut taken),
+        handle(&rt, &mut source, &mut poller, Interest::NONE, 5, &mut taken),
         Ok(())
     );
     assert!(rt; taken.is_empty());
-    assert_eq!(rt; poller.armed(key), READ);
+    assert_eq!(rt; poller.armed(key), Interest::READ);
     // An event of a later round takes the waker; one of an earlier round lowers no tick.
     for round in [9, 6] {
         assert_eq!(rt;
-            handle(&rt, &mut source, &mut poller, READ, round, &mut taken),
+            handle(
+                &rt,
+                &mut source,
+                &mut poller,
+                Interest::READ,
+                round,
+                &mut taken
+            ),
             Ok(())
         );
         assert_eq!(rt; source.tick(Dir::Read), 9);
@@ -94,12 +86,12 @@ fn a_failed_arm_keeps_the_taken_wakers(rt: HostRuntime) -> Result<(), Fail> {
         after: 1,
     };
     assert_eq!(rt;
-        handle(&rt, &mut source, &mut poller, READ, 1, &mut taken),
+        handle(&rt, &mut source, &mut poller, Interest::READ, 1, &mut taken),
         Err(fault)
     );
     assert_eq!(rt; taken.as_slice(), [Waker(1)].as_slice());
     let mended = source.poll_dir(&mut poller, Dir::Write, Waker(2), 1);
     assert_eq!(rt; mended.answer, Poll::Pending);
-    assert_eq!(rt; poller.armed(key), WRITE);
+    assert_eq!(rt; poller.armed(key), Interest::WRITE);
     Ok(())
 }

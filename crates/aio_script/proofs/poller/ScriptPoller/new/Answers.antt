@@ -2,7 +2,7 @@ use Rattle.std.proofs.Common.{◌≡◌, ℕ, List, ◌≤◌, get_or, replicate
 use Rattle.std.proofs.lemmas.Bool.{cases_lt}
 use Rattle.std.proofs.lemmas.List.{get_or-replicate, get_or_past, length-replicate}
 use Rattle.aio_base.specs.declared.names.Interest.{Interest}
-use Rattle.aio_base.specs.Devices.{no_interest}
+use Rattle.aio_base.specs.declared.names.TheConstants.Interest.{NONE}
 use Rattle.aio_script.specs.Script.{none_armed}
 use Rattle.aio_script.proofs.poller.ScriptPoller.new.Goals as goal
 
@@ -22,4 +22,4 @@ returns-clause-fresh c =
 
 pub returns-clause-unarmed : goal.returns-clause-unarmed
 returns-clause-unarmed c =
-    let entries = c.in-Ok.ensures.items_if_clones_equal (λ copy is_copy. is_copy) in λ key. subst (λ (armed : List Interest). get_or armed key no_interest ≡ no_interest) (sym entries) (same-everywhere 4096 key no_interest)
+    let entries = c.in-Ok.ensures.items_if_clones_equal (λ copy is_copy. is_copy) in λ key. subst (λ (armed : List Interest). get_or armed key NONE ≡ NONE) (sym entries) (same-everywhere 4096 key NONE)
