@@ -1,5 +1,5 @@
 -- What the calls of a device mean: its count of faults, what a poller has armed, which calls were made.
-use Rattle.std.specs.Prelude.{◌≡◌, ℕ, ◌+◌, ◌-◌, ◌^◌, ◌≤◌, Bool, false, IsTrue, ◌==◌, if◌then◌else◌, List, [], ◌∷◌, Option, None, Some, Result, Ok, Err, IsOk, OnErr, ⊤, min}
+use Rattle.std.specs.Prelude.{◌≡◌, ℕ, ◌+◌, ◌-◌, ◌^◌, ◌≤◌, Bool, false, IsTrue, ◌==◌, if◌then◌else◌, List, [], ◌∷◌, Option, None, Some, Result, Ok, Err, ⊤, min}
 use Rattle.aio_base.specs.declared.names.Key.{Key}
 use Rattle.aio_base.specs.declared.names.Interest.{Interest}
 use Rattle.aio_base.specs.declared.names.TheConstants.Interest.{NONE}
@@ -15,11 +15,16 @@ raised count = min (count + 1) (2 ^ 64 - 1)
 abbrev pub Rose : ℕ → ℕ → Type 0
 Rose before after = raised before ≤ after
 
--- The count of faults over one call: it does not fall, it rose where the call failed, and neither a fault nor a rise comes of a sure object.
-pub record HasCause {T E : Type 0} (before after : ℕ) (sure : Bool) (answer : Result T E) : Type 0 where
+-- The count of faults over one call: it does not fall, it rose where the call failed, and neither a failure nor a rise comes of a sure object.
+pub record HasCause (before after : ℕ) (sure : Bool) (failed : Type 0) : Type 0 where
   pub later : before ≤ after
-  pub failed : OnErr answer (Rose before after)
-  pub never : IsTrue sure → IsOk answer × (after ≡ before)
+  pub rose : failed → Rose before after
+  pub never : IsTrue sure → (¬ failed) × (after ≡ before)
+
+-- the same of an object with such a count, in the states before the call and after it; whether it is sure stays
+pub record TellsFaults {S : Type 0} (count : S → ℕ) (is_sure : S → Bool) (old new : S) (failed : Type 0) : Type 0 where
+  pub cause : HasCause (count old) (count new) (is_sure old) failed
+  pub sure : is_sure new ≡ is_sure old
 
 -- what a poller watches: an interest for each key
 abbrev pub Interests : Type 0

@@ -5,7 +5,7 @@
 //! stays untold. A generic body can answer a device's fault only after a call that failed, since only
 //! such a call lets the count of faults rise.
 
-ghost use Rattle.std.specs.Prelude.{◌≡◌, ℕ, ◌+◌, ◌-◌, ◌^◌, ◌<◌, ◌≤◌, ◌++◌, [], Bool, IsTrue, List, Option, Result, length, vec_len, vec_capacity, MatchResult, Ok};
+ghost use Rattle.std.specs.Prelude.{◌≡◌, ℕ, ◌+◌, ◌-◌, ◌^◌, ◌<◌, ◌≤◌, ◌++◌, [], Bool, IsTrue, List, Option, Result, length, vec_len, vec_capacity, IsErr};
 
 use crate::names::{Event, Interest, Key};
 use crate::outcomes::{Failed, Waited};
@@ -35,7 +35,7 @@ pub trait Faults {
 /// and `delete` in oneshot mode).
 pub trait Arm: Faults {
     ghost use Rattle.aio_base.specs.declared.outcomes.Failed.{Failed};
-    ghost use Rattle.aio_base.specs.Devices.{HasCause, Interests, ArmCall, AddOf, ArmOf, RemoveOf, Arms};
+    ghost use Rattle.aio_base.specs.Devices.{TellsFaults, Interests, ArmCall, AddOf, ArmOf, RemoveOf, Arms};
 
     /// The armed interest of each key, where the object tells it. An object that tells it does so
     /// after each call, and one that does not never begins to.
@@ -53,8 +53,7 @@ pub trait Arm: Faults {
         ensures step { arm_step self.old (AddOf key) result self.new }
         ensures interests { Arms (interests self.old) (AddOf key) result (interests self.new) }
         ensures rest { rest self.new ≡ rest self.old }
-        ensures sure { Self.is_sure self.new ≡ Self.is_sure self.old }
-        ensures cause { HasCause (Self.fault_count self.old) (Self.fault_count self.new) (Self.is_sure self.old) result };
+        ensures faults { TellsFaults Self.fault_count Self.is_sure self.old self.new (IsErr result) };
 
     /// Arms a source: its interest is `on` until an event of it is given. `Failed` only where the
     /// count of faults rose.
@@ -63,8 +62,7 @@ pub trait Arm: Faults {
         ensures step { arm_step self.old (ArmOf key on) result self.new }
         ensures interests { Arms (interests self.old) (ArmOf key on) result (interests self.new) }
         ensures rest { rest self.new ≡ rest self.old }
-        ensures sure { Self.is_sure self.new ≡ Self.is_sure self.old }
-        ensures cause { HasCause (Self.fault_count self.old) (Self.fault_count self.new) (Self.is_sure self.old) result };
+        ensures faults { TellsFaults Self.fault_count Self.is_sure self.old self.new (IsErr result) };
 
     /// Takes a source out. `Failed` only where the count of faults rose.
     fn remove(&mut self, key: Key) -> Result<(), Failed>
@@ -72,8 +70,7 @@ pub trait Arm: Faults {
         ensures step { arm_step self.old (RemoveOf key) result self.new }
         ensures interests { Arms (interests self.old) (RemoveOf key) result (interests self.new) }
         ensures rest { rest self.new ≡ rest self.old }
-        ensures sure { Self.is_sure self.new ≡ Self.is_sure self.old }
-        ensures cause { HasCause (Self.fault_count self.old) (Self.fault_count self.new) (Self.is_sure self.old) result };
+        ensures faults { TellsFaults Self.fault_count Self.is_sure self.old self.new (IsErr result) };
 }
 
 /// What waits for events (`polling` 3, `lib.rs`, `Poller::wait`).
@@ -81,7 +78,7 @@ pub trait EventWait: Faults {
     ghost use Rattle.aio_base.specs.declared.names.Event.{Event};
     ghost use Rattle.aio_base.specs.declared.outcomes.Failed.{Failed};
     ghost use Rattle.aio_base.specs.declared.outcomes.Waited.{Waited};
-    ghost use Rattle.aio_base.specs.Devices.{HasCause, raised, WaitCall};
+    ghost use Rattle.aio_base.specs.Devices.{TellsFaults, raised, WaitCall};
     ghost use Rattle.aio_base.specs.Waits.{AddsEvents};
 
     /// The number of waits so far.
@@ -104,8 +101,7 @@ pub trait EventWait: Faults {
         ensures added { AddsEvents (wait_step self.old (record { room = room; limit = limit }) result) self.new result room out.old.items out.new.items }
         ensures capacity { vec_capacity out.old ≤ vec_capacity out.new }
         ensures waits { wait_count self.new ≡ raised (wait_count self.old) }
-        ensures sure { Self.is_sure self.new ≡ Self.is_sure self.old }
-        ensures cause { HasCause (Self.fault_count self.old) (Self.fault_count self.new) (Self.is_sure self.old) result };
+        ensures faults { TellsFaults Self.fault_count Self.is_sure self.old self.new (IsErr result) };
 
     /// The number of waits: every wait raises it, or it stands at 2^64 - 1.
     fn waits(&self) -> u64

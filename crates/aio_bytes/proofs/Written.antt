@@ -3,7 +3,8 @@ use Rattle.std.proofs.Common.{◌≡◌, ℕ, ◌≤◌, Bool, IsTrue, List, [],
 use Rattle.std.proofs.lemmas.List.{take_rest}
 use Rattle.std.specs.Io.KnownBytes.{Appends}
 use Rattle.std.proofs.KnownBytes.{Appends-trans}
-use Rattle.aio_bytes.specs.Sinks.{HasSinkCause}
+use Rattle.aio_base.specs.Devices.{HasCause}
+use Rattle.aio_bytes.specs.Sinks.{HasFailed}
 
 -- some front part of the bytes is written and the rest is not, and no fault came of a sure sink
 pub record Standing (old new : Option (List ℕ)) (bytes rest : List ℕ) (before after : ℕ) (sure : Bool) : Type 0 where
@@ -15,7 +16,7 @@ pub record Standing (old new : Option (List ℕ)) (bytes rest : List ℕ) (befor
 
 -- one more write; what is left is given as the code's slice has it
 pub Standing-goes : (old mid new : Option (List ℕ)) (bytes rest : List ℕ) (taken before middle after : ℕ) (sure same : Bool)
-    → Standing old mid bytes rest before middle sure → same ≡ sure → Appends mid new (take taken rest) → HasSinkCause {T = ℕ} middle after same (Ok taken)
+    → Standing old mid bytes rest before middle sure → same ≡ sure → Appends mid new (take taken rest) → HasCause middle after same (HasFailed {T = ℕ} (Ok taken))
     → Standing old new bytes (take (length rest - taken) (drop taken rest)) before after sure
 Standing-goes old mid new bytes rest taken before middle after sure same begun is_same grown cause = record {
   added = begun.added ++ take taken rest;

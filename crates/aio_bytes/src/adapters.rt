@@ -1,10 +1,10 @@
 //! Adapters over std's readers and writers: the trusted edge. What the system gives and takes is not
 //! proved.
 
-ghost use Rattle.std.specs.Prelude.{◌≡◌, ◌≢◌, ◌<◌, ◌≤◌, length, false, None, Err, IfOk, is_ok, if◌then◌else◌};
+ghost use Rattle.std.specs.Prelude.{◌≡◌, ◌≢◌, ◌<◌, ◌≤◌, length, false, None, Err, IfOk, IsErr, is_ok, if◌then◌else◌};
 ghost use Rattle.std.specs.Io.KnownBytes.{ReadConsumes, WriteAppends};
 ghost use Rattle.aio_base.specs.Devices.{HasCause, raised};
-ghost use Rattle.aio_bytes.specs.Sinks.{HasSinkCause};
+ghost use Rattle.aio_bytes.specs.Sinks.{HasFailed};
 
 use crate::traits::{Sink, SinkRefusal, Source};
 use aio_base::{Failed, Faults};
@@ -105,7 +105,7 @@ impl<R: Read> Source for StdSource<R> {
         ensures inner { ReadConsumes (R.remaining self.old.inner) (R.remaining self.new.inner) result buf.new }
         ensures bound { IfOk result (λ n. n ≤ length buf.new) }
         ensures bytes { ReadConsumes None None result buf.new }
-        ensures cause { HasCause self.old.fault_count self.new.fault_count false result }
+        ensures cause { HasCause self.old.fault_count self.new.fault_count false (IsErr result) }
     {
         let answer = read_retrying(&mut self.inner, buf);
         if answer.is_err() {
@@ -169,7 +169,7 @@ impl<W: Write> Sink for StdSink<W> {
         ensures memory { result ≢ Err SinkRefusal.OutOfMemory }
         ensures bound { IfOk result (λ n. (0 < n) × (n ≤ length piece.now)) }
         ensures bytes { WriteAppends None None result piece.now }
-        ensures cause { HasSinkCause self.old.fault_count self.new.fault_count false result }
+        ensures cause { HasCause self.old.fault_count self.new.fault_count false (HasFailed result) }
     {
         match write_retrying(&mut self.inner, piece) {
             Ok(count) => Ok(count),

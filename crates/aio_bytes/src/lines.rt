@@ -1,10 +1,10 @@
 //! A reader of the lines of a source, which holds a bounded number of bytes of it.
 
-ghost use Rattle.std.specs.Prelude.{◌≡◌, ◌+◌, ◌-◌, ◌<◌, ◌≤◌, ◌==◌, ◌++◌, ◌∷◌, [], ◌||◌, ◌↔◌, true, length, take, drop, slice_range, nat_lt, position, IsTrue, IfOk, OnErr};
+ghost use Rattle.std.specs.Prelude.{◌≡◌, ◌+◌, ◌-◌, ◌<◌, ◌≤◌, ◌==◌, ◌++◌, ◌∷◌, [], ◌||◌, ◌↔◌, true, length, take, drop, slice_range, nat_lt, position, IsTrue, IsErr, IfOk, OnErr};
 ghost use Rattle.std.specs.List.{position_or_len};
 ghost use Rattle.std.specs.Bool.{OnTrue, OnFalse};
 ghost use Rattle.std.specs.Io.KnownBytes.{Keeps, ReadConsumes};
-ghost use Rattle.aio_base.specs.Devices.{HasCause};
+ghost use Rattle.aio_base.specs.Devices.{TellsFaults};
 ghost use Rattle.aio_bytes.specs.Held.{HasNoLineFeed, PutsAhead};
 
 use crate::traits::Source;
@@ -101,8 +101,7 @@ impl LineReader {
         ensures failed { OnErr result (self.new.short ≡ true) }
         ensures line { self.new.line ≡ [] }
         ensures bound { length self.new.ahead ≤ LONGEST }
-        ensures sure { S.Faults.is_sure source.new ≡ S.Faults.is_sure source.old }
-        ensures cause { HasCause (S.Faults.fault_count source.old) (S.Faults.fault_count source.new) (S.Faults.is_sure source.old) result }
+        ensures faults { TellsFaults S.Faults.fault_count S.Faults.is_sure source.old source.new (IsErr result) }
     {
         let held = self.end - self.start;
         move_to_front(self.buffer.as_mut_slice(), self.start, self.end);
@@ -224,8 +223,7 @@ fn read_behind<S: Source>(source: &mut S, bytes: &mut [u8], held: usize) -> Resu
     ensures front { take held bytes.new ≡ take held bytes.old }
     ensures bound { IfOk result (λ n. held + n ≤ length bytes.new) }
     ensures bytes { ReadConsumes (S.remaining source.old) (S.remaining source.new) result (drop held bytes.new) }
-    ensures sure { S.Faults.is_sure source.new ≡ S.Faults.is_sure source.old }
-    ensures cause { HasCause (S.Faults.fault_count source.old) (S.Faults.fault_count source.new) (S.Faults.is_sure source.old) result }
+    ensures faults { TellsFaults S.Faults.fault_count S.Faults.is_sure source.old source.new (IsErr result) }
 {
     source.read(&mut bytes[held..])
 }

@@ -1,9 +1,9 @@
 //! A source and a sink over bytes in memory, whose calls fail by a script.
 
-ghost use Rattle.std.specs.Prelude.{◌≡◌, ◌<◌, ◌≤◌, [], ◌++◌, take, drop, length, min, true, false, Some, IfOk, is_ok, is_err, if◌then◌else◌};
+ghost use Rattle.std.specs.Prelude.{◌≡◌, ◌<◌, ◌≤◌, [], ◌++◌, take, drop, length, min, true, false, Some, IfOk, is_ok, is_err, IsErr, if◌then◌else◌};
 ghost use Rattle.std.specs.Io.KnownBytes.{ReadConsumes, WriteAppends};
 ghost use Rattle.aio_base.specs.Devices.{HasCause, raised};
-ghost use Rattle.aio_bytes.specs.Sinks.{HasSinkCause};
+ghost use Rattle.aio_bytes.specs.Sinks.{HasFailed};
 ghost use Rattle.aio_bytes.specs.Memory.{ScriptedSource, ScriptedSink, is_next_failing, is_failed, given_count, after_read, after_write};
 
 use crate::traits::{Sink, SinkRefusal, Source};
@@ -111,7 +111,7 @@ impl Source for MemSource {
         ensures state { self.new ≡ after_read self.old result }
         ensures bound { IfOk result (λ n. n ≤ length buf.new) }
         ensures bytes { ReadConsumes (Some self.old.left) (Some self.new.left) result buf.new }
-        ensures cause { HasCause self.old.fault_count self.new.fault_count false result }
+        ensures cause { HasCause self.old.fault_count self.new.fault_count false (IsErr result) }
     {
         self.script.next_call()?;
         let rest = &self.bytes[self.position..];
@@ -193,7 +193,7 @@ impl Sink for MemSink {
         ensures state { self.new ≡ after_write self.old piece.now result }
         ensures bound { IfOk result (λ n. (0 < n) × (n ≤ length piece.now)) }
         ensures bytes { WriteAppends (Some self.old.written) (Some self.new.written) result piece.now }
-        ensures cause { HasSinkCause self.old.fault_count self.new.fault_count false result }
+        ensures cause { HasCause self.old.fault_count self.new.fault_count false (HasFailed result) }
     {
         if self.script.next_call().is_err() {
             return Err(SinkRefusal::Failed);

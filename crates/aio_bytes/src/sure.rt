@@ -1,10 +1,10 @@
 //! A source and a sink over bytes in memory that never fail.
 
-ghost use Rattle.std.specs.Prelude.{◌≡◌, ◌<◌, ◌≤◌, List, ℕ, [], ◌++◌, drop, length, min, true, Some, Ok, Err, IfOk, OnErr};
+ghost use Rattle.std.specs.Prelude.{◌≡◌, ◌<◌, ◌≤◌, List, ℕ, [], ◌++◌, drop, length, min, true, Some, Ok, Err, IfOk, IsErr, OnErr};
 ghost use Rattle.std.proofs.Common.{arith};
 ghost use Rattle.std.specs.Io.KnownBytes.{ReadConsumes, WriteAppends};
 ghost use Rattle.aio_base.specs.Devices.{HasCause};
-ghost use Rattle.aio_bytes.specs.Sinks.{HasSinkCause};
+ghost use Rattle.aio_bytes.specs.Sinks.{HasFailed};
 
 use crate::memory::copy_front;
 use crate::traits::{Sink, SinkRefusal, Source};
@@ -62,7 +62,7 @@ impl Source for SureSource {
         ensures left { self.new ≡ drop (length buf.new) self.old }
         ensures bound { IfOk result (λ n. n ≤ length buf.new) }
         ensures bytes { ReadConsumes (Some self.old) (Some self.new) result buf.new }
-        ensures cause { HasCause 0 0 true result }
+        ensures cause { HasCause 0 0 true (IsErr result) }
     {
         let rest = &self.bytes[self.position..];
         let count = copy_front(rest, buf, buf.len());
@@ -129,7 +129,7 @@ impl Sink for SureSink {
         ensures refused { OnErr result ((result ≡ Err SinkRefusal.OutOfMemory) × (self.new ≡ self.old)) }
         ensures bound { IfOk result (λ n. (0 < n) × (n ≤ length piece.now)) }
         ensures bytes { WriteAppends (Some self.old) (Some self.new) result piece.now }
-        ensures cause { HasSinkCause 0 0 true result }
+        ensures cause { HasCause 0 0 true (HasFailed result) }
     {
         if self.bytes.extend_from_slice(piece).is_err() {
             return Err(SinkRefusal::OutOfMemory);

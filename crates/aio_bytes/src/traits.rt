@@ -1,13 +1,13 @@
 //! What a source of bytes and a sink of bytes promise.
 
-ghost use Rattle.std.specs.Prelude.{◌≡◌, ℕ, ◌<◌, ◌≤◌, List, Option, length, IfOk};
+ghost use Rattle.std.specs.Prelude.{◌≡◌, ℕ, ◌<◌, ◌≤◌, List, Option, length, IfOk, IsErr};
 ghost use Rattle.std.specs.Io.KnownBytes.{ReadConsumes, WriteAppends};
 
 use aio_base::{Failed, Faults};
 
 /// A source of bytes.
 pub trait Source: Faults {
-    ghost use Rattle.aio_base.specs.Devices.{HasCause};
+    ghost use Rattle.aio_base.specs.Devices.{TellsFaults};
 
     /// The bytes that it has left, where it tells them.
     ghost remaining: { Self → Option (List ℕ) };
@@ -18,8 +18,7 @@ pub trait Source: Faults {
         requires { 0 < length buf.old }
         ensures bound { IfOk result (λ n. n ≤ length buf.new) }
         ensures bytes { ReadConsumes (remaining self.old) (remaining self.new) result buf.new }
-        ensures sure { Self.is_sure self.new ≡ Self.is_sure self.old }
-        ensures cause { HasCause (Self.fault_count self.old) (Self.fault_count self.new) (Self.is_sure self.old) result };
+        ensures faults { TellsFaults Self.fault_count Self.is_sure self.old self.new (IsErr result) };
 }
 
 /// Why a sink took no byte.
@@ -31,7 +30,8 @@ pub enum SinkRefusal {
 
 /// A sink of bytes.
 pub trait Sink: Faults {
-    ghost use Rattle.aio_bytes.specs.Sinks.{HasSinkCause};
+    ghost use Rattle.aio_base.specs.Devices.{TellsFaults};
+    ghost use Rattle.aio_bytes.specs.Sinks.{HasFailed};
 
     /// The bytes that it holds, where it tells them.
     ghost contents: { Self → Option (List ℕ) };
@@ -42,6 +42,5 @@ pub trait Sink: Faults {
         requires { 0 < length piece.now }
         ensures bound { IfOk result (λ n. (0 < n) × (n ≤ length piece.now)) }
         ensures bytes { WriteAppends (contents self.old) (contents self.new) result piece.now }
-        ensures sure { Self.is_sure self.new ≡ Self.is_sure self.old }
-        ensures cause { HasSinkCause (Self.fault_count self.old) (Self.fault_count self.new) (Self.is_sure self.old) result };
+        ensures faults { TellsFaults Self.fault_count Self.is_sure self.old self.new (HasFailed result) };
 }

@@ -2,7 +2,8 @@
 
 ghost use Rattle.std.specs.Prelude.{◌≡◌, [], OnOk, OnErr, IsOk};
 ghost use Rattle.std.specs.Io.KnownBytes.{Appends};
-ghost use Rattle.aio_bytes.specs.Sinks.{AppendsPart, HasSinkCause};
+ghost use Rattle.aio_base.specs.Devices.{TellsFaults};
+ghost use Rattle.aio_bytes.specs.Sinks.{AppendsPart, HasFailed};
 
 use crate::traits::{Sink, SinkRefusal};
 
@@ -12,8 +13,7 @@ pub fn write_all<K: Sink>(out: &mut K, bytes: &[u8]) -> Result<(), SinkRefusal>
     ensures whole { OnOk result (Appends (K.contents out.old) (K.contents out.new) bytes.now) }
     ensures part { OnErr result (AppendsPart (K.contents out.old) (K.contents out.new) bytes.now) }
     ensures empty { bytes.now ≡ [] → IsOk result × (out.new ≡ out.old) }
-    ensures sure { K.is_sure out.new ≡ K.is_sure out.old }
-    ensures cause { HasSinkCause (K.fault_count out.old) (K.fault_count out.new) (K.is_sure out.old) result }
+    ensures faults { TellsFaults K.fault_count K.is_sure out.old out.new (HasFailed result) }
 {
     let mut rest = bytes;
     while !rest.is_empty() {

@@ -25,8 +25,11 @@ Worked-nothing removed removal_refused inserted insert_refused later sure faults
       spent = (λ (told : None ≡ Some IdsSpent). absurd (cc), λ (lacks : IsTrue false). absurd (false≢true lacks));
       carried = record { mid = host; removal = refl; insertion = refl; timer = refl };
       ids = refl;
-      stays = omega arith;
-      never = λ s. refl;
+      cause = record {
+        later = omega arith;
+        rose = λ (told : IsTrue false). absurd (false≢true told);
+        never = λ s. (λ (told : IsTrue false). absurd (false≢true told), refl);
+      };
       is_later = itself;
       same_pass = refl;
     }

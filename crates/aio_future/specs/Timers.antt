@@ -1,12 +1,13 @@
 -- Timers as contracts see them, the work of each call on one, and what a call that did its work, or not all of it, leaves behind
 -- (`async-io` 2, `lib.rs`, `Timer` as a stream).
-use Rattle.std.specs.Prelude.{◌≡◌, ◌↔◌, ℕ, ◌+◌, ◌^◌, ◌≤◌, Bool, not, ◌&&◌, IsTrue, if◌then◌else◌, nat_le, Option, None, Some, option_map, is_some, IfSome, Result, Ok, Err, ◌⊎◌}
+use Rattle.std.specs.Prelude.{◌≡◌, ◌↔◌, ℕ, ◌+◌, ◌^◌, ◌≤◌, Bool, true, false, not, ◌&&◌, IsTrue, if◌then◌else◌, nat_le, Option, None, Some, option_map, is_some, IfSome, Result, Ok, Err, ◌⊎◌}
 use Rattle.aio_base.specs.declared.names.TimerId.{TimerId}
 use Rattle.aio_base.specs.declared.names.Waker.{Waker}
 use Rattle.aio_base.specs.declared.outcomes.CountFault.{CountFault}
+use Rattle.aio_base.specs.Devices.{HasCause}
 use Rattle.aio_base.specs.Machine.{is_waker, next_deadline}
 use Rattle.aio_base.specs.Trace.{IsPeriod}
-use Rattle.aio_react.specs.Hosts.{has_id_left, next_id, NotifierFails}
+use Rattle.aio_react.specs.Hosts.{has_id_left, next_id, NotifierTells}
 use Rattle.aio_base.specs.declared.outcomes.Poll.{Poll}
 use Rattle.aio_base.specs.declared.outcomes.Poll.TheVariants.{Ready, Pending}
 use Rattle.aio_future.specs.declared.answers.TimerFault.{TimerFault}
@@ -152,7 +153,7 @@ pub record NotNotified {H : Type 0} (removed : H → ℕ → TimerId → H → T
   pub wanted : IsTrue (is_some work.inserts)
   pub reached : fired ≡ work.reached
   pub stays : faults old ≤ faults done.mid
-  pub fails : NotifierFails sure (faults done.mid) (faults new) fault
+  pub fails : NotifierTells sure (faults done.mid) (faults new) (Some fault)
 
 -- the host refused the removal: the timer is as it was
 pub record RemovalRefused {H : Type 0} (removal_refused : H → ℕ → TimerId → H → Type 0) (work : Work) (old new : H) (before after : TimerValue) : Type 0 where
@@ -187,16 +188,22 @@ drawn_after work drawn (Some IdsSpent) = drawn
 drawn_after work drawn (Some OutOfMemory) = drawn
 drawn_after work drawn (Some (Notify fired fault)) = drawn + 1
 
+-- whether a call told a fault of the host's notifier
+abbrev pub is_notify : Option TimerFault → Bool
+is_notify None = false
+is_notify (Some IdsSpent) = false
+is_notify (Some OutOfMemory) = false
+is_notify (Some (Notify fired fault)) = true
+
 -- A call with this work on a timer and a host, which told this fault, if any: ids are spent exactly where the work has to draw one and none is
--- left; the host is later, of the same pass, and its notifier's count of faults did not fall, nor rise where that is sure.
+-- left; the host is later, of the same pass; and a fault of its notifier has its cause in this call.
 pub record Worked {H : Type 0} (removed removal_refused : H → ℕ → TimerId → H → Type 0) (inserted : H → ℕ → Waker → TimerId → H → Type 0)
     (insert_refused : H → ℕ → Waker → H → Type 0) (later : H → H → Type 0) (sure : H → Bool) (faults pass drawn : H → ℕ)
     (work : Work) (old new : H) (before after : TimerValue) (told : Option TimerFault) : Type 0 where
   pub spent : (told ≡ Some IdsSpent) ↔ IsTrue (lacks_id work (drawn old))
   pub carried : Carried removed removal_refused inserted insert_refused faults (sure old) work (next_id (pass old) (drawn old)) old new before after told
   pub ids : drawn new ≡ drawn_after work (drawn old) told
-  pub stays : faults old ≤ faults new
-  pub never : IsTrue (sure old) → faults new ≡ faults old
+  pub cause : HasCause (faults old) (faults new) (sure old) (IsTrue (is_notify told))
   pub is_later : later old new
   pub same_pass : pass new ≡ pass old
 

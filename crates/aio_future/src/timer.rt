@@ -1,6 +1,7 @@
 //! The timer and its calls.
 
 ghost use Rattle.std.specs.Prelude.{◌≡◌, ◌≤◌, ◌&&◌, Some, None, IfSome, IsTrue, is_some, MatchResult, OnOk, OnErr};
+ghost use Rattle.aio_base.specs.Devices.{HasCause};
 ghost use Rattle.aio_base.specs.Machine.{is_waker, next_deadline};
 ghost use Rattle.aio_base.specs.Trace.{IsPeriod};
 ghost use Rattle.aio_react.specs.Hosts.{next_id};
@@ -158,8 +159,7 @@ impl Timer {
             (λ timer. (timer ≡ self) × RefusesRemoval H.removal_refused (registration_of self) host.old host.new) }
         ensures sound { IsTimer self }
         ensures ids { H.ids_drawn host.new ≡ H.ids_drawn host.old }
-        ensures faults { H.notifier_faults host.old ≤ H.notifier_faults host.new }
-        ensures never { IsTrue (H.notifier_is_sure host.old) → H.notifier_faults host.new ≡ H.notifier_faults host.old }
+        ensures cause { HasCause (H.notifier_faults host.old) (H.notifier_faults host.new) (H.notifier_is_sure host.old) ⊥ }
         ensures later { H.is_later host.old host.new }
         ensures pass { H.pass_number host.new ≡ H.pass_number host.old }
     {
@@ -252,8 +252,7 @@ impl Timer {
         ensures refused { OnErr result ((self.new ≡ self.old) × RefusesRemoval H.removal_refused (registration_of self.old) host.old host.new) }
         ensures sound { IsTimer self.old }
         ensures ids { H.ids_drawn host.new ≡ H.ids_drawn host.old }
-        ensures faults { H.notifier_faults host.old ≤ H.notifier_faults host.new }
-        ensures never { IsTrue (H.notifier_is_sure host.old) → H.notifier_faults host.new ≡ H.notifier_faults host.old }
+        ensures cause { HasCause (H.notifier_faults host.old) (H.notifier_faults host.new) (H.notifier_is_sure host.old) ⊥ }
         ensures later { H.is_later host.old host.new }
         ensures pass { H.pass_number host.new ≡ H.pass_number host.old }
     {

@@ -1,8 +1,8 @@
 -- What the answers of a host of timers mean: the ids that a pass draws, and the faults of a host's notifier.
-use Rattle.std.specs.Prelude.{◌≡◌, ℕ, ◌+◌, ◌-◌, ◌*◌, ◌^◌, ◌≤◌, Bool, false, not, ◌==◌, Option, None, Some, IfSome, IsTrue, Result, Ok, Err}
+use Rattle.std.specs.Prelude.{◌≡◌, ℕ, ◌+◌, ◌-◌, ◌*◌, ◌^◌, Bool, not, ◌==◌, Option, None, Some, IsSome, IfSome, Result, Ok, Err}
 use Rattle.aio_base.specs.declared.names.TimerId.{TimerId}
 use Rattle.aio_base.specs.declared.outcomes.CountFault.{CountFault}
-use Rattle.aio_base.specs.Devices.{Rose}
+use Rattle.aio_base.specs.Devices.{HasCause}
 use Rattle.aio_react.specs.declared.hosts.InsertRefusal.{InsertRefusal}
 use Rattle.aio_react.specs.declared.hosts.InsertRefusal.TheVariants as refusal
 
@@ -30,12 +30,6 @@ RegistersAs relation refused pass before after (Some id) = relation id × (id �
 
 -- ## Faults of a notifier
 
--- A notifier that fails is not sure, its count of faults rose in this call, and the fault carries the count before the call and after it.
-pub record NotifierFails (sure : Bool) (before after : ℕ) (fault : CountFault) : Type 0 where
-  pub unsure : sure ≡ false
-  pub rose : Rose before after
-  pub counts : fault ≡ record { before = before; after = after }
-
 -- the fault of the notifier that an insert told
 abbrev pub insert_fault : Result TimerId InsertRefusal → Option CountFault
 insert_fault (Ok id) = None
@@ -47,8 +41,7 @@ abbrev pub wake_fault : Result (Unit {0}) CountFault → Option CountFault
 wake_fault (Ok done) = None
 wake_fault (Err fault) = Some fault
 
--- the notifier's count of faults does not fall, and of a sure notifier it does not rise; a fault that is told is one of a notifier that fails
+-- a fault that is told has a cause in the host's notifier, and carries its count of faults before the call and after it
 pub record NotifierTells (sure : Bool) (before after : ℕ) (told : Option CountFault) : Type 0 where
-  pub stays : before ≤ after
-  pub never : IsTrue sure → after ≡ before
-  pub fails : IfSome told (NotifierFails sure before after)
+  pub cause : HasCause before after sure (IsSome told)
+  pub counts : IfSome told (λ fault. fault ≡ record { before = before; after = after })

@@ -51,7 +51,7 @@ hosted work old new before after None few works = tt
 hosted work old new before after (Some IdsSpent) few works =
     absurd (false≢true (sym (lacks_none work.inserts old.drawn few) ∙ works.spent.0 refl))
 hosted work old new before after (Some OutOfMemory) few works = tt
-hosted work old new before after (Some (Notify fired fault)) few works = absurd (false≢true (sym works.carried.fails.unsure))
+hosted work old new before after (Some (Notify fired fault)) few works = absurd ((works.carried.fails.cause.never refl).0 refl)
 
 -- ## What the work makes of what is kept
 

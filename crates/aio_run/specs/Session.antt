@@ -1,7 +1,7 @@
 -- What stands while a trace is replayed, and what its end says.
 use Rattle.std.specs.Prelude.{◌≡◌, ℕ, ◌+◌, ◌*◌, ◌≤◌, Bool, true, false, IsTrue, List, [], ◌∷◌, ◌++◌, length, Option, None, Some, Result, Ok, Err, bytes_eq}
 use Rattle.std.specs.Io.KnownBytes.{Appends, Keeps}
-use Rattle.aio_base.specs.Devices.{Rose}
+use Rattle.aio_base.specs.Devices.{TellsFaults}
 use Rattle.aio_base.specs.Script.{output}
 use Rattle.aio_base.specs.Trace.{lines_of, trace_of, written_step, header_text}
 use Rattle.aio_bytes.specs.declared.traits.SinkRefusal.{SinkRefusal}
@@ -19,13 +19,9 @@ abbrev pub stop_of : SinkRefusal → Stop
 stop_of refusal.Failed = stop.Write
 stop_of refusal.OutOfMemory = stop.OutOfMemory
 
--- The count of faults of a device over a call that uses it, which may fail: it does not fall, it rose where the device failed, neither comes
--- of a sure object, and being sure stays.
-pub record Causes {S : Type 0} (count : S → ℕ) (is_sure : S → Bool) (old new : S) (did_fail : Bool) : Type 0 where
-  pub later : count old ≤ count new
-  pub rose : IsTrue did_fail → Rose (count old) (count new)
-  pub never : IsTrue (is_sure old) → (did_fail ≡ false) × (count new ≡ count old)
-  pub sure : is_sure new ≡ is_sure old
+-- what a call that uses a device tells of its faults, where the device may have failed
+abbrev pub Causes : {S : Type 0} → (S → ℕ) → (S → Bool) → (old new : S) → Bool → Type 0
+Causes count is_sure old new did_fail = TellsFaults count is_sure old new (IsTrue did_fail)
 
 abbrev pub is_read_fault : Stop → Bool
 is_read_fault stop.Read = true

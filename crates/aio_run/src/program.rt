@@ -4,7 +4,8 @@ ghost use Rattle.std.specs.Prelude.{◌≡◌, ◌≢◌, ℕ, ◌<◌, ◌↔�
 ghost use Rattle.std.specs.Io.KnownBytes.{Appends};
 ghost use Rattle.aio_base.specs.Between.{StandsAfter};
 ghost use Rattle.aio_base.specs.Trace.{trace_of};
-ghost use Rattle.aio_bytes.specs.Sinks.{AppendsPart, HasSinkCause};
+ghost use Rattle.aio_base.specs.Devices.{TellsFaults};
+ghost use Rattle.aio_bytes.specs.Sinks.{AppendsPart, HasFailed};
 ghost use Rattle.aio_run.specs.Session.{Causes, LeavesAllBut};
 ghost use Rattle.aio_run.specs.Commands.{IsReplay, exit_of, text_of, Replays, TellsCounts, bytes_taken, is_read_fault, is_write_fault};
 ghost use Rattle.aio_run.specs.Writing.{refusal_text};
@@ -71,7 +72,7 @@ pub fn run<R: Wait + Threads + Sync + Send + Copy, S: Source, K: Sink, E: Sink>(
     // The user is told why, as far as `err` takes it; a refusal of `err` changes nothing else.
     ensures told { OnOk result.told (Appends (E.contents err.old) (E.contents err.new) (text_of result.why)) }
     ensures told_part { OnErr result.told (AppendsPart (E.contents err.old) (E.contents err.new) (text_of result.why)) }
-    ensures told_cause { HasSinkCause (E.fault_count err.old) (E.fault_count err.new) (E.is_sure err.old) result.told }
+    ensures told_cause { TellsFaults E.fault_count E.is_sure err.old err.new (HasFailed result.told) }
 {
     let why = if is_replay(words) {
         replay(alloc, input, out)
@@ -145,7 +146,7 @@ fn exit_status(why: Why) -> u8
 fn tell<E: Sink>(alloc: Global, err: &mut E, why: Why) -> Result<(), SinkRefusal>
     ensures told { OnOk result (Appends (E.contents err.old) (E.contents err.new) (text_of why)) }
     ensures part { OnErr result (AppendsPart (E.contents err.old) (E.contents err.new) (text_of why)) }
-    ensures cause { HasSinkCause (E.fault_count err.old) (E.fault_count err.new) (E.is_sure err.old) result }
+    ensures cause { TellsFaults E.fault_count E.is_sure err.old err.new (HasFailed result) }
 {
     match why {
         Why::Done => Ok(()),
@@ -167,7 +168,7 @@ fn tell_refusal<E: Sink>(
 ) -> Result<(), SinkRefusal>
     ensures told { OnOk result (Appends (E.contents err.old) (E.contents err.new) (refusal_text line reason)) }
     ensures part { OnErr result (AppendsPart (E.contents err.old) (E.contents err.new) (refusal_text line reason)) }
-    ensures cause { HasSinkCause (E.fault_count err.old) (E.fault_count err.new) (E.is_sure err.old) result }
+    ensures cause { TellsFaults E.fault_count E.is_sure err.old err.new (HasFailed result) }
 {
     let mut text = Vec::new(alloc);
     match push_refusal(&mut text, line, reason) {

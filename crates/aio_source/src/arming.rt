@@ -1,7 +1,7 @@
 //! What a source asks of the poller that it is lent.
 
-ghost use Rattle.std.specs.Prelude.{◌≡◌, ◌<◌, Bool};
-ghost use Rattle.aio_base.specs.Devices.{HasCause, ArmOf};
+ghost use Rattle.std.specs.Prelude.{◌≡◌, ◌<◌, Bool, IsErr};
+ghost use Rattle.aio_base.specs.Devices.{TellsFaults, ArmOf};
 ghost use Rattle.aio_source.specs.Rules.{wanted};
 ghost use Rattle.aio_source.specs.Lent.{told, fault_of, ArmsOnce, TellsArmed, asked_after, broken_after};
 
@@ -31,8 +31,7 @@ impl Arming {
         ensures step { ArmsOnce A.arm_step arms (ArmOf key (wanted directions.now)) arm.old (told result) arm.new }
         ensures interests { TellsArmed arms (ArmOf key (wanted directions.now)) (A.interests arm.old) (told result) (A.interests arm.new) }
         ensures rest { A.rest arm.new ≡ A.rest arm.old }
-        ensures sure { A.is_sure arm.new ≡ A.is_sure arm.old }
-        ensures cause { HasCause (A.fault_count arm.old) (A.fault_count arm.new) (A.is_sure arm.old) (told result) }
+        ensures faults { TellsFaults A.fault_count A.is_sure arm.old arm.new (IsErr result) }
     {
         if !arms {
             return Ok(());

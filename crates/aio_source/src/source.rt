@@ -1,7 +1,7 @@
 //! The state of a source and its calls.
 
-ghost use Rattle.std.specs.Prelude.{◌≡◌, ◌+◌, ◌-◌, ◌^◌, ◌<◌, ◌≤◌, ◌++◌, ◌↔◌, false, length, IfSome, IsErrOf, vec_len, vec_capacity};
-ghost use Rattle.aio_base.specs.Devices.{HasCause};
+ghost use Rattle.std.specs.Prelude.{◌≡◌, ◌+◌, ◌-◌, ◌^◌, ◌<◌, ◌≤◌, ◌++◌, ◌↔◌, false, length, IfSome, IsErr, IsErrOf, vec_len, vec_capacity};
+ghost use Rattle.aio_base.specs.Devices.{TellsFaults};
 ghost use Rattle.aio_base.specs.World.{directions};
 ghost use Rattle.aio_listen.specs.Listening.{Holds, has_ticket};
 ghost use Rattle.aio_source.specs.Rules.{new_source, is_above, waiters_of, waiters_in, direction_of, taken_along, polling, listening_first, polling_again, unlistened, handling, Covered};
@@ -137,8 +137,7 @@ impl SourceState {
         ensures interests { let p = polling self.old dir w ticker in
             TellsArmed p.arms (arm_of p.source) (A.interests arm.old) (told (armed_in result.answer)) (A.interests arm.new) }
         ensures rest { A.rest arm.new ≡ A.rest arm.old }
-        ensures sure { A.is_sure arm.new ≡ A.is_sure arm.old }
-        ensures cause { HasCause (A.fault_count arm.old) (A.fault_count arm.new) (A.is_sure arm.old) (told (armed_in result.answer)) }
+        ensures faults { TellsFaults A.fault_count A.is_sure arm.old arm.new (IsErr (armed_in result.answer)) }
     {
         let direction = self.directions.get_mut(dir);
         if direction.is_ready() {
@@ -182,8 +181,7 @@ impl SourceState {
         ensures interests { let p = listening_first self.old dir w (ticket_in result) in
             TellsArmed p.arms (arm_of p.source) (A.interests arm.old) (told (armed_first result)) (A.interests arm.new) }
         ensures rest { A.rest arm.new ≡ A.rest arm.old }
-        ensures sure { A.is_sure arm.new ≡ A.is_sure arm.old }
-        ensures cause { HasCause (A.fault_count arm.old) (A.fault_count arm.new) (A.is_sure arm.old) (told (armed_first result)) }
+        ensures faults { TellsFaults A.fault_count A.is_sure arm.old arm.new (IsErr (armed_first result)) }
     {
         let direction = self.directions.get_mut(dir);
         let arms = direction.is_idle() || self.arming.broken;
@@ -225,8 +223,7 @@ impl SourceState {
         ensures interests { let p = polling_again self.old dir l w in
             TellsArmed p.arms (arm_of p.source) (A.interests arm.old) (told (armed_in result)) (A.interests arm.new) }
         ensures rest { A.rest arm.new ≡ A.rest arm.old }
-        ensures sure { A.is_sure arm.new ≡ A.is_sure arm.old }
-        ensures cause { HasCause (A.fault_count arm.old) (A.fault_count arm.new) (A.is_sure arm.old) (told (armed_in result)) }
+        ensures faults { TellsFaults A.fault_count A.is_sure arm.old arm.new (IsErr (armed_in result)) }
     {
         let direction = self.directions.get_mut(dir);
         if direction.is_above(l.a, l.b) {
@@ -271,8 +268,7 @@ impl SourceState {
         ensures interests { let p = handling self.old e.on round in
             TellsArmed p.arms (arm_of p.source) (A.interests arm.old) (told result) (A.interests arm.new) }
         ensures rest { A.rest arm.new ≡ A.rest arm.old }
-        ensures sure { A.is_sure arm.new ≡ A.is_sure arm.old }
-        ensures cause { HasCause (A.fault_count arm.old) (A.fault_count arm.new) (A.is_sure arm.old) (told result) }
+        ensures faults { TellsFaults A.fault_count A.is_sure arm.old arm.new (IsErr result) }
     {
         self.directions.take_waiters(e.on, round, taken);
         self.arming.asked = Interest::NONE;

@@ -1,5 +1,4 @@
-use Rattle.std.proofs.Common.{refl, sym, ◌∙◌, rules}
-use Rattle.std.proofs.lemmas.Bool.{false≢true}
+use Rattle.std.proofs.Common.{refl, ◌∙◌, rules, arith}
 use Rattle.aio_future.proofs.timer.Timer.change_to.Goals as goal
 
 pub returns-in-Err-Notify : goal.returns-in-Err-Notify
@@ -13,12 +12,22 @@ returns-in-Err-Notify g c =
         done = record { mid = c.unregister.new.host; removal = search rules; insertion = search rules; timer = search rules };
         wanted = search rules;
         reached = refl;
-        stays = c.unregister.ensures.faults;
-        fails = record { unsure = sym same ∙ told.fails.unsure; rose = told.fails.rose; counts = told.fails.counts };
+        stays = c.unregister.ensures.cause.later;
+        fails = record {
+          cause = record {
+            later = told.cause.later;
+            rose = told.cause.rose;
+            never = λ sure. told.cause.never (same ∙ sure);
+          };
+          counts = told.counts;
+        };
       };
       ids = search rules;
-      stays = search rules;
-      never = λ s. absurd (false≢true (sym (sym same ∙ told.fails.unsure) ∙ s));
+      cause = record {
+        later = omega (arith, c.unregister.ensures.cause.later, told.cause.later);
+        rose = λ notify. omega (arith, c.unregister.ensures.cause.later, told.cause.rose refl);
+        never = λ sure. absurd ((told.cause.never (same ∙ sure)).0 refl);
+      };
       is_later = g.H.Later.later_than_later _ _ _ c.unregister.ensures.later c.in-Err-Notify.ensures.later;
       same_pass = search rules;
     }
