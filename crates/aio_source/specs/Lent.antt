@@ -1,10 +1,10 @@
 -- What became of an arm that was lent to a call of a source: it was left alone, or armed once.
-use Rattle.std.specs.Prelude.{◌≡◌, ℕ, Bool, true, false, Option, Result, Ok, Err, IsOk}
+use Rattle.std.specs.Prelude.{◌≡◌, ℕ, Bool, true, false, List, Option, Result, Ok, Err, IsOk, IsErr}
 use Rattle.aio_base.specs.declared.names.Key.{Key}
 use Rattle.aio_base.specs.declared.names.Interest.{Interest}
 use Rattle.aio_base.specs.declared.outcomes.Failed.{Failed}
 use Rattle.aio_base.specs.declared.outcomes.ArmFault.{ArmFault}
-use Rattle.aio_base.specs.Devices.{Interests, ArmCall, ArmOf, Arms}
+use Rattle.aio_base.specs.Devices.{Interests, ArmCall, ArmOf, Arms, TellsFaults}
 use Rattle.aio_base.specs.declared.names.TheConstants.Interest.{NONE}
 use Rattle.aio_source.specs.Values.{SourceValue}
 use Rattle.aio_source.specs.Rules.{wanted}
@@ -28,6 +28,15 @@ ArmsOnce step true call old answer new = step old call answer new
 abbrev pub TellsArmed : Bool → ArmCall → Option Interests → Result (Unit {0}) Failed → Option Interests → Type 0
 TellsArmed false call old answer new = new ≡ old
 TellsArmed true call old answer new = Arms old call answer new
+
+-- What a call to which an arm was lent did with it: at most one call, this one with this answer, by the arm's own relation. What the arm tells
+-- of its interests follows that call; its rest and its being sure stay; and a failure has its cause in the arm.
+pub record UsesArm {S : Type 0} (step : S → ArmCall → Result (Unit {0}) Failed → S → Type 0) (tells : S → Option Interests) (rest : S → List ℕ)
+    (count : S → ℕ) (is_sure : S → Bool) (arms : Bool) (call : ArmCall) (answer : Result (Unit {0}) Failed) (old new : S) : Type 0 where
+  pub once : ArmsOnce step arms call old answer new
+  pub interests : TellsArmed arms call (tells old) answer (tells new)
+  pub stays : rest new ≡ rest old
+  pub faults : TellsFaults count is_sure old new (IsErr answer)
 
 -- the arm of a source for the directions that have a waiter
 abbrev pub arm_of : SourceValue → ArmCall

@@ -1,9 +1,9 @@
 //! What a source asks of the poller that it is lent.
 
-ghost use Rattle.std.specs.Prelude.{◌≡◌, ◌<◌, Bool, IsErr};
-ghost use Rattle.aio_base.specs.Devices.{TellsFaults, ArmOf};
+ghost use Rattle.std.specs.Prelude.{◌≡◌, ◌<◌, Bool};
+ghost use Rattle.aio_base.specs.Devices.{ArmOf};
 ghost use Rattle.aio_source.specs.Rules.{wanted};
-ghost use Rattle.aio_source.specs.Lent.{told, fault_of, ArmsOnce, TellsArmed, asked_after, broken_after};
+ghost use Rattle.aio_source.specs.Lent.{told, fault_of, UsesArm, asked_after, broken_after};
 
 use crate::directions::Directions;
 use aio_base::{Arm, ArmFault, Interest, Key};
@@ -28,10 +28,8 @@ impl Arming {
         ensures fault { result ≡ fault_of key (A.fault_count arm.old) (A.fault_count arm.new) (told result) }
         ensures asked { self.new.asked ≡ asked_after arms (wanted directions.now) (told result) self.old.asked }
         ensures broken { self.new.broken ≡ broken_after arms (told result) self.old.broken }
-        ensures step { ArmsOnce A.arm_step arms (ArmOf key (wanted directions.now)) arm.old (told result) arm.new }
-        ensures interests { TellsArmed arms (ArmOf key (wanted directions.now)) (A.interests arm.old) (told result) (A.interests arm.new) }
-        ensures rest { A.rest arm.new ≡ A.rest arm.old }
-        ensures faults { TellsFaults A.fault_count A.is_sure arm.old arm.new (IsErr result) }
+        ensures lent { UsesArm A.arm_step A.interests A.rest A.fault_count A.is_sure
+            arms (ArmOf key (wanted directions.now)) (told result) arm.old arm.new }
     {
         if !arms {
             return Ok(());

@@ -1,11 +1,10 @@
 //! The state of a source and its calls.
 
-ghost use Rattle.std.specs.Prelude.{◌≡◌, ◌+◌, ◌-◌, ◌^◌, ◌<◌, ◌≤◌, ◌++◌, ◌↔◌, false, length, IfSome, IsErr, IsErrOf, vec_len, vec_capacity};
-ghost use Rattle.aio_base.specs.Devices.{TellsFaults};
+ghost use Rattle.std.specs.Prelude.{◌≡◌, ◌+◌, ◌-◌, ◌^◌, ◌<◌, ◌≤◌, ◌++◌, ◌↔◌, false, length, IfSome, IsErrOf, vec_len, vec_capacity};
 ghost use Rattle.aio_base.specs.World.{directions};
 ghost use Rattle.aio_listen.specs.Listening.{Holds, has_ticket};
 ghost use Rattle.aio_source.specs.Rules.{new_source, is_above, waiters_of, waiters_in, direction_of, taken_along, polling, listening_first, polling_again, unlistened, handling, Covered};
-ghost use Rattle.aio_source.specs.Lent.{told, fault_of, ArmsOnce, TellsArmed, arm_of, settled};
+ghost use Rattle.aio_source.specs.Lent.{told, fault_of, UsesArm, arm_of, settled};
 ghost use Rattle.aio_source.specs.Answers.{poll_answer, armed_in, armed_first, listened_in, ticket_in};
 
 use crate::answers::{ListenRefusal, Listened, Polled};
@@ -132,12 +131,9 @@ impl SourceState {
             } }
         ensures after { let p = polling self.old dir w ticker in
             self.new ≡ settled p.arms (told (armed_in result.answer)) p.source }
-        ensures step { let p = polling self.old dir w ticker in
-            ArmsOnce A.arm_step p.arms (arm_of p.source) arm.old (told (armed_in result.answer)) arm.new }
-        ensures interests { let p = polling self.old dir w ticker in
-            TellsArmed p.arms (arm_of p.source) (A.interests arm.old) (told (armed_in result.answer)) (A.interests arm.new) }
-        ensures rest { A.rest arm.new ≡ A.rest arm.old }
-        ensures faults { TellsFaults A.fault_count A.is_sure arm.old arm.new (IsErr (armed_in result.answer)) }
+        ensures lent { let p = polling self.old dir w ticker in
+            UsesArm A.arm_step A.interests A.rest A.fault_count A.is_sure
+            p.arms (arm_of p.source) (told (armed_in result.answer)) arm.old arm.new }
     {
         let direction = self.directions.get_mut(dir);
         if direction.is_ready() {
@@ -176,12 +172,9 @@ impl SourceState {
         ensures fault { armed_first result ≡ fault_of self.old.key (A.fault_count arm.old) (A.fault_count arm.new) (told (armed_first result)) }
         ensures after { let p = listening_first self.old dir w (ticket_in result) in
             self.new ≡ settled p.arms (told (armed_first result)) p.source }
-        ensures step { let p = listening_first self.old dir w (ticket_in result) in
-            ArmsOnce A.arm_step p.arms (arm_of p.source) arm.old (told (armed_first result)) arm.new }
-        ensures interests { let p = listening_first self.old dir w (ticket_in result) in
-            TellsArmed p.arms (arm_of p.source) (A.interests arm.old) (told (armed_first result)) (A.interests arm.new) }
-        ensures rest { A.rest arm.new ≡ A.rest arm.old }
-        ensures faults { TellsFaults A.fault_count A.is_sure arm.old arm.new (IsErr (armed_first result)) }
+        ensures lent { let p = listening_first self.old dir w (ticket_in result) in
+            UsesArm A.arm_step A.interests A.rest A.fault_count A.is_sure
+            p.arms (arm_of p.source) (told (armed_first result)) arm.old arm.new }
     {
         let direction = self.directions.get_mut(dir);
         let arms = direction.is_idle() || self.arming.broken;
@@ -218,12 +211,9 @@ impl SourceState {
             result ≡ poll_answer p.ready (fault_of self.old.key (A.fault_count arm.old) (A.fault_count arm.new) (told (armed_in result))) }
         ensures after { let p = polling_again self.old dir l w in
             self.new ≡ settled p.arms (told (armed_in result)) p.source }
-        ensures step { let p = polling_again self.old dir l w in
-            ArmsOnce A.arm_step p.arms (arm_of p.source) arm.old (told (armed_in result)) arm.new }
-        ensures interests { let p = polling_again self.old dir l w in
-            TellsArmed p.arms (arm_of p.source) (A.interests arm.old) (told (armed_in result)) (A.interests arm.new) }
-        ensures rest { A.rest arm.new ≡ A.rest arm.old }
-        ensures faults { TellsFaults A.fault_count A.is_sure arm.old arm.new (IsErr (armed_in result)) }
+        ensures lent { let p = polling_again self.old dir l w in
+            UsesArm A.arm_step A.interests A.rest A.fault_count A.is_sure
+            p.arms (arm_of p.source) (told (armed_in result)) arm.old arm.new }
     {
         let direction = self.directions.get_mut(dir);
         if direction.is_above(l.a, l.b) {
@@ -263,12 +253,9 @@ impl SourceState {
         ensures capacity { vec_capacity taken.new ≡ vec_capacity taken.old }
         ensures after { let p = handling self.old e.on round in
             self.new ≡ settled p.arms (told result) p.source }
-        ensures step { let p = handling self.old e.on round in
-            ArmsOnce A.arm_step p.arms (arm_of p.source) arm.old (told result) arm.new }
-        ensures interests { let p = handling self.old e.on round in
-            TellsArmed p.arms (arm_of p.source) (A.interests arm.old) (told result) (A.interests arm.new) }
-        ensures rest { A.rest arm.new ≡ A.rest arm.old }
-        ensures faults { TellsFaults A.fault_count A.is_sure arm.old arm.new (IsErr result) }
+        ensures lent { let p = handling self.old e.on round in
+            UsesArm A.arm_step A.interests A.rest A.fault_count A.is_sure
+            p.arms (arm_of p.source) (told result) arm.old arm.new }
     {
         self.directions.take_waiters(e.on, round, taken);
         self.arming.asked = Interest::NONE;
