@@ -1,10 +1,10 @@
 -- What calls come to that have no work, and what the host's notifier tells of an insert.
 use Rattle.std.proofs.Common.{◌≡◌, ℕ, Bool, true, false, IsTrue, ◌&&◌, None, Some, is_some, refl, arith}
-use Rattle.aio_base.specs.declared.names.TimerId.{TimerId}
 use Rattle.aio_base.specs.declared.names.Waker.{Waker}
 use Rattle.aio_base.specs.Machine.{is_waker}
 use Rattle.std.proofs.lemmas.Bool.{false≢true}
 use Rattle.aio_future.specs.declared.answers.TimerFault.TheVariants.{IdsSpent}
+use Rattle.aio_react.specs.Hosts.{HostRules}
 use Rattle.aio_future.specs.Timers.{TimerValue, no_work, waiting, poll_work, Worked}
 
 -- a timer that is registered with the waker waits on
@@ -17,10 +17,9 @@ pub polling-never : (timer : TimerValue) (now : ℕ) (waker : Waker) → timer.d
 polling-never timer now waker never = rw never refl
 
 -- a call with no work leaves timer and host as they are
-pub Worked-nothing : {H : Type 0} (removed removal_refused : H → ℕ → TimerId → H → Type 0) (inserted : H → ℕ → Waker → TimerId → H → Type 0)
-    (insert_refused : H → ℕ → Waker → H → Type 0) (later : H → H → Type 0) (sure : H → Bool) (faults pass drawn : H → ℕ) (host : H) (timer : TimerValue) →
-    later host host → Worked removed removal_refused inserted insert_refused later sure faults pass drawn (no_work timer) host host timer timer None
-Worked-nothing removed removal_refused inserted insert_refused later sure faults pass drawn host timer itself =
+pub Worked-nothing : {H : Type 0} (rules : HostRules H) (later : H → H → Type 0) (sure : H → Bool) (host : H) (timer : TimerValue) →
+    later host host → Worked rules later sure (no_work timer) host host timer timer None
+Worked-nothing rules later sure host timer itself =
     record {
       spent = (λ (told : None ≡ Some IdsSpent). absurd (cc), λ (lacks : IsTrue false). absurd (false≢true lacks));
       carried = record { mid = host; removal = refl; insertion = refl; timer = refl };

@@ -7,7 +7,7 @@ use Rattle.aio_base.specs.declared.outcomes.CountFault.{CountFault}
 use Rattle.aio_base.specs.Devices.{HasCause}
 use Rattle.aio_base.specs.Machine.{is_waker, next_deadline}
 use Rattle.aio_base.specs.Trace.{IsPeriod}
-use Rattle.aio_react.specs.Hosts.{has_id_left, next_id, NotifierTells}
+use Rattle.aio_react.specs.Hosts.{HostRules, has_id_left, next_id, NotifierTells}
 use Rattle.aio_base.specs.declared.outcomes.Poll.{Poll}
 use Rattle.aio_base.specs.declared.outcomes.Poll.TheVariants.{Ready, Pending}
 use Rattle.aio_future.specs.declared.answers.TimerFault.{TimerFault}
@@ -119,67 +119,62 @@ lacks_id work drawn = is_some work.inserts && not (has_id_left drawn)
 -- ## What a call did
 
 -- the host once a registration left it; where there is none to leave, the host is as it was
-abbrev pub Removes : {H : Type 0} → (H → ℕ → TimerId → H → Type 0) → Option (ℕ × TimerId) → H → H → Type 0
-Removes removed None old new = new ≡ old
-Removes removed (Some registration) old new = removed old registration.0 registration.1 new
+abbrev pub Removes : {H : Type 0} → HostRules H → Option (ℕ × TimerId) → H → H → Type 0
+Removes rules None old new = new ≡ old
+Removes rules (Some registration) old new = rules.removed old registration.0 registration.1 new
 
 -- the host once a deadline and a waker were registered under an id; where there are none, the host is as it was
-abbrev pub Inserts : {H : Type 0} → (H → ℕ → Waker → TimerId → H → Type 0) → Option (ℕ × Waker) → TimerId → H → H → Type 0
-Inserts inserted None id old new = new ≡ old
-Inserts inserted (Some registration) id old new = inserted old registration.0 registration.1 id new
+abbrev pub Inserts : {H : Type 0} → HostRules H → Option (ℕ × Waker) → TimerId → H → H → Type 0
+Inserts rules None id old new = new ≡ old
+Inserts rules (Some registration) id old new = rules.inserted old registration.0 registration.1 id new
 
 -- the host once it refused to let a registration leave; without one nothing is refused
-abbrev pub RefusesRemoval : {H : Type 0} → (H → ℕ → TimerId → H → Type 0) → Option (ℕ × TimerId) → H → H → Type 0
-RefusesRemoval refused None old new = ⊥
-RefusesRemoval refused (Some registration) old new = refused old registration.0 registration.1 new
+abbrev pub RefusesRemoval : {H : Type 0} → HostRules H → Option (ℕ × TimerId) → H → H → Type 0
+RefusesRemoval rules None old new = ⊥
+RefusesRemoval rules (Some registration) old new = rules.removal_refused old registration.0 registration.1 new
 
 -- the host once it refused to register a deadline and a waker; without them nothing is refused
-abbrev pub RefusesInsert : {H : Type 0} → (H → ℕ → Waker → H → Type 0) → Option (ℕ × Waker) → H → H → Type 0
-RefusesInsert refused None old new = ⊥
-RefusesInsert refused (Some registration) old new = refused old registration.0 registration.1 new
+abbrev pub RefusesInsert : {H : Type 0} → HostRules H → Option (ℕ × Waker) → H → H → Type 0
+RefusesInsert rules None old new = ⊥
+RefusesInsert rules (Some registration) old new = rules.insert_refused old registration.0 registration.1 new
 
 -- All the work was done: the old registration left, then the new one joined under the pass's next id, and the timer is the one that is left.
-pub record Done {H : Type 0} (removed : H → ℕ → TimerId → H → Type 0) (inserted : H → ℕ → Waker → TimerId → H → Type 0)
-    (work : Work) (next : TimerId) (old new : H) (after : TimerValue) : Type 0 where
+pub record Done {H : Type 0} (rules : HostRules H) (work : Work) (next : TimerId) (old new : H) (after : TimerValue) : Type 0 where
   pub mid : H
-  pub removal : Removes removed work.removes old mid
-  pub insertion : Inserts inserted work.inserts next mid new
+  pub removal : Removes rules work.removes old mid
+  pub insertion : Inserts rules work.inserts next mid new
   pub timer : after ≡ timer_left work next
 
 -- All the work was done, but the host's notifier failed in the insert. The fault tells the deadline that was reached, and the counts of that insert.
-pub record NotNotified {H : Type 0} (removed : H → ℕ → TimerId → H → Type 0) (inserted : H → ℕ → Waker → TimerId → H → Type 0)
-    (faults : H → ℕ) (sure : Bool) (work : Work) (next : TimerId) (old new : H) (after : TimerValue) (fired : Option ℕ) (fault : CountFault) : Type 0 where
-  pub done : Done removed inserted work next old new after
+pub record NotNotified {H : Type 0} (rules : HostRules H) (sure : Bool) (work : Work) (next : TimerId) (old new : H) (after : TimerValue)
+    (fired : Option ℕ) (fault : CountFault) : Type 0 where
+  pub done : Done rules work next old new after
   pub wanted : IsTrue (is_some work.inserts)
   pub reached : fired ≡ work.reached
-  pub stays : faults old ≤ faults done.mid
-  pub fails : NotifierTells sure (faults done.mid) (faults new) (Some fault)
+  pub stays : rules.faults old ≤ rules.faults done.mid
+  pub fails : NotifierTells sure (rules.faults done.mid) (rules.faults new) (Some fault)
 
 -- the host refused the removal: the timer is as it was
-pub record RemovalRefused {H : Type 0} (removal_refused : H → ℕ → TimerId → H → Type 0) (work : Work) (old new : H) (before after : TimerValue) : Type 0 where
-  pub refusal : RefusesRemoval removal_refused work.removes old new
+pub record RemovalRefused {H : Type 0} (rules : HostRules H) (work : Work) (old new : H) (before after : TimerValue) : Type 0 where
+  pub refusal : RefusesRemoval rules work.removes old new
   pub timer : after ≡ before
 
 -- the host refused the insert, after the removal: the timer is as it was, but that it is not registered
-pub record InsertRefused {H : Type 0} (removed : H → ℕ → TimerId → H → Type 0) (insert_refused : H → ℕ → Waker → H → Type 0)
-    (work : Work) (old new : H) (before after : TimerValue) : Type 0 where
+pub record InsertRefused {H : Type 0} (rules : HostRules H) (work : Work) (old new : H) (before after : TimerValue) : Type 0 where
   pub mid : H
-  pub removal : Removes removed work.removes old mid
-  pub refusal : RefusesInsert insert_refused work.inserts mid new
+  pub removal : Removes rules work.removes old mid
+  pub refusal : RefusesInsert rules work.inserts mid new
   pub timer : after ≡ record before { id = None }
 
 -- What a call did with its work, by the fault that it told: all of it, also where the notifier failed; nothing, where ids are spent; and where
 -- memory ran out the removal at most. The host's own relations name its states; `next` is the pass's next id.
-abbrev pub Carried : {H : Type 0} → (removed removal_refused : H → ℕ → TimerId → H → Type 0) → (H → ℕ → Waker → TimerId → H → Type 0)
-    → (H → ℕ → Waker → H → Type 0) → (H → ℕ) → Bool → Work → TimerId → (old new : H) → (before after : TimerValue) → Option TimerFault → Type 0
-Carried removed removal_refused inserted insert_refused faults sure work next old new before after None =
-    Done removed inserted work next old new after
-Carried removed removal_refused inserted insert_refused faults sure work next old new before after (Some IdsSpent) =
-    (new ≡ old) × (after ≡ before)
-Carried removed removal_refused inserted insert_refused faults sure work next old new before after (Some OutOfMemory) =
-    RemovalRefused removal_refused work old new before after ⊎ InsertRefused removed insert_refused work old new before after
-Carried removed removal_refused inserted insert_refused faults sure work next old new before after (Some (Notify fired fault)) =
-    NotNotified removed inserted faults sure work next old new after fired fault
+abbrev pub Carried : {H : Type 0} → HostRules H → (sure : Bool) → Work → TimerId → (old new : H) → (before after : TimerValue)
+    → Option TimerFault → Type 0
+Carried rules sure work next old new before after None = Done rules work next old new after
+Carried rules sure work next old new before after (Some IdsSpent) = (new ≡ old) × (after ≡ before)
+Carried rules sure work next old new before after (Some OutOfMemory) =
+    RemovalRefused rules work old new before after ⊎ InsertRefused rules work old new before after
+Carried rules sure work next old new before after (Some (Notify fired fault)) = NotNotified rules sure work next old new after fired fault
 
 -- how many ids the pass has drawn after a call: one more where it registered the timer
 abbrev pub drawn_after : Work → ℕ → Option TimerFault → ℕ
@@ -197,15 +192,14 @@ is_notify (Some (Notify fired fault)) = true
 
 -- A call with this work on a timer and a host, which told this fault, if any: ids are spent exactly where the work has to draw one and none is
 -- left; the host is later, of the same pass; and a fault of its notifier has its cause in this call.
-pub record Worked {H : Type 0} (removed removal_refused : H → ℕ → TimerId → H → Type 0) (inserted : H → ℕ → Waker → TimerId → H → Type 0)
-    (insert_refused : H → ℕ → Waker → H → Type 0) (later : H → H → Type 0) (sure : H → Bool) (faults pass drawn : H → ℕ)
-    (work : Work) (old new : H) (before after : TimerValue) (told : Option TimerFault) : Type 0 where
-  pub spent : (told ≡ Some IdsSpent) ↔ IsTrue (lacks_id work (drawn old))
-  pub carried : Carried removed removal_refused inserted insert_refused faults (sure old) work (next_id (pass old) (drawn old)) old new before after told
-  pub ids : drawn new ≡ drawn_after work (drawn old) told
-  pub cause : HasCause (faults old) (faults new) (sure old) (IsTrue (is_notify told))
+pub record Worked {H : Type 0} (rules : HostRules H) (later : H → H → Type 0) (sure : H → Bool) (work : Work) (old new : H)
+    (before after : TimerValue) (told : Option TimerFault) : Type 0 where
+  pub spent : (told ≡ Some IdsSpent) ↔ IsTrue (lacks_id work (rules.drawn old))
+  pub carried : Carried rules (sure old) work (next_id (rules.pass old) (rules.drawn old)) old new before after told
+  pub ids : rules.drawn new ≡ drawn_after work (rules.drawn old) told
+  pub cause : HasCause (rules.faults old) (rules.faults new) (sure old) (IsTrue (is_notify told))
   pub is_later : later old new
-  pub same_pass : pass new ≡ pass old
+  pub same_pass : rules.pass new ≡ rules.pass old
 
 -- ## Answers
 

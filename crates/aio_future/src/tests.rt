@@ -69,15 +69,15 @@ impl ListHost {
 impl TimerHost for ListHost {
     ghost use Rattle.std.specs.Prelude.{◌≡◌, ◌++◌, ◌∷◌, [], not, filter};
 
-    ghost pass_number = { λ h. 3 };
-
-    ghost ids_drawn = { λ h. h.drawn };
-
-    ghost notifier_faults = { λ h. h.faults };
-
-    ghost inserted = { λ old at waker id new. new.registered.items ≡ old.registered.items ++ (at, waker, id) ∷ [] };
-
-    ghost removed = { λ old at id new. Unit {0} };
+    ghost rules = { record {
+      inserted = λ old at waker id new. new.registered.items ≡ old.registered.items ++ (at, waker, id) ∷ [];
+      removed = λ old at id new. Unit {0};
+      insert_refused = λ old at waker new. Unit {0};
+      removal_refused = λ old at id new. Unit {0};
+      faults = λ h. h.faults;
+      pass = λ h. 3;
+      drawn = λ h. h.drawn;
+    } };
 
     fn ids_left(&self) -> bool {
         self.drawn != LAST_ID

@@ -104,8 +104,8 @@ impl Timer {
         waker: Waker,
     ) -> Poll<Result<Moment, TimerFault>>
         ensures answer { result ≡ poll_answer (poll_work self.old now waker).reached (poll_fault result) }
-        ensures worked { Worked H.removed H.removal_refused H.inserted H.insert_refused H.is_later H.notifier_is_sure
-            H.notifier_faults H.pass_number H.ids_drawn (poll_work self.old now waker) host.old host.new self.old self.new (poll_fault result) }
+        ensures worked { Worked H.rules H.is_later H.notifier_is_sure (poll_work self.old now waker)
+            host.old host.new self.old self.new (poll_fault result) }
         ensures sound { IsTimer self.old }
     {
         let Some(deadline) = self.deadline else {
@@ -127,8 +127,8 @@ impl Timer {
     /// Sets the deadline, and registers the timer anew where it keeps a waker. Its faults are those
     /// of `poll`, and `Notify` tells no deadline that was reached.
     pub fn set_at<H: TimerHost>(&mut self, host: &mut H, t: Moment) -> Result<(), TimerFault>
-        ensures worked { Worked H.removed H.removal_refused H.inserted H.insert_refused H.is_later H.notifier_is_sure
-            H.notifier_faults H.pass_number H.ids_drawn (set_work self.old t None) host.old host.new self.old self.new (set_fault result) }
+        ensures worked { Worked H.rules H.is_later H.notifier_is_sure (set_work self.old t None)
+            host.old host.new self.old self.new (set_fault result) }
         ensures sound { IsTimer self.old }
     {
         self.set(host, t, None)
@@ -144,8 +144,8 @@ impl Timer {
         period: u64,
     ) -> Result<(), TimerFault>
         requires { IsPeriod period }
-        ensures worked { Worked H.removed H.removal_refused H.inserted H.insert_refused H.is_later H.notifier_is_sure
-            H.notifier_faults H.pass_number H.ids_drawn (set_work self.old first (Some period)) host.old host.new self.old self.new (set_fault result) }
+        ensures worked { Worked H.rules H.is_later H.notifier_is_sure (set_work self.old first (Some period))
+            host.old host.new self.old self.new (set_fault result) }
         ensures sound { IsTimer self.old }
     {
         self.set(host, first, Some(period))
@@ -155,13 +155,14 @@ impl Timer {
     /// is registered meets, it hands the timer back as it was.
     pub fn close<H: TimerHost>(mut self, host: &mut H) -> Result<(), Timer>
         ensures closed { MatchResult result
-            (λ done. Removes H.removed (registration_of self) host.old host.new)
-            (λ timer. (timer ≡ self) × RefusesRemoval H.removal_refused (registration_of self) host.old host.new) }
+            (λ done. Removes H.rules (registration_of self) host.old host.new)
+            (λ timer. (timer ≡ self) × RefusesRemoval H.rules (registration_of self) host.old host.new) }
         ensures sound { IsTimer self }
-        ensures ids { H.ids_drawn host.new ≡ H.ids_drawn host.old }
-        ensures cause { HasCause (H.notifier_faults host.old) (H.notifier_faults host.new) (H.notifier_is_sure host.old) ⊥ }
+        ensures ids { H.rules.drawn host.new ≡ H.rules.drawn host.old }
+        ensures cause { HasCause (H.rules.faults host.old) (H.rules.faults host.new)
+            (H.notifier_is_sure host.old) ⊥ }
         ensures later { H.is_later host.old host.new }
-        ensures pass { H.pass_number host.new ≡ H.pass_number host.old }
+        ensures pass { H.rules.pass host.new ≡ H.rules.pass host.old }
     {
         match self.unregister(host) {
             Ok(()) => Ok(()),
@@ -177,8 +178,8 @@ impl Timer {
         period: Option<u64>,
     ) -> Result<(), TimerFault>
         requires { IfSome period IsPeriod }
-        ensures worked { Worked H.removed H.removal_refused H.inserted H.insert_refused H.is_later H.notifier_is_sure
-            H.notifier_faults H.pass_number H.ids_drawn (set_work self.old deadline period) host.old host.new self.old self.new (set_fault result) }
+        ensures worked { Worked H.rules H.is_later H.notifier_is_sure (set_work self.old deadline period)
+            host.old host.new self.old self.new (set_fault result) }
         ensures sound { IsTimer self.old }
     {
         let next = Timer {
@@ -197,8 +198,9 @@ impl Timer {
         deadline: Moment,
         waker: Waker,
     ) -> Result<(), TimerFault>
-        ensures { Worked H.removed H.removal_refused H.inserted H.insert_refused H.is_later H.notifier_is_sure
-            H.notifier_faults H.pass_number H.ids_drawn (firing self.old deadline waker (next_deadline deadline self.old.period)) host.old host.new self.old self.new (set_fault result) }
+        ensures { Worked H.rules H.is_later H.notifier_is_sure
+            (firing self.old deadline waker (next_deadline deadline self.old.period))
+            host.old host.new self.old self.new (set_fault result) }
     {
         let next = match moment_after(deadline, self.period) {
             Some(following) => Timer {
@@ -223,8 +225,8 @@ impl Timer {
         waker: Waker,
     ) -> Result<(), TimerFault>
         requires { self.old.deadline ≡ Some deadline }
-        ensures { Worked H.removed H.removal_refused H.inserted H.insert_refused H.is_later H.notifier_is_sure
-            H.notifier_faults H.pass_number H.ids_drawn (waiting self.old deadline waker) host.old host.new self.old self.new (set_fault result) }
+        ensures { Worked H.rules H.is_later H.notifier_is_sure (waiting self.old deadline waker)
+            host.old host.new self.old self.new (set_fault result) }
     {
         if self.waits_with(waker) {
             return Ok(());
@@ -247,14 +249,16 @@ impl Timer {
 
     /// Takes the registration out, where there is one. On a refusal the timer is as it was.
     fn unregister<H: TimerHost>(&mut self, host: &mut H) -> Result<(), OutOfMemory>
-        ensures removed { OnOk result (Removes H.removed (registration_of self.old) host.old host.new) }
+        ensures removed { OnOk result (Removes H.rules (registration_of self.old) host.old host.new) }
         ensures cleared { OnOk result (self.new ≡ record self.old { id = None }) }
-        ensures refused { OnErr result ((self.new ≡ self.old) × RefusesRemoval H.removal_refused (registration_of self.old) host.old host.new) }
+        ensures refused { OnErr result ((self.new ≡ self.old)
+            × RefusesRemoval H.rules (registration_of self.old) host.old host.new) }
         ensures sound { IsTimer self.old }
-        ensures ids { H.ids_drawn host.new ≡ H.ids_drawn host.old }
-        ensures cause { HasCause (H.notifier_faults host.old) (H.notifier_faults host.new) (H.notifier_is_sure host.old) ⊥ }
+        ensures ids { H.rules.drawn host.new ≡ H.rules.drawn host.old }
+        ensures cause { HasCause (H.rules.faults host.old) (H.rules.faults host.new)
+            (H.notifier_is_sure host.old) ⊥ }
         ensures later { H.is_later host.old host.new }
-        ensures pass { H.pass_number host.new ≡ H.pass_number host.old }
+        ensures pass { H.rules.pass host.new ≡ H.rules.pass host.old }
     {
         if let (Some(deadline), Some(id)) = (self.deadline, self.id) {
             host.remove_timer(deadline, id)?;
@@ -273,8 +277,8 @@ impl Timer {
         reached: Option<Moment>,
     ) -> Result<(), TimerFault>
         requires { next.id ≡ None }
-        ensures { Worked H.removed H.removal_refused H.inserted H.insert_refused H.is_later H.notifier_is_sure
-            H.notifier_faults H.pass_number H.ids_drawn (change_work self.old next reached) host.old host.new self.old self.new (set_fault result) }
+        ensures { Worked H.rules H.is_later H.notifier_is_sure (change_work self.old next reached)
+            host.old host.new self.old self.new (set_fault result) }
     {
         let wanted = next.deadline.zip(next.kept);
         if wanted.is_some() && !host.ids_left() {

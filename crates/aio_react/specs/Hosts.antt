@@ -1,10 +1,25 @@
 -- What the answers of a host of timers mean: the ids that a pass draws, and the faults of a host's notifier.
 use Rattle.std.specs.Prelude.{◌≡◌, ℕ, ◌+◌, ◌-◌, ◌*◌, ◌^◌, Bool, not, ◌==◌, Option, None, Some, IsSome, IfSome, Result, Ok, Err}
 use Rattle.aio_base.specs.declared.names.TimerId.{TimerId}
+use Rattle.aio_base.specs.declared.names.Waker.{Waker}
 use Rattle.aio_base.specs.declared.outcomes.CountFault.{CountFault}
 use Rattle.aio_base.specs.Devices.{HasCause}
 use Rattle.aio_react.specs.declared.hosts.InsertRefusal.{InsertRefusal}
 use Rattle.aio_react.specs.declared.hosts.InsertRefusal.TheVariants as refusal
+
+-- ## A host
+
+-- What a host of timers tells of its calls: the relations of an insert (the state before it, the deadline, the waker, the id drawn, the state after
+-- it) and of a removal (the deadline and the id), and of each where it was refused; its notifier's count of faults; the number of its pass, and how
+-- many ids the pass has drawn.
+pub record HostRules (H : Type 0) : Type 1 where
+  pub inserted : H → ℕ → Waker → TimerId → H → Type 0
+  pub removed : H → ℕ → TimerId → H → Type 0
+  pub insert_refused : H → ℕ → Waker → H → Type 0
+  pub removal_refused : H → ℕ → TimerId → H → Type 0
+  pub faults : H → ℕ
+  pub pass : H → ℕ
+  pub drawn : H → ℕ
 
 -- ## Ids
 
@@ -24,9 +39,10 @@ registered_id (Err refusal.OutOfMemory) = None
 
 -- An insert that registered its timer drew the pass's next id, by which the host's own relation holds. One that was refused drew none, and the
 -- host's relation of refused inserts holds.
-abbrev pub RegistersAs : (TimerId → Type 0) → (refused : Type 0) → (pass before after : ℕ) → Option TimerId → Type 0
-RegistersAs relation refused pass before after None = refused × (after ≡ before)
-RegistersAs relation refused pass before after (Some id) = relation id × (id ≡ next_id pass before) × (after ≡ before + 1)
+abbrev pub RegistersAs : {H : Type 0} → HostRules H → (at : ℕ) → Waker → (old : H) → Option TimerId → (new : H) → Type 0
+RegistersAs rules at waker old None new = rules.insert_refused old at waker new × (rules.drawn new ≡ rules.drawn old)
+RegistersAs rules at waker old (Some id) new =
+    rules.inserted old at waker id new × (id ≡ next_id (rules.pass old) (rules.drawn old)) × (rules.drawn new ≡ rules.drawn old + 1)
 
 -- ## Faults of a notifier
 

@@ -1,13 +1,11 @@
 //! The hosts of timers and tasks, as traits with a written meaning.
 //!
 //! What a host does with a registration is told by relations of its own, between the state before a
-//! call and the state after it. For a host over a book of timers they say which change the book
-//! got; for one that several threads share they say what stands in their common queue. Generic code
-//! cannot look into them, and hands them on.
+//! call and the state after it, which stand in one record of rules. For a host over a book of timers
+//! they say which change the book got; for one that several threads share they say what stands in
+//! their common queue. Generic code cannot look into them, and hands them on.
 
 ghost use Rattle.std.specs.Prelude.{◌≡◌, ℕ, ◌-◌, ◌^◌, ◌≤◌, IsTrue, Result, None, OnOk, OnErr};
-ghost use Rattle.aio_base.specs.declared.names.TimerId.{TimerId};
-ghost use Rattle.aio_base.specs.declared.names.Waker.{Waker};
 
 use aio_base::{CountFault, Later, Moment, OutOfMemory, TimerId, Waker};
 
@@ -34,57 +32,39 @@ pub enum InsertRefusal {
 /// later than it was, keeps its pass, and lets its notifier's count of faults not fall, nor rise
 /// where the notifier is sure.
 pub trait TimerHost: Later {
-    ghost use Rattle.aio_react.specs.Hosts.{has_id_left, RegistersAs, NotifierTells, registered_id, insert_fault};
+    ghost use Rattle.aio_react.specs.Hosts.{HostRules, has_id_left, RegistersAs, NotifierTells, registered_id, insert_fault};
 
-    /// The number of the pass.
-    ghost pass_number: { Self → ℕ };
-
-    /// How many ids the pass has drawn.
-    ghost ids_drawn: { Self → ℕ };
-
-    /// The count of faults of the host's notifier.
-    ghost notifier_faults: { Self → ℕ };
-
-    /// The state before an insert, its deadline in nanoseconds, its waker, the id that it drew, and
-    /// the state after it.
-    ghost inserted: { Self → ℕ → Waker → TimerId → Self → Type 0 };
-
-    /// The state before a removal, its deadline in nanoseconds, its id, and the state after it.
-    ghost removed: { Self → ℕ → TimerId → Self → Type 0 };
-
-    /// The state before an insert that was refused, its deadline and its waker, and the state after
-    /// it. A host that tells nothing of it leaves it out.
-    ghost insert_refused: { Self → ℕ → Waker → Self → Type 0 } = { λ old at waker new. Unit {0} };
-
-    /// The state before a removal that was refused, its deadline and its id, and the state after it.
-    /// A host that tells nothing of it leaves it out.
-    ghost removal_refused: { Self → ℕ → TimerId → Self → Type 0 } = { λ old at id new. Unit {0} };
+    /// What the host tells of its calls: its relations of an insert and of a removal, and of each
+    /// where it was refused, which always hold where it tells nothing of that; its notifier's count of
+    /// faults; the number of its pass, and how many ids the pass has drawn.
+    ghost rules: { HostRules Self };
 
     /// Whether the pass has an id left. It draws at most 2^40 - 1.
     fn ids_left(&self) -> bool
-        ensures left { result ≡ has_id_left (ids_drawn self.now) }
-        ensures bound { ids_drawn self.now ≤ 2 ^ 40 - 1 };
+        ensures left { result ≡ has_id_left (rules.drawn self.now) }
+        ensures bound { rules.drawn self.now ≤ 2 ^ 40 - 1 };
 
     /// Registers a timer for a deadline with a waker, under the id that the pass draws next.
     /// `OutOfMemory` where memory ran out; `Notify` only where the host's notifier is not sure and
     /// its count of faults rose.
     fn insert_timer(&mut self, at: Moment, waker: Waker) -> Result<TimerId, InsertRefusal>
-        requires { IsTrue (has_id_left (ids_drawn self.old)) }
-        ensures inserted { RegistersAs (λ id. inserted self.old at waker id self.new) (insert_refused self.old at waker self.new)
-            (pass_number self.old) (ids_drawn self.old) (ids_drawn self.new) (registered_id result) }
-        ensures notifier { NotifierTells (Self.notifier_is_sure self.old) (notifier_faults self.old) (notifier_faults self.new) (insert_fault result) }
+        requires { IsTrue (has_id_left (rules.drawn self.old)) }
+        ensures inserted { RegistersAs rules at waker self.old (registered_id result) self.new }
+        ensures notifier { NotifierTells (Self.notifier_is_sure self.old)
+            (rules.faults self.old) (rules.faults self.new) (insert_fault result) }
         ensures later { Self.is_later self.old self.new }
-        ensures pass { pass_number self.new ≡ pass_number self.old };
+        ensures pass { rules.pass self.new ≡ rules.pass self.old };
 
     /// Takes the registration with this deadline and id out, where there is one. `OutOfMemory` where
     /// memory ran out.
     fn remove_timer(&mut self, at: Moment, id: TimerId) -> Result<(), OutOfMemory>
-        ensures removed { OnOk result (removed self.old at id self.new) }
-        ensures refused { OnErr result (removal_refused self.old at id self.new) }
-        ensures notifier { NotifierTells (Self.notifier_is_sure self.old) (notifier_faults self.old) (notifier_faults self.new) None }
+        ensures removed { OnOk result (rules.removed self.old at id self.new) }
+        ensures refused { OnErr result (rules.removal_refused self.old at id self.new) }
+        ensures notifier { NotifierTells (Self.notifier_is_sure self.old)
+            (rules.faults self.old) (rules.faults self.new) None }
         ensures later { Self.is_later self.old self.new }
-        ensures pass { pass_number self.new ≡ pass_number self.old }
-        ensures ids { ids_drawn self.new ≡ ids_drawn self.old };
+        ensures pass { rules.pass self.new ≡ rules.pass self.old }
+        ensures ids { rules.drawn self.new ≡ rules.drawn self.old };
 }
 
 /// A host of timers that counts rounds and wakes tasks (`async-io` 2, `reactor.rs`,
@@ -95,16 +75,18 @@ pub trait Host: TimerHost {
 
     /// How many rounds have begun.
     fn ticker(&mut self) -> u64
-        ensures notifier { NotifierTells (Self.notifier_is_sure self.old) (Self.notifier_faults self.old) (Self.notifier_faults self.new) None }
+        ensures notifier { NotifierTells (Self.notifier_is_sure self.old)
+            (Self.rules.faults self.old) (Self.rules.faults self.new) None }
         ensures later { Self.is_later self.old self.new }
-        ensures pass { Self.pass_number self.new ≡ Self.pass_number self.old }
-        ensures ids { Self.ids_drawn self.new ≡ Self.ids_drawn self.old };
+        ensures pass { Self.rules.pass self.new ≡ Self.rules.pass self.old }
+        ensures ids { Self.rules.drawn self.new ≡ Self.rules.drawn self.old };
 
     /// Wakes the task of a waker. A fault only where the host's notifier is not sure and its count of
     /// faults rose.
     fn wake(&mut self, waker: Waker) -> Result<(), CountFault>
-        ensures notifier { NotifierTells (Self.notifier_is_sure self.old) (Self.notifier_faults self.old) (Self.notifier_faults self.new) (wake_fault result) }
+        ensures notifier { NotifierTells (Self.notifier_is_sure self.old)
+            (Self.rules.faults self.old) (Self.rules.faults self.new) (wake_fault result) }
         ensures later { Self.is_later self.old self.new }
-        ensures pass { Self.pass_number self.new ≡ Self.pass_number self.old }
-        ensures ids { Self.ids_drawn self.new ≡ Self.ids_drawn self.old };
+        ensures pass { Self.rules.pass self.new ≡ Self.rules.pass self.old }
+        ensures ids { Self.rules.drawn self.new ≡ Self.rules.drawn self.old };
 }

@@ -62,15 +62,15 @@ impl Counting {
 impl TimerHost for Counting {
     ghost use Rattle.std.specs.Prelude.{◌≡◌, ◌+◌, Some};
 
-    ghost pass_number = { λ h. 3 };
-
-    ghost ids_drawn = { λ h. h.drawn };
-
-    ghost notifier_faults = { λ h. h.faults };
-
-    ghost inserted = { λ old at waker id new. new.last ≡ Some (at, waker, id) };
-
-    ghost removed = { λ old at id new. new.removals ≡ old.removals + 1 };
+    ghost rules = { record {
+      inserted = λ old at waker id new. new.last ≡ Some (at, waker, id);
+      removed = λ old at id new. new.removals ≡ old.removals + 1;
+      insert_refused = λ old at waker new. Unit {0};
+      removal_refused = λ old at id new. Unit {0};
+      faults = λ h. h.faults;
+      pass = λ h. 3;
+      drawn = λ h. h.drawn;
+    } };
 
     fn ids_left(&self) -> bool {
         self.drawn != LAST_ID
@@ -109,8 +109,8 @@ impl Host for Counting {
 
 /// Registers a timer, where there is an id and nothing fails.
 fn insert<H: TimerHost>(host: &mut H, at: Moment, waker: Waker) -> Option<TimerId>
-    ensures inserted { IfSome result (λ id. H.inserted host.old at waker id host.new) }
-    ensures id { IfSome result (λ id. id ≡ next_id (H.pass_number host.old) (H.ids_drawn host.old)) }
+    ensures inserted { IfSome result (λ id. H.rules.inserted host.old at waker id host.new) }
+    ensures id { IfSome result (λ id. id ≡ next_id (H.rules.pass host.old) (H.rules.drawn host.old)) }
     ensures later { H.is_later host.old host.new }
 {
     if host.ids_left() {
@@ -127,7 +127,8 @@ fn insert_two<H: TimerHost>(
     first: Waker,
     second: Waker,
 ) -> Option<(TimerId, TimerId)>
-    ensures calls { IfSome result (λ ids. (one two : H) × H.inserted host.old at first ids.0 one × H.inserted one at second ids.1 two × H.removed two at ids.0 host.new) }
+    ensures calls { IfSome result (λ ids. (one two : H) × H.rules.inserted host.old at first ids.0 one
+        × H.rules.inserted one at second ids.1 two × H.rules.removed two at ids.0 host.new) }
     ensures later { H.is_later host.old host.new }
 {
     let one = insert(host, at, first)?;
@@ -140,7 +141,7 @@ fn insert_two<H: TimerHost>(
 fn count_and_wake<H: Host>(host: &mut H, waker: Waker) -> (u64, Result<(), CountFault>)
     ensures later { H.is_later host.old host.new }
     ensures sure { H.notifier_is_sure host.new ≡ H.notifier_is_sure host.old }
-    ensures ids { H.ids_drawn host.new ≡ H.ids_drawn host.old }
+    ensures ids { H.rules.drawn host.new ≡ H.rules.drawn host.old }
 {
     let rounds = host.ticker();
     (rounds, host.wake(waker))

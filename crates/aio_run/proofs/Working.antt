@@ -18,7 +18,8 @@ use Rattle.aio_base.specs.declared.outcomes.Poll.TheVariants.{Ready, Pending}
 use Rattle.aio_future.specs.Timers.{TimerValue, Work, registration_at, registration_of, no_work, firing, poll_work, polling, set_work, timer_left, lacks_id, drawn_after, Removes, Inserts, Worked, poll_fault, poll_answer, set_fault}
 use Rattle.aio_future.specs.Timers as calls
 use Rattle.aio_run.specs.declared.hosting.BookHost.{BookHost}
-use Rattle.aio_run.specs.Hosting.{BookInserts, BookRemoves, BookStays, IsHosted, TellsPoll}
+use Rattle.aio_run.specs.BookRules.{book_rules}
+use Rattle.aio_run.specs.Hosting.{IsHosted, TellsPoll}
 use Rattle.aio_run.specs.Timing.{Timing, Timed, told, timer_in, timer_at, out_of_book, unregistered, registered, fired, tick_deadline, tick_of, timing_tick, set_of, timing_set, end_of, timing_end}
 use Rattle.aio_run.specs.Timing as kept
 use Rattle.aio_run.proofs.TimerPlaces.{timer_at-found}
@@ -26,19 +27,9 @@ use Rattle.aio_run.proofs.PlaceLemmas.{set_read}
 
 -- ## A call over the book
 
-abbrev pub HostRemoves : BookHost → ℕ → TimerId → BookHost → Type 0
-HostRemoves old at id new = BookRemoves old.book.entries old.drawn at id new.book.entries new.drawn
-
-abbrev pub HostInserts : BookHost → ℕ → Waker → TimerId → BookHost → Type 0
-HostInserts old at waker id new = BookInserts old.book.entries old.drawn at waker id new.book.entries new.drawn
-
-abbrev pub HostStays : BookHost → ℕ → Waker → BookHost → Type 0
-HostStays old at waker new = BookStays old.book.entries old.drawn new.book.entries new.drawn
-
 abbrev pub HostWorks : Work → BookHost → BookHost → TimerValue → TimerValue → Option TimerFault → Type 0
 HostWorks work old new before after fault =
-    Worked HostRemoves (λ (a : BookHost) (at : ℕ) (id : TimerId) (b : BookHost). ⊥) HostInserts HostStays (λ (a b : BookHost). Unit {0}) (λ (h : BookHost). true) (λ (h : BookHost). 0) (λ (h : BookHost). 0)
-    (λ (h : BookHost). h.drawn) work old new before after fault
+    Worked book_rules (λ (a b : BookHost). Unit {0}) (λ (h : BookHost). true) work old new before after fault
 
 lacks_none : {X : Type 0} (inserts : Option X) (drawn : ℕ) → drawn < 2 ^ 40 - 1 → (is_some inserts && not (has_id_left drawn)) ≡ false
 lacks_none None drawn few = refl
@@ -70,12 +61,12 @@ timing_worked timing number work = record timing {
   ids = drawn_after work timing.ids None;
 }
 
-removal : (removes : Option (ℕ × TimerId)) (old new : BookHost) → Removes HostRemoves removes old new
+removal : (removes : Option (ℕ × TimerId)) (old new : BookHost) → Removes book_rules removes old new
     → (new.book.entries ≡ book_less removes old.book.entries) × (new.drawn ≡ old.drawn)
 removal None old new same = (ap (λ (h : BookHost). h.book.entries) same, ap (λ (h : BookHost). h.drawn) same)
 removal (Some registration) old new removes = (removes.book, removes.drawn)
 
-insertion : (inserts : Option (ℕ × Waker)) (id : TimerId) (old new : BookHost) → Inserts HostInserts inserts id old new
+insertion : (inserts : Option (ℕ × Waker)) (id : TimerId) (old new : BookHost) → Inserts book_rules inserts id old new
     → new.book.entries ≡ book_more inserts id.0 old.book.entries
 insertion None id old new same = ap (λ (h : BookHost). h.book.entries) same
 insertion (Some registration) id old new inserts = inserts.book
@@ -223,7 +214,7 @@ set_if now timers at number deadline period old new t after fault answered here 
     answers
 
 pub end_closed : (now : ℕ) (timers : List (Option TimerValue)) (at number : ℕ) (old new : BookHost) (t : TimerValue) (place : Option TimerValue)
-    → at + 1 ≡ number → timer_at timers number ≡ Some t → place ≡ None → Removes HostRemoves (registration_of t) old new
+    → at + 1 ≡ number → timer_at timers number ≡ Some t → place ≡ None → Removes book_rules (registration_of t) old new
     → told answer.Ended (record { now = now; timers = slice_set timers at place; book = new.book.entries; ids = new.drawn })
     ≡ timing_end (record { now = now; timers = timers; book = old.book.entries; ids = old.drawn }) number
 end_closed now timers at number old new t place here got emptied removes =

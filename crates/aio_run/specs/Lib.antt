@@ -1,5 +1,6 @@
 pub mod Commands
 pub mod Hosting
+pub mod BookRules
 pub mod Kept
 pub mod Places
 pub mod Reactors

@@ -47,21 +47,9 @@ impl Later for BookHost {
 }
 
 impl TimerHost for BookHost {
-    ghost use Rattle.aio_run.specs.Hosting.{BookInserts, BookRemoves, BookStays};
+    ghost use Rattle.aio_run.specs.BookRules.{book_rules};
 
-    ghost pass_number = { λ h. 0 };
-
-    ghost ids_drawn = { λ h. h.drawn };
-
-    ghost notifier_faults = { λ h. 0 };
-
-    ghost inserted = { λ old at waker id new. BookInserts old.book.entries old.drawn at waker id new.book.entries new.drawn };
-
-    ghost removed = { λ old at id new. BookRemoves old.book.entries old.drawn at id new.book.entries new.drawn };
-
-    ghost insert_refused = { λ old at waker new. BookStays old.book.entries old.drawn new.book.entries new.drawn };
-
-    ghost removal_refused = { λ old at id new. ⊥ };
+    ghost rules = { book_rules };
 
     fn ids_left(&self) -> bool {
         self.drawn != IDS

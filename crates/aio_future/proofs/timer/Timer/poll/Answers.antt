@@ -5,4 +5,4 @@ use Rattle.aio_future.proofs.timer.Timer.poll.Goals as goal
 pub returns-in_default-clause-worked : goal.returns-in_default-clause-worked
 returns-in_default-clause-worked g c =
     rw (polling-never c.args.self.now c.args.now c.args.waker (search rules))
-    (Worked-nothing _ _ _ _ _ _ _ _ _ c.args.host.now c.args.self.now (g.H.Later.later_than_itself _))
+    (Worked-nothing _ _ _ c.args.host.now c.args.self.now (g.H.Later.later_than_itself _))
