@@ -53,7 +53,8 @@ pub trait Arm: Faults {
         ensures step { arm_step self.old (AddOf key) result self.new }
         ensures interests { Arms (interests self.old) (AddOf key) result (interests self.new) }
         ensures rest { rest self.new ≡ rest self.old }
-        ensures faults { TellsFaults Self.fault_count Self.is_sure self.old self.new (IsErr result) };
+        ensures faults { TellsFaults Self.fault_count Self.is_sure
+            self.old self.new (IsErr result) };
 
     /// Arms a source: its interest is `on` until an event of it is given. `Failed` only where the
     /// count of faults rose.
@@ -62,7 +63,8 @@ pub trait Arm: Faults {
         ensures step { arm_step self.old (ArmOf key on) result self.new }
         ensures interests { Arms (interests self.old) (ArmOf key on) result (interests self.new) }
         ensures rest { rest self.new ≡ rest self.old }
-        ensures faults { TellsFaults Self.fault_count Self.is_sure self.old self.new (IsErr result) };
+        ensures faults { TellsFaults Self.fault_count Self.is_sure
+            self.old self.new (IsErr result) };
 
     /// Takes a source out. `Failed` only where the count of faults rose.
     fn remove(&mut self, key: Key) -> Result<(), Failed>
@@ -70,7 +72,8 @@ pub trait Arm: Faults {
         ensures step { arm_step self.old (RemoveOf key) result self.new }
         ensures interests { Arms (interests self.old) (RemoveOf key) result (interests self.new) }
         ensures rest { rest self.new ≡ rest self.old }
-        ensures faults { TellsFaults Self.fault_count Self.is_sure self.old self.new (IsErr result) };
+        ensures faults { TellsFaults Self.fault_count Self.is_sure
+            self.old self.new (IsErr result) };
 }
 
 /// What waits for events (`polling` 3, `lib.rs`, `Poller::wait`).
@@ -98,10 +101,13 @@ pub trait EventWait: Faults {
         limit: Option<u64>,
     ) -> Result<Waited, Failed>
         requires { vec_len out.old + room ≤ vec_capacity out.old }
-        ensures added { AddsEvents (wait_step self.old (record { room = room; limit = limit }) result) self.new result room out.old.items out.new.items }
+        ensures added { AddsEvents
+            (wait_step self.old (record { room = room; limit = limit }) result)
+            self.new result room out.old.items out.new.items }
         ensures capacity { vec_capacity out.old ≤ vec_capacity out.new }
         ensures waits { wait_count self.new ≡ raised (wait_count self.old) }
-        ensures faults { TellsFaults Self.fault_count Self.is_sure self.old self.new (IsErr result) };
+        ensures faults { TellsFaults Self.fault_count Self.is_sure
+            self.old self.new (IsErr result) };
 
     /// The number of waits: every wait raises it, or it stands at 2^64 - 1.
     fn waits(&self) -> u64
@@ -121,10 +127,12 @@ pub trait Poller: Arm + EventWait {
     ghost use Rattle.aio_base.specs.Devices.{Becomes, clear_interests, WaitCall};
 
     /// Where interests are told, a wait clears those of the keys that its events name, and no other.
-    ghost wait_clears: { (old new : Self) (call : WaitCall) (answer : Result Waited Failed) (added : List Event)
+    ghost wait_clears: { (old new : Self) (call : WaitCall)
+        (answer : Result Waited Failed) (added : List Event)
         → Self.wait_step old call answer added new
         → Becomes (Self.interests old) (Self.interests new) (clear_interests added) };
 
     /// The number of waits is read off the rest, which no arming changes.
-    ghost waits_in_rest: { (a b : Self) → Self.rest a ≡ Self.rest b → Self.wait_count a ≡ Self.wait_count b };
+    ghost waits_in_rest: { (a b : Self) → Self.rest a ≡ Self.rest b
+        → Self.wait_count a ≡ Self.wait_count b };
 }

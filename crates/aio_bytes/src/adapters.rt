@@ -101,8 +101,10 @@ impl<R: Read> Source for StdSource<R> {
     /// the reader fails otherwise or is interrupted at each try; the count of faults then rises by one.
     fn read(&mut self, buf: &mut [u8]) -> Result<usize, Failed>
         requires { 0 < length buf.old }
-        ensures faults { self.new.fault_count ≡ (if is_ok result then self.old.fault_count else raised self.old.fault_count) }
-        ensures inner { ReadConsumes (R.remaining self.old.inner) (R.remaining self.new.inner) result buf.new }
+        ensures faults { self.new.fault_count
+            ≡ (if is_ok result then self.old.fault_count else raised self.old.fault_count) }
+        ensures inner { ReadConsumes (R.remaining self.old.inner) (R.remaining self.new.inner)
+            result buf.new }
         ensures bound { IfOk result (λ n. n ≤ length buf.new) }
         ensures bytes { ReadConsumes None None result buf.new }
         ensures cause { HasCause self.old.fault_count self.new.fault_count false (IsErr result) }
@@ -164,12 +166,15 @@ impl<W: Write> Sink for StdSink<W> {
     /// then rises by one. Never `OutOfMemory`.
     fn write(&mut self, piece: &[u8]) -> Result<usize, SinkRefusal>
         requires { 0 < length piece.now }
-        ensures faults { self.new.fault_count ≡ (if is_ok result then self.old.fault_count else raised self.old.fault_count) }
-        ensures inner { WriteAppends (W.contents self.old.inner) (W.contents self.new.inner) result piece.now }
+        ensures faults { self.new.fault_count
+            ≡ (if is_ok result then self.old.fault_count else raised self.old.fault_count) }
+        ensures inner { WriteAppends (W.contents self.old.inner) (W.contents self.new.inner)
+            result piece.now }
         ensures memory { result ≢ Err SinkRefusal.OutOfMemory }
         ensures bound { IfOk result (λ n. (0 < n) × (n ≤ length piece.now)) }
         ensures bytes { WriteAppends None None result piece.now }
-        ensures cause { HasCause self.old.fault_count self.new.fault_count false (HasFailed result) }
+        ensures cause { HasCause self.old.fault_count self.new.fault_count
+            false (HasFailed result) }
     {
         match write_retrying(&mut self.inner, piece) {
             Ok(count) => Ok(count),

@@ -94,14 +94,17 @@ impl LineReader {
     /// as before. No line is found afterwards.
     pub fn read<S: Source>(&mut self, source: &mut S) -> Result<usize, Failed>
         requires { length self.old.ahead < LONGEST }
-        ensures ok { IfOk result (PutsAhead (S.remaining source.old) (S.remaining source.new) self.old.ahead self.new.ahead) }
-        ensures short { IfOk result (λ n. self.new.short ≡ nat_lt n (LONGEST - length self.old.ahead)) }
+        ensures ok { IfOk result (PutsAhead (S.remaining source.old) (S.remaining source.new)
+            self.old.ahead self.new.ahead) }
+        ensures short { IfOk result (λ n.
+            self.new.short ≡ nat_lt n (LONGEST - length self.old.ahead)) }
         ensures ahead { OnErr result (self.new.ahead ≡ self.old.ahead) }
         ensures kept { OnErr result (Keeps (S.remaining source.old) (S.remaining source.new)) }
         ensures failed { OnErr result (self.new.short ≡ true) }
         ensures line { self.new.line ≡ [] }
         ensures bound { length self.new.ahead ≤ LONGEST }
-        ensures faults { TellsFaults S.Faults.fault_count S.Faults.is_sure source.old source.new (IsErr result) }
+        ensures faults { TellsFaults S.Faults.fault_count S.Faults.is_sure
+            source.old source.new (IsErr result) }
     {
         let held = self.end - self.start;
         move_to_front(self.buffer.as_mut_slice(), self.start, self.end);
@@ -222,8 +225,10 @@ fn read_behind<S: Source>(source: &mut S, bytes: &mut [u8], held: usize) -> Resu
     requires { held < length bytes.old }
     ensures front { take held bytes.new ≡ take held bytes.old }
     ensures bound { IfOk result (λ n. held + n ≤ length bytes.new) }
-    ensures bytes { ReadConsumes (S.remaining source.old) (S.remaining source.new) result (drop held bytes.new) }
-    ensures faults { TellsFaults S.Faults.fault_count S.Faults.is_sure source.old source.new (IsErr result) }
+    ensures bytes { ReadConsumes (S.remaining source.old) (S.remaining source.new)
+        result (drop held bytes.new) }
+    ensures faults { TellsFaults S.Faults.fault_count S.Faults.is_sure
+        source.old source.new (IsErr result) }
 {
     source.read(&mut bytes[held..])
 }

@@ -36,7 +36,8 @@ impl Script {
     fn next_call(&mut self) -> Result<(), Failed>
         ensures fails { is_err result ≡ is_next_failing self.old.fails.items self.old.calls }
         ensures calls { self.new.calls ≡ raised self.old.calls }
-        ensures faults { self.new.faults ≡ (if is_ok result then self.old.faults else raised self.old.faults) }
+        ensures faults { self.new.faults
+            ≡ (if is_ok result then self.old.faults else raised self.old.faults) }
         ensures script { self.new.fails.items ≡ self.old.fails.items }
         ensures later { self.old.faults ≤ self.new.faults }
     {
@@ -72,7 +73,13 @@ impl MemSource {
     /// numbers stand in `fails`.
     pub fn new(bytes: Vec<u8>, piece: usize, fails: Vec<u64>) -> MemSource
         requires { 0 < piece }
-        ensures { result ≡ record { left = bytes.items; calls = 0; piece = piece; fails = fails.items; fault_count = 0 } }
+        ensures { result ≡ record {
+          left = bytes.items;
+          calls = 0;
+          piece = piece;
+          fails = fails.items;
+          fault_count = 0;
+        } }
     {
         MemSource {
             bytes,
@@ -149,7 +156,12 @@ impl Model for MemSink {
 impl MemSink {
     /// An empty sink that fails at the calls whose numbers stand in `fails`.
     pub fn new(alloc: Global, fails: Vec<u64>) -> MemSink
-        ensures { result ≡ record { written = []; calls = 0; fails = fails.items; fault_count = 0 } }
+        ensures { result ≡ record {
+          written = [];
+          calls = 0;
+          fails = fails.items;
+          fault_count = 0;
+        } }
     {
         MemSink {
             bytes: Vec::new(alloc),
@@ -192,8 +204,10 @@ impl Sink for MemSink {
         ensures count { IfOk result (λ n. n ≡ length piece.now) }
         ensures state { self.new ≡ after_write self.old piece.now result }
         ensures bound { IfOk result (λ n. (0 < n) × (n ≤ length piece.now)) }
-        ensures bytes { WriteAppends (Some self.old.written) (Some self.new.written) result piece.now }
-        ensures cause { HasCause self.old.fault_count self.new.fault_count false (HasFailed result) }
+        ensures bytes { WriteAppends (Some self.old.written) (Some self.new.written)
+            result piece.now }
+        ensures cause { HasCause self.old.fault_count self.new.fault_count
+            false (HasFailed result) }
     {
         if self.script.next_call().is_err() {
             return Err(SinkRefusal::Failed);

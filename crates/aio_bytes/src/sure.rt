@@ -125,8 +125,10 @@ impl Sink for SureSink {
     /// `Failed`.
     fn write(&mut self, piece: &[u8]) -> Result<usize, SinkRefusal>
         requires { 0 < length piece.now }
-        ensures all { IfOk result (λ n. (n ≡ length piece.now) × (self.new ≡ self.old ++ piece.now)) }
-        ensures refused { OnErr result ((result ≡ Err SinkRefusal.OutOfMemory) × (self.new ≡ self.old)) }
+        ensures all { IfOk result (λ n.
+            (n ≡ length piece.now) × (self.new ≡ self.old ++ piece.now)) }
+        ensures refused { OnErr result
+            ((result ≡ Err SinkRefusal.OutOfMemory) × (self.new ≡ self.old)) }
         ensures bound { IfOk result (λ n. (0 < n) × (n ≤ length piece.now)) }
         ensures bytes { WriteAppends (Some self.old) (Some self.new) result piece.now }
         ensures cause { HasCause 0 0 true (HasFailed result) }

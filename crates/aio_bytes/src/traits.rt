@@ -18,7 +18,8 @@ pub trait Source: Faults {
         requires { 0 < length buf.old }
         ensures bound { IfOk result (λ n. n ≤ length buf.new) }
         ensures bytes { ReadConsumes (remaining self.old) (remaining self.new) result buf.new }
-        ensures faults { TellsFaults Self.fault_count Self.is_sure self.old self.new (IsErr result) };
+        ensures faults { TellsFaults Self.fault_count Self.is_sure
+            self.old self.new (IsErr result) };
 }
 
 /// Why a sink took no byte.
@@ -42,5 +43,6 @@ pub trait Sink: Faults {
         requires { 0 < length piece.now }
         ensures bound { IfOk result (λ n. (0 < n) × (n ≤ length piece.now)) }
         ensures bytes { WriteAppends (contents self.old) (contents self.new) result piece.now }
-        ensures faults { TellsFaults Self.fault_count Self.is_sure self.old self.new (HasFailed result) };
+        ensures faults { TellsFaults Self.fault_count Self.is_sure
+            self.old self.new (HasFailed result) };
 }

@@ -70,7 +70,8 @@ impl TimerHost for ListHost {
     ghost use Rattle.std.specs.Prelude.{◌≡◌, ◌++◌, ◌∷◌, [], not, filter};
 
     ghost rules = { record {
-      inserted = λ old at waker id new. new.registered.items ≡ old.registered.items ++ (at, waker, id) ∷ [];
+      inserted = λ old at waker id new.
+          new.registered.items ≡ old.registered.items ++ (at, waker, id) ∷ [];
       removed = λ old at id new. Unit {0};
       insert_refused = λ old at waker new. Unit {0};
       removal_refused = λ old at id new. Unit {0};

@@ -103,7 +103,8 @@ impl Timer {
         now: Moment,
         waker: Waker,
     ) -> Poll<Result<Moment, TimerFault>>
-        ensures answer { result ≡ poll_answer (poll_work self.old now waker).reached (poll_fault result) }
+        ensures answer { result
+            ≡ poll_answer (poll_work self.old now waker).reached (poll_fault result) }
         ensures worked { Worked H.rules H.is_later H.notifier_is_sure (poll_work self.old now waker)
             host.old host.new self.old self.new (poll_fault result) }
         ensures sound { IsTimer self.old }
@@ -144,7 +145,8 @@ impl Timer {
         period: u64,
     ) -> Result<(), TimerFault>
         requires { IsPeriod period }
-        ensures worked { Worked H.rules H.is_later H.notifier_is_sure (set_work self.old first (Some period))
+        ensures worked { Worked H.rules H.is_later H.notifier_is_sure
+            (set_work self.old first (Some period))
             host.old host.new self.old self.new (set_fault result) }
         ensures sound { IsTimer self.old }
     {
@@ -156,7 +158,8 @@ impl Timer {
     pub fn close<H: TimerHost>(mut self, host: &mut H) -> Result<(), Timer>
         ensures closed { MatchResult result
             (λ done. Removes H.rules (registration_of self) host.old host.new)
-            (λ timer. (timer ≡ self) × RefusesRemoval H.rules (registration_of self) host.old host.new) }
+            (λ timer. (timer ≡ self)
+            × RefusesRemoval H.rules (registration_of self) host.old host.new) }
         ensures sound { IsTimer self }
         ensures ids { H.rules.drawn host.new ≡ H.rules.drawn host.old }
         ensures cause { HasCause (H.rules.faults host.old) (H.rules.faults host.new)
@@ -178,7 +181,8 @@ impl Timer {
         period: Option<u64>,
     ) -> Result<(), TimerFault>
         requires { IfSome period IsPeriod }
-        ensures worked { Worked H.rules H.is_later H.notifier_is_sure (set_work self.old deadline period)
+        ensures worked { Worked H.rules H.is_later H.notifier_is_sure
+            (set_work self.old deadline period)
             host.old host.new self.old self.new (set_fault result) }
         ensures sound { IsTimer self.old }
     {
@@ -249,7 +253,8 @@ impl Timer {
 
     /// Takes the registration out, where there is one. On a refusal the timer is as it was.
     fn unregister<H: TimerHost>(&mut self, host: &mut H) -> Result<(), OutOfMemory>
-        ensures removed { OnOk result (Removes H.rules (registration_of self.old) host.old host.new) }
+        ensures removed { OnOk result
+            (Removes H.rules (registration_of self.old) host.old host.new) }
         ensures cleared { OnOk result (self.new ≡ record self.old { id = None }) }
         ensures refused { OnErr result ((self.new ≡ self.old)
             × RefusesRemoval H.rules (registration_of self.old) host.old host.new) }

@@ -110,7 +110,8 @@ impl Host for Counting {
 /// Registers a timer, where there is an id and nothing fails.
 fn insert<H: TimerHost>(host: &mut H, at: Moment, waker: Waker) -> Option<TimerId>
     ensures inserted { IfSome result (λ id. H.rules.inserted host.old at waker id host.new) }
-    ensures id { IfSome result (λ id. id ≡ next_id (H.rules.pass host.old) (H.rules.drawn host.old)) }
+    ensures id { IfSome result (λ id.
+        id ≡ next_id (H.rules.pass host.old) (H.rules.drawn host.old)) }
     ensures later { H.is_later host.old host.new }
 {
     if host.ids_left() {
@@ -127,7 +128,8 @@ fn insert_two<H: TimerHost>(
     first: Waker,
     second: Waker,
 ) -> Option<(TimerId, TimerId)>
-    ensures calls { IfSome result (λ ids. (one two : H) × H.rules.inserted host.old at first ids.0 one
+    ensures calls { IfSome result (λ ids. (one two : H)
+        × H.rules.inserted host.old at first ids.0 one
         × H.rules.inserted one at second ids.1 two × H.rules.removed two at ids.0 host.new) }
     ensures later { H.is_later host.old host.new }
 {

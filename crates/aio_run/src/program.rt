@@ -72,7 +72,8 @@ pub fn run<R: Wait + Threads + Sync + Send + Copy, S: Source, K: Sink, E: Sink>(
     // The user is told why, as far as `err` takes it; a refusal of `err` changes nothing else.
     ensures told { OnOk result.told (Appends (E.contents err.old) (E.contents err.new) (text_of result.why)) }
     ensures told_part { OnErr result.told (AppendsPart (E.contents err.old) (E.contents err.new) (text_of result.why)) }
-    ensures told_cause { TellsFaults E.fault_count E.is_sure err.old err.new (HasFailed result.told) }
+    ensures told_cause { TellsFaults E.fault_count E.is_sure
+        err.old err.new (HasFailed result.told) }
 {
     let why = if is_replay(words) {
         replay(alloc, input, out)

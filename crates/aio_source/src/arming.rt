@@ -25,8 +25,10 @@ impl Arming {
         directions: &Directions,
     ) -> Result<(), ArmFault>
         requires { key.0 < 4096 }
-        ensures fault { result ≡ fault_of key (A.fault_count arm.old) (A.fault_count arm.new) (told result) }
-        ensures asked { self.new.asked ≡ asked_after arms (wanted directions.now) (told result) self.old.asked }
+        ensures fault { result
+            ≡ fault_of key (A.fault_count arm.old) (A.fault_count arm.new) (told result) }
+        ensures asked { self.new.asked
+            ≡ asked_after arms (wanted directions.now) (told result) self.old.asked }
         ensures broken { self.new.broken ≡ broken_after arms (told result) self.old.broken }
         ensures lent { UsesArm A.arm_step A.interests A.rest A.fault_count A.is_sure
             arms (ArmOf key (wanted directions.now)) (told result) arm.old arm.new }

@@ -105,8 +105,10 @@ impl Direction {
     /// Stores a poll waiter while `ticker` rounds have begun, and hands out the one before. Where it
     /// is the poll waiter already, nothing is stored and none is handed out.
     pub(crate) fn store(&mut self, waker: Waker, ticker: u64) -> Option<Waker>
-        ensures after { self.new ≡ (if is_waker waker self.old.waiter then self.old else stored waker ticker self.old) }
-        ensures replaced { result ≡ (if is_waker waker self.old.waiter then None else self.old.waiter) }
+        ensures after { self.new
+            ≡ (if is_waker waker self.old.waiter then self.old else stored waker ticker self.old) }
+        ensures replaced { result
+            ≡ (if is_waker waker self.old.waiter then None else self.old.waiter) }
     {
         if self.is_held(waker) {
             return None;
@@ -128,7 +130,8 @@ impl Direction {
         ensures after { IfOk result (λ ticket. self.new ≡ listening ticket waker self.old) }
         ensures serial { IfOk result (λ ticket. ticket.serial ≡ self.old.listeners.drawn + 1) }
         ensures fresh { IfOk result (λ ticket. ¬ Holds self.old.listeners.entries ticket) }
-        ensures spent { IsErrOf result AddRefusal.TicketsSpent ↔ (self.old.listeners.drawn ≡ 2 ^ 64 - 1) }
+        ensures spent { IsErrOf result AddRefusal.TicketsSpent
+            ↔ (self.old.listeners.drawn ≡ 2 ^ 64 - 1) }
         ensures refused { OnErr result (self.new ≡ self.old) }
     {
         let ticket = self.listeners.add()?;

@@ -68,9 +68,11 @@ impl Directions {
     /// Moves the waiters of the directions that an event of this round names to the end of `taken`,
     /// direction by direction in the order of `DIRS`.
     pub(crate) fn take_waiters(&mut self, on: Interest, round: u64, taken: &mut Vec<Waker>)
-        requires { vec_len taken.old + length (waiters_in directions self.old) ≤ vec_capacity taken.old }
+        requires { vec_len taken.old + length (waiters_in directions self.old)
+            ≤ vec_capacity taken.old }
         ensures after { self.new ≡ handled_along on round directions self.old }
-        ensures taken { taken.new.items ≡ taken.old.items ++ taken_along on round directions self.old }
+        ensures taken { taken.new.items
+            ≡ taken.old.items ++ taken_along on round directions self.old }
         ensures capacity { vec_capacity taken.new ≡ vec_capacity taken.old }
     {
         for dir in DIRS {

@@ -68,7 +68,10 @@ impl LateListeners {
 
     /// Adds a last listener, which holds no waker yet. A refusal leaves all as it was.
     pub(crate) fn add(&mut self) -> Result<Ticket, AddRefusal>
-        ensures added { IfOk result (λ ticket. self.new ≡ record { entries = self.old.entries ++ (ticket, None) ∷ []; drawn = self.old.drawn + 1 }) }
+        ensures added { IfOk result (λ ticket. self.new ≡ record {
+          entries = self.old.entries ++ (ticket, None) ∷ [];
+          drawn = self.old.drawn + 1;
+        }) }
         ensures serial { IfOk result (λ ticket. ticket.serial ≡ self.old.drawn + 1) }
         ensures fresh { IfOk result (λ ticket. ¬ Holds self.old.entries ticket) }
         ensures spent { IsErrOf result AddRefusal.TicketsSpent ↔ (self.old.drawn ≡ 2 ^ 64 - 1) }
@@ -90,7 +93,8 @@ impl LateListeners {
     /// Has a listener hold this waker.
     pub(crate) fn set(&mut self, ticket: Ticket, waker: Waker)
         requires { Holds self.old.entries ticket }
-        ensures { self.new ≡ record self.old { entries = with_waker self.old.entries ticket waker } }
+        ensures { self.new
+            ≡ record self.old { entries = with_waker self.old.entries ticket waker } }
     {
         if let Some(listeners) = &mut self.held {
             listeners.set(ticket, waker);

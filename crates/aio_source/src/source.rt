@@ -126,7 +126,8 @@ impl SourceState {
     pub fn poll_dir<A: Arm>(&mut self, arm: &mut A, dir: Dir, w: Waker, ticker: u64) -> Polled
         ensures answer { let p = polling self.old dir w ticker in
             result ≡ record {
-              answer = poll_answer p.ready (fault_of self.old.key (A.fault_count arm.old) (A.fault_count arm.new) (told (armed_in result.answer)));
+              answer = poll_answer p.ready (fault_of self.old.key (A.fault_count arm.old)
+                  (A.fault_count arm.new) (told (armed_in result.answer)));
               replaced = p.replaced;
             } }
         ensures after { let p = polling self.old dir w ticker in
@@ -165,11 +166,16 @@ impl SourceState {
         w: Waker,
         ticker: u64,
     ) -> Result<Listened, ListenRefusal>
-        ensures listened { IfSome (listened_in result) (λ l. (l.a ≡ ticker) × (l.b ≡ (direction_of self.old.directions dir).tick)) }
-        ensures serial { IfSome (ticket_in result) (λ t. t.serial ≡ (direction_of self.old.directions dir).listeners.drawn + 1) }
-        ensures fresh { IfSome (ticket_in result) (λ t. ¬ Holds (direction_of self.old.directions dir).listeners.entries t) }
-        ensures spent { IsErrOf result ListenRefusal.TicketsSpent ↔ ((direction_of self.old.directions dir).listeners.drawn ≡ 2 ^ 64 - 1) }
-        ensures fault { armed_first result ≡ fault_of self.old.key (A.fault_count arm.old) (A.fault_count arm.new) (told (armed_first result)) }
+        ensures listened { IfSome (listened_in result) (λ l.
+            (l.a ≡ ticker) × (l.b ≡ (direction_of self.old.directions dir).tick)) }
+        ensures serial { IfSome (ticket_in result) (λ t.
+            t.serial ≡ (direction_of self.old.directions dir).listeners.drawn + 1) }
+        ensures fresh { IfSome (ticket_in result) (λ t.
+            ¬ Holds (direction_of self.old.directions dir).listeners.entries t) }
+        ensures spent { IsErrOf result ListenRefusal.TicketsSpent
+            ↔ ((direction_of self.old.directions dir).listeners.drawn ≡ 2 ^ 64 - 1) }
+        ensures fault { armed_first result ≡ fault_of self.old.key (A.fault_count arm.old)
+            (A.fault_count arm.new) (told (armed_first result)) }
         ensures after { let p = listening_first self.old dir w (ticket_in result) in
             self.new ≡ settled p.arms (told (armed_first result)) p.source }
         ensures lent { let p = listening_first self.old dir w (ticket_in result) in
@@ -208,7 +214,8 @@ impl SourceState {
     ) -> Poll<Result<(), ArmFault>>
         requires { Holds (direction_of self.old.directions dir).listeners.entries l.ticket }
         ensures answer { let p = polling_again self.old dir l w in
-            result ≡ poll_answer p.ready (fault_of self.old.key (A.fault_count arm.old) (A.fault_count arm.new) (told (armed_in result))) }
+            result ≡ poll_answer p.ready (fault_of self.old.key (A.fault_count arm.old)
+            (A.fault_count arm.new) (told (armed_in result))) }
         ensures after { let p = polling_again self.old dir l w in
             self.new ≡ settled p.arms (told (armed_in result)) p.source }
         ensures lent { let p = polling_again self.old dir l w in
@@ -247,9 +254,12 @@ impl SourceState {
         taken: &mut Vec<Waker>,
     ) -> Result<(), ArmFault>
         requires key { e.key ≡ self.old.key }
-        requires room { vec_len taken.old + length (waiters_in directions self.old.directions) ≤ vec_capacity taken.old }
-        ensures answer { result ≡ fault_of self.old.key (A.fault_count arm.old) (A.fault_count arm.new) (told result) }
-        ensures taken { taken.new.items ≡ taken.old.items ++ taken_along e.on round directions self.old.directions }
+        requires room { vec_len taken.old + length (waiters_in directions self.old.directions)
+            ≤ vec_capacity taken.old }
+        ensures answer { result ≡ fault_of self.old.key (A.fault_count arm.old)
+            (A.fault_count arm.new) (told result) }
+        ensures taken { taken.new.items
+            ≡ taken.old.items ++ taken_along e.on round directions self.old.directions }
         ensures capacity { vec_capacity taken.new ≡ vec_capacity taken.old }
         ensures after { let p = handling self.old e.on round in
             self.new ≡ settled p.arms (told result) p.source }
