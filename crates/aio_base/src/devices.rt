@@ -5,7 +5,7 @@
 //! stays untold. A generic body can answer a device's fault only after a call that failed, since only
 //! such a call lets the count of faults rise.
 
-ghost use Rattle.std.specs.Prelude.{◌≡◌, ℕ, ◌+◌, ◌-◌, ◌^◌, ◌<◌, ◌≤◌, ◌++◌, [], Bool, IsTrue, List, Option, Result, length, vec_len, vec_capacity, IsErr};
+ghost use Rattle.std.specs.Prelude.{◌≡◌, ℕ, ◌+◌, ◌-◌, ◌^◌, ◌<◌, ◌≤◌, Bool, IsTrue, List, Option, Result, vec_len, vec_capacity, IsErr};
 
 use crate::names::{Event, Interest, Key};
 use crate::outcomes::{Failed, Waited};

@@ -1,6 +1,6 @@
 //! The names of a reactor: sources, tasks, timers, moments, directions and events.
 
-ghost use Rattle.std.specs.Prelude.{◌≡◌, ℕ, ◌^◌, ◌<◌, ◌≤◌, [], ◌∷◌, SomeIff};
+ghost use Rattle.std.specs.Prelude.{◌≡◌, ℕ, ◌^◌, ◌<◌, ◌≤◌, true, false, [], ◌∷◌, SomeIff};
 ghost use Rattle.aio_base.specs.World.{directions};
 
 use std::marker::Model;
@@ -108,6 +108,14 @@ impl Interest {
         write: true,
     };
 }
+
+/// The law of the constants of `Interest`: each has the directions that its name says.
+pub fn interests_have_the_directions_of_their_names()
+    ensures none { Interest.NONE ≡ record { read = false; write = false } }
+    ensures read { Interest.READ ≡ record { read = true; write = false } }
+    ensures write { Interest.WRITE ≡ record { read = false; write = true } }
+    ensures both { Interest.BOTH ≡ record { read = true; write = true } }
+{}
 
 /// An event of a poller: the directions of the source `key` that are ready, maybe none
 /// (`polling` 3, `lib.rs`, `Event`).

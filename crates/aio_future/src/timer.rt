@@ -1,10 +1,9 @@
 //! The timer and its calls.
 
-ghost use Rattle.std.specs.Prelude.{◌≡◌, ◌≤◌, ◌&&◌, Some, None, IfSome, IsTrue, is_some, MatchResult, OnOk, OnErr};
+ghost use Rattle.std.specs.Prelude.{◌≡◌, ◌&&◌, Some, None, IfSome, IsTrue, is_some, MatchResult, OnOk, OnErr};
 ghost use Rattle.aio_base.specs.Devices.{HasCause};
 ghost use Rattle.aio_base.specs.Machine.{is_waker, next_deadline};
 ghost use Rattle.aio_base.specs.Trace.{IsPeriod};
-ghost use Rattle.aio_react.specs.Hosts.{next_id};
 ghost use Rattle.aio_future.specs.Timers.{IsTimer, new_timer, registration_of, poll_work, firing, waiting, set_work, change_work, Removes, RefusesRemoval, Worked, poll_fault, poll_answer, set_fault};
 
 use crate::answers::TimerFault;

@@ -5,7 +5,7 @@
 //! they say which change the book got; for one that several threads share they say what stands in
 //! their common queue. Generic code cannot look into them, and hands them on.
 
-ghost use Rattle.std.specs.Prelude.{◌≡◌, ℕ, ◌-◌, ◌^◌, ◌≤◌, IsTrue, Result, None, OnOk, OnErr};
+ghost use Rattle.std.specs.Prelude.{◌≡◌, ◌-◌, ◌^◌, ◌≤◌, IsTrue, Result, None, OnOk, OnErr};
 
 use aio_base::{CountFault, Later, Moment, OutOfMemory, TimerId, Waker};
 

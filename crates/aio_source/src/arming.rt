@@ -1,6 +1,6 @@
 //! What a source asks of the poller that it is lent.
 
-ghost use Rattle.std.specs.Prelude.{◌≡◌, ◌<◌, Bool};
+ghost use Rattle.std.specs.Prelude.{◌≡◌, ◌<◌};
 ghost use Rattle.aio_base.specs.Devices.{ArmOf};
 ghost use Rattle.aio_source.specs.Rules.{wanted};
 ghost use Rattle.aio_source.specs.Lent.{told, fault_of, UsesArm, asked_after, broken_after};
