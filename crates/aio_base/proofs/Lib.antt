@@ -29,6 +29,7 @@ pub mod Rewaiting
 mod Rows
 pub mod RunLemmas
 mod RunRows
+pub mod SeatLists
 pub mod Searching
 pub mod Spellings
 pub mod Standing
@@ -36,4 +37,10 @@ pub mod StoringCounts
 pub mod Taking
 mod TimerRows
 pub mod WaiterLemmas
+pub mod WordBits
+pub mod WordCounts
+pub mod WordFrames
+pub mod WordMoves
+mod WordRows
+pub mod WordSteps
 pub mod Words
