@@ -36,6 +36,7 @@ pub mod RoundLemmas
 mod Rows
 pub mod RunLemmas
 mod RunRows
+pub mod SeatLists
 pub mod Searching
 pub mod Singles
 pub mod Spellings
@@ -45,4 +46,10 @@ pub mod Taking
 mod TimerRows
 pub mod UnmovedLemmas
 pub mod WaiterLemmas
+pub mod WordBits
+pub mod WordCounts
+pub mod WordFrames
+pub mod WordMoves
+mod WordRows
+pub mod WordSteps
 pub mod Words

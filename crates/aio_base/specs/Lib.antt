@@ -15,3 +15,8 @@ pub mod Between
 pub mod Text
 pub mod Trace
 pub mod Moves
+pub mod SharedWords
+pub mod WordLaws
+pub mod WordCalls
+pub mod Tasks
+pub mod Polls

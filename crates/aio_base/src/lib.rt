@@ -3,7 +3,8 @@
 //! the machine that contracts cite.
 //!
 //! It stands on nothing but std. The traits promise what `devices` says; the definitions of
-//! `specs/` say what the machine answers to each step and which bytes a trace of steps writes.
+//! `specs/` say what the machine answers to each step, which bytes a trace of steps writes, and which
+//! rule holds of the words that threads share.
 #![tactic(auto)]
 
 pub mod devices;
@@ -11,13 +12,20 @@ pub mod freshness;
 pub mod later;
 pub mod laws;
 pub mod names;
+pub mod notify;
 pub mod outcomes;
+pub mod seats;
 pub mod steps;
+pub mod tasks;
 #[cfg(test)]
 mod tests;
+pub mod word_laws;
 
 pub use devices::{Arm, EventWait, Faults, Poller};
 pub use later::Later;
 pub use names::{DIRS, Dir, Event, Interest, Key, Moment, TimerId, Waker};
+pub use notify::Notify;
 pub use outcomes::{ArmFault, CountFault, EndWord, Failed, OutOfMemory, Poll, Waited, Which};
+pub use seats::{Mode, Owed, Role, SeatView, WordStep};
 pub use steps::{Answer, LineFault, Reason, Step};
+pub use tasks::{Cx, Task};

@@ -1,0 +1,32 @@
+//! What ends a wait of a poller from another thread.
+
+ghost use Rattle.std.specs.Prelude.{◌≡◌, ℕ, IsTrue, IfOk};
+
+use crate::devices::Faults;
+use crate::outcomes::{Failed, OutOfMemory};
+
+/// What ends the wait of a poller, or the next one where none is running (`polling` 3, `lib.rs`,
+/// `Poller::notify`). That a call ends a wait is a matter of the outside, and no clause says it.
+pub trait Notify: Faults {
+    ghost use Rattle.aio_base.specs.declared.outcomes.Failed.{Failed};
+    ghost use Rattle.aio_base.specs.Devices.{HasCause, raised};
+
+    /// The number of its notifies so far.
+    ghost call_count: { Self → ℕ };
+
+    /// Notifies. `Failed` only where the count of faults rose. Takes no memory.
+    fn notify(&mut self) -> Result<(), Failed>
+        ensures calls { call_count self.new ≡ raised (call_count self.old) }
+        ensures sure { Self.is_sure self.new ≡ Self.is_sure self.old }
+        ensures cause { HasCause (Self.fault_count self.old) (Self.fault_count self.new) (Self.is_sure self.old) result };
+
+    /// The number of its notifies: every notify raises it, whatever it answers, or it stands at
+    /// 2^64 - 1. No other call changes it.
+    fn calls(&self) -> u64
+        ensures { result ≡ call_count self.now };
+
+    /// An object that serves another thread, and counts its notifies and its faults for itself. The
+    /// twin of a sure object is sure. `OutOfMemory` where memory ran out.
+    fn twin(&self) -> Result<Self, OutOfMemory>
+        ensures { IsTrue (Self.is_sure self.now) → IfOk result (λ twin. IsTrue (Self.is_sure twin)) };
+}
