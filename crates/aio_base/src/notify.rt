@@ -1,6 +1,6 @@
 //! What ends a wait of a poller from another thread.
 
-ghost use Rattle.std.specs.Prelude.{◌≡◌, ℕ, IsTrue, IfOk};
+ghost use Rattle.std.specs.Prelude.{◌≡◌, ℕ, IsTrue, IfOk, IsErr};
 
 use crate::devices::Faults;
 use crate::outcomes::{Failed, OutOfMemory};
@@ -9,7 +9,7 @@ use crate::outcomes::{Failed, OutOfMemory};
 /// `Poller::notify`). That a call ends a wait is a matter of the outside, and no clause says it.
 pub trait Notify: Faults {
     ghost use Rattle.aio_base.specs.declared.outcomes.Failed.{Failed};
-    ghost use Rattle.aio_base.specs.Devices.{HasCause, raised};
+    ghost use Rattle.aio_base.specs.Devices.{TellsFaults, raised};
 
     /// The number of its notifies so far.
     ghost call_count: { Self → ℕ };
@@ -17,8 +17,7 @@ pub trait Notify: Faults {
     /// Notifies. `Failed` only where the count of faults rose. Takes no memory.
     fn notify(&mut self) -> Result<(), Failed>
         ensures calls { call_count self.new ≡ raised (call_count self.old) }
-        ensures sure { Self.is_sure self.new ≡ Self.is_sure self.old }
-        ensures cause { HasCause (Self.fault_count self.old) (Self.fault_count self.new) (Self.is_sure self.old) result };
+        ensures faults { TellsFaults Self.fault_count Self.is_sure self.old self.new (IsErr result) };
 
     /// The number of its notifies: every notify raises it, whatever it answers, or it stands at
     /// 2^64 - 1. No other call changes it.
