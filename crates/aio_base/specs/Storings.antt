@@ -223,7 +223,7 @@ times n (s ∷ stored) = (if s.number == n then 1 else 0) + times n stored
 abbrev pub times_in : ℕ → Storings → ℕ
 times_in n l = times n l.standing + times n l.taken + times n l.waking + times n (flat_map (λ stored. stored) l.woken) + times n l.given_up
 
--- the waker that the world holds at a place: the first, if its list had more
+-- the waker that the world holds at a place; after a run there is one at most, as nothing stands twice
 abbrev pub waker_at : World → Place → Option Waker
 waker_at w (OfPoll serial dir) = poll_waiter w.poll_waiters serial dir
 waker_at w (OfListener number) = option_and_then (λ (l : ListenerEntry). l.waker) (find (is_listener number) w.listeners)
