@@ -3,3 +3,21 @@ pub mod BookLemmas
 pub mod PlaceLemmas
 pub mod PassLemmas
 pub mod OpLemmas
+mod PrecedesLemmas
+mod CountLemmas
+mod LayoutLemmas
+mod AttachLemmas
+mod MeldLemmas
+mod SizeLemmas
+mod FirstPassLemmas
+mod SecondPassLemmas
+mod PathLemmas
+mod CutLemmas
+mod NewcomerLemmas
+mod RootLemmas
+mod InsideLemmas
+mod ClimbLemmas
+mod DueLemmas
+mod SeekLemmas
+mod ChainLemmas
+mod BucketLemmas

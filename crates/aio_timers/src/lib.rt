@@ -6,8 +6,14 @@
 #![tactic(auto)]
 
 mod book;
+mod chains;
 mod entry;
+mod heap;
+mod link;
+mod links;
+mod node;
 mod op;
+mod walk;
 #[cfg(test)]
 mod tests;
 
