@@ -10,12 +10,16 @@ use Rattle.aio_timers.specs.Held.{blank_node, node_at}
 module _ (ns : List Node) (p q : ℕ) where
   abbrev pub first : Option ℕ
   first = (node_at ns p).child
+
   abbrev step_a : List Node
   step_a = with_prev_of ns first (Some q)
+
   abbrev step_b : List Node
   step_b = with_next step_a q first
+
   abbrev step_c : List Node
   step_c = with_prev step_b q (Some p)
+
   abbrev final : List Node
   final = with_child step_c p (Some q)
 
@@ -73,15 +77,17 @@ attached-links ns p q ps qs pn pp qn qp hp lp hq lq once =
         next_is = ap Node.next at_p ∙ hp.next_is;
         prev_is = ap Node.prev at_p ∙ hp.prev_is;
       };
-      below = (record {
-        within = omega (arith, len, hq.within);
-        child_is = ap Node.child at_q ∙ hq.child_is;
-        next_is = ap Node.next at_q ∙ hp.child_is;
-        prev_is = ap Node.prev at_q;
-      },
-      Laid-frame ns (attached ns p q) (Some q) qs len (λ j h. attached-other ns p q j (not_p j qs h (omega (arith, once j))) (not_q j qs h (omega (arith, once j))) (λ e. omega (arith, once j, in_first j e, h))) lq,
-      Laid-reprev ns (attached ns p q) (Some p) (Some q) ps len (λ j. omega (arith, once j))
-        (λ i e. let h : 0 < times i ps = root-times ps i e in
-                attached-first ns p q i (not_p i ps h (omega (arith, once i))) (not_q i ps h (omega (arith, once i))) (Laid-within ns (Some p) ps i lp h) (hp.child_is ∙ e))
-        (λ j h k. attached-other ns p q j (not_p j ps h (omega (arith, once j))) (not_q j ps h (omega (arith, once j))) (λ e. k (sym hp.child_is ∙ e))) lp);
+      below = (
+        record {
+          within = omega (arith, len, hq.within);
+          child_is = ap Node.child at_q ∙ hq.child_is;
+          next_is = ap Node.next at_q ∙ hp.child_is;
+          prev_is = ap Node.prev at_q;
+        },
+        Laid-frame ns (attached ns p q) (Some q) qs len (λ j h. attached-other ns p q j (not_p j qs h (omega (arith, once j))) (not_q j qs h (omega (arith, once j))) (λ e. omega (arith, once j, in_first j e, h))) lq,
+        Laid-reprev ns (attached ns p q) (Some p) (Some q) ps len (λ j. omega (arith, once j))
+            (λ i e. let h : 0 < times i ps = root-times ps i e in
+            attached-first ns p q i (not_p i ps h (omega (arith, once i))) (not_q i ps h (omega (arith, once i))) (Laid-within ns (Some p) ps i lp h) (hp.child_is ∙ e))
+            (λ j h k. attached-other ns p q j (not_p j ps h (omega (arith, once j))) (not_q j ps h (omega (arith, once j))) (λ e. k (sym hp.child_is ∙ e))) lp,
+      );
     }

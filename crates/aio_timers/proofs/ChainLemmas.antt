@@ -22,11 +22,11 @@ same-test a = grind (arith, nat_tests)
 other-test : (a b : ℕ) → a ≢ b → (a == b) ≡ false
 other-test a b ne = grind (arith, nat_tests)
 
-cond-zero : (b : Bool) (n : ℕ) → n ≡ 0 → ◌≡◌ {A = ℕ} (cond b n 0) 0
+pub cond-zero : (b : Bool) (n : ℕ) → n ≡ 0 → ◌≡◌ {A = ℕ} (cond b n 0) 0
 cond-zero true n z = z
 cond-zero false n z = refl
 
-cond-le : (b : Bool) (n : ℕ) → cond b n 0 ≤ n
+pub cond-le : (b : Bool) (n : ℕ) → cond b n 0 ≤ n
 cond-le true n = omega arith
 cond-le false n = omega arith
 
@@ -148,7 +148,7 @@ leaves-first f n bs at k used left is kt first takes t =
     let c : IsChain f n (Some at) (t.chains k) = rw (← first) (t.linked k kt) in
     let tail : Tail f n at (t.chains k) = tail-of f n at (t.chains k) c in
     without f f n bs (set bs k (f at).chain) at k used left tail.more is kt (length-set bs k _) (λ b ne. get_or-set_other bs k b _ None ne) (λ j. refl) t (λ b j hb ne h. refl)
-      (rw (get_or-set_same bs k (f at).chain None kt) tail.chain) tail.counts takes
+    (rw (get_or-set_same bs k (f at).chain None kt) tail.chain) tail.counts takes
 
 -- where a node of a chain stands
 pub record Amid (ks : List ℕ) (at : ℕ) : Type 0 where
@@ -183,9 +183,9 @@ leaves-behind f g n bs at before k front back used left is kt here same ids t pa
     let c : IsChain f n (get_or bs k None) (j_.ahead ++ before ∷ at ∷ back) = rw (← long) (t.linked k kt) in
     let its : bucket_in (f before).id (length bs) ≡ k = in-bucket f n bs used t k before kt (omega (arith, counted before, one_if-same before)) in
     without f g n bs bs at k used left (j_.ahead ++ before ∷ back) is kt refl (λ b ne. refl) ids t
-      (λ b j hb ne h. same j (λ e. ne (sym (in-bucket f n bs used t b j hb h) ∙ ap (λ (x : ℕ). bucket_in (f x).id (length bs)) e ∙ its)))
-      (bypass f g n before at j_.ahead back (get_or bs k None) here same once_ c)
-      (λ j. omega (arith, counted j, times_in-append j j_.ahead (before ∷ back))) takes
+    (λ b j hb ne h. same j (λ e. ne (sym (in-bucket f n bs used t b j hb h) ∙ ap (λ (x : ℕ). bucket_in (f x).id (length bs)) e ∙ its)))
+    (bypass f g n before at j_.ahead back (get_or bs k None) here same once_ c)
+    (λ j. omega (arith, counted j, times_in-append j j_.ahead (before ∷ back))) takes
 
 -- ## A node in its chain
 
@@ -211,6 +211,9 @@ in-its-chain f n bs at k head used is kt first one t =
     let a : Amid (t.chains k) at = amid at (t.chains k) (omega (arith, in-chain f n bs used t k at is kt, one)) in
     let once : (j : ℕ) → times_in j (t.chains k) ≤ 1 = λ j. omega (arith, t.members k j kt, cond-le ((bucket_in (f j).id (length bs)) == k) (used j), t.single j) in
     record {
-      front = a.front; back = a.back; is = a.is; once = once;
+      front = a.front;
+      back = a.back;
+      is = a.is;
+      once = once;
       among = record { chain = rw (← a.is, ← first) (t.linked k kt); once = λ j. omega (arith, once j, ap (times_in j) a.is) };
     }

@@ -49,6 +49,7 @@ module _ (ns : List Node) (t : Forest) (w : IsLaidOnce ns t) (top : ℕ) (left :
       no-back f AtTop e = refl
       no-back f (UnderParent p m k) e = cc
       no-back f (AfterSibling p d k) e = cc
+
       ahead-none : (f : Forest → ℕ) (a : Bool) (later : Forest) → f Bare ≡ 0 → onward a (first_root later) ≡ None → ◌≡◌ {A = ℕ} (cond a (f later) 0) 0
       ahead-none f false later z h = refl
       ahead-none f true Bare z h = z
@@ -63,6 +64,7 @@ module _ (ns : List Node) (t : Forest) (w : IsLaidOnce ns t) (top : ℕ) (left :
       ahead-none f false later z h = refl
       ahead-none f true Bare z h = z
       ahead-none f true (Rooted i c n) z h = cc
+
       go : (k : Path) → rebuilt k (Rooted at c.below c.later) ≡ t → ((f : Forest → ℕ) → f Bare ≡ 0 → cond ahead (f c.later) 0 + sum_around f k ≡ left f) → depth k + index ≤ top → back_link k ≡ Some up → onward ahead (first_root c.later) ≡ None
           → ClimbsTo t up (leads_to (node_at ns up).child at) (index + 1) top left
       go AtTop is same deep back nothing = cc
@@ -70,15 +72,27 @@ module _ (ns : List Node) (t : Forest) (w : IsLaidOnce ns t) (top : ℕ) (left :
           let at_p : p ≡ up = cc in
           let u : LinksAre ns p (Some at) (first_root m) (back_link k) = own ns t k p (Rooted at c.below c.later) m w is in
           let named : leads_to (node_at ns p).child at ≡ true = rw u.child_is (leads_to-same at) in
-          rw (← at_p, named) (record { around = k; below = Rooted at c.below c.later; later = m; is = is;
-            same = λ f z. omega (arith, same f z, ahead-none f ahead c.later z nothing); deep = omega arith })
+          rw (← at_p, named) (record {
+            around = k;
+            below = Rooted at c.below c.later;
+            later = m;
+            is = is;
+            same = λ f z. omega (arith, same f z, ahead-none f ahead c.later z nothing);
+            deep = omega arith;
+          })
       go (AfterSibling p d k) is same deep back nothing =
           let at_p : p ≡ up = cc in
           let u : LinksAre ns p (first_root d) (Some at) (back_link k) = own ns t k p d (Rooted at c.below c.later) w is in
           let other : first_root d ≢ Some at = λ e. omega (arith, root-times d at e, one_if-same at, w.once at, ap (times at) is, times-rebuilt at k (Rooted p d (Rooted at c.below c.later))) in
           let named : leads_to (node_at ns p).child at ≡ false = rw u.child_is (leads_to-other (first_root d) at other) in
-          rw (← at_p, named) (record { around = k; below = d; later = Rooted at c.below c.later; is = is;
-            same = λ f z. omega (arith, same f z, ahead-none f ahead c.later z nothing); deep = omega arith })
+          rw (← at_p, named) (record {
+            around = k;
+            below = d;
+            later = Rooted at c.below c.later;
+            is = is;
+            same = λ f z. omega (arith, same f z, ahead-none f ahead c.later z nothing);
+            deep = omega arith;
+          })
 
 pub climb-up-within : (ns : List Node) (t : Forest) (w : IsLaidOnce ns t) (top : ℕ) (left : (Forest → ℕ) → ℕ) (at index up : ℕ) (ahead : Bool) → ClimbsTo t at ahead index top left → onward ahead (node_at ns at).next ≡ None → (node_at ns at).prev ≡ Some up → up < length ns
 climb-up-within ns t w top left at index up ahead c none e =

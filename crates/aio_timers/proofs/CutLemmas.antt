@@ -71,8 +71,8 @@ cut_out-tells ns i AtTop c n h =
     let not_i : first_root n ≢ Some i = λ e. omega (arith, once i, one_if-same i, root-times n i e) in
     rw (own.next_is, own.prev_is) (record {
       linked = Laid-reprev ns (with_prev_of ns (first_root n) None) (Some i) None n (length-prev_of ns (first_root n) None) (λ j. omega (arith, once j))
-        (λ j e. prev_of-here ns (first_root n) None j (Laid-within ns (Some i) n j p.inside.2 (root-times n j e)) e)
-        (λ j k e. prev_of-there ns (first_root n) None j e) p.inside.2;
+          (λ j e. prev_of-here ns (first_root n) None j (Laid-within ns (Some i) n j p.inside.2 (root-times n j e)) e)
+          (λ j k e. prev_of-there ns (first_root n) None j e) p.inside.2;
       node = prev_of-there ns (first_root n) None i not_i;
       top = record {
         within = omega (arith, own.within, length-prev_of ns (first_root n) None);
@@ -94,11 +94,12 @@ cut_out-tells ns i (UnderParent p m k) c n h =
         → ((j : ℕ) → one_if j p + times j m + times_around j k + one_if j i + times j c + times j n ≤ 1)
         → AfterCut ns ms p (record (node_at ns p) { child = first_root n }) i c n → CutOut ns ms i (UnderParent p m k) c n
     in_child ns ms p m k i c n up lm around once a = record {
-      linked = Laid-rebuilt ms (UnderParent p m k) n
-        (record { within = omega (arith, up.within, a.len); child_is = ap Node.child a.here; next_is = ap Node.next a.here ∙ up.next_is; prev_is = ap Node.prev a.here ∙ up.prev_is },
-         Laid-frame ns ms (Some p) m a.len (λ j h. a.other j (not_same j p (omega (arith, once j, h))) (omega (arith, once j, h))) lm,
-         Around-frame ns ms k (Some p) a.len (λ j h. a.other j (not_same j p (omega (arith, once j, h))) (omega (arith, once j, h))) around)
-        a.later;
+      linked = Laid-rebuilt ms (UnderParent p m k) n (
+        record { within = omega (arith, up.within, a.len); child_is = ap Node.child a.here; next_is = ap Node.next a.here ∙ up.next_is; prev_is = ap Node.prev a.here ∙ up.prev_is },
+        Laid-frame ns ms (Some p) m a.len (λ j h. a.other j (not_same j p (omega (arith, once j, h))) (omega (arith, once j, h))) lm,
+        Around-frame ns ms k (Some p) a.len (λ j h. a.other j (not_same j p (omega (arith, once j, h))) (omega (arith, once j, h))) around,
+      )
+          a.later;
       node = a.node;
       top = a.top;
       kept = record { len = a.len; held = a.held; outside = λ j none. a.other j (not_same j p (omega (arith, none, times-rebuilt j (UnderParent p m k) n))) (omega (arith, none, times-rebuilt j (UnderParent p m k) n)) };
@@ -116,11 +117,12 @@ cut_out-tells ns i (AfterSibling p d k) c n h =
         → ((j : ℕ) → one_if j p + times j d + times_around j k + one_if j i + times j c + times j n ≤ 1)
         → AfterCut ns ms p (record (node_at ns p) { next = first_root n }) i c n → CutOut ns ms i (AfterSibling p d k) c n
     in_next ns ms p d k i c n up ld around once a = record {
-      linked = Laid-rebuilt ms (AfterSibling p d k) n
-        (record { within = omega (arith, up.within, a.len); child_is = ap Node.child a.here ∙ up.child_is; next_is = ap Node.next a.here; prev_is = ap Node.prev a.here ∙ up.prev_is },
-         Laid-frame ns ms (Some p) d a.len (λ j h. a.other j (not_same j p (omega (arith, once j, h))) (omega (arith, once j, h))) ld,
-         Around-frame ns ms k (Some p) a.len (λ j h. a.other j (not_same j p (omega (arith, once j, h))) (omega (arith, once j, h))) around)
-        a.later;
+      linked = Laid-rebuilt ms (AfterSibling p d k) n (
+        record { within = omega (arith, up.within, a.len); child_is = ap Node.child a.here ∙ up.child_is; next_is = ap Node.next a.here; prev_is = ap Node.prev a.here ∙ up.prev_is },
+        Laid-frame ns ms (Some p) d a.len (λ j h. a.other j (not_same j p (omega (arith, once j, h))) (omega (arith, once j, h))) ld,
+        Around-frame ns ms k (Some p) a.len (λ j h. a.other j (not_same j p (omega (arith, once j, h))) (omega (arith, once j, h))) around,
+      )
+          a.later;
       node = a.node;
       top = a.top;
       kept = record { len = a.len; held = a.held; outside = λ j none. a.other j (not_same j p (omega (arith, none, times-rebuilt j (AfterSibling p d k) n))) (omega (arith, none, times-rebuilt j (AfterSibling p d k) n)) };

@@ -34,7 +34,10 @@ module _ (ns : List Node) (now : ℕ) (t : Forest) (root : Option ℕ) (h : IsHe
       → WalksOn t r (due_among (held_at ns) now) times steps
   moves k n None times steps goes counted left = omega (arith, counted, goes (due_among (held_at ns) now) refl)
   moves k n (Some j) times steps goes counted left = record {
-    around = goes.around; below = goes.below; later = goes.later; is = goes.is;
+    around = goes.around;
+    below = goes.below;
+    later = goes.later;
+    is = goes.is;
     counted = omega (arith, counted, goes.same (due_among (held_at ns) now) refl);
     left = omega (arith, left, goes.same size_of refl);
   }

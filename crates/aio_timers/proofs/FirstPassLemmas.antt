@@ -46,8 +46,16 @@ IsOnce t = (j : ℕ) → times j t ≤ 1
 
 pub PairsUp-start : (ns : List Node) (t : Forest) (first : Option ℕ) → IsSiblings ns t first → PairsUp ns ns t first None
 PairsUp-start ns t first h = record {
-  left = t; joined = Bare; left_is = h.root; joined_is = refl; left_row = h.row; joined_row = tt;
-  counts = λ j. omega arith; left_order = h.order; joined_order = tt; kept = KeepsHeld-refl ns t;
+  left = t;
+  joined = Bare;
+  left_is = h.root;
+  joined_is = refl;
+  left_row = h.row;
+  joined_row = tt;
+  counts = λ j. omega arith;
+  left_order = h.order;
+  joined_order = tt;
+  kept = KeepsHeld-refl ns t;
 }
 
 pub record TwoFewer (ns ls : List Node) (t left : Forest) (rest ended : Option ℕ) (w : ℕ) : Type 0 where
@@ -57,18 +65,22 @@ pub record TwoFewer (ns ls : List Node) (t left : Forest) (rest ended : Option �
 
 module _ (ns ms : List Node) (t : Forest) (ended : Option ℕ) (once : (j : ℕ) → times j t ≤ 1) (kept : KeepsHeld ns ms t)
     (joined : Forest) (joined_is : first_root joined ≡ ended) (joined_row : InRow ms joined) (joined_order : HeapOrdered (held_at ns) joined) where
-
   last : (a : ℕ) (c : Forest) → InRow ms (Rooted a c Bare) → HeapOrdered (held_at ns) (Rooted a c Bare) → ((j : ℕ) → times j (Rooted a c Bare) + times j joined ≡ times j t)
       → PairsUp ns (with_next ms a ended) t None (Some a)
   last a c row order counts =
       let len : length (with_next ms a ended) ≡ length ms = length-set ms a _ in
       let at_a : node_at (with_next ms a ended) a ≡ record (node_at ms a) { next = ended } = set-here ms a _ row.0.within in
       record {
-        left = Bare; joined = Rooted a c joined; left_is = refl; joined_is = refl; left_row = tt;
+        left = Bare;
+        joined = Rooted a c joined;
+        left_is = refl;
+        joined_is = refl;
+        left_row = tt;
         joined_row = (
           Heads-frame ms (with_next ms a ended) a c len (ap Node.child at_a) (λ j h. set-there ms a _ j (not_same j a (omega (arith, h, counts j, once j)))) row.0,
           ap Node.next at_a ∙ sym joined_is,
-          InRow-frame ms (with_next ms a ended) joined len (λ j h. set-there ms a _ j (not_same j a (omega (arith, h, counts j, once j)))) joined_row);
+          InRow-frame ms (with_next ms a ended) joined len (λ j h. set-there ms a _ j (not_same j a (omega (arith, h, counts j, once j)))) joined_row,
+        );
         counts = λ j. omega (arith, counts j);
         left_order = tt;
         joined_order = (order.0, order.1, joined_order);
@@ -97,19 +109,24 @@ module _ (ns ms : List Node) (t : Forest) (ended : Option ℕ) (once : (j : ℕ)
             size = omega arith;
             within = m.top.within;
             next = record {
-            left = n; joined = Rooted w m.forest joined; left_is = refl; joined_is = refl;
-            left_row = InRow-frame ms (with_next ls w ended) n len (λ j h. far j (omega (arith, h, counts j, once j))) row.2.2;
-            joined_row = (
-              Heads-frame ls (with_next ls w ended) w m.forest len_f (ap Node.child at_w) (λ j h. set-there ls w _ j (not_same j w (omega (arith, h, m.counts j, counts j, once j)))) m.top,
-              ap Node.next at_w ∙ sym joined_is,
-              InRow-frame ms (with_next ls w ended) joined len (λ j h. far j (omega (arith, h, counts j, once j))) joined_row);
-            counts = λ j. omega (arith, counts j, m.counts j);
-            left_order = order.2.2;
-            joined_order = (rw (forth w) (NoneBefore-held (held_at ms) (held_at ns) (held_at ms w) m.forest forth m.above), HeapOrdered-held (held_at ms) (held_at ns) m.forest forth m.order, joined_order);
-            kept = KeepsHeld-trans ns ms (with_next ls w ended) t kept (KeepsHeld-trans ms ls (with_next ls w ended) t
-                (record { len = m.len; held = m.held; outside = λ j none. m.outside j (omega (arith, none, counts j)) })
-                (KeepsHeld-next ls t w ended m.top.within (omega (arith, counts w, m.counts w, one_if-same w))));
-          }; }
+              left = n;
+              joined = Rooted w m.forest joined;
+              left_is = refl;
+              joined_is = refl;
+              left_row = InRow-frame ms (with_next ls w ended) n len (λ j h. far j (omega (arith, h, counts j, once j))) row.2.2;
+              joined_row = (
+                Heads-frame ls (with_next ls w ended) w m.forest len_f (ap Node.child at_w) (λ j h. set-there ls w _ j (not_same j w (omega (arith, h, m.counts j, counts j, once j)))) m.top,
+                ap Node.next at_w ∙ sym joined_is,
+                InRow-frame ms (with_next ls w ended) joined len (λ j h. far j (omega (arith, h, counts j, once j))) joined_row,
+              );
+              counts = λ j. omega (arith, counts j, m.counts j);
+              left_order = order.2.2;
+              joined_order = (rw (forth w) (NoneBefore-held (held_at ms) (held_at ns) (held_at ms w) m.forest forth m.above), HeapOrdered-held (held_at ms) (held_at ns) m.forest forth m.order, joined_order);
+              kept = KeepsHeld-trans ns ms (with_next ls w ended) t kept (KeepsHeld-trans ms ls (with_next ls w ended) t
+                  (record { len = m.len; held = m.held; outside = λ j none. m.outside j (omega (arith, none, counts j)) })
+                  (KeepsHeld-next ls t w ended m.top.within (omega (arith, counts w, m.counts w, one_if-same w))));
+            };
+          }
 
 pub PairsUp-last : (ns ms : List Node) (t : Forest) (a : ℕ) (ended : Option ℕ) → IsOnce t → PairsUp ns ms t (Some a) ended → (node_at ms a).next ≡ None → PairsUp ns (with_next ms a ended) t None (Some a)
 PairsUp-last ns ms t a ended once p none = go p.left p.left_is p.left_row p.left_order p.counts

@@ -64,26 +64,32 @@ inside_of ns root at free h lt used other =
         let o : HeapOrdered (held_at ns) (rebuilt (UnderParent p q k) (Rooted at c n)) = rw e h.order in
         let i = HeapOrdered-inside (held_at ns) (UnderParent p q k) (Rooted at c n) o in
         record {
-          around = UnderParent p q k; below = c; later = n;
+          around = UnderParent p q k;
+          below = c;
+          later = n;
           place = record { linked = l; once = λ j. omega (arith, h.once j, ap (times j) e) };
           counts = λ j. omega (arith, ap (times j) e, times-rebuilt j (UnderParent p q k) (Rooted at c n), times-rebuilt j (UnderParent p q k) n);
           root_is = root-deep k p n q (Rooted at c n) q ∙ ap first_root e ∙ h.root_is;
           alone = alone-deep k p (Rooted at c n) q n q (λ x. x) (rw e h.alone);
           order = HeapOrdered-swap (held_at ns) (UnderParent p q k) (Rooted at c n) n (λ x a. a.1) (λ x. x.2) o;
-          above = i.0; below_order = i.1;
+          above = i.0;
+          below_order = i.1;
         }
     go (AfterSibling p q k) c n e =
         let l : Laid ns None (rebuilt (AfterSibling p q k) (Rooted at c n)) = rw e h.linked in
         let o : HeapOrdered (held_at ns) (rebuilt (AfterSibling p q k) (Rooted at c n)) = rw e h.order in
         let i = HeapOrdered-inside (held_at ns) (AfterSibling p q k) (Rooted at c n) o in
         record {
-          around = AfterSibling p q k; below = c; later = n;
+          around = AfterSibling p q k;
+          below = c;
+          later = n;
           place = record { linked = l; once = λ j. omega (arith, h.once j, ap (times j) e) };
           counts = λ j. omega (arith, ap (times j) e, times-rebuilt j (AfterSibling p q k) (Rooted at c n), times-rebuilt j (AfterSibling p q k) n);
           root_is = root-deep k p q n q (Rooted at c n) ∙ ap first_root e ∙ h.root_is;
           alone = alone-deep k p q (Rooted at c n) q n (λ x. cc) (rw e h.alone);
           order = HeapOrdered-swap (held_at ns) (AfterSibling p q k) (Rooted at c n) n (λ x a. a.1) (λ x. x.2) o;
-          above = i.0; below_order = i.1;
+          above = i.0;
+          below_order = i.1;
         }
 
 pub record LinksLead (ns : List Node) (at : ℕ) : Type 0 where
@@ -139,7 +145,13 @@ module _ (ns us ms : List Node) (root at : ℕ) (free : Option ℕ) (h : IsHeap 
       go : (t : Forest) → first_root t ≡ None → ((j : ℕ) → times j t ≡ times j i.below) → Sets ns (released ms at free) at (gone (held_at ns at)) (Some root) (Some at)
       go (Rooted a c n) e counts = cc
       go Bare e counts = freed ns ms at (rebuilt i.around i.later) h.spare (Some root) free (record {
-        len = m.kept.len ∙ u.kept.len; held = held-all None m; within = lt; root_is = i.root_is; linked = trunk-linked None m; alone = i.alone; order = trunk-order None m;
+        len = m.kept.len ∙ u.kept.len;
+        held = held-all None m;
+        within = lt;
+        root_is = i.root_is;
+        linked = trunk-linked None m;
+        alone = i.alone;
+        order = trunk-order None m;
         chained = FreeChain-frame ns ms free h.spare (m.kept.len ∙ u.kept.len) (spare-same None m) h.chained;
         once = λ j. omega (arith, apart j);
         reached = λ j k. omega (arith, h.reached j k, i.counts j, counts j);
@@ -152,13 +164,20 @@ module _ (ns us ms : List Node) (root at : ℕ) (free : Option ℕ) (h : IsHeap 
     where
       step : (ls : List Node) (w a b : ℕ) (c d : Forest) → ((j : ℕ) → times j h.forest ≡ one_if j at + (one_if j a + times j c) + (one_if j b + times j d)) → BecomesOne ms ls b a d c w → Sets ns (released ls at free) at (gone (held_at ns at)) (Some w) (Some at)
       step ls w a b c d counts j_ = freed ns ls at (Rooted w j_.forest Bare) h.spare (Some w) free (record {
-        len = j_.len ∙ m.kept.len ∙ u.kept.len; held = λ j. j_.held j ∙ held-all (Some rest) m j; within = lt; root_is = refl; linked = j_.linked; alone = refl; order = j_.order;
+        len = j_.len ∙ m.kept.len ∙ u.kept.len;
+        held = λ j. j_.held j ∙ held-all (Some rest) m j;
+        within = lt;
+        root_is = refl;
+        linked = j_.linked;
+        alone = refl;
+        order = j_.order;
         chained = FreeChain-frame ns ls free h.spare (j_.len ∙ m.kept.len ∙ u.kept.len) (λ j k. j_.outside j (omega (arith, k, h.once j, counts j)) ∙ spare-same (Some rest) m j k) h.chained;
         once = λ j. omega (arith, h.once j, counts j, j_.counts j);
         reached = λ j k. omega (arith, h.reached j k, counts j, j_.counts j);
         live = λ j k. h.live j (omega (arith, k, counts j, j_.counts j));
         idle = h.idle;
       })
+
       go : (t : Forest) → first_root t ≡ Some rest → HasOneRoot t → Laid ms None t → ((j : ℕ) → times j t ≡ times j i.below) → HeapOrdered (held_at us) t
           → (s : Forest) → first_root s ≡ Some root → HasOneRoot s → Laid ms None s → HeapOrdered (held_at ms) s → ((j : ℕ) → times j h.forest ≡ one_if j at + times j i.below + times j s)
           → BothNodes ms root rest × Sets ns (released (melded ms root rest) at free) at (gone (held_at ns at)) (Some (upper_root ms root rest)) (Some at)

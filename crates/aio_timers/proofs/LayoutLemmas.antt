@@ -17,10 +17,11 @@ Laid-frame ns ms p (Rooted i c n) len same l =
       child_is = ap Node.child here ∙ l.0.child_is;
       next_is = ap Node.next here ∙ l.0.next_is;
       prev_is = ap Node.prev here ∙ l.0.prev_is;
-    } in
-    (here_links,
-     Laid-frame ns ms (Some i) c len (λ j h. same j (omega (arith, h))) l.1,
-     Laid-frame ns ms (Some i) n len (λ j h. same j (omega (arith, h))) l.2)
+    } in (
+      here_links,
+      Laid-frame ns ms (Some i) c len (λ j h. same j (omega (arith, h))) l.1,
+      Laid-frame ns ms (Some i) n len (λ j h. same j (omega (arith, h))) l.2,
+    )
 
 pub Laid-within : (ns : List Node) (p : Option ℕ) (t : Forest) (j : ℕ) → Laid ns p t → 0 < times j t → j < length ns
 Laid-within ns p Bare j l h = absurd (omega arith)
@@ -42,10 +43,11 @@ Laid-reprev ns ms p q (Rooted i c n) len once root same l =
       child_is = ap Node.child here ∙ l.0.child_is;
       next_is = ap Node.next here ∙ l.0.next_is;
       prev_is = ap Node.prev here;
-    } in
-    (here_links,
-     Laid-frame ns ms (Some i) c len (λ j h. same j (omega (arith, h)) (λ e. let k : i ≡ j = cc in omega (arith, once i, one_if-same i, ap (λ (x : ℕ). times x c) k, h))) l.1,
-     Laid-frame ns ms (Some i) n len (λ j h. same j (omega (arith, h)) (λ e. let k : i ≡ j = cc in omega (arith, once i, one_if-same i, ap (λ (x : ℕ). times x n) k, h))) l.2)
+    } in (
+      here_links,
+      Laid-frame ns ms (Some i) c len (λ j h. same j (omega (arith, h)) (λ e. let k : i ≡ j = cc in omega (arith, once i, one_if-same i, ap (λ (x : ℕ). times x c) k, h))) l.1,
+      Laid-frame ns ms (Some i) n len (λ j h. same j (omega (arith, h)) (λ e. let k : i ≡ j = cc in omega (arith, once i, one_if-same i, ap (λ (x : ℕ). times x n) k, h))) l.2,
+    )
 
 pub set-here : (ns : List Node) (i : ℕ) (x : Node) → i < length ns → node_at (set ns i x) i ≡ x
 set-here ns i x h = get_or-set_same ns i x blank_node h

@@ -1,6 +1,5 @@
 pub mod OrderLemmas
 pub mod BookLemmas
-pub mod PlaceLemmas
 pub mod PassLemmas
 pub mod OpLemmas
 mod PrecedesLemmas
@@ -21,3 +20,11 @@ mod DueLemmas
 mod SeekLemmas
 mod ChainLemmas
 mod BucketLemmas
+mod AlikeLemmas
+mod AnyOrderLemmas
+mod LeastLemmas
+mod SoundLemmas
+mod GrowthLemmas
+mod DueCountLemmas
+mod LentLemmas
+mod FrontLemmas

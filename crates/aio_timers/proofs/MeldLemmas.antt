@@ -23,10 +23,11 @@ Heads-frame ns ms i c len child same top = record {
 pub InRow-frame : (ns ms : List Node) (t : Forest) → length ms ≡ length ns → ((j : ℕ) → 0 < times j t → node_at ms j ≡ node_at ns j) → InRow ns t → InRow ms t
 InRow-frame ns ms Bare len same row = tt
 InRow-frame ns ms (Rooted i c n) len same row =
-    let here : node_at ms i ≡ node_at ns i = same i (omega (arith, one_if-same i)) in
-    (Heads-frame ns ms i c len (ap Node.child here) (λ j h. same j (omega (arith, h))) row.0,
-     ap Node.next here ∙ row.1,
-     InRow-frame ns ms n len (λ j h. same j (omega (arith, h))) row.2)
+    let here : node_at ms i ≡ node_at ns i = same i (omega (arith, one_if-same i)) in (
+      Heads-frame ns ms i c len (ap Node.child here) (λ j h. same j (omega (arith, h))) row.0,
+      ap Node.next here ∙ row.1,
+      InRow-frame ns ms n len (λ j h. same j (omega (arith, h))) row.2,
+    )
 
 pub Heads-first : (ns : List Node) (i : ℕ) (c : Forest) (f : ℕ) → Heads ns i c → (node_at ns i).child ≡ Some f → (0 < times f c) × (f < length ns)
 Heads-first ns i c f top e =
@@ -87,8 +88,8 @@ attached-melded ns p q ps qs tp tq once le ap_ op aq oq =
     let nfp : first ns p q ≢ Some p = λ e. omega (arith, once p, one_if-same p, in_first p e) in
     let nfq : first ns p q ≢ Some q = λ e. omega (arith, once q, one_if-same q, in_first q e) in
     let links = attached-links ns p q ps qs (node_at ns p).next (node_at ns p).prev (node_at ns q).next (node_at ns q).prev
-        (record { within = tp.within; child_is = tp.child_is; next_is = refl; prev_is = refl }) tp.below
-        (record { within = tq.within; child_is = tq.child_is; next_is = refl; prev_is = refl }) tq.below once in
+    (record { within = tp.within; child_is = tp.child_is; next_is = refl; prev_is = refl }) tp.below
+    (record { within = tq.within; child_is = tq.child_is; next_is = refl; prev_is = refl }) tq.below once in
     record {
       forest = Rooted q qs ps;
       top = record { within = links.parent.within; child_is = links.parent.child_is; below = links.below };
@@ -104,7 +105,15 @@ attached-melded ns p q ps qs tp tq once le ap_ op aq oq =
 
 swapped : (ns ms : List Node) (a b : ℕ) (ca cb : Forest) (w : ℕ) → MeldTells ns ms b a cb ca w → MeldTells ns ms a b ca cb w
 swapped ns ms a b ca cb w m = record {
-  forest = m.forest; top = m.top; next = m.next; prev = m.prev; counts = λ j. omega (arith, m.counts j); above = m.above; order = m.order; len = m.len; held = m.held;
+  forest = m.forest;
+  top = m.top;
+  next = m.next;
+  prev = m.prev;
+  counts = λ j. omega (arith, m.counts j);
+  above = m.above;
+  order = m.order;
+  len = m.len;
+  held = m.held;
   outside = λ j none. m.outside j (omega (arith, none));
 }
 

@@ -23,8 +23,8 @@ FreeChain-frame ns ms l (i ∷ xs) len same c =
 pub helds-same : (ns ms : List Node) → length ms ≡ length ns → ((j : ℕ) → held_at ms j ≡ held_at ns j) → helds ms ≡ helds ns
 helds-same ns ms len same =
     ext_get_or vacant (helds ms) (helds ns) (length-map ms _ ∙ len ∙ sym (length-map ns _))
-      (λ i lt. let a : i < length ms = omega (arith, lt, length-map ms held_of) in let b : i < length ns = omega (arith, a, len) in
-        get_or-map held_of ms i blank_node vacant a ∙ same i ∙ sym (get_or-map held_of ns i blank_node vacant b))
+    (λ i lt. let a : i < length ms = omega (arith, lt, length-map ms held_of) in let b : i < length ns = omega (arith, a, len) in
+    get_or-map held_of ms i blank_node vacant a ∙ same i ∙ sym (get_or-map held_of ns i blank_node vacant b))
 
 record Newcomer (ns ms : List Node) (at : ℕ) (e : Held) (forest : Forest) (more : List ℕ) : Type 0 where
   len : length ms ≡ length ns
@@ -70,7 +70,9 @@ fresh ns root at e h r =
     let in_tree : (j : ℕ) → 0 < times j h.forest → node_at (set ns at (lone_node e)) j ≡ node_at ns j = λ j k. other j (not_same j at (omega (arith, once j, k))) in
     let in_more : (j : ℕ) → 0 < times_in j r.more → node_at (set ns at (lone_node e)) j ≡ node_at ns j = λ j k. other j (not_same j at (omega (arith, once j, k))) in
     record {
-      len = len; here = here; other = other;
+      len = len;
+      here = here;
+      other = other;
       outside = omega (arith, once at, one_if-same at);
       apart = omega (arith, once at, one_if-same at);
       linked = Laid-frame ns (set ns at (lone_node e)) None h.forest len in_tree h.linked;
@@ -100,9 +102,12 @@ place-none ns at e some h =
     go (Rooted i c n) k more f = cc
     go Bare k more f = record {
       heap = record {
-        forest = Rooted at Bare Bare; spare = more; root_is = refl;
+        forest = Rooted at Bare Bare;
+        spare = more;
+        root_is = refl;
         linked = (record { within = f.top.within; child_is = ap Node.child f.here; next_is = ap Node.next f.here; prev_is = ap Node.prev f.here }, tt, tt);
-        alone = refl; chained = f.chained;
+        alone = refl;
+        chained = f.chained;
         once = λ j. omega (arith, f.once j);
         reached = λ j lt. omega (arith, f.reached j lt);
         order = (tt, tt, tt);
@@ -147,7 +152,10 @@ joined ns a b ca cb x y once =
           forest = m.forest;
           linked = (record { within = m.top.within; child_is = m.top.child_is; next_is = m.next ∙ next; prev_is = m.prev ∙ prev }, m.top.below, tt);
           order = HeapOrdered-held (held_at ns) (held_at ms) (Rooted w m.forest Bare) m.held (m.above, m.order, tt);
-          counts = m.counts; len = m.len; held = m.held; outside = m.outside;
+          counts = m.counts;
+          len = m.len;
+          held = m.held;
+          outside = m.outside;
         }
 
 pub record BothNodes (ms : List Node) (top at : ℕ) : Type 0 where
@@ -163,7 +171,11 @@ place-some ns top at e some h =
     step : (ms ls : List Node) (i w : ℕ) (c : Forest) (more : List ℕ) → Newcomer ns ms at e (Rooted i c Bare) more → BecomesOne ms ls i at c Bare w → Sets ns ls at e (Some w) (node_at ns at).next
     step ms ls i w c more f m = record {
       heap = record {
-        forest = Rooted w m.forest Bare; spare = more; root_is = refl; linked = m.linked; alone = refl;
+        forest = Rooted w m.forest Bare;
+        spare = more;
+        root_is = refl;
+        linked = m.linked;
+        alone = refl;
         chained = FreeChain-frame ms ls (node_at ns at).next more m.len (λ j h. m.outside j (omega (arith, f.once j, h))) f.chained;
         once = λ j. omega (arith, f.once j, m.counts j);
         reached = λ j lt. omega (arith, f.reached j (omega (arith, lt, m.len)), m.counts j);
@@ -173,6 +185,7 @@ place-some ns top at e some h =
       };
       helds_are = helds-same ms ls m.len m.held ∙ f.helds_are;
     }
+
     go : (forest : Forest) → first_root forest ≡ Some top → HasOneRoot forest → (more : List ℕ) → Newcomer ns (set ns at (lone_node e)) at e forest more
         → BothNodes (set ns at (lone_node e)) top at × Sets ns (melded (set ns at (lone_node e)) top at) at e (Some (upper_root (set ns at (lone_node e)) top at)) (node_at ns at).next
     go Bare k alone more f = cc
@@ -181,5 +194,7 @@ place-some ns top at e some h =
         let same : i ≡ top = cc in
         let a : StandsAlone (set ns at (lone_node e)) i c = StandsAlone-linked (set ns at (lone_node e)) i c f.linked f.order in
         let b : StandsAlone (set ns at (lone_node e)) at Bare = record { top = f.top; next = ap Node.next f.here; prev = ap Node.prev f.here; above = tt; order = tt } in
-        rw (← same) (record { first = IsNode-top (set ns at (lone_node e)) i c a.top; second = IsNode-top (set ns at (lone_node e)) at Bare b.top },
-            step (set ns at (lone_node e)) (melded (set ns at (lone_node e)) i at) i (upper_root (set ns at (lone_node e)) i at) c more f (joined (set ns at (lone_node e)) i at c Bare a b (λ j. omega (arith, f.once j))))
+        rw (← same) (
+          record { first = IsNode-top (set ns at (lone_node e)) i c a.top; second = IsNode-top (set ns at (lone_node e)) at Bare b.top },
+          step (set ns at (lone_node e)) (melded (set ns at (lone_node e)) i at) i (upper_root (set ns at (lone_node e)) i at) c more f (joined (set ns at (lone_node e)) i at c Bare a b (λ j. omega (arith, f.once j))),
+        )

@@ -29,15 +29,17 @@ Laid-rebuilt ns (AfterSibling i c k) t a l = Laid-rebuilt ns k (Rooted i c t) a.
 pub Around-frame : (ns ms : List Node) (k : Path) (l : Option ℕ) → length ms ≡ length ns → ((j : ℕ) → 0 < times_around j k → node_at ms j ≡ node_at ns j) → LaidAround ns k l → LaidAround ms k l
 Around-frame ns ms AtTop l len same a = tt
 Around-frame ns ms (UnderParent i n k) l len same a =
-    let here : node_at ms i ≡ node_at ns i = same i (omega (arith, one_if-same i)) in
-    (record { within = omega (arith, a.0.within); child_is = ap Node.child here ∙ a.0.child_is; next_is = ap Node.next here ∙ a.0.next_is; prev_is = ap Node.prev here ∙ a.0.prev_is },
-     Laid-frame ns ms (Some i) n len (λ j h. same j (omega (arith, h))) a.1,
-     Around-frame ns ms k (Some i) len (λ j h. same j (omega (arith, h))) a.2)
+    let here : node_at ms i ≡ node_at ns i = same i (omega (arith, one_if-same i)) in (
+      record { within = omega (arith, a.0.within); child_is = ap Node.child here ∙ a.0.child_is; next_is = ap Node.next here ∙ a.0.next_is; prev_is = ap Node.prev here ∙ a.0.prev_is },
+      Laid-frame ns ms (Some i) n len (λ j h. same j (omega (arith, h))) a.1,
+      Around-frame ns ms k (Some i) len (λ j h. same j (omega (arith, h))) a.2,
+    )
 Around-frame ns ms (AfterSibling i c k) l len same a =
-    let here : node_at ms i ≡ node_at ns i = same i (omega (arith, one_if-same i)) in
-    (record { within = omega (arith, a.0.within); child_is = ap Node.child here ∙ a.0.child_is; next_is = ap Node.next here ∙ a.0.next_is; prev_is = ap Node.prev here ∙ a.0.prev_is },
-     Laid-frame ns ms (Some i) c len (λ j h. same j (omega (arith, h))) a.1,
-     Around-frame ns ms k (Some i) len (λ j h. same j (omega (arith, h))) a.2)
+    let here : node_at ms i ≡ node_at ns i = same i (omega (arith, one_if-same i)) in (
+      record { within = omega (arith, a.0.within); child_is = ap Node.child here ∙ a.0.child_is; next_is = ap Node.next here ∙ a.0.next_is; prev_is = ap Node.prev here ∙ a.0.prev_is },
+      Laid-frame ns ms (Some i) c len (λ j h. same j (omega (arith, h))) a.1,
+      Around-frame ns ms k (Some i) len (λ j h. same j (omega (arith, h))) a.2,
+    )
 
 pub record FoundIn (i : ℕ) (t : Forest) : Type 0 where
   pub around : Path

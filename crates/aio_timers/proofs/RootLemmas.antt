@@ -36,7 +36,9 @@ freed ns ls at t spare root free o =
     let in_spare : (j : ℕ) → 0 < times_in j spare → node_at (released ls at free) j ≡ node_at ls j = λ j k. other j (not_same j at (omega (arith, o.once j, k))) in
     record {
       heap = record {
-        forest = t; spare = at ∷ spare; root_is = o.root_is;
+        forest = t;
+        spare = at ∷ spare;
+        root_is = o.root_is;
         linked = Laid-frame ls (released ls at free) None t len in_tree o.linked;
         alone = o.alone;
         chained = (refl, omega (arith, o.within, o.len, len), rw here (FreeChain-frame ls (released ls at free) free spare len in_spare o.chained));
@@ -74,7 +76,12 @@ root-children ns root free h = go h.forest h.root_is h.alone h.linked h.order h.
 pub take-root : (ns ms : List Node) (root : ℕ) (free result : Option ℕ) → (h : IsHeap ns (Some root) free) → root < length ns → (ch : RootChildren ns root h.forest) → Merges ns ms ch.below result
     → Sets ns (released ms root free) root (gone (held_at ns root)) result (Some root)
 take-root ns ms root free result h lt ch m = freed ns ms root m.forest h.spare result free (record {
-  len = m.kept.len; held = m.kept.held; within = lt; root_is = m.root_is; linked = m.linked; alone = m.alone;
+  len = m.kept.len;
+  held = m.kept.held;
+  within = lt;
+  root_is = m.root_is;
+  linked = m.linked;
+  alone = m.alone;
   order = HeapOrdered-held (held_at ns) (held_at ms) m.forest m.kept.held m.order;
   chained = FreeChain-frame ns ms free h.spare m.kept.len (λ j k. m.kept.outside j (omega (arith, k, h.once j, ch.counts j))) h.chained;
   once = λ j. omega (arith, h.once j, ch.counts j, m.counts j);

@@ -13,8 +13,16 @@ use Rattle.aio_timers.specs.Held.{held_at, node_at}
 
 pub FoldsUp-start : (ns : List Node) (t : Forest) (first : Option ℕ) → IsSiblings ns t first → FoldsUp ns ns t first None
 FoldsUp-start ns t first h = record {
-  left = t; joined = Bare; left_is = h.root; joined_is = refl; left_row = h.row; single = tt;
-  counts = λ j. omega arith; left_order = h.order; joined_order = tt; kept = KeepsHeld-refl ns t;
+  left = t;
+  joined = Bare;
+  left_is = h.root;
+  joined_is = refl;
+  left_row = h.row;
+  single = tt;
+  counts = λ j. omega arith;
+  left_order = h.order;
+  joined_order = tt;
+  kept = KeepsHeld-refl ns t;
 }
 
 pub record OneFewer (ns ls : List Node) (t left : Forest) (rest : Option ℕ) (w : ℕ) : Type 0 where
@@ -29,24 +37,42 @@ FoldsUp-first ns ms t a once p = go p.left p.left_is p.left_row p.left_order p.j
     go Bare e row order Bare k counts = cc
     go (Rooted i c n) e row order Bare k counts =
         let same : i ≡ a = cc in
-        rw (← same, row.1) (record { size = omega arith; next = record {
-          left = n; joined = Rooted i c Bare; left_is = refl; joined_is = refl; left_row = row.2; single = (row.0, refl);
-          counts = λ j. omega (arith, counts j); left_order = order.2; joined_order = (order.0, order.1, tt); kept = p.kept; }; })
+        rw (← same, row.1) (record {
+          size = omega arith;
+          next = record {
+            left = n;
+            joined = Rooted i c Bare;
+            left_is = refl;
+            joined_is = refl;
+            left_row = row.2;
+            single = (row.0, refl);
+            counts = λ j. omega (arith, counts j);
+            left_order = order.2;
+            joined_order = (order.0, order.1, tt);
+            kept = p.kept;
+          };
+        })
 
 two-melded : (ns ms ls : List Node) (t : Forest) (w a b : ℕ) (ca cb n : Forest) → IsOnce t → KeepsHeld ns ms t → InRow ms (Rooted b cb n) → HeapOrdered (held_at ns) (Rooted b cb n) → Heads ms a ca
     → ((j : ℕ) → times j (Rooted b cb n) + times j (Rooted a ca Bare) ≡ times j t)
     → MeldTells ms ls a b ca cb w → OneFewer ns ls t (Rooted b cb n) (first_root n) w
 two-melded ns ms ls t w a b ca cb n once kept row order top counts m =
     let forth : (j : ℕ) → held_at ns j ≡ held_at ms j = λ j. sym (kept.held j) in
-    record { size = omega arith; next = record {
-      left = n; joined = Rooted w m.forest Bare; left_is = refl; joined_is = refl;
-      left_row = InRow-frame ms ls n m.len (λ j h. m.outside j (omega (arith, h, counts j, once j))) row.2;
-      single = (m.top, refl);
-      counts = λ j. omega (arith, counts j, m.counts j);
-      left_order = order.2;
-      joined_order = (rw (forth w) (NoneBefore-held (held_at ms) (held_at ns) (held_at ms w) m.forest forth m.above), HeapOrdered-held (held_at ms) (held_at ns) m.forest forth m.order, tt);
-      kept = KeepsHeld-trans ns ms ls t kept (record { len = m.len; held = m.held; outside = λ j none. m.outside j (omega (arith, none, counts j)) });
-    }; }
+    record {
+      size = omega arith;
+      next = record {
+        left = n;
+        joined = Rooted w m.forest Bare;
+        left_is = refl;
+        joined_is = refl;
+        left_row = InRow-frame ms ls n m.len (λ j h. m.outside j (omega (arith, h, counts j, once j))) row.2;
+        single = (m.top, refl);
+        counts = λ j. omega (arith, counts j, m.counts j);
+        left_order = order.2;
+        joined_order = (rw (forth w) (NoneBefore-held (held_at ms) (held_at ns) (held_at ms w) m.forest forth m.above), HeapOrdered-held (held_at ms) (held_at ns) m.forest forth m.order, tt);
+        kept = KeepsHeld-trans ns ms ls t kept (record { len = m.len; held = m.held; outside = λ j none. m.outside j (omega (arith, none, counts j)) });
+      };
+    }
 
 pub FoldsUp-next : (ns ms : List Node) (t : Forest) (a r : ℕ) → IsOnce t → (p : FoldsUp ns ms t (Some a) (Some r)) → OneFewer ns (melded ms r a) t p.left (node_at ms a).next (upper_root ms r a)
 FoldsUp-next ns ms t a r once p = go p.left p.left_is p.left_row p.left_order p.joined p.joined_is p.single p.joined_order p.counts
@@ -147,14 +173,15 @@ merged-some ns ms ls t row r once p gathered =
         let top : Heads (with_prev (with_next ls i None) i None) i c = Heads-frame ls (with_prev (with_next ls i None) i None) i c len_f (ap Node.child at_f) (λ j h. set-there (with_next ls i None) i _ j (not_same j i (omega (arith, h, counts j, q.counts j, once j))) ∙ set-there ls i _ j (not_same j i (omega (arith, h, counts j, q.counts j, once j)))) single.0 in
         let inside : 0 < times i t = omega (arith, counts i, q.counts i, one_if-same i) in
         rw (← k) (record {
-          forest = Rooted i c Bare; root_is = refl;
+          forest = Rooted i c Bare;
+          root_is = refl;
           linked = (record { within = top.within; child_is = top.child_is; next_is = ap Node.next at_f; prev_is = ap Node.prev at_f }, top.below, tt);
           alone = refl;
           counts = λ j. counts j ∙ q.counts j;
           order = HeapOrdered-held (held_at ms) (held_at ns) (Rooted i c Bare) (λ j. sym (p.kept.held j)) order;
           kept = KeepsHeld-trans ns ls (with_prev (with_next ls i None) i None) t (passes-held ns ms ls t row (Some r) p q w)
               (KeepsHeld-trans ls (with_next ls i None) (with_prev (with_next ls i None) i None) t (KeepsHeld-next ls t i None single.0.within inside)
-                (KeepsHeld-set (with_next ls i None) t i (record (node_at (with_next ls i None) i) { prev = None }) (omega (arith, len_e, single.0.within)) refl inside));
+              (KeepsHeld-set (with_next ls i None) t i (record (node_at (with_next ls i None) i) { prev = None }) (omega (arith, len_e, single.0.within)) refl inside));
         })
 
 pub merged-top : (ms ls : List Node) (t : Forest) (r : ℕ) → FoldsUp ms ls t None (Some r) → r < length ls

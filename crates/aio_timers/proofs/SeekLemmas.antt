@@ -128,7 +128,8 @@ passes f n d i index at ks once s = go s.left s.chain s.within s.others s.size
           below = c.1;
           inside = omega (arith, within x, one_if-same x);
           on = λ no. record {
-            left = xs; chain = c.2;
+            left = xs;
+            chain = c.2;
             within = λ j. omega (arith, within j);
             others = λ j h none. elim (cases_eq j x) as (λ _. is_pair_of d i (f j) ≡ false) [
               | inl e ↦ rw e no

@@ -54,7 +54,6 @@ row_steps zero nodes link = 0
 row_steps (suc fuel) nodes None = 0
 row_steps (suc fuel) nodes (Some i) = row_steps fuel nodes (node_at nodes i).next + 1
 
-
 -- none of these roots fires before a node
 abbrev pub NoneBefore : (ℕ → Held) → Held → Forest → Type 0
 NoneBefore held k Bare = ⊤
@@ -64,7 +63,6 @@ NoneBefore held k (Rooted i c n) = IsNotAfter k (held i) × NoneBefore held k n
 abbrev pub HeapOrdered : (ℕ → Held) → Forest → Type 0
 HeapOrdered held Bare = ⊤
 HeapOrdered held (Rooted i c n) = NoneBefore held (held i) c × HeapOrdered held c × HeapOrdered held n
-
 
 -- what a merge is given: siblings from the first on, each node once, in the order of a heap
 pub record IsSiblings (nodes : List Node) (t : Forest) (first : Option ℕ) : Type 0 where
@@ -123,7 +121,6 @@ pub record Merges (old new : List Node) (t : Forest) (root : Option ℕ) : Type 
   pub counts : (j : ℕ) → times j forest ≡ times j t
   pub order : HeapOrdered (held_at old) forest
   pub kept : KeepsHeld old new t
-
 
 -- The way from the first root to a shape inside: it is the first root's; or that of the children of a node, whose later siblings are given; or that
 -- of the later siblings of a node, whose children are given.

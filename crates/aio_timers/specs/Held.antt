@@ -17,6 +17,10 @@ held_of n = record { deadline = n.deadline; id = n.id.0; waker = n.waker; chain 
 abbrev pub lone_node : Held → Node
 lone_node h = record { deadline = h.deadline; id = record { 0 = h.id }; waker = h.waker; chain = h.chain; child = None; next = None; prev = None }
 
+-- a node in front of this one in the free list
+abbrev pub free_node : Option ℕ → Node
+free_node next = record { deadline = 0; id = record { 0 = 0 }; waker = None; chain = None; child = None; next = next; prev = None }
+
 -- what a read behind the last node gives
 abbrev pub blank_node : Node
 blank_node = record { deadline = 0; id = record { 0 = 0 }; waker = None; chain = None; child = None; next = None; prev = None }

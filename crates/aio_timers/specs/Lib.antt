@@ -1,6 +1,5 @@
 pub mod Room
 pub mod Book
-pub mod Places
 pub mod Links
 pub mod Held
 pub mod Precedes
@@ -9,3 +8,5 @@ pub mod Forest
 pub mod Heap
 pub mod Walk
 pub mod Chains
+pub mod Sound
+pub mod Growth

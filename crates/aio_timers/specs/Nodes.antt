@@ -1,5 +1,6 @@
 -- Nodes in a row, and writes of their links.
 use Rattle.std.specs.Prelude.{ℕ, ◌<◌, nat_lt, if◌then◌else◌, Bool, false, ◌==◌, length, IfSome, List, Option, None, Some, slice_index_or, slice_set}
+use Rattle.aio_base.specs.declared.names.Waker.{Waker}
 use Rattle.aio_timers.specs.declared.node.Node.{Node}
 use Rattle.aio_timers.specs.Precedes.{precedes}
 use Rattle.aio_timers.specs.Held.{Held, held_at, node_at}
@@ -15,6 +16,9 @@ with_prev nodes i l = slice_set nodes i (record (node_at nodes i) { prev = l })
 
 abbrev pub with_chain : List Node → ℕ → Option ℕ → List Node
 with_chain nodes i l = slice_set nodes i (record (node_at nodes i) { chain = l })
+
+abbrev pub with_waker : List Node → ℕ → Waker → List Node
+with_waker nodes i w = slice_set nodes i (record (node_at nodes i) { waker = Some w })
 
 -- the node at the end of a link, if there is one, gets a link back
 abbrev pub with_prev_of : List Node → Option ℕ → Option ℕ → List Node

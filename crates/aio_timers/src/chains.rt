@@ -108,7 +108,7 @@ pub(crate) fn leave(nodes: &mut [Node], buckets: &mut [Link], at: usize)
     requires some { 0 < length buckets.old }
     requires table { (used : ℕ → ℕ) × IsTable (held_at nodes.old) (length nodes.old) buckets.old used × (used at ≡ 1) }
     ensures table { (used left : ℕ → ℕ) → IsTable (held_at nodes.old) (length nodes.old) buckets.old used → used at ≡ 1 → IsWithout used left at
-      → IsTable (held_at nodes.new) (length nodes.new) buckets.new left }
+        → IsTable (held_at nodes.new) (length nodes.new) buckets.new left }
     ensures nodes { ChainsChange nodes.old nodes.new }
 {
     let bucket = bucket_at(nodes, at, buckets.len());
@@ -127,16 +127,16 @@ pub(crate) fn leave(nodes: &mut [Node], buckets: &mut [Link], at: usize)
 }
 
 /// Puts a node in front of the chain of its bucket.
-fn join(nodes: &mut [Node], buckets: &mut [Link], at: usize)
+pub(crate) fn join(nodes: &mut [Node], buckets: &mut [Link], at: usize)
     requires few { length nodes.old < 2 ^ 32 }
     requires within { at < length nodes.old }
     requires some { 0 < length buckets.old }
     ensures table { (used more : ℕ → ℕ) → IsTable (held_at nodes.old) (length nodes.old) buckets.old used → used at ≡ 0 → IsWithout more used at
-      → IsTable (held_at nodes.new) (length nodes.new) buckets.new more }
+        → IsTable (held_at nodes.new) (length nodes.new) buckets.new more }
     ensures nodes { ChainsChange nodes.old nodes.new }
 {
-    let bucket = bucket_at(nodes, at, buckets.len());
-    let head = head_of(buckets, bucket);
+    let place = bucket_at(nodes, at, buckets.len());
+    let head = head_of(buckets, place);
     set_chain(nodes, at, head);
-    buckets[bucket] = Link::to(at);
+    buckets[place] = Link::to(at);
 }

@@ -7,15 +7,17 @@
 
 mod book;
 mod chains;
-mod entry;
 mod heap;
 mod link;
 mod links;
 mod node;
 mod op;
-mod walk;
+mod reads;
+mod room;
+mod steps;
 #[cfg(test)]
 mod tests;
+mod walk;
 
 pub use book::TimerBook;
 pub use op::TimerOp;

@@ -1,7 +1,7 @@
 //! A node: a registered timer, or a free place for one.
 
 ghost use Rattle.std.specs.Prelude.{◌≡◌, Some, None, ◌==◌, ◌&&◌, nat_le};
-ghost use Rattle.aio_timers.specs.Held.{Held, held_of, lone_node, is_pair_of};
+ghost use Rattle.aio_timers.specs.Held.{held_of, lone_node, free_node, is_pair_of};
 ghost use Rattle.aio_timers.specs.Precedes.{precedes};
 
 use crate::link::Link;
@@ -41,6 +41,21 @@ impl Node {
         }
     }
 
+    /// A free node, in front of `next` in the free list.
+    pub(crate) fn free(next: Link) -> Node
+        ensures { result ≡ free_node next }
+    {
+        Node {
+            deadline: start(),
+            id: TimerId(0),
+            waker: None,
+            chain: Link::none(),
+            child: Link::none(),
+            next,
+            prev: Link::none(),
+        }
+    }
+
     /// Whether it fires before another node.
     pub(crate) fn is_before(&self, other: &Node) -> bool
         ensures { result ≡ precedes (held_of self.now) (held_of other.now) }
@@ -62,5 +77,15 @@ impl Node {
         ensures { result ≡ nat_le self.now.deadline now }
     {
         self.deadline.get() <= now.get()
+    }
+}
+
+/// The start of the clock, which is the deadline of a node that was never in use.
+fn start() -> Moment
+    ensures { result ≡ 0 }
+{
+    match Moment::new(0) {
+        Some(start) => start,
+        None => unreachable!(),
     }
 }

@@ -87,7 +87,7 @@ fn visit(nodes: &[Node], index: usize, now: Moment) -> (usize, Option<usize>)
     requires within { index < length nodes.now }
     requires stands { (t : Forest) × (root : Option ℕ) × (count : ℕ) × (steps : ℕ) × IsHeapTree nodes.now t root × IsAmid t index (due_among (held_at nodes.now) now) count steps }
     ensures walks { (t : Forest) (root : Option ℕ) (count steps : ℕ) → IsHeapTree nodes.now t root → IsAmid t index (due_among (held_at nodes.now) now) count steps
-      → WalksOn t result.1 (due_among (held_at nodes.now) now) (count + result.0) (steps + 1) }
+        → WalksOn t result.1 (due_among (held_at nodes.now) now) (count + result.0) (steps + 1) }
     ensures few { result.0 ≤ 1 }
 {
     if is_due_at(nodes, index, now) {

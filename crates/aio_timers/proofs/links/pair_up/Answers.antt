@@ -19,7 +19,7 @@ pub loop-a-smaller : goal.loop-a-smaller
 loop-a-smaller c =
     let some : (node_at c.loop-a.nodes c.in-Some.a).next ≡ Some c.in-Some-get.b = sym c.next_of-next.ensures ∙ sym c.in-Some-get.ensures in
     rw (c.set_next-in-Some-get.ensures, c.next_of-rest.ensures, c.meld-top.ensures.nodes, c.meld-top.ensures.root, ← c.in-Some.ensures)
-      (PairsUp-falls c.args.nodes.now c.loop-a.nodes c.requires.row.0 c.in-Some.a c.in-Some-get.b c.loop-a.done c.requires.row.1.once (rw c.in-Some.ensures (c.loop-a.invariant c.requires.row.0 c.requires.row.1)) some)
+    (PairsUp-falls c.args.nodes.now c.loop-a.nodes c.requires.row.0 c.in-Some.a c.in-Some-get.b c.loop-a.done c.requires.row.1.once (rw c.in-Some.ensures (c.loop-a.invariant c.requires.row.0 c.requires.row.1)) some)
 
 pub loop-a-preserved : goal.loop-a-preserved
 loop-a-preserved c = λ t h.

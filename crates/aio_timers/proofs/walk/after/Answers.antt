@@ -22,7 +22,7 @@ returns-in-None-get c = λ t k d n w e. climb-end c.args.nodes.now t w (depth k)
 pub is_first_child-ahead-requires : goal.is_first_child-ahead-requires
 is_first_child-ahead-requires c =
     climb-up-within c.args.nodes.now c.requires.0 c.requires.4 (depth c.requires.1) (left_behind c.requires.1 c.requires.3) c.loop.at c.loop.counter c.in-Some-get.up c.loop.ahead
-      (c.loop.invariant.climbs c.requires.0 c.requires.1 c.requires.2 c.requires.3 c.requires.4 c.requires.5) (ap (onward c.loop.ahead) (sym c.next_of.ensures) ∙ sym c.in-None.ensures) (sym c.prev_of.ensures ∙ sym c.in-Some-get.ensures)
+    (c.loop.invariant.climbs c.requires.0 c.requires.1 c.requires.2 c.requires.3 c.requires.4 c.requires.5) (ap (onward c.loop.ahead) (sym c.next_of.ensures) ∙ sym c.in-None.ensures) (sym c.prev_of.ensures ∙ sym c.in-Some-get.ensures)
 
 pub loop-preserved : goal.loop-preserved
 loop-preserved c = record {
@@ -34,4 +34,4 @@ loop-preserved c = record {
 pub unreachable-requires : goal.unreachable-requires
 unreachable-requires c =
     climb-over c.args.nodes.now c.requires.0 c.requires.1 c.args.from c.requires.2 c.requires.3 c.loop.at c.loop.counter c.loop.ahead c.requires.4 c.requires.5
-      (c.loop.invariant.climbs c.requires.0 c.requires.1 c.requires.2 c.requires.3 c.requires.4 c.requires.5) c.loop-test.false
+    (c.loop.invariant.climbs c.requires.0 c.requires.1 c.requires.2 c.requires.3 c.requires.4 c.requires.5) c.loop-test.false

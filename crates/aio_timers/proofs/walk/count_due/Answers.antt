@@ -14,7 +14,7 @@ returns c = λ t h. over c.args.nodes.now c.args.now t c.args.root h c.loop.at c
 pub visit-due-requires-clause-within : goal.visit-due-requires-clause-within
 visit-due-requires-clause-within c =
     within c.args.nodes.now c.args.now c.requires.0 c.args.root c.requires.1 c.in-Some.index c.loop.count c.loop.counter
-      (subst (λ (x : Option ℕ). WalksOn c.requires.0 x (due_among (held_at c.args.nodes.now) c.args.now) c.loop.count c.loop.counter) c.in-Some.is (c.loop.invariant.walks c.requires.0 c.requires.1))
+    (subst (λ (x : Option ℕ). WalksOn c.requires.0 x (due_among (held_at c.args.nodes.now) c.args.now) c.loop.count c.loop.counter) c.in-Some.is (c.loop.invariant.walks c.requires.0 c.requires.1))
 
 pub loop-preserved : goal.loop-preserved
 loop-preserved c = record {

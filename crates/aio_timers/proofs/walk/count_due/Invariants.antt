@@ -8,5 +8,5 @@ use Rattle.aio_timers.specs.Held.{held_at}
 abbrev pub invariant-loop : goal.invariant-loop
 invariant-loop l = record {
   few : l.count ≤ l.counter;
-  walks : (t : Forest) → IsHeapTree l.fn.nodes t l.fn.root → WalksOn t l.at (due_among (held_at l.fn.nodes) l.fn.now) l.count l.counter
+  walks : (t : Forest) → IsHeapTree l.fn.nodes t l.fn.root → WalksOn t l.at (due_among (held_at l.fn.nodes) l.fn.now) l.count l.counter;
 }
