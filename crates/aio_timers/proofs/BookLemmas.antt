@@ -43,6 +43,13 @@ IsBook-placed r (x ∷ book) h other =
           (All-cons (Follows r) x book next (All-weaker (Follows x) (Follows r) (λ y k. fires_before-trans r x y next k) book h.0), h)
     ] refl
 
+-- where all are others nothing leaves
+pub without_pair-others : (d n : ℕ) (book : List Registration) → All (IsOther d n) book → without_pair d n book ≡ book
+without_pair-others d n [] h = refl
+without_pair-others d n (r ∷ book) h =
+    let one : is_pair d n r ≡ false = All-head (IsOther d n) r book h in
+    rw one (ap (λ (rs : List Registration). r ∷ rs) (without_pair-others d n book (All-tail (IsOther d n) r book h)))
+
 -- without a pair all are others
 pub others-without_pair : (d n : ℕ) (book : List Registration) → All (IsOther d n) (without_pair d n book)
 others-without_pair d n [] = All-nil (IsOther d n)

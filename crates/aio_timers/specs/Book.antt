@@ -1,5 +1,5 @@
 -- What the operations on registered timers mean, and the timer that fires first.
-use Rattle.std.specs.Prelude.{ℕ, List, [], ◌∷◌, Option, None, Some}
+use Rattle.std.specs.Prelude.{ℕ, Bool, false, nat_le, List, [], ◌∷◌, Option, None, Some}
 use Rattle.aio_base.specs.World.{Registration}
 use Rattle.aio_base.specs.Timers.{BookChange, Registers, Unregisters}
 use Rattle.aio_base.specs.declared.names.TimerId.{TimerId}
@@ -20,3 +20,8 @@ entries_needed (Remove deadline id) = 0
 abbrev pub first_pair : List Registration → Option (ℕ × TimerId)
 first_pair [] = None
 first_pair (r ∷ book) = Some (r.deadline, record { 0 = r.id })
+
+-- whether the registration at the front is due at a moment
+abbrev pub is_first_due : ℕ → List Registration → Bool
+is_first_due now [] = false
+is_first_due now (r ∷ book) = nat_le r.deadline now

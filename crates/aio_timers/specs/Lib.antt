@@ -1,3 +1,12 @@
 pub mod Room
 pub mod Book
-pub mod Places
+pub mod Links
+pub mod Held
+pub mod Precedes
+pub mod Nodes
+pub mod Forest
+pub mod Heap
+pub mod Walk
+pub mod Chains
+pub mod Sound
+pub mod Growth

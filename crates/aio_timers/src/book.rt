@@ -1,44 +1,52 @@
 //! The book of registered timers and its calls.
 
-ghost use Rattle.std.specs.Prelude.{◌≡◌, ℕ, ◌+◌, ◌^◌, ◌<◌, ◌≤◌, [], ◌∷◌, ◌++◌, length, map, take, drop, option_map, OnOk, OnErr, vec_len, vec_capacity};
-ghost use Rattle.std.specs.List.{All, insert};
-ghost use Rattle.std.specs.VecDeque.{deque_len, deque_capacity};
+ghost use Rattle.std.specs.Prelude.{◌≡◌, ℕ, ◌+◌, ◌^◌, ◌<◌, ◌≤◌, [], ◌∷◌, ◌++◌, length, option_map, OnOk, OnErr, vec_len, vec_capacity};
+ghost use Rattle.std.specs.List.{All};
 ghost use Rattle.aio_base.specs.declared.names.TimerId.{TimerId};
 ghost use Rattle.aio_base.specs.World.{Registration};
 ghost use Rattle.aio_base.specs.Timers.{IsBook, fold_changes, due_wakers, after_pass, first_deadline};
-ghost use Rattle.aio_timers.specs.Book.{change_of, entries_needed, first_pair};
-ghost use Rattle.aio_timers.specs.Places.{IsDueEnd, IsPlaceOf};
+ghost use Rattle.aio_timers.specs.Book.{change_of, entries_needed, first_pair, is_first_due};
 
-use crate::entry::Entry;
+use crate::link::Link;
+use crate::node::Node;
 use crate::op::TimerOp;
+use crate::reads::{is_due_at, pair_at, waker_at};
+use crate::room::{grow, wanted};
+use crate::steps::{add, find, set_waker, take};
+use crate::walk::count_due;
 use aio_base::{Moment, OutOfMemory, TimerId, Waker};
 use std::alloc::Global;
-use std::collections::VecDeque;
 use std::marker::Model;
 
 /// The registered timers, in the order in which they fire: by deadline, then by id (`async-io` 2,
 /// `reactor.rs`, `Reactor::timers`). No deadline and id stand twice.
 ///
-/// Contracts see the list of registrations, and for how many more there is room. `due_count` takes
-/// logarithmic time; so does the search of `apply`, which then moves the shorter side of the book.
-/// `pass` takes logarithmic time, and constant time for each waker; `reserve` takes linear time at
-/// most, and every other call constant time.
+/// Contracts see the list of registrations, and for how many more there is room. The timers stand in
+/// a pairing heap (Fredman, Sedgewick, Sleator and Tarjan, 1986) whose links are indices into one
+/// vector of nodes, and chains through the nodes, one for each bucket of ids, find the node of a
+/// deadline and an id. An insert takes constant time; a removal, and each timer of a pass,
+/// logarithmic time on the average over many calls. Where many timers have one id, or ids of one
+/// bucket, the search of their chain comes on top.
 #[derive(Drop)]
 pub struct TimerBook {
-    entries: VecDeque<Entry>,
+    nodes: Vec<Node>,
+    buckets: Vec<Link>,
+    root: Option<usize>,
+    free: Link,
+    used: u32,
 }
 
 impl Model for TimerBook {
-    ghost use Rattle.std.specs.Prelude.{◌-◌, ◌^◌, min};
-    ghost use Rattle.std.specs.VecDeque.{deque_len, deque_capacity};
-    ghost use Rattle.aio_base.specs.Timers.{IsBook};
+    ghost use Rattle.std.specs.Prelude.{◌-◌, length};
+    ghost use Rattle.aio_timers.specs.Held.{helds};
+    ghost use Rattle.aio_timers.specs.Sound.{registrations, IsSound};
     ghost use Rattle.aio_timers.specs.Room.{Book};
 
     ghost Value = { Book };
 
-    ghost view = { λ b. record { entries = b.entries.items; spare = min (deque_capacity b.entries - deque_len b.entries) (2 ^ 32 - 1) } };
+    ghost view = { λ b. record { entries = registrations (helds b.nodes.items); spare = length b.nodes.items - b.used } };
 
-    ghost invariant = { λ b. IsBook b.entries.items };
+    ghost invariant = { λ b. IsSound b.nodes.items b.buckets.items b.root b.free b.used };
 }
 
 impl TimerBook {
@@ -47,23 +55,44 @@ impl TimerBook {
         ensures { result ≡ record { entries = []; spare = 0 } }
     {
         TimerBook {
-            entries: VecDeque::from_vec(Vec::new(alloc)),
+            nodes: Vec::new(alloc),
+            buckets: Vec::new(alloc),
+            root: None,
+            free: Link::none(),
+            used: 0,
         }
     }
 
     /// Makes room for `n` more timers, the only call that takes memory. `OutOfMemory` where the room
-    /// is not there yet and memory ran out: the timers then stand as before, and no room is lost.
+    /// is not there yet and memory ran out, or where there would be 2^32 timers: the timers then
+    /// stand as before, and no room is lost. Where the room is there it takes constant time. Growth
+    /// at least doubles it and takes linear time, so that each timer costs constant time on the
+    /// average.
     pub fn reserve(&mut self, n: u32) -> Result<(), OutOfMemory>
         ensures entries { self.new.entries ≡ self.old.entries }
         ensures room { OnOk result (n ≤ self.new.spare) }
         ensures spare { self.old.spare ≤ self.new.spare }
         ensures refused { OnErr result (self.old.spare < n) }
     {
-        self.entries.reserve(n as usize).map_err(|_| OutOfMemory)
+        let spare = self.spare();
+        if n <= spare {
+            return Ok(());
+        }
+        match wanted(self.nodes.len(), (n - spare) as usize) {
+            None => Err(OutOfMemory),
+            Some(total) => match grow(&mut self.nodes, &mut self.buckets, self.free, total) {
+                Err(refused) => Err(refused),
+                Ok(free) => {
+                    self.free = free;
+                    Ok(())
+                }
+            },
+        }
     }
 
     /// Registers or unregisters a timer, as `op` says. It takes no memory: an `Insert` uses room
-    /// for one timer at most, and a `Remove` loses none.
+    /// for one timer at most, and a `Remove` loses none. An `Insert` takes constant time, and a
+    /// `Remove` logarithmic time on the average, besides the search of one bucket.
     pub fn apply(&mut self, op: TimerOp)
         requires { entries_needed op ≤ self.old.spare }
         ensures entries { self.new.entries ≡ fold_changes self.old.entries (change_of op ∷ []) }
@@ -81,10 +110,21 @@ impl TimerBook {
         ensures entries { self.new.entries ≡ fold_changes self.old.entries (change_of (TimerOp.Insert deadline id waker) ∷ []) }
         ensures spare { self.old.spare ≤ self.new.spare + 1 }
     {
-        let entry = Entry::new(deadline, id, waker);
-        match self.place_of(deadline, id) {
-            Ok(index) => self.entries[index] = entry,
-            Err(index) => insert_reserved(&mut self.entries, index, entry),
+        match find(&self.nodes, &self.buckets, deadline, id) {
+            Some(at) => set_waker(&mut self.nodes, at, waker),
+            None => {
+                let timer = (deadline, id, waker);
+                let (root, free) = add(
+                    &mut self.nodes,
+                    &mut self.buckets,
+                    self.root,
+                    self.free,
+                    timer,
+                );
+                self.root = Some(root);
+                self.free = free;
+                self.used += 1;
+            }
         }
     }
 
@@ -93,14 +133,17 @@ impl TimerBook {
         ensures entries { self.new.entries ≡ fold_changes self.old.entries (change_of (TimerOp.Remove deadline id) ∷ []) }
         ensures spare { self.old.spare ≤ self.new.spare }
     {
-        if let Ok(index) = self.place_of(deadline, id) {
-            let _ = self.entries.remove(index);
+        if let Some(at) = find(&self.nodes, &self.buckets, deadline, id) {
+            let (root, free) = take(&mut self.nodes, &mut self.buckets, self.root, self.free, at);
+            self.root = root;
+            self.free = free;
+            self.used -= 1;
         }
     }
 
     /// Moves the wakers of the timers that are due at the moment `now` to the end of `taken`, in the
     /// order in which they fire; the timers go. Due are those with a deadline at most `now`. It takes
-    /// no memory.
+    /// no memory, and logarithmic time on the average for each of them.
     pub fn pass(&mut self, now: Moment, taken: &mut Vec<Waker>)
         requires { vec_len taken.old + length (due_wakers now self.old.entries) ≤ vec_capacity taken.old }
         ensures taken { taken.new.items ≡ taken.old.items ++ due_wakers now self.old.entries }
@@ -109,96 +152,89 @@ impl TimerBook {
         ensures later { All (λ (r : Registration). now < r.deadline) self.new.entries }
         ensures spare { self.old.spare ≤ self.new.spare }
     {
-        let count = self.due_end(now);
-        take_front(&mut self.entries, count, taken);
+        for _ in 0..self.len() {
+            if !self.is_first_due(now) {
+                return;
+            }
+            let waker = self.take_first();
+            taken.push_reserved(waker);
+        }
     }
 
-    /// How many timers are due at the moment `now`: the room that a pass needs.
+    /// Whether the timer that fires first is due at the moment `now`.
+    fn is_first_due(&self, now: Moment) -> bool
+        ensures value { result ≡ is_first_due now self.now.entries }
+        ensures order { IsBook self.now.entries }
+    {
+        match self.root {
+            None => false,
+            Some(at) => is_due_at(&self.nodes, at, now),
+        }
+    }
+
+    /// Unregisters the timer that fires first. The answer is its waker.
+    fn take_first(&mut self) -> Waker
+        requires { 0 < length self.old.entries }
+        ensures entries { (r : Registration) × (self.old.entries ≡ r ∷ self.new.entries) × (result ≡ r.waker) }
+        ensures spare { self.old.spare ≤ self.new.spare }
+    {
+        match self.root {
+            None => unreachable!(),
+            Some(at) => {
+                let waker = waker_at(&self.nodes, at);
+                let (root, free) = take(
+                    &mut self.nodes,
+                    &mut self.buckets,
+                    self.root,
+                    self.free,
+                    at,
+                );
+                self.root = root;
+                self.free = free;
+                self.used -= 1;
+                waker
+            }
+        }
+    }
+
+    /// How many timers are due at the moment `now`: the room that a pass needs. It looks at those
+    /// timers and their children in the heap alone, so it takes no more time than the pass, and
+    /// constant time where none is due.
     pub fn due_count(&self, now: Moment) -> usize
         ensures value { result ≡ length (due_wakers now self.now.entries) }
         ensures bound { result ≤ length self.now.entries }
     {
-        self.due_end(now)
+        count_due(self.nodes.as_slice(), self.root, now)
     }
 
     /// The deadline and the id of the timer that fires first; `None` exactly where no timer is
-    /// registered. No timer has an earlier deadline.
+    /// registered. No timer has an earlier deadline. It takes constant time.
     pub fn first(&self) -> Option<(Moment, TimerId)>
         ensures value { result ≡ first_pair self.now.entries }
         ensures deadline { option_map (λ (pair : ℕ × TimerId). pair.0) result ≡ first_deadline self.now.entries }
         ensures order { IsBook self.now.entries }
     {
-        self.entries.front().map(|entry| entry.pair())
+        match self.root {
+            None => None,
+            Some(at) => Some(pair_at(&self.nodes, at)),
+        }
     }
 
-    /// How many timers are registered. Each of them fires before all behind it.
+    /// How many timers are registered. Each of them fires before all behind it. It takes constant
+    /// time.
     pub fn len(&self) -> usize
         ensures value { result ≡ length self.now.entries }
         ensures bound { result < 2 ^ 63 }
         ensures order { IsBook self.now.entries }
     {
-        self.entries.len()
+        self.used as usize
     }
 
-    /// For how many more timers there is room: 2^32 - 1 where there is room for more than that.
+    /// For how many more timers there is room. It takes constant time.
     pub fn spare(&self) -> u32
         ensures value { result ≡ self.now.spare }
         ensures bound { self.now.spare < 2 ^ 32 }
     {
-        let room = self.entries.capacity() - self.entries.len();
-        room.min(u32::MAX as usize) as u32
-    }
-
-    /// The index behind the last timer that is due at the moment `now`.
-    fn due_end(&self, now: Moment) -> usize
-        ensures value { IsDueEnd now self.now.entries result }
-        ensures order { IsBook self.now.entries }
-    {
-        self.entries.partition_point(|entry| entry.is_due(now))
-    }
-
-    /// Where the timer with this deadline and this id is: `Ok` of its index, or `Err` of the index
-    /// at which it belongs where there is none.
-    fn place_of(&self, deadline: Moment, id: TimerId) -> Result<usize, usize>
-        ensures { IsPlaceOf deadline id.0 self.now.entries result }
-    {
-        let index = self
-            .entries
-            .partition_point(|entry| entry.is_before(deadline, id));
-        match self.entries.get(index) {
-            Some(entry) if entry.is_pair(deadline, id) => Ok(index),
-            _ => Err(index),
-        }
-    }
-}
-
-/// Puts an entry at an index, where there is room for it.
-fn insert_reserved(entries: &mut VecDeque<Entry>, index: usize, entry: Entry)
-    requires within { index ≤ deque_len entries.old }
-    requires room { deque_len entries.old < deque_capacity entries.old }
-    ensures items { entries.new.items ≡ insert entries.old.items index entry }
-    ensures len { deque_len entries.new ≡ deque_len entries.old + 1 }
-    ensures capacity { deque_capacity entries.old ≤ deque_capacity entries.new }
-{
-    match entries.insert(index, entry) {
-        Ok(()) => {}
-        Err(_) => unreachable!(),
-    }
-}
-
-/// Moves the wakers of the first `count` entries to the end of `taken`, in order; the entries go.
-fn take_front(entries: &mut VecDeque<Entry>, count: usize, taken: &mut Vec<Waker>)
-    requires there { count ≤ deque_len entries.old }
-    requires room { vec_len taken.old + count ≤ vec_capacity taken.old }
-    ensures left { entries.new.items ≡ drop count entries.old.items }
-    ensures len { deque_len entries.new + count ≡ deque_len entries.old }
-    ensures entries_capacity { deque_capacity entries.new ≡ deque_capacity entries.old }
-    ensures taken { taken.new.items ≡ taken.old.items ++ map (λ (r : Registration). r.waker) (take count entries.old.items) }
-    ensures capacity { vec_capacity taken.new ≡ vec_capacity taken.old }
-{
-    for _ in 0..count {
-        if let Some(entry) = entries.pop_front() {
-            taken.push_reserved(entry.waker());
-        }
+        (self.nodes.len() - self.used as usize) as u32
     }
 }

@@ -6,10 +6,18 @@
 #![tactic(auto)]
 
 mod book;
-mod entry;
+mod chains;
+mod heap;
+mod link;
+mod links;
+mod node;
 mod op;
+mod reads;
+mod room;
+mod steps;
 #[cfg(test)]
 mod tests;
+mod walk;
 
 pub use book::TimerBook;
 pub use op::TimerOp;

@@ -1,5 +1,5 @@
-//! What no clause says: that room is made with ample memory, how the calls follow one another, and
-//! that a book can be shared between threads.
+//! What no clause says: that room is made with ample memory, how the calls follow one another, that
+//! growth and all shapes of the heap keep the order, and that a book can be shared between threads.
 
 use crate::{TimerBook, TimerOp};
 use aio_base::{Moment, TimerId, Waker};
@@ -50,5 +50,87 @@ fn timers_fire_by_deadline_and_id(rt: HostRuntime) -> Result<(), Fail> {
     assert_eq!(rt; taken.as_slice(), [Waker(5)].as_slice());
     assert_eq!(rt; book.len(), 0);
     share(book);
+    Ok(())
+}
+
+#[test]
+fn an_insert_of_a_pair_that_is_there_replaces_its_waker(rt: HostRuntime) -> Result<(), Fail> {
+    let mut book = TimerBook::new(rt.alloc());
+    book.reserve(2)?;
+    insert(&rt, &mut book, 10, 1, 4);
+    insert(&rt, &mut book, 10, 1, 5);
+    assert_eq!(rt; book.len(), 1);
+    let taken = passed(rt.alloc(), &mut book, moment(&rt, 10))?;
+    assert_eq!(rt; taken.as_slice(), [Waker(5)].as_slice());
+    Ok(())
+}
+
+/// 10,000 timers, of which every third goes before two passes, at the middle and at the end: the
+/// other wakers, which are the deadlines, rise.
+fn check_order(rt: &HostRuntime, falling: bool) -> Result<(), Fail> {
+    let mut book = TimerBook::new(rt.alloc());
+    for number in 0u32..10_000 {
+        let deadline = if falling { 9_999 - number } else { number };
+        book.reserve(1)?;
+        insert(
+            rt,
+            &mut book,
+            deadline as u64,
+            deadline as u64 * 1_099_511_627_776,
+            deadline,
+        );
+    }
+    for number in 0u64..3_334 {
+        remove(rt, &mut book, 3 * number, 3 * number * 1_099_511_627_776);
+    }
+    assert_eq!(rt; book.due_count(moment(rt, 10_000)), 6_666);
+    let early = passed(rt.alloc(), &mut book, moment(rt, 4_999))?;
+    assert_eq!(rt; early.len(), 3_333);
+    assert_eq!(rt;
+        book.first(),
+        Some((moment(rt, 5_000), TimerId(5_000 * 1_099_511_627_776)))
+    );
+    let late = passed(rt.alloc(), &mut book, moment(rt, 10_000))?;
+    assert_eq!(rt; late.len(), 3_333);
+    assert!(rt; early.iter().chain(late.iter()).is_sorted());
+    assert_eq!(rt; book.len(), 0);
+    assert!(rt; book.spare() >= 10_000);
+    Ok(())
+}
+
+#[test]
+fn a_heap_as_deep_as_it_is_long_keeps_the_order(rt: HostRuntime) -> Result<(), Fail> {
+    check_order(&rt, true)
+}
+
+#[test]
+fn a_root_with_all_others_below_it_keeps_the_order(rt: HostRuntime) -> Result<(), Fail> {
+    check_order(&rt, false)
+}
+
+/// Removals in all places of the heap: of the root, of a first child, between siblings and of the
+/// last one, each with and without children. After each the timer that fires first is compared.
+#[test]
+fn a_timer_leaves_from_every_place(rt: HostRuntime) -> Result<(), Fail> {
+    let mut book = TimerBook::new(rt.alloc());
+    book.reserve(10)?;
+    for deadline in [10, 20, 30, 40, 50, 60, 70, 80, 90] {
+        insert(&rt, &mut book, deadline, 7, deadline as u32);
+    }
+    for (deadline, first) in [
+        (60, 10),
+        (90, 10),
+        (20, 10),
+        (10, 30),
+        (40, 30),
+        (80, 30),
+        (30, 50),
+        (70, 50),
+    ] {
+        remove(&rt, &mut book, deadline, 7);
+        assert_eq!(rt; book.first(), Some((moment(&rt, first), TimerId(7))));
+    }
+    remove(&rt, &mut book, 50, 7);
+    assert_eq!(rt; book.first(), None);
     Ok(())
 }

@@ -1,34 +1,38 @@
--- What is due is the front of the book, which goes.
-use Rattle.std.proofs.Common.{sym, ap, subst, ◌∙◌, ◌++◌, arith}
-use Rattle.aio_base.specs.Timers.{IsBook}
-use Rattle.aio_timers.proofs.BookLemmas.{IsBook-after_pass}
-use Rattle.aio_timers.proofs.PassLemmas.{due_wakers-front, after_pass-behind, length-due_wakers, later-after_pass}
+-- Each round takes the front while it is due.
+use Rattle.std.proofs.Common.{◌≡◌, ◌≤◌, ◌<◌, ◌+◌, ◌++◌, [], ◌∷◌, ℕ, true, false, List, length, arith, ap, sym, subst, ◌∙◌, append_assoc}
+use Rattle.aio_base.specs.declared.names.Waker.{Waker}
+use Rattle.aio_base.specs.World.{Registration}
+use Rattle.aio_base.specs.Timers.{due_wakers, after_pass}
+use Rattle.aio_timers.specs.Book.{is_first_due}
+use Rattle.aio_timers.proofs.PassLemmas.{Ends, ends, Takes, takes}
+use Rattle.aio_timers.proofs.FrontLemmas.{append-nil}
 use Rattle.aio_timers.proofs.book.TimerBook.pass.Goals as goal
 
-pub take_front-requires-clause-room : goal.take_front-requires-clause-room
-take_front-requires-clause-room c =
-    let end = rw (← c.self.view_is) at c.due_end-count.ensures.value in
-    let room = rw (← c.self.view_is) at c.requires in
-    omega (arith, room, length-due_wakers c.args.now c.self.inside.entries.items _ c.self.invariant end)
+pub returns-then-not-is_first_due-clause-taken : goal.returns-then-not-is_first_due-clause-taken
+returns-then-not-is_first_due-clause-taken c =
+    let e : Ends c.args.now c.loop.self.entries = ends c.args.now c.loop.self.entries c.is_first_due.ensures.order (sym c.is_first_due.ensures.value ∙ c.if-not-is_first_due.true) in
+    sym (append-nil c.loop.taken.items) ∙ ap (λ (ws : List Waker). c.loop.taken.items ++ ws) (sym e.due) ∙ c.loop.invariant.taken
 
-pub invariant_of-self : goal.invariant_of-self
-invariant_of-self c =
-    let end = rw (← c.self.view_is) at c.due_end-count.ensures.value in
-    let book = c.self.inside.entries.items in
-    subst IsBook (after_pass-behind c.args.now book _ end ∙ sym c.take_front.ensures.left) (IsBook-after_pass c.args.now book c.self.invariant)
+pub returns-then-not-is_first_due-clause-entries : goal.returns-then-not-is_first_due-clause-entries
+returns-then-not-is_first_due-clause-entries c =
+    let e : Ends c.args.now c.loop.self.entries = ends c.args.now c.loop.self.entries c.is_first_due.ensures.order (sym c.is_first_due.ensures.value ∙ c.if-not-is_first_due.true) in
+    sym e.left ∙ c.loop.invariant.left
 
-pub returns-clause-taken : goal.returns-clause-taken
-returns-clause-taken c =
-    let end = rw (← c.self.view_is) at c.due_end-count.ensures.value in
-    rw (← c.self.view_is) (c.take_front.ensures.taken ∙ sym (ap (λ ws. c.args.taken.now.items ++ ws) (due_wakers-front c.args.now c.self.inside.entries.items _ c.self.invariant end)))
+pub push_reserved-requires : goal.push_reserved-requires
+push_reserved-requires c =
+    let t : Takes c.args.now c.loop.self.entries c.take_first-waker.new.self.entries c.take_first-waker.result = takes c.args.now c.loop.self.entries c.take_first-waker.new.self.entries c.take_first-waker.ensures.entries.0 c.take_first-waker.result c.is_first_due.ensures.order
+    (sym c.is_first_due.ensures.value ∙ c.if-not-is_first_due.false) c.take_first-waker.ensures.entries.1 c.take_first-waker.ensures.entries.2 in
+    omega (arith, c.loop.invariant.room, ap (λ (ws : List Waker). length ws) t.due)
 
-pub returns-clause-entries : goal.returns-clause-entries
-returns-clause-entries c =
-    let end = rw (← c.self.view_is) at c.due_end-count.ensures.value in
-    rw (← c.self.view_is) (c.take_front.ensures.left ∙ sym (after_pass-behind c.args.now c.self.inside.entries.items _ end))
-
-pub returns-clause-later : goal.returns-clause-later
-returns-clause-later c =
-    let end = rw (← c.self.view_is) at c.due_end-count.ensures.value in
-    let book = c.self.inside.entries.items in
-    rw (c.take_front.ensures.left, ← after_pass-behind c.args.now book _ end) (later-after_pass c.args.now book)
+pub loop-preserved : goal.loop-preserved
+loop-preserved c =
+    let t : Takes c.args.now c.loop.self.entries c.take_first-waker.new.self.entries c.take_first-waker.result = takes c.args.now c.loop.self.entries c.take_first-waker.new.self.entries c.take_first-waker.ensures.entries.0 c.take_first-waker.result c.is_first_due.ensures.order
+    (sym c.is_first_due.ensures.value ∙ c.if-not-is_first_due.false) c.take_first-waker.ensures.entries.1 c.take_first-waker.ensures.entries.2 in
+    record {
+      taken = rw c.push_reserved.ensures.items (append_assoc c.loop.taken.items (c.take_first-waker.result ∷ []) (due_wakers c.args.now c.take_first-waker.new.self.entries) ∙ ap (λ (ws : List Waker). c.loop.taken.items ++ ws) (sym t.due) ∙ c.loop.invariant.taken);
+      left = sym t.left ∙ c.loop.invariant.left;
+      size = omega (arith, c.loop.invariant.size, ap (λ (rs : List Registration). length rs) c.take_first-waker.ensures.entries.1);
+      room = omega (arith, c.loop.invariant.room, c.push_reserved.ensures.len, c.push_reserved.ensures.capacity, ap (λ (ws : List Waker). length ws) t.due);
+      capacity = c.push_reserved.ensures.capacity ∙ c.loop.invariant.capacity;
+      spare = omega (arith, c.loop.invariant.spare, c.take_first-waker.ensures.spare);
+    }

@@ -1,0 +1,214 @@
+-- Free nodes that join the others, and a row of buckets that is filled anew.
+use Rattle.std.proofs.Common.{inl, inr, ◌⊎◌, ◌≡◌, ◌≢◌, ℕ, zero, suc, ◌+◌, ◌<◌, ◌≤◌, ◌^◌, ◌==◌, Bool, true, false, cond, List, [], ◌∷◌, ◌++◌, length, map, get_or, Option, None, Some, is_some, refl, sym, ap, ◌∙◌, arith}
+use Rattle.std.specs.Prelude.{nat_lt}
+use Rattle.std.specs.List.{filter_map, cons_option}
+use Rattle.std.proofs.lemmas.Bool.{cases_eq}
+use Rattle.std.proofs.lemmas.Bool.Decides.{nat_tests}
+use Rattle.std.proofs.lemmas.List.{length-append}
+use Rattle.aio_base.specs.World.{Registration}
+use Rattle.aio_base.specs.Timers.{in_order, IsBook}
+use Rattle.aio_timers.specs.declared.node.Node.{Node}
+use Rattle.aio_timers.specs.Held.{Held, held_at, held_of, helds, node_at, blank_node, free_node, live_of}
+use Rattle.aio_timers.specs.Forest.{Forest, Bare, Rooted, first_root, one_if, times, LinksAre, Laid}
+use Rattle.aio_timers.specs.Heap.{times_in, FreeChain, IsHeap}
+use Rattle.aio_timers.specs.Chains.{IsTable, IsWithout, ChainsChange, used_of, bucket_in}
+use Rattle.aio_timers.specs.Sound.{registrations, IsSound}
+use Rattle.aio_timers.specs.Growth.{IsBlankRow, used_before, Rehashes, Extends, GrowsTo}
+use Rattle.aio_timers.proofs.CountLemmas.{one_if-same, one_if-other, some_or_none}
+use Rattle.aio_timers.proofs.LayoutLemmas.{Laid-within}
+use Rattle.aio_timers.proofs.NewcomerLemmas.{HeapOrdered-in}
+use Rattle.aio_timers.proofs.ChainLemmas.{IsTable-frame, cond-zero}
+use Rattle.aio_timers.proofs.AlikeLemmas.{Alike, IsHeap-alike, Alike-chains, live-chains}
+use Rattle.aio_timers.proofs.SoundLemmas.{used-yes, used-no, used-le, below, used-some}
+
+-- ## One more free node
+
+push-here : (ns : List Node) (x : Node) → node_at (ns ++ x ∷ []) (length ns) ≡ x
+push-here [] x = refl
+push-here (y ∷ ns) x = push-here ns x
+
+push-there : (ns : List Node) (x : Node) (j : ℕ) → j ≢ length ns → node_at (ns ++ x ∷ []) j ≡ node_at ns j
+push-there [] x zero ne = absurd (ne refl)
+push-there [] x (suc j) ne = refl
+push-there (y ∷ ns) x zero ne = refl
+push-there (y ∷ ns) x (suc j) ne = push-there ns x j (λ e. ne (omega (arith, e)))
+
+past-end : (ns : List Node) → node_at ns (length ns) ≡ blank_node
+past-end [] = refl
+past-end (x ∷ ns) = past-end ns
+
+live-push : (ns : List Node) (l : Option ℕ) → filter_map live_of (helds (ns ++ free_node l ∷ [])) ≡ filter_map live_of (helds ns)
+live-push [] l = refl
+live-push (x ∷ ns) l = ap (cons_option (live_of (held_of x))) (live-push ns l)
+
+Laid-longer : (ns ms : List Node) (p : Option ℕ) (t : Forest) → length ns ≤ length ms → ((j : ℕ) → j < length ns → node_at ms j ≡ node_at ns j) → Laid ns p t → Laid ms p t
+Laid-longer ns ms p Bare le same l = tt
+Laid-longer ns ms p (Rooted i c n) le same l =
+    let own : LinksAre ns i (first_root c) (first_root n) p = l.0 in
+    let is : node_at ms i ≡ node_at ns i = same i own.within in
+    let here : LinksAre ms i (first_root c) (first_root n) p = record {
+      within = omega (arith, own.within, le);
+      child_is = ap Node.child is ∙ own.child_is;
+      next_is = ap Node.next is ∙ own.next_is;
+      prev_is = ap Node.prev is ∙ own.prev_is;
+    } in
+    (here, Laid-longer ns ms (Some i) c le same l.1, Laid-longer ns ms (Some i) n le same l.2)
+
+FreeChain-longer : (ns ms : List Node) (l : Option ℕ) (xs : List ℕ) → length ns ≤ length ms → ((j : ℕ) → j < length ns → node_at ms j ≡ node_at ns j) → FreeChain ns l xs → FreeChain ms l xs
+FreeChain-longer ns ms l [] le same c = c
+FreeChain-longer ns ms l (i ∷ xs) le same c = (c.0, omega (arith, c.1, le), rw (same i c.1) (FreeChain-longer ns ms (node_at ns i).next xs le same c.2))
+
+FreeChain-within : (ns : List Node) (l : Option ℕ) (xs : List ℕ) (j : ℕ) → FreeChain ns l xs → 0 < times_in j xs → j < length ns
+FreeChain-within ns l [] j c h = absurd (omega (arith, h))
+FreeChain-within ns l (i ∷ xs) j c h =
+    elim (cases_eq j i) as (λ _. j < length ns) [
+      | inl e ↦ rw e c.1
+      | inr ne ↦ FreeChain-within ns (node_at ns i).next xs j c.2 (omega (arith, h, one_if-other j i ne))
+    ]
+
+extended-heap : (ns ms : List Node) (root free : Option ℕ) → length ms ≡ length ns + 1 → node_at ms (length ns) ≡ free_node free → ((j : ℕ) → j ≢ length ns → node_at ms j ≡ node_at ns j) → IsHeap ns root free
+    → IsHeap ms root (Some (length ns))
+extended-heap ns ms root free len here there h =
+    let same : (j : ℕ) → j < length ns → node_at ms j ≡ node_at ns j = λ j lt. there j (λ e. omega (arith, lt, e)) in
+    let in_forest : (j : ℕ) → 0 < times j h.forest → j < length ns = λ j k. Laid-within ns None h.forest j h.linked k in
+    let in_spare : (j : ℕ) → 0 < times_in j h.spare → j < length ns = λ j k. FreeChain-within ns free h.spare j h.chained k in
+    let out : times (length ns) h.forest ≡ 0 = elim (some_or_none (times (length ns) h.forest)) as (λ _. times (length ns) h.forest ≡ 0) [ inl k ↦ absurd (omega (arith, in_forest (length ns) k)) | inr z ↦ z ] in
+    let apart : times_in (length ns) h.spare ≡ 0 = elim (some_or_none (times_in (length ns) h.spare)) as (λ _. times_in (length ns) h.spare ≡ 0) [ inl k ↦ absurd (omega (arith, in_spare (length ns) k)) | inr z ↦ z ] in
+    record {
+      forest = h.forest;
+      spare = length ns ∷ h.spare;
+      root_is = h.root_is;
+      linked = Laid-longer ns ms None h.forest (omega (arith, len)) same h.linked;
+      alone = h.alone;
+      chained = (refl, omega (arith, len), rw here (FreeChain-longer ns ms free h.spare (omega (arith, len)) same h.chained));
+      once = λ j. elim (cases_eq j (length ns)) as (λ _. times j h.forest + (one_if j (length ns) + times_in j h.spare) ≤ 1) [
+        | inl e ↦ rw e (omega (arith, out, apart, one_if-same (length ns)))
+        | inr ne ↦ omega (arith, h.once j, one_if-other j (length ns) ne)
+      ];
+      reached = λ j lt. elim (cases_eq j (length ns)) as (λ _. 1 ≤ times j h.forest + (one_if j (length ns) + times_in j h.spare)) [
+        | inl e ↦ rw e (omega (arith, one_if-same (length ns)))
+        | inr ne ↦ omega (arith, h.reached j (omega (arith, lt, len, ne)), one_if-other j (length ns) ne)
+      ];
+      order = HeapOrdered-in (held_at ns) (held_at ms) h.forest (λ j k. ap held_of (same j (in_forest j k))) h.order;
+      live = λ j k. ap (λ (x : Node). is_some x.waker) (same j (in_forest j k)) ∙ h.live j k;
+      idle = λ j k. elim (cases_eq j (length ns)) as (λ _. (held_at ms j).waker ≡ None) [
+        | inl e ↦ rw e (ap Node.waker here)
+        | inr ne ↦ let inside : 0 < times_in j h.spare = omega (arith, k, one_if-other j (length ns) ne) in ap Node.waker (same j (in_spare j inside)) ∙ h.idle j inside
+      ];
+    }
+
+pub pushed : (ns : List Node) (free : Option ℕ) → Extends ns (ns ++ free_node free ∷ []) free (Some (length ns))
+pushed ns free = record {
+  longer = omega (arith, length-append ns (free_node free ∷ []));
+  heap = λ root h. extended-heap ns (ns ++ free_node free ∷ []) root free (length-append ns (free_node free ∷ [])) (push-here ns (free_node free)) (push-there ns (free_node free)) h;
+  lives = live-push ns free;
+  used = λ j. elim (cases_eq j (length ns)) as (λ _. used_of (held_at (ns ++ free_node free ∷ []) j) ≡ used_of (held_at ns j)) [
+    | inl e ↦ rw e (ap (λ (x : Node). used_of (held_of x)) (push-here ns (free_node free)) ∙ sym (ap (λ (x : Node). used_of (held_of x)) (past-end ns)))
+    | inr ne ↦ ap (λ (x : Node). used_of (held_of x)) (push-there ns (free_node free) j ne)
+  ];
+  same = λ j h. ap held_of (push-there ns (free_node free) j (λ e. omega (arith, below ns j (used-some (held_at ns j) h), e)));
+}
+
+pub Extends-refl : (ns : List Node) (free : Option ℕ) → Extends ns ns free free
+Extends-refl ns free = record { longer = omega arith; heap = λ root h. h; lives = refl; used = λ j. refl; same = λ j h. refl }
+
+pub Extends-trans : (ns us ms : List Node) (free middle first : Option ℕ) → Extends ns us free middle → Extends us ms middle first → Extends ns ms free first
+Extends-trans ns us ms free middle first a b = record {
+  longer = omega (arith, a.longer, b.longer);
+  heap = λ root h. b.heap root (a.heap root h);
+  lives = b.lives ∙ a.lives;
+  used = λ j. b.used j ∙ a.used j;
+  same = λ j h. b.same j (omega (arith, h, a.used j)) ∙ a.same j h;
+}
+
+-- ## The buckets anew
+
+pub ChainsChange-refl : (ns : List Node) → ChainsChange ns ns
+ChainsChange-refl ns = record { len = refl; same = λ j. refl }
+
+pub ChainsChange-trans : (ns us ms : List Node) → ChainsChange ns us → ChainsChange us ms → ChainsChange ns ms
+ChainsChange-trans ns us ms a b = record { len = b.len ∙ a.len; same = λ j. b.same j ∙ ap (λ (x : Node). record x { chain = (node_at ms j).chain }) (a.same j) }
+
+before-below : (i : ℕ) (f : ℕ → Held) (j : ℕ) → j < i → used_before i f j ≡ used_of (f j)
+before-below i f j h = let t : nat_lt j i ≡ true = grind (arith, nat_tests) in rw t refl
+
+before-above : (i : ℕ) (f : ℕ → Held) (j : ℕ) → i ≤ j → used_before i f j ≡ 0
+before-above i f j h = let t : nat_lt j i ≡ false = grind (arith, nat_tests) in rw t refl
+
+pub blank-table : (ns : List Node) (bs : List (Option ℕ)) → IsBlankRow bs → IsTable (held_at ns) (length ns) bs (used_before 0 (held_at ns))
+blank-table ns bs blank = record {
+  chains = λ b. [];
+  linked = λ b h. blank b;
+  members = λ b j h. sym (cond-zero ((bucket_in (held_at ns j).id (length bs)) == b) (used_before 0 (held_at ns) j) (before-above 0 (held_at ns) j (omega arith)));
+  single = λ j. omega (arith, before-above 0 (held_at ns) j (omega arith));
+}
+
+-- an index below a number and one, that is not that number, is below it
+lower : (j i : ℕ) → j ≢ i → (j < i) ⊎ (i + 1 ≤ j)
+lower zero zero ne = absurd (ne refl)
+lower zero (suc i) ne = inl (omega arith)
+lower (suc j) zero ne = inr (omega arith)
+lower (suc j) (suc i) ne = elim (lower j i (λ e. ne (ap (λ (x : ℕ). suc x) e))) as (λ _. (suc j < suc i) ⊎ (suc i + 1 ≤ suc j)) [ inl h ↦ inl (omega (arith, h)) | inr h ↦ inr (omega (arith, h)) ]
+
+pub none-yet : (i : ℕ) (f : ℕ → Held) → used_before i f i ≡ 0
+none-yet i f = before-above i f i (omega arith)
+
+pub next-used : (i : ℕ) (f : ℕ → Held) → is_some (f i).waker ≡ true → IsWithout (used_before (i + 1) f) (used_before i f) i
+next-used i f used j =
+    elim (cases_eq j i) as (λ _. used_before i f j + one_if j i ≡ used_before (i + 1) f j) [
+      | inl e ↦ rw e (omega (arith, none-yet i f, one_if-same i, before-below (i + 1) f i (omega arith), used-yes (f i) used))
+      | inr ne ↦ elim (lower j i ne) as (λ _. used_before i f j + one_if j i ≡ used_before (i + 1) f j) [
+        | inl h ↦ omega (arith, before-below i f j h, before-below (i + 1) f j (omega (arith, h)), one_if-other j i ne)
+        | inr h ↦ omega (arith, before-above i f j (omega (arith, h)), before-above (i + 1) f j h, one_if-other j i ne)
+      ]
+    ]
+
+pub next-free : (i : ℕ) (f : ℕ → Held) → is_some (f i).waker ≡ false → (j : ℕ) → used_before (i + 1) f j ≡ used_before i f j
+next-free i f free j =
+    elim (cases_eq j i) as (λ _. used_before (i + 1) f j ≡ used_before i f j) [
+      | inl e ↦ let none : used_of (f i) ≡ 0 = rw free refl in rw e (omega (arith, none-yet i f, before-below (i + 1) f i (omega arith), none))
+      | inr ne ↦ elim (lower j i ne) as (λ _. used_before (i + 1) f j ≡ used_before i f j) [
+        | inl h ↦ omega (arith, before-below i f j h, before-below (i + 1) f j (omega (arith, h)))
+        | inr h ↦ omega (arith, before-above i f j (omega (arith, h)), before-above (i + 1) f j h)
+      ]
+    ]
+
+pub IsTable-equal : (f : ℕ → Held) (n : ℕ) (bs : List (Option ℕ)) (used more : ℕ → ℕ) → ((j : ℕ) → more j ≡ used j) → IsTable f n bs used → IsTable f n bs more
+IsTable-equal f n bs used more same t = IsTable-frame f f n n bs used more (omega arith) (λ j h. (refl, refl)) same t
+
+-- at the end all nodes in use are in their buckets
+pub rehashed : (ns ms : List Node) (bs : List (Option ℕ)) (i : ℕ) → ChainsChange ns ms → IsTable (held_at ms) (length ms) bs (used_before i (held_at ns)) → length ns ≤ i → Rehashes ns ms bs
+rehashed ns ms bs i change t over =
+    let a : Alike ns ms = Alike-chains ns ms change in
+    record {
+      change = change;
+      table = IsTable-equal (held_at ms) (length ms) bs (used_before i (held_at ns)) (λ j. used_of (held_at ms j)) (λ j.
+          let now : used_of (held_at ms j) ≡ used_of (held_at ns j) = ap (λ (b : Bool). cond b 1 0) (a.used j) in
+          elim (some_or_none (used_of (held_at ns j))) as (λ _. used_of (held_at ms j) ≡ used_before i (held_at ns) j) [
+            | inl h ↦ omega (arith, now, before-below i (held_at ns) j (omega (arith, below ns j (used-some (held_at ns j) h), over)))
+            | inr z ↦ omega (arith, now, z, before-le i (held_at ns) j)
+          ]) t;
+    }
+  where
+    before-le : (i : ℕ) (f : ℕ → Held) (j : ℕ) → used_before i f j ≤ used_of (f j)
+    before-le i f j = elim (nat_lt j i) as (λ (b : Bool). cond b (used_of (f j)) 0 ≤ used_of (f j)) [ true ↦ omega arith | false ↦ omega arith ]
+
+-- ## Both
+
+pub grown : (ns us ms : List Node) (ds : List (Option ℕ)) (root free first : Option ℕ) (used total : ℕ) (bs : List (Option ℕ)) → IsSound ns bs root free used → Rehashes ns us ds → Extends us ms free first → length ms ≡ total → total ≤ length ds → total < 2 ^ 32
+    → GrowsTo ns ms ds root first used total
+grown ns us ms ds root free first used total bs s r e len row few =
+    let regs : registrations (helds ms) ≡ registrations (helds ns) = ap in_order (e.lives ∙ live-chains ns us r.change) in
+    record {
+      len = len;
+      entries = regs;
+      sound = record {
+        heap = e.heap root (IsHeap-alike ns us root free (Alike-chains ns us r.change) s.heap);
+        book = rw regs s.book;
+        table = IsTable-frame (held_at us) (held_at ms) (length us) (length ms) ds (λ j. used_of (held_at us j)) (λ j. used_of (held_at ms j)) e.longer
+            (λ j h. (ap Held.chain (e.same j h), ap Held.id (e.same j h))) e.used r.table;
+        row = omega (arith, len, row);
+        few = omega (arith, len, few);
+        used_is = omega (arith, s.used_is, ap (λ (rs : List Registration). length rs) regs);
+      };
+    }

@@ -1,0 +1,11 @@
+-- The chain of the bucket holds all nodes in use with this id.
+use Rattle.std.proofs.Common.{◌≡◌, ◌<◌, ℕ, Option, None, List, length, get_or, arith, ap, subst, sym, ◌∙◌}
+use Rattle.aio_timers.specs.Held.{held_at}
+use Rattle.aio_timers.specs.Chains.{IsBucket}
+use Rattle.aio_timers.proofs.SoundLemmas.{its-bucket, search-tells}
+use Rattle.aio_timers.proofs.steps.find_in.Goals as goal
+
+pub returns : goal.returns
+returns c = λ root free used s.
+    let first : IsBucket (held_at c.args.nodes.now) (length c.args.nodes.now) c.head_of-head.result (s.table.chains c.bucket_of-bucket.result) = rw c.head_of-head.ensures (its-bucket c.args.nodes.now c.args.buckets.now root free used c.bucket_of-bucket.result s c.bucket_of-bucket.ensures.within) in
+    search-tells c.args.nodes.now c.args.buckets.now root free used c.args.deadline c.args.id.0 c.bucket_of-bucket.result c.seek.result s (sym c.bucket_of-bucket.ensures.value) c.bucket_of-bucket.ensures.within (c.seek.ensures (s.table.chains c.bucket_of-bucket.result) first)

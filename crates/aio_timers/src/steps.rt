@@ -1,0 +1,152 @@
+//! The steps of a book: a timer is found, it comes, or it goes.
+
+ghost use Rattle.std.specs.Prelude.{◌≡◌, ◌<◌, ℕ, Option, None, Some, is_some, true, length, MatchOption};
+ghost use Rattle.aio_base.specs.World.{Registration};
+ghost use Rattle.aio_timers.specs.Held.{held_at, helds, live_of};
+ghost use Rattle.aio_timers.specs.Nodes.{with_waker};
+ghost use Rattle.aio_timers.specs.Sound.{IsSound, IsAbsent, IsPairAt, Gains, Drops};
+
+use crate::chains::{bucket_of, head_of, leave, seek};
+use crate::heap::{place, take_inner, take_root};
+use crate::link::Link;
+use crate::links::next_of;
+use crate::node::Node;
+use aio_base::{Moment, TimerId, Waker};
+
+/// The node in use with this deadline and this id.
+pub(crate) fn find(
+    nodes: &Vec<Node>,
+    buckets: &Vec<Link>,
+    deadline: Moment,
+    id: TimerId,
+) -> Option<usize>
+    requires { (root : Option ℕ) × (free : Option ℕ) × (used : ℕ) × IsSound nodes.now.items buckets.now.items root free used }
+    ensures { (root free : Option ℕ) (used : ℕ) → IsSound nodes.now.items buckets.now.items root free used
+        → MatchOption result (IsAbsent deadline id.0 (helds nodes.now.items)) (λ at. IsPairAt nodes.now.items deadline id.0 at) }
+{
+    find_in(nodes.as_slice(), buckets.as_slice(), deadline, id)
+}
+
+/// Registers a timer whose deadline and id are not there yet. The answer is the new root and the next
+/// free node.
+pub(crate) fn add(
+    nodes: &mut Vec<Node>,
+    buckets: &mut Vec<Link>,
+    root: Option<usize>,
+    free: Link,
+    timer: (Moment, TimerId, Waker),
+) -> (usize, Link)
+    requires sound { (used : ℕ) × IsSound nodes.old.items buckets.old.items root free used }
+    requires room { is_some free ≡ true }
+    requires absent { IsAbsent timer.0 timer.1.0 (helds nodes.old.items) }
+    ensures { (used : ℕ) → IsSound nodes.old.items buckets.old.items root free used
+        → Gains nodes.old.items nodes.new.items buckets.new.items (Some result.0) result.1 used (record { id = timer.1.0; deadline = timer.0; waker = timer.2 }) }
+{
+    add_to(
+        nodes.as_mut_slice(),
+        buckets.as_mut_slice(),
+        root,
+        free,
+        timer,
+    )
+}
+
+/// Takes the timer of a node in use out of the book. The answer is the new root and the first free
+/// node.
+pub(crate) fn take(
+    nodes: &mut Vec<Node>,
+    buckets: &mut Vec<Link>,
+    root: Option<usize>,
+    free: Link,
+    at: usize,
+) -> (Option<usize>, Link)
+    requires within { at < length nodes.old.items }
+    requires sound { (used : ℕ) × IsSound nodes.old.items buckets.old.items root free used }
+    requires live { (r : Registration) × (live_of (held_at nodes.old.items at) ≡ Some r) }
+    ensures { (used : ℕ) (r : Registration) → IsSound nodes.old.items buckets.old.items root free used → live_of (held_at nodes.old.items at) ≡ Some r
+        → Drops nodes.old.items nodes.new.items buckets.new.items result.0 result.1 used r }
+{
+    take_from(nodes.as_mut_slice(), buckets.as_mut_slice(), root, free, at)
+}
+
+/// Writes the waker of a node.
+pub(crate) fn set_waker(nodes: &mut Vec<Node>, at: usize, waker: Waker)
+    requires { at < length nodes.old.items }
+    ensures { nodes.new.items ≡ with_waker nodes.old.items at waker }
+{
+    let nodes = nodes.as_mut_slice();
+    nodes[at].waker = Some(waker);
+}
+
+/// The node in use with this deadline and this id, along the chain of one bucket.
+fn find_in(nodes: &[Node], buckets: &[Link], deadline: Moment, id: TimerId) -> Option<usize>
+    requires { (root : Option ℕ) × (free : Option ℕ) × (used : ℕ) × IsSound nodes.now buckets.now root free used }
+    ensures { (root free : Option ℕ) (used : ℕ) → IsSound nodes.now buckets.now root free used
+        → MatchOption result (IsAbsent deadline id.0 (helds nodes.now)) (λ at. IsPairAt nodes.now deadline id.0 at) }
+{
+    if buckets.is_empty() {
+        return None;
+    }
+    let bucket = bucket_of(id, buckets.len());
+    let head = head_of(buckets, bucket);
+    seek(nodes, head, deadline, id)
+}
+
+/// Registers a timer whose deadline and id are not there yet, in constant time. The answer is the
+/// new root and the next free node.
+fn add_to(
+    nodes: &mut [Node],
+    buckets: &mut [Link],
+    root: Option<usize>,
+    free: Link,
+    timer: (Moment, TimerId, Waker),
+) -> (usize, Link)
+    requires sound { (used : ℕ) × IsSound nodes.old buckets.old root free used }
+    requires room { is_some free ≡ true }
+    requires absent { IsAbsent timer.0 timer.1.0 (helds nodes.old) }
+    ensures { (used : ℕ) → IsSound nodes.old buckets.old root free used
+        → Gains nodes.old nodes.new buckets.new (Some result.0) result.1 used (record { id = timer.1.0; deadline = timer.0; waker = timer.2 }) }
+{
+    let (deadline, id, waker) = timer;
+    match free.get() {
+        None => unreachable!(),
+        Some(at) => {
+            let bucket = bucket_of(id, buckets.len());
+            let head = head_of(buckets, bucket);
+            let node = Node::lone(deadline, id, waker, head);
+            let next = next_of(nodes, at);
+            let top = place(nodes, root, at, node);
+            buckets[bucket] = free;
+            (top, next)
+        }
+    }
+}
+
+/// Takes the timer of a node in use out of the book. The answer is the new root and the first free
+/// node, which is this one.
+fn take_from(
+    nodes: &mut [Node],
+    buckets: &mut [Link],
+    root: Option<usize>,
+    free: Link,
+    at: usize,
+) -> (Option<usize>, Link)
+    requires within { at < length nodes.old }
+    requires sound { (used : ℕ) × IsSound nodes.old buckets.old root free used }
+    requires live { (r : Registration) × (live_of (held_at nodes.old at) ≡ Some r) }
+    ensures { (used : ℕ) (r : Registration) → IsSound nodes.old buckets.old root free used → live_of (held_at nodes.old at) ≡ Some r
+        → Drops nodes.old nodes.new buckets.new result.0 result.1 used r }
+{
+    leave(nodes, buckets, at);
+    match root {
+        None => unreachable!(),
+        Some(root) => {
+            if at == root {
+                let top = take_root(nodes, root, free);
+                return (top, Link::to(at));
+            }
+            let top = take_inner(nodes, root, at, free);
+            (Some(top), Link::to(at))
+        }
+    }
+}
