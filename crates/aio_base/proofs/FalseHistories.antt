@@ -328,6 +328,20 @@ pub a_set_stores_another_waker : (answers : List PollerAnswer)
     (after_step 3 (storing 1 (OfTimer 2) 12 ∷ storing 2 (OfTimer 3) 12 ∷ []) [] [] (storing 0 (OfTimer 1) 11 ∷ []))
 a_set_stores_another_waker answers = stands_from_nowhere two_timers _ answers _ _ (storing 2 (OfTimer 3) 12) refl refl refl
 
+-- a timer that is set loses the waker that it keeps
+pub a_set_drops_the_kept_waker : (answers : List PollerAnswer)
+    → Refused two_timers (step.SetAt 1 9) answers two_registered
+    (after_step 2 (storing 1 (OfTimer 2) 12 ∷ []) [] [] (storing 0 (OfTimer 1) 11 ∷ []))
+a_set_drops_the_kept_waker answers = counted_wrongly two_timers _ answers _ _ refl
+
+-- the poll of a timer waits for the deadline, and registers nothing
+pub a_tick_that_waits_stores_nothing : (answers : List PollerAnswer)
+    → Refused (record opening {
+      timers = record { number = 1; deadline = Some 5; period = None; id = None; kept = None } ∷ [];
+    }) (step.Tick 1 (waker 11)) answers (before_step 0 [] []) (after_step 0 [] [] [] [])
+unfolding step_result
+a_tick_that_waits_stores_nothing answers = counted_wrongly _ _ answers _ _ refl
+
 -- ## Rounds
 
 pub a_round_takes_what_is_not_due : (answers : List PollerAnswer)

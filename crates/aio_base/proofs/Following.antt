@@ -1,8 +1,8 @@
 -- How the storings of a run follow from step to step.
 use Rattle.std.proofs.Common.{◌≡◌, ◌⊎◌, ℕ, ◌+◌, Bool, true, false, not, cond, ◌&&◌, ◌||◌, List, [], ◌∷◌, ◌++◌, length, map, find, Option, None, Some, is_some, refl, ap, ◌∙◌, sym, subst, inl, inr, ⊎_elim, arith, append-nil}
-use Rattle.std.specs.Prelude.{nat_le, nat_lt, flat_map, take, option_map, option_to_list, option_and_then}
+use Rattle.std.specs.Prelude.{nat_le, flat_map, take, option_map, option_to_list, option_and_then}
 use Rattle.std.specs.List.{Contains}
-use Rattle.std.proofs.lemmas.Bool.{cond_both, cond-true, cond-false, eqb-true, lt-ltb, le-ltb}
+use Rattle.std.proofs.lemmas.Bool.{cond_both, cond-true, cond-false, eqb-true}
 use Rattle.std.proofs.lemmas.List.Elements.{Contains-append_left, Contains-append_cases}
 use Rattle.aio_base.specs.declared.names.Key.{Key}
 use Rattle.aio_base.specs.declared.names.Waker.{Waker}
@@ -13,11 +13,11 @@ use Rattle.aio_base.specs.declared.steps.Step.TheVariants as step
 use Rattle.aio_base.specs.declared.steps.Answer.{Answer}
 use Rattle.aio_base.specs.declared.steps.Answer.TheVariants as answer
 use Rattle.aio_base.specs.World.{PollerAnswer, ListenerEntry, TimerEntry, RoundState, World, directions, directions_of, poll_waiter, mark_of, serial_of, is_empty_list, opening}
-use Rattle.aio_base.specs.Machine.{Outcome, next_answer, fails, pending, poll_source, step_listener, unregistered, registered, fired, set_deadline, tick_deadline, tick_timer, set_timer, next_deadline, is_waker, is_fresh_since, is_listener, is_timer, begin_round, wait_round, handle_round, handle_each, hand_of, gave_none, is_zero, ends_with_pass, finish_in, react, step_result}
+use Rattle.aio_base.specs.Machine.{Outcome, next_answer, fails, pending, poll_source, step_listener, tick_deadline, tick_timer, next_deadline, is_waker, is_fresh_since, is_listener, is_timer, begin_round, wait_round, handle_round, handle_each, hand_of, gave_none, is_zero, ends_with_pass, finish_in, react, step_result}
 use Rattle.aio_base.specs.Refusals.{is_refusal}
 use Rattle.aio_base.specs.Runs.{PolledStep, outcome_of, world_of}
 use Rattle.aio_base.specs.Storings.{Place, OfPoll, OfListener, OfTimer, Stored, Storings, no_storings, standing_at, none_at, stored_at, given_up_at, woken_at, each_taken, each_given_up, round_woken, timer_place, places_of, due_places, poll_moves, listener_moves, registered_anew, tick_moves_at, tick_moves, set_moves, end_moves, drop_moves, del_moves, begin_moves, event_moves, handle_moves_first, handle_moves, finish_moves_in, finish_moves, handle_each_moves, react_moves, step_storings, step_ended, storings_from, storings_of}
-use Rattle.aio_base.specs.Succession.{poll_places, waker_kept, id_kept, stored_as, own_storing, has_to_wait, stores, event_places, events_given, taken_places, may_give_up, ends_round, is_poll, StoringsFollow}
+use Rattle.aio_base.specs.Succession.{poll_places, waker_kept, id_kept, stored_as, own_storing, has_to_wait, registers, stores, event_places, events_given, taken_places, may_give_up, ends_round, is_poll, StoringsFollow}
 use Rattle.aio_base.proofs.Membership.{none_is_in, first_is_in, found_is_in}
 use Rattle.aio_base.proofs.Leaving.{Leave, one_leaves, Taking, none_taken, both_taken, all_taken, GivingUp, none_given_up, one_given_up, all_given_up}
 use Rattle.aio_base.proofs.RoundLemmas.{Same, listeners_places, same_events, in_hand_of, event_handled, all_handled, is_handled, handled_out, hand_is, round_begun, round_waited, none_due_left}
@@ -39,10 +39,10 @@ record Storing (P : Place → Type 0) (does : Bool) (may : List Stored) (l m : S
   pub woken : m.woken ≡ l.woken
   pub taken : m.taken ≡ l.taken
 
-nothing_stored : (P : Place → Type 0) (may : List Stored) (l m : Storings) → GivingUp P l m → Storing P false may l m
-nothing_stored P may l m g = record {
+stored_none : (P : Place → Type 0) (does : Bool) (may : List Stored) (l m : Storings) → cond does may [] ≡ [] → GivingUp P l m → Storing P does may l m
+stored_none P does may l m none g = record {
   stored = [];
-  is = refl;
+  is = sym none;
   now = g.now;
   given = g.given ∙ omega arith;
   stands = λ x here. inl (g.leave.stays x here);
@@ -53,6 +53,9 @@ nothing_stored P may l m g = record {
   woken = g.woken;
   taken = g.taken;
 }
+
+nothing_stored : (P : Place → Type 0) (may : List Stored) (l m : Storings) → GivingUp P l m → Storing P false may l m
+nothing_stored P may l m g = stored_none P false may l m refl g
 
 nothing_moved : (P : Place → Type 0) (may : List Stored) (l : Storings) → Storing P false may l l
 nothing_moved P may l = nothing_stored P may l l (none_given_up P l)
@@ -138,79 +141,55 @@ listen_stores w number waker (Some entry) answers l found =
 registration_given_up : (entry : TimerEntry) (l : Storings) → GivingUp (Contains (timer_place entry.id)) l (each_given_up (timer_place entry.id) l)
 registration_given_up entry l = all_given_up (Contains (timer_place entry.id)) (timer_place entry.id) (λ p among. among) l
 
--- whether a world has drawn an id since
-abbrev has_drawn : World → World → Bool
-has_drawn w v = nat_lt w.ids_drawn v.ids_drawn
-
-unregistered_ids : (w : World) (id : Option ℕ) → (unregistered w id).ids_drawn ≡ w.ids_drawn
-unregistered_ids w None = refl
-unregistered_ids w (Some id) = refl
-
-drawn_none : (w v : World) → v.ids_drawn ≡ w.ids_drawn → has_drawn w v ≡ false
-drawn_none w v same = le-ltb w.ids_drawn v.ids_drawn (omega (arith, same))
-
-drawn_one : (w v : World) → v.ids_drawn ≡ w.ids_drawn + 1 → has_drawn w v ≡ true
-drawn_one w v next = lt-ltb w.ids_drawn v.ids_drawn (omega (arith, next))
-
 -- what a step of a timer stores and gives up
 abbrev Registers : World → TimerEntry → List Stored → Storings → Bool → Storings → Type 0
 Registers w entry may l does m = Storing (Contains (timer_place entry.id)) does may l m
 
-registered_one : (w : World) (entry set : TimerEntry) (deadline : ℕ) (waker : Waker) (l : Storings)
-    → Registers w entry (stored_as l.given (OfTimer (w.ids_drawn + 1)) waker ∷ []) l (has_drawn w (registered (unregistered w entry.id) set deadline waker))
-    (registered_anew w entry (Some waker) l)
-registered_one w entry set deadline waker l =
-    subst (λ does. Registers w entry (stored_as l.given (OfTimer (w.ids_drawn + 1)) waker ∷ []) l does (registered_anew w entry (Some waker) l))
-    (sym (drawn_one w (registered (unregistered w entry.id) set deadline waker) (ap (λ n. n + 1) (unregistered_ids w entry.id))))
-    (then_stored _ (OfTimer (w.ids_drawn + 1)) waker l _ (registration_given_up entry l))
+registered_one : (w : World) (entry : TimerEntry) (waker : Waker) (l : Storings)
+    → Registers w entry (stored_as l.given (OfTimer (w.ids_drawn + 1)) waker ∷ []) l true (registered_anew w entry (Some waker) l)
+registered_one w entry waker l = then_stored _ (OfTimer (w.ids_drawn + 1)) waker l _ (registration_given_up entry l)
 
-registered_none : (w v : World) (entry : TimerEntry) (may : List Stored) (l : Storings) → v.ids_drawn ≡ w.ids_drawn
-    → Registers w entry may l (has_drawn w v) (registered_anew w entry None l)
-registered_none w v entry may l same =
-    subst (λ does. Registers w entry may l does (registered_anew w entry None l)) (sym (drawn_none w v same))
-    (nothing_stored _ may l _ (registration_given_up entry l))
+set_anew : (w : World) (entry : TimerEntry) (waker : Option Waker) (l : Storings)
+    → Registers w entry (map (stored_as l.given (OfTimer (w.ids_drawn + 1))) (option_to_list waker)) l true (registered_anew w entry waker l)
+set_anew w entry None l = stored_none _ true [] l _ refl (registration_given_up entry l)
+set_anew w entry (Some waker) l = registered_one w entry waker l
 
-unregistered_none : (w v : World) (entry : TimerEntry) (may : List Stored) (l : Storings) → v.ids_drawn ≡ w.ids_drawn
-    → Registers w entry may l (has_drawn w v) l
-unregistered_none w v entry may l same = subst (λ does. Registers w entry may l does l) (sym (drawn_none w v same)) (nothing_moved _ may l)
-
-set_anew : (w : World) (entry set : TimerEntry) (deadline : ℕ) (waker : Option Waker) (l : Storings)
-    → Registers w entry (map (stored_as l.given (OfTimer (w.ids_drawn + 1))) (option_to_list waker)) l
-    (has_drawn w (set_deadline (unregistered w entry.id) set deadline waker)) (registered_anew w entry waker l)
-set_anew w entry set deadline None l = registered_none w (set_deadline (unregistered w entry.id) set deadline None) entry _ l (unregistered_ids w entry.id)
-set_anew w entry set deadline (Some waker) l = registered_one w entry set deadline waker l
-
--- a timer that is not there stores nothing
-no_timer : (P : Place → Type 0) (w : World) (may : List Stored) (l : Storings) → Storing P (has_drawn w w) may l l
-no_timer P w may l = subst (λ does. Storing P does may l l) (sym (drawn_none w w refl)) (nothing_moved P may l)
-
-set_stores : (w : World) (deadline : ℕ) (period : Option ℕ) (entry : Option TimerEntry) (answers : List PollerAnswer) (l : Storings)
-    → Storing (Contains (timer_place (id_kept entry))) (has_drawn w (set_timer w deadline period entry answers).world)
+set_stores : (w : World) (entry : Option TimerEntry) (l : Storings)
+    → Storing (Contains (timer_place (id_kept entry))) true
     (map (stored_as l.given (OfTimer (w.ids_drawn + 1))) (option_to_list (waker_kept entry))) l (set_moves w entry l)
-set_stores w deadline period None answers l = no_timer _ w _ l
-set_stores w deadline period (Some entry) answers l = set_anew w entry (cond (is_some period) (record entry { period = period }) entry) deadline entry.kept l
+set_stores w None l = stored_none _ true [] l l refl (none_given_up _ l)
+set_stores w (Some entry) l = set_anew w entry entry.kept l
 
 fired_anew : (w : World) (waker : Waker) (entry : TimerEntry) (next : Option ℕ) (l : Storings)
-    → Registers w entry (stored_as l.given (OfTimer (w.ids_drawn + 1)) waker ∷ []) l (has_drawn w (fired (unregistered w entry.id) entry waker next))
+    → Registers w entry (stored_as l.given (OfTimer (w.ids_drawn + 1)) waker ∷ []) l (is_some next)
     (registered_anew w entry (option_map (λ later. waker) next) l)
-fired_anew w waker entry None l = registered_none w (fired (unregistered w entry.id) entry waker None) entry _ l (unregistered_ids w entry.id)
-fired_anew w waker entry (Some deadline) l = registered_one w entry entry deadline waker l
+fired_anew w waker entry None l = nothing_stored _ _ l _ (registration_given_up entry l)
+fired_anew w waker entry (Some deadline) l = registered_one w entry waker l
 
-tick_stores_at : (w : World) (waker : Waker) (entry : TimerEntry) (deadline : Option ℕ) (answers : List PollerAnswer) (l : Storings)
-    → Registers w entry (stored_as l.given (OfTimer (w.ids_drawn + 1)) waker ∷ []) l (has_drawn w (tick_deadline w entry waker deadline answers).world)
-    (tick_moves_at w waker entry deadline l)
-tick_stores_at w waker entry None answers l = unregistered_none w w entry _ l refl
-tick_stores_at w waker entry (Some deadline) answers l =
+-- where nothing is done, or something is
+unless : (C : Bool → Storings → Type 0) (test : Bool) (l m : Storings) → C false l → C true m → C (not test) (cond test l m)
+unless C true l m first second = first
+unless C false l m first second = second
+
+tick_stores_at : (w : World) (waker : Waker) (entry : TimerEntry) (deadline : Option ℕ) (answers : List PollerAnswer) (l : Storings) → entry.deadline ≡ deadline
+    → Registers w entry (stored_as l.given (OfTimer (w.ids_drawn + 1)) waker ∷ []) l
+    (registers (tick_deadline w entry waker deadline answers).answer waker (Some entry)) (tick_moves_at w waker entry deadline l)
+tick_stores_at w waker entry None answers l at =
     let C : Bool → Storings → Type 0 = Registers w entry (stored_as l.given (OfTimer (w.ids_drawn + 1)) waker ∷ []) l in
-    by_case (λ (o : Outcome). has_drawn w o.world) C (nat_le deadline w.now) _ _ _ _ (fired_anew w waker entry (next_deadline deadline entry.period) l)
-    (by_case (has_drawn w) C (is_some entry.id && is_waker waker entry.kept) _ _ l _ (unregistered_none w w entry _ l refl)
-    (registered_one w entry entry deadline waker l))
+    subst (λ (d : Option ℕ). C (is_some d && not (is_some entry.id && is_waker waker entry.kept)) l) (sym at) (nothing_moved _ _ l)
+tick_stores_at w waker entry (Some deadline) answers l at =
+    let C : Bool → Storings → Type 0 = Registers w entry (stored_as l.given (OfTimer (w.ids_drawn + 1)) waker ∷ []) l in
+    let kept : Bool = is_some entry.id && is_waker waker entry.kept in
+    by_case (λ (o : Outcome). registers o.answer waker (Some entry)) C (nat_le deadline w.now) _ _ _ _
+    (fired_anew w waker entry (next_deadline deadline entry.period) l)
+    (subst (λ (d : Option ℕ). C (is_some d && not kept) (cond kept l (registered_anew w entry (Some waker) l))) (sym at)
+    (unless C kept l _ (nothing_moved _ _ l) (registered_one w entry waker l)))
 
 tick_stores : (w : World) (waker : Waker) (entry : Option TimerEntry) (answers : List PollerAnswer) (l : Storings)
-    → Storing (Contains (timer_place (id_kept entry))) (has_drawn w (tick_timer w waker entry answers).world)
+    → Storing (Contains (timer_place (id_kept entry))) (registers (tick_timer w waker entry answers).answer waker entry)
     (stored_as l.given (OfTimer (w.ids_drawn + 1)) waker ∷ []) l (tick_moves w waker entry l)
-tick_stores w waker None answers l = no_timer _ w _ l
-tick_stores w waker (Some entry) answers l = tick_stores_at w waker entry entry.deadline answers l
+tick_stores w waker None answers l = nothing_moved _ _ l
+tick_stores w waker (Some entry) answers l = tick_stores_at w waker entry entry.deadline answers l refl
 
 end_stores : (entry : Option TimerEntry) (l : Storings) → Storing (Contains (timer_place (id_kept entry))) false [] l (end_moves entry l)
 end_stores None l = nothing_moved _ [] l
@@ -534,10 +513,10 @@ moves_follow w (step.Tick number waker) answers l rests refused =
     (tick_stores w waker (find (is_timer number) w.timers) answers l) (λ poll. absurd cc) refused
 moves_follow w (step.SetAt number deadline) answers l rests refused =
     giving_follows w (step.SetAt number deadline) answers l _ rests refl refl
-    (set_stores w deadline None (find (is_timer number) w.timers) answers l) (λ poll. absurd cc) refused
+    (set_stores w (find (is_timer number) w.timers) l) (λ poll. absurd cc) refused
 moves_follow w (step.SetEvery number deadline period) answers l rests refused =
     giving_follows w (step.SetEvery number deadline period) answers l _ rests refl refl
-    (set_stores w deadline (Some period) (find (is_timer number) w.timers) answers l) (λ poll. absurd cc) refused
+    (set_stores w (find (is_timer number) w.timers) l) (λ poll. absurd cc) refused
 moves_follow w (step.End number) answers l rests refused =
     giving_follows w (step.End number) answers l _ rests refl refl
     (end_stores (find (is_timer number) w.timers) l) (λ poll. absurd cc) refused

@@ -1,6 +1,6 @@
 -- How the storings of wakers after a step follow those before it: what any step, in any world, may store, replace, take and give up. Nothing here
 -- rests on the functions by which storings are moved.
-use Rattle.std.specs.Prelude.{◌≡◌, ◌⊎◌, ℕ, ◌+◌, Bool, true, false, not, ◌&&◌, if◌then◌else◌, List, [], ◌∷◌, ◌++◌, map, find, flat_map, length, take, nat_lt, Option, None, Some, is_some, option_to_list, option_and_then}
+use Rattle.std.specs.Prelude.{◌≡◌, ◌⊎◌, ℕ, ◌+◌, Bool, true, false, not, ◌&&◌, if◌then◌else◌, List, [], ◌∷◌, ◌++◌, map, find, flat_map, length, take, Option, None, Some, is_some, option_to_list, option_and_then}
 use Rattle.std.specs.List.{Contains}
 use Rattle.aio_base.specs.declared.names.Waker.{Waker}
 use Rattle.aio_base.specs.declared.names.Dir.{Dir}
@@ -10,7 +10,7 @@ use Rattle.aio_base.specs.declared.steps.Step.TheVariants as step
 use Rattle.aio_base.specs.declared.steps.Answer.{Answer}
 use Rattle.aio_base.specs.declared.steps.Answer.TheVariants as answer
 use Rattle.aio_base.specs.World.{PollerAnswer, Succeeds, Gives, IsInterrupted, Fails, TimerEntry, World, directions, directions_of, serial_of, poll_waiter}
-use Rattle.aio_base.specs.Machine.{is_timer, is_waker, ends_with_pass, hand_of, next_answer, step_result}
+use Rattle.aio_base.specs.Machine.{is_timer, is_waker, next_deadline, ends_with_pass, hand_of, next_answer, step_result}
 use Rattle.aio_base.specs.Refusals.{is_refusal}
 use Rattle.aio_base.specs.Storings.{Place, OfPoll, OfListener, OfTimer, Stored, Storings, step_ended, timer_place, places_of, due_places}
 
@@ -36,20 +36,24 @@ has_to_wait answer.Pending = true
 has_to_wait answer.FaultArm = true
 has_to_wait _ = false
 
--- whether a step draws an id for a new registration
-abbrev pub draws_id : World → Step → List PollerAnswer → Bool
-draws_id w s answers = nat_lt w.ids_drawn (step_result w s answers).world.ids_drawn
+-- Whether the poll of a timer registers it with the waker of the poll, by its answer: where it waits for its deadline, unless it keeps an id and that
+-- very waker already; where it fired, if there is a next deadline.
+abbrev pub registers : Answer → Waker → Option TimerEntry → Bool
+registers answer.Pending waker (Some entry) = is_some entry.deadline && not (is_some entry.id && is_waker waker entry.kept)
+registers (answer.ReadyAt deadline) waker (Some entry) = is_some (next_deadline deadline entry.period)
+registers _ _ _ = false
 
--- Whether a step stores a waker: a poll that has to wait, of a source only where the waker is not its poll waiter already; a step of a timer that
--- registers it.
+-- Whether a step stores its waker: a poll that has to wait, of a source only where the waker is not its poll waiter already; a poll of a timer that
+-- registers it; and each step that sets a timer, where that keeps a waker.
 abbrev pub stores : World → Step → List PollerAnswer → Bool
 stores w (step.Poll key dir waker) answers =
     has_to_wait (step_result w (step.Poll key dir waker) answers).answer
     && not (is_waker waker (option_and_then (λ serial. poll_waiter w.poll_waiters serial dir) (serial_of w key.0)))
 stores w (step.StepEar number waker) answers = has_to_wait (step_result w (step.StepEar number waker) answers).answer
-stores w (step.Tick number waker) answers = draws_id w (step.Tick number waker) answers
-stores w (step.SetAt number deadline) answers = draws_id w (step.SetAt number deadline) answers
-stores w (step.SetEvery number deadline period) answers = draws_id w (step.SetEvery number deadline period) answers
+stores w (step.Tick number waker) answers =
+    registers (step_result w (step.Tick number waker) answers).answer waker (find (is_timer number) w.timers)
+stores w (step.SetAt number deadline) answers = true
+stores w (step.SetEvery number deadline period) answers = true
 stores _ _ _ = false
 
 abbrev pub stored_as : ℕ → Place → Waker → Stored
