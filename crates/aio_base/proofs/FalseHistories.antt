@@ -1,7 +1,7 @@
 -- Histories of storings that no run has, each refused by the law on how storings follow from step to step: a table of what a machine may do wrong
 -- in one step, by the kind of the step. A history is refused in every world with the parts that are written out for it.
 use Rattle.std.proofs.Common.{◌≡◌, ℕ, Bool, true, false, ◌&&◌, List, [], ◌∷◌, ◌++◌, ◌+◌, length, None, Some, refl, ap, ◌∙◌, sym, subst, ⊎_elim}
-use Rattle.std.specs.Prelude.{◌==◌, if◌then◌else◌}
+use Rattle.std.specs.Prelude.{◌==◌, if◌then◌else◌, take}
 use Rattle.std.specs.List.{Contains, list_any}
 use Rattle.std.proofs.lemmas.Bool.{and_parts, and_from, eqb-true, eq-eqb, cases_Bool}
 use Rattle.std.proofs.lemmas.List.{append_cancel_left}
@@ -18,7 +18,8 @@ use Rattle.aio_base.specs.World.{PollerAnswer, Gives, RoundState, World, opening
 use Rattle.aio_base.specs.Machine.{step_result}
 use Rattle.aio_base.specs.Refusals.{is_refusal}
 use Rattle.aio_base.specs.Storings.{Place, OfPoll, OfListener, OfTimer, same_place, Stored, Storings, no_storings}
-use Rattle.aio_base.specs.Succession.{stored_as, stores, own_storing, replaced_places, taken_places, may_give_up, ends_round, StoringsFollow}
+use Rattle.aio_base.specs.Succession.{stored_as, stores, own_storing, replaced_places, taken_places, standing_in, may_give_up, ends_round, StoringsFollow}
+use Rattle.aio_base.proofs.Leaving.{stood_in}
 use Rattle.aio_base.proofs.Membership.{none_is_in, any_gives, none_passes}
 use Rattle.aio_base.proofs.Places.{same_place-eq, same_place-refl}
 
@@ -71,6 +72,12 @@ last_woken old now new same = let last = append_cancel_left old (now ∷ []) (ne
 
 -- ## Why a history is refused
 
+-- what a step takes stood before, where it takes
+took_standing : (w : World) (s : Step) (answers : List PollerAnswer) (before after : Storings) (f : StoringsFollow w s answers before after) (x : Stored)
+    → Contains f.taken_now x → Contains before.standing x × Contains (taken_places w s answers) x.place
+took_standing w s answers before after f x took =
+    stood_in (taken_places w s answers) before.standing x (subst (λ xs. Contains xs x) f.taken took)
+
 -- a storing was given up that stood elsewhere
 given_up_elsewhere : (w : World) (s : Step) (answers : List PollerAnswer) (before after : Storings) (x : Stored) (now : List Stored)
     → after.given_up ≡ before.given_up ++ now → has now x ≡ true → has_place (may_give_up w s) x.place ≡ false → Refused w s answers before after
@@ -85,7 +92,7 @@ woken_from_nowhere w s answers before after x now is there untaken unstood f =
     ⊎_elim
     (λ (ends : ends_round w s answers ≡ true).
     let all = last_woken before.woken now (before.taken ++ f.taken_now) (sym is ∙ (f.ends ends).0) in
-    ⊎_elim (unknown before.taken x untaken) (λ (took : Contains f.taken_now x). unknown before.standing x unstood (f.taken x took).0)
+    ⊎_elim (unknown before.taken x untaken) (λ (took : Contains f.taken_now x). unknown before.standing x unstood (took_standing w s answers before after f x took).0)
     (Contains-append_cases before.taken f.taken_now x (subst (λ xs. Contains xs x) all (known now x there))))
     (λ (on : ends_round w s answers ≡ false).
     let all = last_woken before.woken now f.replaced_now (sym is ∙ (f.goes_on on).0) in
@@ -123,7 +130,18 @@ taken_elsewhere : (w : World) (s : Step) (answers : List PollerAnswer) (before a
     → Refused w s answers before after
 taken_elsewhere w s answers before after x now is there on other f =
     elsewhere (taken_places w s answers) x.place other
-    (f.taken x (subst (λ took. Contains took x) (append_cancel_left before.taken now f.taken_now (sym is ∙ (f.goes_on on).1)) (known now x there))).1
+    (took_standing w s answers before after f x
+    (subst (λ took. Contains took x) (append_cancel_left before.taken now f.taken_now (sym is ∙ (f.goes_on on).1)) (known now x there))).1
+
+-- a round took another storing first than the first that stood where it takes
+taken_out_of_order : (w : World) (s : Step) (answers : List PollerAnswer) (before after : Storings) (x : Stored) (now : List Stored)
+    → after.taken ≡ before.taken ++ now → has (take 1 now) x ≡ true → ends_round w s answers ≡ false
+    → has (take 1 (standing_in (taken_places w s answers) before.standing)) x ≡ false → Refused w s answers before after
+taken_out_of_order w s answers before after x now is there on other f =
+    let order : now ≡ standing_in (taken_places w s answers) before.standing =
+    append_cancel_left before.taken now f.taken_now (sym is ∙ (f.goes_on on).1) ∙ f.taken in
+    unknown (take 1 (standing_in (taken_places w s answers) before.standing)) x other
+    (subst (λ (took : List Stored). Contains (take 1 took) x) order (known (take 1 now) x there))
 
 -- a round left standing what it takes
 left_standing : (w : World) (s : Step) (answers : List PollerAnswer) (before after : Storings) (x : Stored)
@@ -350,6 +368,13 @@ pub a_round_takes_what_is_not_due : (answers : List PollerAnswer)
 a_round_takes_what_is_not_due answers =
     taken_elsewhere two_timers _ answers _ _ (storing 0 (OfTimer 1) 11) (storing 0 (OfTimer 1) 11 ∷ storing 1 (OfTimer 2) 12 ∷ []) refl refl refl refl
 
+-- of two timers with one deadline the later one is taken first
+pub a_round_takes_timers_out_of_order : (answers : List PollerAnswer)
+    → Refused (record two_timers { now = 5 }) (step.Begin None) answers two_registered
+    (after_step 2 [] (storing 1 (OfTimer 2) 12 ∷ storing 0 (OfTimer 1) 11 ∷ []) [] [])
+a_round_takes_timers_out_of_order answers =
+    taken_out_of_order _ _ answers _ _ (storing 1 (OfTimer 2) 12) (storing 1 (OfTimer 2) 12 ∷ storing 0 (OfTimer 1) 11 ∷ []) refl refl refl refl
+
 pub a_round_leaves_what_is_due : (answers : List PollerAnswer)
     → Refused (record two_timers { now = 5 }) (step.Begin None) answers two_registered
     (after_step 2 (storing 1 (OfTimer 2) 12 ∷ []) (storing 0 (OfTimer 1) 11 ∷ []) [] [])
@@ -361,6 +386,16 @@ pub an_event_takes_the_other_direction : (answers : List PollerAnswer)
     (after_step 1 [] (storing 0 (OfPoll 1 Write) 7 ∷ []) [] [])
 an_event_takes_the_other_direction answers =
     taken_elsewhere _ _ answers _ _ (storing 0 (OfPoll 1 Write) 7) (storing 0 (OfPoll 1 Write) 7 ∷ []) refl refl refl refl
+
+-- of two listeners of a direction the later one is taken first
+pub an_event_takes_listeners_out_of_order : (answers : List PollerAnswer)
+    → Refused (record two_sources {
+      listeners = record { number = 1; serial = 1; dir = Read; position = Some 3; waker = Some (waker 11) }
+          ∷ record { number = 2; serial = 1; dir = Read; position = Some 4; waker = Some (waker 12) } ∷ [];
+      round = Some (round_with (readable ∷ []));
+    }) step.Handle answers two_listeners (after_step 2 [] (storing 1 (OfListener 2) 12 ∷ storing 0 (OfListener 1) 11 ∷ []) [] [])
+an_event_takes_listeners_out_of_order answers =
+    taken_out_of_order _ _ answers _ _ (storing 1 (OfListener 2) 12) (storing 1 (OfListener 2) 12 ∷ storing 0 (OfListener 1) 11 ∷ []) refl refl refl refl
 
 pub an_event_leaves_a_waiter_of_its_direction : (answers : List PollerAnswer)
     → Refused (record two_sources { round = Some (round_with (readable ∷ [])) }) step.Handle answers (before_step 1 (storing 0 (OfPoll 1 Read) 7 ∷ []) [])

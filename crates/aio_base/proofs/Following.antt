@@ -17,7 +17,7 @@ use Rattle.aio_base.specs.Machine.{Outcome, next_answer, fails, pending, poll_so
 use Rattle.aio_base.specs.Refusals.{is_refusal}
 use Rattle.aio_base.specs.Runs.{PolledStep, outcome_of, world_of}
 use Rattle.aio_base.specs.Storings.{Place, OfPoll, OfListener, OfTimer, Stored, Storings, no_storings, standing_at, none_at, stored_at, given_up_at, woken_at, each_taken, each_given_up, round_woken, timer_place, places_of, due_places, poll_moves, listener_moves, registered_anew, tick_moves_at, tick_moves, set_moves, end_moves, drop_moves, del_moves, begin_moves, event_moves, handle_moves_first, handle_moves, finish_moves_in, finish_moves, handle_each_moves, react_moves, step_storings, step_ended, storings_from, storings_of}
-use Rattle.aio_base.specs.Succession.{poll_places, waker_kept, id_kept, stored_as, own_storing, has_to_wait, registers, stores, event_places, events_given, taken_places, may_give_up, ends_round, is_poll, StoringsFollow}
+use Rattle.aio_base.specs.Succession.{poll_places, waker_kept, id_kept, stored_as, own_storing, has_to_wait, registers, stores, event_places, events_given, taken_places, standing_in, may_give_up, ends_round, is_poll, StoringsFollow}
 use Rattle.aio_base.proofs.Membership.{none_is_in, first_is_in, found_is_in}
 use Rattle.aio_base.proofs.Leaving.{Leave, one_leaves, Taking, none_taken, both_taken, all_taken, GivingUp, none_given_up, one_given_up, all_given_up}
 use Rattle.aio_base.proofs.RoundLemmas.{Same, listeners_places, same_events, in_hand_of, event_handled, all_handled, is_handled, handled_out, hand_is, round_begun, round_waited, none_due_left}
@@ -245,6 +245,7 @@ record Ending (places : List Place) (ends : Bool) (l m : Storings) : Type 0 wher
   pub now : List Stored
   pub leave : Leave (Contains places) l.standing m.standing now
   pub emptied : (x : Stored) → Contains m.standing x → Contains places x.place → ⊥
+  pub order : now ≡ standing_in places l.standing
   pub given : m.given ≡ l.given
   pub woken : m.woken ≡ l.woken
   pub given_up : m.given_up ≡ l.given_up
@@ -256,6 +257,7 @@ going_on places l m t = record {
   now = t.now;
   leave = t.leave;
   emptied = t.emptied;
+  order = t.order;
   given = t.given;
   woken = t.woken;
   given_up = t.given_up;
@@ -268,6 +270,7 @@ all_woken places l m t = record {
   now = t.now;
   leave = t.leave;
   emptied = t.emptied;
+  order = t.order;
   given = t.given;
   woken = t.woken;
   given_up = t.given_up;
@@ -383,7 +386,7 @@ giving_follows w s answers l m rests runs takes_none x polls refused = record {
   stands = x.stands;
   stood = x.stood;
   replaced = λ y gone. none_is_in y gone;
-  taken = λ y gone. none_is_in y gone;
+  taken = sym (ap (λ places. standing_in places l.standing) takes_none);
   given_up = x.from;
   emptied = λ y here nowhere. none_is_in y.place (subst (λ places. Contains places y.place) takes_none nowhere);
   ends = λ ends. absurd cc;
@@ -416,7 +419,7 @@ taking_follows w s answers l m rests no_poll stores_none x refused = record {
   stood = λ y here.
       ⊎_elim (λ (stays : Contains m.standing y). inl stays) (λ (goes : Contains x.now y). inr (Contains-append_left x.now [] y goes)) (x.leave.goes y here);
   replaced = λ y gone. none_is_in y gone;
-  taken = x.leave.from;
+  taken = x.order;
   given_up = λ y gone. none_is_in y gone;
   emptied = x.emptied;
   ends = λ ends. (woken_with l m (l.taken ++ x.now) x.woken ((x.ended ends).0 ∙ ap (λ (front : List Stored). front ++ (l.taken ++ x.now)) rests), (x.ended ends).1);
@@ -453,7 +456,7 @@ replacing_follows w key dir waker answers serial l rests at does refused =
           ⊎_elim (λ (stays : Contains left x). inl (Contains-append_left left new x stays))
           (λ (goes : Contains old x). inr (Contains-append_left (old ++ []) [] x (Contains-append_left old [] x goes))) (leave.goes x here);
       replaced = λ x gone. let from = leave.from x gone in (from.0, subst (λ ps. Contains ps x.place) (sym places) from.1);
-      taken = λ x gone. none_is_in x gone;
+      taken = refl;
       given_up = λ x gone. none_is_in x gone;
       emptied = λ x here nowhere. none_is_in x.place nowhere;
       ends = λ ends. absurd cc;

@@ -12,7 +12,7 @@ use Rattle.aio_base.specs.declared.steps.Answer.TheVariants as answer
 use Rattle.aio_base.specs.World.{PollerAnswer, Succeeds, Gives, IsInterrupted, Fails, TimerEntry, World, directions, directions_of, serial_of, poll_waiter}
 use Rattle.aio_base.specs.Machine.{is_timer, is_waker, next_deadline, ends_with_pass, hand_of, next_answer, step_result}
 use Rattle.aio_base.specs.Refusals.{is_refusal}
-use Rattle.aio_base.specs.Storings.{Place, OfPoll, OfListener, OfTimer, Stored, Storings, step_ended, timer_place, places_of, due_places}
+use Rattle.aio_base.specs.Storings.{Place, OfPoll, OfListener, OfTimer, Stored, Storings, standing_at, none_at, step_ended, timer_place, places_of, due_places}
 
 -- ## What a step stores
 
@@ -99,6 +99,11 @@ taken_places w step.React answers =
     if is_some w.round then [] else (due_places w.now w.registrations ++ flat_map (event_places w) (events_given (next_answer answers)))
 taken_places _ _ _ = []
 
+-- what of some storings stands at these places, in the order of the places; what stands at a place that is named again is there once
+abbrev pub standing_in : List Place → List Stored → List Stored
+standing_in [] stored = []
+standing_in (p ∷ places) stored = standing_at p stored ++ standing_in places (none_at p stored)
+
 -- a source that is taken out gives up its poll waiters, a listener that is polled or dropped its own waker, a timer its own registration
 abbrev pub may_give_up : World → Step → List Place
 may_give_up w (step.Del key) = poll_places (serial_of w key.0) directions
@@ -143,11 +148,11 @@ pub record StoringsFollow (w : World) (s : Step) (answers : List PollerAnswer) (
   pub stands : (x : Stored) → Contains after.standing x → Contains before.standing x ⊎ Contains stored_now x
   pub stood : (x : Stored) → Contains before.standing x
       → Contains after.standing x ⊎ Contains (replaced_now ++ taken_now ++ given_up_now) x
-  -- each of these stood before, where this very step replaces, takes or may give up
+  -- what was replaced or given up stood before, where this very step replaces or may give up
   pub replaced : StoodAt (replaced_places w s) before.standing replaced_now
-  pub taken : StoodAt (taken_places w s answers) before.standing taken_now
   pub given_up : StoodAt (may_give_up w s) before.standing given_up_now
-  -- where a round takes it leaves nothing standing
+  -- a round takes all that stood where it takes, in the order of those places, and leaves nothing standing there
+  pub taken : taken_now ≡ standing_in (taken_places w s answers) before.standing
   pub emptied : (x : Stored) → Contains after.standing x → Contains (taken_places w s answers) x.place → ⊥
   -- a step that ends a round wakes all that the round has taken, also in this step, and leaves nothing taken
   pub ends : ends_round w s answers ≡ true
