@@ -18,7 +18,7 @@ use Rattle.aio_base.specs.World.{PollerAnswer, Gives, RoundState, World, opening
 use Rattle.aio_base.specs.Machine.{step_result}
 use Rattle.aio_base.specs.Refusals.{is_refusal}
 use Rattle.aio_base.specs.Storings.{Place, OfPoll, OfListener, OfTimer, same_place, Stored, Storings, no_storings}
-use Rattle.aio_base.specs.Succession.{stored_as, stores, own_storing, replaced_places, taken_places, standing_in, may_give_up, ends_round, StoringsFollow}
+use Rattle.aio_base.specs.Succession.{stored_as, stores, own_storing, replaced_places, taken_places, standing_in, may_give_up, gives_up, ends_round, StoringsFollow}
 use Rattle.aio_base.proofs.Leaving.{stood_in}
 use Rattle.aio_base.proofs.Membership.{none_is_in, any_gives, none_passes}
 use Rattle.aio_base.proofs.Places.{same_place-eq, same_place-refl}
@@ -147,6 +147,14 @@ taken_out_of_order w s answers before after x now is there on other f =
 left_standing : (w : World) (s : Step) (answers : List PollerAnswer) (before after : Storings) (x : Stored)
     → has after.standing x ≡ true → has_place (taken_places w s answers) x.place ≡ true → Refused w s answers before after
 left_standing w s answers before after x there place f = f.emptied x (known after.standing x there) (here (taken_places w s answers) x.place place)
+
+-- a storing stands on where the step gives up
+still_standing : (w : World) (s : Step) (answers : List PollerAnswer) (before after : Storings) (x : Stored)
+    → has after.standing x ≡ true → gives_up w s answers ≡ true → has_place (may_give_up w s) x.place ≡ true
+    → has (own_storing w s before.given) x ≡ false → Refused w s answers before after
+still_standing w s answers before after x there gives place other f =
+    not_among_either (stores w s answers) (own_storing w s before.given) x other
+    (subst (λ xs. Contains xs x) f.stored (f.cleared gives x (known after.standing x there) (here (may_give_up w s) x.place place)))
 
 -- a round ended and kept what it has taken
 kept_taken : (w : World) (s : Step) (answers : List PollerAnswer) (before after : Storings) (x : Stored)
@@ -328,6 +336,14 @@ pub a_listener_gives_up_the_waker_of_another : (w : World) (answers : List Polle
 a_listener_gives_up_the_waker_of_another w answers =
     given_up_elsewhere w _ answers _ _ (storing 1 (OfListener 2) 12) (storing 1 (OfListener 2) 12 ∷ []) refl refl refl
 
+-- a listener that is dropped goes on waiting
+pub a_dropped_listener_keeps_its_waker : (answers : List PollerAnswer)
+    → Refused (record two_sources {
+      listeners = record { number = 1; serial = 1; dir = Read; position = Some 3; waker = Some (waker 11) } ∷ [];
+    }) (step.DropEar 1) answers (before_step 1 (storing 0 (OfListener 1) 11 ∷ []) []) (after_step 1 (storing 0 (OfListener 1) 11 ∷ []) [] [] [])
+unfolding step_result
+a_dropped_listener_keeps_its_waker answers = still_standing _ _ answers _ _ (storing 0 (OfListener 1) 11) refl refl refl refl
+
 pub a_tick_gives_up_the_registration_of_another : (answers : List PollerAnswer)
     → Refused two_timers (step.Tick 1 (waker 13)) answers two_registered
     (after_step 3 (storing 2 (OfTimer 3) 13 ∷ []) [] [] (storing 0 (OfTimer 1) 11 ∷ storing 1 (OfTimer 2) 12 ∷ []))
@@ -339,6 +355,11 @@ pub an_end_gives_up_the_registration_of_another : (answers : List PollerAnswer)
     (after_step 2 [] [] [] (storing 0 (OfTimer 1) 11 ∷ storing 1 (OfTimer 2) 12 ∷ []))
 an_end_gives_up_the_registration_of_another answers =
     given_up_elsewhere two_timers _ answers _ _ (storing 1 (OfTimer 2) 12) (storing 0 (OfTimer 1) 11 ∷ storing 1 (OfTimer 2) 12 ∷ []) refl refl refl
+
+-- a timer that has ended stays registered
+pub an_ended_timer_stays_registered : (answers : List PollerAnswer) → Refused two_timers (step.End 1) answers two_registered (after_step 2 two_registered.standing [] [] [])
+unfolding step_result
+an_ended_timer_stays_registered answers = still_standing two_timers _ answers _ _ (storing 0 (OfTimer 1) 11) refl refl refl refl
 
 -- a timer that is set is registered with another waker than the one that it keeps
 pub a_set_stores_another_waker : (answers : List PollerAnswer)

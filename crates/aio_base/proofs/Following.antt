@@ -17,7 +17,8 @@ use Rattle.aio_base.specs.Machine.{Outcome, next_answer, fails, pending, poll_so
 use Rattle.aio_base.specs.Refusals.{is_refusal}
 use Rattle.aio_base.specs.Runs.{PolledStep, outcome_of, world_of}
 use Rattle.aio_base.specs.Storings.{Place, OfPoll, OfListener, OfTimer, Stored, Storings, no_storings, standing_at, none_at, stored_at, given_up_at, woken_at, each_taken, each_given_up, round_woken, timer_place, places_of, due_places, poll_moves, listener_moves, registered_anew, tick_moves_at, tick_moves, set_moves, end_moves, drop_moves, del_moves, begin_moves, event_moves, handle_moves_first, handle_moves, finish_moves_in, finish_moves, handle_each_moves, react_moves, step_storings, step_ended, storings_from, storings_of}
-use Rattle.aio_base.specs.Succession.{poll_places, waker_kept, id_kept, stored_as, own_storing, has_to_wait, registers, stores, event_places, events_given, taken_places, standing_in, may_give_up, ends_round, is_poll, StoringsFollow}
+use Rattle.aio_base.specs.Succession.{poll_places, waker_kept, id_kept, stored_as, own_storing, has_to_wait, registers, stores, event_places, events_given, taken_places, standing_in, may_give_up, gives_up, ends_round, is_poll, StoringsFollow}
+use Rattle.aio_base.proofs.Clearing.{Cleared, step_clears}
 use Rattle.aio_base.proofs.Membership.{none_is_in, first_is_in, found_is_in}
 use Rattle.aio_base.proofs.Leaving.{Leave, one_leaves, Taking, none_taken, both_taken, all_taken, GivingUp, none_given_up, one_given_up, all_given_up}
 use Rattle.aio_base.proofs.RoundLemmas.{Same, listeners_places, same_events, in_hand_of, event_handled, all_handled, is_handled, handled_out, hand_is, round_begun, round_waited, none_due_left}
@@ -374,9 +375,10 @@ woken_with l m now before waking =
 -- a step that may give storings up and then store one
 giving_follows : (w : World) (s : Step) (answers : List PollerAnswer) (l m : Storings) → l.waking ≡ [] → ends_round w s answers ≡ false
     → taken_places w s answers ≡ [] → (x : Storing (Contains (may_give_up w s)) (stores w s answers) (own_storing w s l.given) l m)
+    → (gives_up w s answers ≡ true → Cleared (may_give_up w s) (cond (stores w s answers) (own_storing w s l.given) []) m)
     → (is_poll s ≡ true → x.stored ≡ [] → m ≡ l) → (is_refusal (step_result w s answers).answer ≡ true → m ≡ l)
     → StoringsFollow w s answers l (step_ended m)
-giving_follows w s answers l m rests runs takes_none x polls refused = record {
+giving_follows w s answers l m rests runs takes_none x clears polls refused = record {
   stored_now = x.stored;
   replaced_now = [];
   taken_now = [];
@@ -389,6 +391,7 @@ giving_follows w s answers l m rests runs takes_none x polls refused = record {
   taken = sym (ap (λ places. standing_in places l.standing) takes_none);
   given_up = x.from;
   emptied = λ y here nowhere. none_is_in y.place (subst (λ places. Contains places y.place) takes_none nowhere);
+  cleared = λ gives y here place. subst (λ stored. Contains stored y) (sym x.is) (clears gives y here place);
   ends = λ ends. absurd cc;
   goes_on = λ on. (woken_with l m [] x.woken (x.waking ∙ rests), x.taken ∙ sym (append-nil l.taken));
   gone = x.given_up;
@@ -398,17 +401,19 @@ giving_follows w s answers l m rests runs takes_none x polls refused = record {
 }
 
 still_follows : (w : World) (s : Step) (answers : List PollerAnswer) (l : Storings) → l.waking ≡ [] → ends_round w s answers ≡ false
-    → taken_places w s answers ≡ [] → stores w s answers ≡ false → StoringsFollow w s answers l (step_ended l)
-still_follows w s answers l rests runs takes_none stores_none =
+    → taken_places w s answers ≡ [] → may_give_up w s ≡ [] → stores w s answers ≡ false → StoringsFollow w s answers l (step_ended l)
+still_follows w s answers l rests runs takes_none gives_none stores_none =
     giving_follows w s answers l l rests runs takes_none
     (subst (λ does. Storing (Contains (may_give_up w s)) does (own_storing w s l.given) l l) (sym stores_none) (nothing_moved _ _ l))
+    (λ gives y here place. none_is_in y.place (subst (λ places. Contains places y.place) gives_none place))
     (λ poll none. refl) (λ refused. refl)
 
 -- a step in which a round takes storings, and may end
-taking_follows : (w : World) (s : Step) (answers : List PollerAnswer) (l m : Storings) → l.waking ≡ [] → is_poll s ≡ false → stores w s answers ≡ false
+taking_follows : (w : World) (s : Step) (answers : List PollerAnswer) (l m : Storings) → l.waking ≡ [] → is_poll s ≡ false → may_give_up w s ≡ []
+    → stores w s answers ≡ false
     → Ending (taken_places w s answers) (ends_round w s answers) l m → (is_refusal (step_result w s answers).answer ≡ true → m ≡ l)
     → StoringsFollow w s answers l (step_ended m)
-taking_follows w s answers l m rests no_poll stores_none x refused = record {
+taking_follows w s answers l m rests no_poll gives_none stores_none x refused = record {
   stored_now = [];
   replaced_now = [];
   taken_now = x.now;
@@ -422,6 +427,7 @@ taking_follows w s answers l m rests no_poll stores_none x refused = record {
   taken = x.order;
   given_up = λ y gone. none_is_in y gone;
   emptied = x.emptied;
+  cleared = λ gives y here place. none_is_in y.place (subst (λ places. Contains places y.place) gives_none place);
   ends = λ ends. (woken_with l m (l.taken ++ x.now) x.woken ((x.ended ends).0 ∙ ap (λ (front : List Stored). front ++ (l.taken ++ x.now)) rests), (x.ended ends).1);
   goes_on = λ on. (woken_with l m [] x.woken ((x.goes_on on).0 ∙ rests), (x.goes_on on).1);
   gone = x.given_up ∙ sym (append-nil l.given_up);
@@ -459,6 +465,7 @@ replacing_follows w key dir waker answers serial l rests at does refused =
       taken = refl;
       given_up = λ x gone. none_is_in x gone;
       emptied = λ x here nowhere. none_is_in x.place nowhere;
+      cleared = λ gives x here nowhere. none_is_in x.place nowhere;
       ends = λ ends. absurd cc;
       goes_on = λ on. (ap (λ (front : List Stored). l.woken ++ (front ++ old) ∷ []) rests, sym (append-nil l.taken));
       gone = sym (append-nil l.given_up);
@@ -484,7 +491,7 @@ poll_follows : (w : World) (key : Key) (dir : Dir) (waker : Waker) (answers : Li
     → StoringsFollow w (step.Poll key dir waker) answers l (step_ended (poll_moves w dir waker serial l))
 unfolding step_result
 poll_follows w key dir waker answers None l rests at refused =
-    still_follows w (step.Poll key dir waker) answers l rests refl refl
+    still_follows w (step.Poll key dir waker) answers l rests refl refl refl
     (ap (λ o. has_to_wait (poll_source w key.0 dir waker o answers).answer && not (is_waker waker (option_and_then (λ serial. poll_waiter w.poll_waiters serial dir) o))) at)
 poll_follows w key dir waker answers (Some serial) l rests at refused =
     let Follows : Storings → Type 0 = λ m. (is_refusal (step_result w (step.Poll key dir waker) answers).answer ≡ true → m ≡ l)
@@ -495,7 +502,7 @@ poll_follows w key dir waker answers (Some serial) l rests at refused =
     ap (λ o. has_to_wait (poll_source w key.0 dir waker o answers).answer && not (is_waker waker (option_and_then (λ serial. poll_waiter w.poll_waiters serial dir) o))) at
     ∙ poll_stores fresh same _ _ _ refl (pending_waits _ _ _ _ _ _) in
     cond_both (fresh || same) l (stored_at (OfPoll serial dir) waker (woken_at (OfPoll serial dir) l)) Follows
-    (λ kept refused. still_follows w (step.Poll key dir waker) answers l rests refl refl (does ∙ ap not kept))
+    (λ kept refused. still_follows w (step.Poll key dir waker) answers l rests refl refl refl (does ∙ ap not kept))
     (λ new refused. replacing_follows w key dir waker answers serial l rests at (does ∙ ap not new) refused) refused
 
 moves_follow : (w : World) (s : Step) (answers : List PollerAnswer) (l : Storings) → l.waking ≡ []
@@ -503,47 +510,50 @@ moves_follow : (w : World) (s : Step) (answers : List PollerAnswer) (l : Storing
     → StoringsFollow w s answers l (step_ended (step_storings w s answers l))
 unfolding Listens step_result
 moves_follow w (step.Del key) answers l rests refused =
-    giving_follows w (step.Del key) answers l _ rests refl refl (del_stores w (serial_of w key.0) l) (λ poll. absurd cc) refused
+    giving_follows w (step.Del key) answers l _ rests refl refl (del_stores w (serial_of w key.0) l) (step_clears w (step.Del key) answers l)
+    (λ poll. absurd cc) refused
 moves_follow w (step.Poll key dir waker) answers l rests refused = poll_follows w key dir waker answers (serial_of w key.0) l rests refl refused
 moves_follow w (step.StepEar number waker) answers l rests refused =
     let listens = listen_stores w number waker (find (is_listener number) w.listeners) answers l refl in
-    giving_follows w (step.StepEar number waker) answers l _ rests refl refl listens.0 (λ poll. listens.1) refused
+    giving_follows w (step.StepEar number waker) answers l _ rests refl refl listens.0 (step_clears w (step.StepEar number waker) answers l)
+    (λ poll. listens.1) refused
 moves_follow w (step.DropEar number) answers l rests refused =
     giving_follows w (step.DropEar number) answers l _ rests refl refl
-    (drop_stores number w.listeners (find (is_listener number) w.listeners) l refl) (λ poll. absurd cc) refused
+    (drop_stores number w.listeners (find (is_listener number) w.listeners) l refl) (step_clears w (step.DropEar number) answers l) (λ poll. absurd cc) refused
 moves_follow w (step.Tick number waker) answers l rests refused =
     giving_follows w (step.Tick number waker) answers l _ rests refl refl
-    (tick_stores w waker (find (is_timer number) w.timers) answers l) (λ poll. absurd cc) refused
+    (tick_stores w waker (find (is_timer number) w.timers) answers l) (step_clears w (step.Tick number waker) answers l) (λ poll. absurd cc) refused
 moves_follow w (step.SetAt number deadline) answers l rests refused =
     giving_follows w (step.SetAt number deadline) answers l _ rests refl refl
-    (set_stores w (find (is_timer number) w.timers) l) (λ poll. absurd cc) refused
+    (set_stores w (find (is_timer number) w.timers) l) (step_clears w (step.SetAt number deadline) answers l) (λ poll. absurd cc) refused
 moves_follow w (step.SetEvery number deadline period) answers l rests refused =
     giving_follows w (step.SetEvery number deadline period) answers l _ rests refl refl
-    (set_stores w (find (is_timer number) w.timers) l) (λ poll. absurd cc) refused
+    (set_stores w (find (is_timer number) w.timers) l) (step_clears w (step.SetEvery number deadline period) answers l)
+    (λ poll. absurd cc) refused
 moves_follow w (step.End number) answers l rests refused =
     giving_follows w (step.End number) answers l _ rests refl refl
-    (end_stores (find (is_timer number) w.timers) l) (λ poll. absurd cc) refused
+    (end_stores (find (is_timer number) w.timers) l) (step_clears w (step.End number) answers l) (λ poll. absurd cc) refused
 moves_follow w (step.Begin limit) answers l rests refused =
-    taking_follows w (step.Begin limit) answers l _ rests refl refl (going_on _ l _ (begin_taken w l)) refused
+    taking_follows w (step.Begin limit) answers l _ rests refl refl refl (going_on _ l _ (begin_taken w l)) refused
 moves_follow w step.Handle answers l rests refused =
-    taking_follows w step.Handle answers l _ rests refl refl (going_on _ l _ (first_taken w (hand_of w.round) l)) refused
+    taking_follows w step.Handle answers l _ rests refl refl refl (going_on _ l _ (first_taken w (hand_of w.round) l)) refused
 moves_follow w step.Finish answers l rests refused =
-    taking_follows w step.Finish answers l _ rests refl refl
+    taking_follows w step.Finish answers l _ rests refl refl refl
     (subst (λ ends. Ending (taken_places w step.Finish answers) ends l (finish_moves w l)) (sym (finish_proceeds w w.round answers)) (finish_ends w w.round [] l l (none_taken l)))
     refused
 moves_follow w step.React answers l rests refused =
-    taking_follows w step.React answers l _ rests refl refl
+    taking_follows w step.React answers l _ rests refl refl refl
     (subst (λ ends. Ending (taken_places w step.React answers) ends l (react_moves w answers l)) (sym (react_proceeds w answers)) (react_ends w answers l)) refused
-moves_follow w step.Add answers l rests refused = still_follows w step.Add answers l rests refl refl refl
-moves_follow w (step.New key dir) answers l rests refused = still_follows w (step.New key dir) answers l rests refl refl refl
-moves_follow w (step.TimerAt deadline) answers l rests refused = still_follows w (step.TimerAt deadline) answers l rests refl refl refl
-moves_follow w (step.TimerEvery deadline period) answers l rests refused = still_follows w (step.TimerEvery deadline period) answers l rests refl refl refl
-moves_follow w step.TimerNever answers l rests refused = still_follows w step.TimerNever answers l rests refl refl refl
-moves_follow w (step.Now moment) answers l rests refused = still_follows w (step.Now moment) answers l rests refl refl refl
-moves_follow w (step.Note event) answers l rests refused = still_follows w (step.Note event) answers l rests refl refl refl
-moves_follow w (step.Fault kind) answers l rests refused = still_follows w (step.Fault kind) answers l rests refl refl refl
-moves_follow w step.Interrupt answers l rests refused = still_follows w step.Interrupt answers l rests refl refl refl
-moves_follow w step.Wait answers l rests refused = still_follows w step.Wait answers l rests refl refl refl
+moves_follow w step.Add answers l rests refused = still_follows w step.Add answers l rests refl refl refl refl
+moves_follow w (step.New key dir) answers l rests refused = still_follows w (step.New key dir) answers l rests refl refl refl refl
+moves_follow w (step.TimerAt deadline) answers l rests refused = still_follows w (step.TimerAt deadline) answers l rests refl refl refl refl
+moves_follow w (step.TimerEvery deadline period) answers l rests refused = still_follows w (step.TimerEvery deadline period) answers l rests refl refl refl refl
+moves_follow w step.TimerNever answers l rests refused = still_follows w step.TimerNever answers l rests refl refl refl refl
+moves_follow w (step.Now moment) answers l rests refused = still_follows w (step.Now moment) answers l rests refl refl refl refl
+moves_follow w (step.Note event) answers l rests refused = still_follows w (step.Note event) answers l rests refl refl refl refl
+moves_follow w (step.Fault kind) answers l rests refused = still_follows w (step.Fault kind) answers l rests refl refl refl refl
+moves_follow w step.Interrupt answers l rests refused = still_follows w step.Interrupt answers l rests refl refl refl refl
+moves_follow w step.Wait answers l rests refused = still_follows w step.Wait answers l rests refl refl refl refl
 
 pub step_follows : (w : World) (s : Step) (answers : List PollerAnswer) (l : Storings) → l.waking ≡ []
     → StoringsFollow w s answers l (step_ended (step_storings w s answers l))

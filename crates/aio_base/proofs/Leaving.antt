@@ -130,7 +130,7 @@ both_taken ps qs l m n first second = record {
   given_up = second.given_up ∙ first.given_up;
 }
 
-emptied_place : (p : Place) (xs : List Stored) (x : Stored) → Contains (none_at p xs) x → Contains (p ∷ []) x.place → ⊥
+pub emptied_place : (p : Place) (xs : List Stored) (x : Stored) → Contains (none_at p xs) x → Contains (p ∷ []) x.place → ⊥
 emptied_place p xs x here among =
     let other = filtered_passes (λ (s : Stored). not (same_place p s.place)) xs x here in
     ⊎_elim (λ (same : p ≡ x.place). let there = same_place-from p x.place same in let wrong : false ≡ true = sym (ap not there) ∙ other in cc)

@@ -1,6 +1,6 @@
 -- How the storings of wakers after a step follow those before it: what any step, in any world, may store, replace, take and give up. Nothing here
 -- rests on the functions by which storings are moved.
-use Rattle.std.specs.Prelude.{◌≡◌, ◌⊎◌, ℕ, ◌+◌, Bool, true, false, not, ◌&&◌, if◌then◌else◌, List, [], ◌∷◌, ◌++◌, map, find, flat_map, length, take, Option, None, Some, is_some, option_to_list, option_and_then}
+use Rattle.std.specs.Prelude.{◌≡◌, ◌⊎◌, ℕ, ◌+◌, Bool, true, false, not, ◌&&◌, ◌||◌, if◌then◌else◌, List, [], ◌∷◌, ◌++◌, map, find, flat_map, length, take, Option, None, Some, is_some, option_to_list, option_and_then}
 use Rattle.std.specs.List.{Contains}
 use Rattle.aio_base.specs.declared.names.Waker.{Waker}
 use Rattle.aio_base.specs.declared.names.Dir.{Dir}
@@ -115,6 +115,19 @@ may_give_up w (step.SetEvery number deadline period) = timer_place (id_kept (fin
 may_give_up w (step.End number) = timer_place (id_kept (find (is_timer number) w.timers))
 may_give_up _ _ = []
 
+-- the answer of a timer that has fired
+abbrev pub has_fired : Answer → Bool
+has_fired (answer.ReadyAt deadline) = true
+has_fired _ = false
+
+-- Whether a step gives up what stands where it may: a listener's poll where it stores its waker, the poll of a timer where it registers the timer or the
+-- timer has fired, and each other step where it is not refused.
+abbrev pub gives_up : World → Step → List PollerAnswer → Bool
+gives_up w (step.StepEar number waker) answers = stores w (step.StepEar number waker) answers
+gives_up w (step.Tick number waker) answers =
+    stores w (step.Tick number waker) answers || has_fired (step_result w (step.Tick number waker) answers).answer
+gives_up w s answers = not (is_refusal (step_result w s answers).answer)
+
 -- ## How the storings after a step follow those before it
 
 -- whether a step ends a round: a `finish` or a whole round that is not refused
@@ -154,6 +167,8 @@ pub record StoringsFollow (w : World) (s : Step) (answers : List PollerAnswer) (
   -- a round takes all that stood where it takes, in the order of those places, and leaves nothing standing there
   pub taken : taken_now ≡ standing_in (taken_places w s answers) before.standing
   pub emptied : (x : Stored) → Contains after.standing x → Contains (taken_places w s answers) x.place → ⊥
+  -- where a step gives up, it leaves nothing standing but what it stores
+  pub cleared : gives_up w s answers ≡ true → (x : Stored) → Contains after.standing x → Contains (may_give_up w s) x.place → Contains stored_now x
   -- a step that ends a round wakes all that the round has taken, also in this step, and leaves nothing taken
   pub ends : ends_round w s answers ≡ true
       → (after.woken ≡ before.woken ++ (before.taken ++ taken_now) ∷ []) × (after.taken ≡ [])
