@@ -1,7 +1,7 @@
 -- Histories of storings that no run has, each refused by the law on how storings follow from step to step: a table of what a machine may do wrong
 -- in one step, by the kind of the step. A history is refused in every world with the parts that are written out for it.
 use Rattle.std.proofs.Common.{◌≡◌, ℕ, Bool, true, false, ◌&&◌, List, [], ◌∷◌, ◌++◌, ◌+◌, length, None, Some, refl, ap, ◌∙◌, sym, subst, ⊎_elim}
-use Rattle.std.specs.Prelude.{◌==◌, if◌then◌else◌}
+use Rattle.std.specs.Prelude.{◌==◌, if◌then◌else◌, take}
 use Rattle.std.specs.List.{Contains, list_any}
 use Rattle.std.proofs.lemmas.Bool.{and_parts, and_from, eqb-true, eq-eqb, cases_Bool}
 use Rattle.std.proofs.lemmas.List.{append_cancel_left}
@@ -18,7 +18,8 @@ use Rattle.aio_base.specs.World.{PollerAnswer, Gives, RoundState, World, opening
 use Rattle.aio_base.specs.Machine.{step_result}
 use Rattle.aio_base.specs.Refusals.{is_refusal}
 use Rattle.aio_base.specs.Storings.{Place, OfPoll, OfListener, OfTimer, same_place, Stored, Storings, no_storings}
-use Rattle.aio_base.specs.Succession.{stored_as, stores, own_storing, replaced_places, taken_places, may_give_up, ends_round, StoringsFollow}
+use Rattle.aio_base.specs.Succession.{stored_as, stores, own_storing, replaced_places, taken_places, standing_in, may_give_up, gives_up, ends_round, StoringsFollow}
+use Rattle.aio_base.proofs.Leaving.{stood_in}
 use Rattle.aio_base.proofs.Membership.{none_is_in, any_gives, none_passes}
 use Rattle.aio_base.proofs.Places.{same_place-eq, same_place-refl}
 
@@ -71,6 +72,12 @@ last_woken old now new same = let last = append_cancel_left old (now ∷ []) (ne
 
 -- ## Why a history is refused
 
+-- what a step takes stood before, where it takes
+took_standing : (w : World) (s : Step) (answers : List PollerAnswer) (before after : Storings) (f : StoringsFollow w s answers before after) (x : Stored)
+    → Contains f.taken_now x → Contains before.standing x × Contains (taken_places w s answers) x.place
+took_standing w s answers before after f x took =
+    stood_in (taken_places w s answers) before.standing x (subst (λ xs. Contains xs x) f.taken took)
+
 -- a storing was given up that stood elsewhere
 given_up_elsewhere : (w : World) (s : Step) (answers : List PollerAnswer) (before after : Storings) (x : Stored) (now : List Stored)
     → after.given_up ≡ before.given_up ++ now → has now x ≡ true → has_place (may_give_up w s) x.place ≡ false → Refused w s answers before after
@@ -85,7 +92,7 @@ woken_from_nowhere w s answers before after x now is there untaken unstood f =
     ⊎_elim
     (λ (ends : ends_round w s answers ≡ true).
     let all = last_woken before.woken now (before.taken ++ f.taken_now) (sym is ∙ (f.ends ends).0) in
-    ⊎_elim (unknown before.taken x untaken) (λ (took : Contains f.taken_now x). unknown before.standing x unstood (f.taken x took).0)
+    ⊎_elim (unknown before.taken x untaken) (λ (took : Contains f.taken_now x). unknown before.standing x unstood (took_standing w s answers before after f x took).0)
     (Contains-append_cases before.taken f.taken_now x (subst (λ xs. Contains xs x) all (known now x there))))
     (λ (on : ends_round w s answers ≡ false).
     let all = last_woken before.woken now f.replaced_now (sym is ∙ (f.goes_on on).0) in
@@ -123,12 +130,31 @@ taken_elsewhere : (w : World) (s : Step) (answers : List PollerAnswer) (before a
     → Refused w s answers before after
 taken_elsewhere w s answers before after x now is there on other f =
     elsewhere (taken_places w s answers) x.place other
-    (f.taken x (subst (λ took. Contains took x) (append_cancel_left before.taken now f.taken_now (sym is ∙ (f.goes_on on).1)) (known now x there))).1
+    (took_standing w s answers before after f x
+    (subst (λ took. Contains took x) (append_cancel_left before.taken now f.taken_now (sym is ∙ (f.goes_on on).1)) (known now x there))).1
+
+-- a round took another storing first than the first that stood where it takes
+taken_out_of_order : (w : World) (s : Step) (answers : List PollerAnswer) (before after : Storings) (x : Stored) (now : List Stored)
+    → after.taken ≡ before.taken ++ now → has (take 1 now) x ≡ true → ends_round w s answers ≡ false
+    → has (take 1 (standing_in (taken_places w s answers) before.standing)) x ≡ false → Refused w s answers before after
+taken_out_of_order w s answers before after x now is there on other f =
+    let order : now ≡ standing_in (taken_places w s answers) before.standing =
+    append_cancel_left before.taken now f.taken_now (sym is ∙ (f.goes_on on).1) ∙ f.taken in
+    unknown (take 1 (standing_in (taken_places w s answers) before.standing)) x other
+    (subst (λ (took : List Stored). Contains (take 1 took) x) order (known (take 1 now) x there))
 
 -- a round left standing what it takes
 left_standing : (w : World) (s : Step) (answers : List PollerAnswer) (before after : Storings) (x : Stored)
     → has after.standing x ≡ true → has_place (taken_places w s answers) x.place ≡ true → Refused w s answers before after
 left_standing w s answers before after x there place f = f.emptied x (known after.standing x there) (here (taken_places w s answers) x.place place)
+
+-- a storing stands on where the step gives up
+still_standing : (w : World) (s : Step) (answers : List PollerAnswer) (before after : Storings) (x : Stored)
+    → has after.standing x ≡ true → gives_up w s answers ≡ true → has_place (may_give_up w s) x.place ≡ true
+    → has (own_storing w s before.given) x ≡ false → Refused w s answers before after
+still_standing w s answers before after x there gives place other f =
+    not_among_either (stores w s answers) (own_storing w s before.given) x other
+    (subst (λ xs. Contains xs x) f.stored (f.cleared gives x (known after.standing x there) (here (may_give_up w s) x.place place)))
 
 -- a round ended and kept what it has taken
 kept_taken : (w : World) (s : Step) (answers : List PollerAnswer) (before after : Storings) (x : Stored)
@@ -310,6 +336,14 @@ pub a_listener_gives_up_the_waker_of_another : (w : World) (answers : List Polle
 a_listener_gives_up_the_waker_of_another w answers =
     given_up_elsewhere w _ answers _ _ (storing 1 (OfListener 2) 12) (storing 1 (OfListener 2) 12 ∷ []) refl refl refl
 
+-- a listener that is dropped goes on waiting
+pub a_dropped_listener_keeps_its_waker : (answers : List PollerAnswer)
+    → Refused (record two_sources {
+      listeners = record { number = 1; serial = 1; dir = Read; position = Some 3; waker = Some (waker 11) } ∷ [];
+    }) (step.DropEar 1) answers (before_step 1 (storing 0 (OfListener 1) 11 ∷ []) []) (after_step 1 (storing 0 (OfListener 1) 11 ∷ []) [] [] [])
+unfolding step_result
+a_dropped_listener_keeps_its_waker answers = still_standing _ _ answers _ _ (storing 0 (OfListener 1) 11) refl refl refl refl
+
 pub a_tick_gives_up_the_registration_of_another : (answers : List PollerAnswer)
     → Refused two_timers (step.Tick 1 (waker 13)) answers two_registered
     (after_step 3 (storing 2 (OfTimer 3) 13 ∷ []) [] [] (storing 0 (OfTimer 1) 11 ∷ storing 1 (OfTimer 2) 12 ∷ []))
@@ -322,11 +356,30 @@ pub an_end_gives_up_the_registration_of_another : (answers : List PollerAnswer)
 an_end_gives_up_the_registration_of_another answers =
     given_up_elsewhere two_timers _ answers _ _ (storing 1 (OfTimer 2) 12) (storing 0 (OfTimer 1) 11 ∷ storing 1 (OfTimer 2) 12 ∷ []) refl refl refl
 
+-- a timer that has ended stays registered
+pub an_ended_timer_stays_registered : (answers : List PollerAnswer) → Refused two_timers (step.End 1) answers two_registered (after_step 2 two_registered.standing [] [] [])
+unfolding step_result
+an_ended_timer_stays_registered answers = still_standing two_timers _ answers _ _ (storing 0 (OfTimer 1) 11) refl refl refl refl
+
 -- a timer that is set is registered with another waker than the one that it keeps
 pub a_set_stores_another_waker : (answers : List PollerAnswer)
     → Refused two_timers (step.SetAt 1 9) answers two_registered
     (after_step 3 (storing 1 (OfTimer 2) 12 ∷ storing 2 (OfTimer 3) 12 ∷ []) [] [] (storing 0 (OfTimer 1) 11 ∷ []))
 a_set_stores_another_waker answers = stands_from_nowhere two_timers _ answers _ _ (storing 2 (OfTimer 3) 12) refl refl refl
+
+-- a timer that is set loses the waker that it keeps
+pub a_set_drops_the_kept_waker : (answers : List PollerAnswer)
+    → Refused two_timers (step.SetAt 1 9) answers two_registered
+    (after_step 2 (storing 1 (OfTimer 2) 12 ∷ []) [] [] (storing 0 (OfTimer 1) 11 ∷ []))
+a_set_drops_the_kept_waker answers = counted_wrongly two_timers _ answers _ _ refl
+
+-- the poll of a timer waits for the deadline, and registers nothing
+pub a_tick_that_waits_stores_nothing : (answers : List PollerAnswer)
+    → Refused (record opening {
+      timers = record { number = 1; deadline = Some 5; period = None; id = None; kept = None } ∷ [];
+    }) (step.Tick 1 (waker 11)) answers (before_step 0 [] []) (after_step 0 [] [] [] [])
+unfolding step_result
+a_tick_that_waits_stores_nothing answers = counted_wrongly _ _ answers _ _ refl
 
 -- ## Rounds
 
@@ -335,6 +388,13 @@ pub a_round_takes_what_is_not_due : (answers : List PollerAnswer)
     (after_step 2 [] (storing 0 (OfTimer 1) 11 ∷ storing 1 (OfTimer 2) 12 ∷ []) [] [])
 a_round_takes_what_is_not_due answers =
     taken_elsewhere two_timers _ answers _ _ (storing 0 (OfTimer 1) 11) (storing 0 (OfTimer 1) 11 ∷ storing 1 (OfTimer 2) 12 ∷ []) refl refl refl refl
+
+-- of two timers with one deadline the later one is taken first
+pub a_round_takes_timers_out_of_order : (answers : List PollerAnswer)
+    → Refused (record two_timers { now = 5 }) (step.Begin None) answers two_registered
+    (after_step 2 [] (storing 1 (OfTimer 2) 12 ∷ storing 0 (OfTimer 1) 11 ∷ []) [] [])
+a_round_takes_timers_out_of_order answers =
+    taken_out_of_order _ _ answers _ _ (storing 1 (OfTimer 2) 12) (storing 1 (OfTimer 2) 12 ∷ storing 0 (OfTimer 1) 11 ∷ []) refl refl refl refl
 
 pub a_round_leaves_what_is_due : (answers : List PollerAnswer)
     → Refused (record two_timers { now = 5 }) (step.Begin None) answers two_registered
@@ -347,6 +407,16 @@ pub an_event_takes_the_other_direction : (answers : List PollerAnswer)
     (after_step 1 [] (storing 0 (OfPoll 1 Write) 7 ∷ []) [] [])
 an_event_takes_the_other_direction answers =
     taken_elsewhere _ _ answers _ _ (storing 0 (OfPoll 1 Write) 7) (storing 0 (OfPoll 1 Write) 7 ∷ []) refl refl refl refl
+
+-- of two listeners of a direction the later one is taken first
+pub an_event_takes_listeners_out_of_order : (answers : List PollerAnswer)
+    → Refused (record two_sources {
+      listeners = record { number = 1; serial = 1; dir = Read; position = Some 3; waker = Some (waker 11) }
+          ∷ record { number = 2; serial = 1; dir = Read; position = Some 4; waker = Some (waker 12) } ∷ [];
+      round = Some (round_with (readable ∷ []));
+    }) step.Handle answers two_listeners (after_step 2 [] (storing 1 (OfListener 2) 12 ∷ storing 0 (OfListener 1) 11 ∷ []) [] [])
+an_event_takes_listeners_out_of_order answers =
+    taken_out_of_order _ _ answers _ _ (storing 1 (OfListener 2) 12) (storing 1 (OfListener 2) 12 ∷ storing 0 (OfListener 1) 11 ∷ []) refl refl refl refl
 
 pub an_event_leaves_a_waiter_of_its_direction : (answers : List PollerAnswer)
     → Refused (record two_sources { round = Some (round_with (readable ∷ [])) }) step.Handle answers (before_step 1 (storing 0 (OfPoll 1 Read) 7 ∷ []) [])

@@ -1,8 +1,8 @@
 -- How the storings of a run follow from step to step.
 use Rattle.std.proofs.Common.{◌≡◌, ◌⊎◌, ℕ, ◌+◌, Bool, true, false, not, cond, ◌&&◌, ◌||◌, List, [], ◌∷◌, ◌++◌, length, map, find, Option, None, Some, is_some, refl, ap, ◌∙◌, sym, subst, inl, inr, ⊎_elim, arith, append-nil}
-use Rattle.std.specs.Prelude.{nat_le, nat_lt, flat_map, take, option_map, option_to_list, option_and_then}
+use Rattle.std.specs.Prelude.{nat_le, flat_map, take, option_map, option_to_list, option_and_then}
 use Rattle.std.specs.List.{Contains}
-use Rattle.std.proofs.lemmas.Bool.{cond_both, cond-true, cond-false, eqb-true, lt-ltb, le-ltb}
+use Rattle.std.proofs.lemmas.Bool.{cond_both, cond-true, cond-false, eqb-true}
 use Rattle.std.proofs.lemmas.List.Elements.{Contains-append_left, Contains-append_cases}
 use Rattle.aio_base.specs.declared.names.Key.{Key}
 use Rattle.aio_base.specs.declared.names.Waker.{Waker}
@@ -13,11 +13,12 @@ use Rattle.aio_base.specs.declared.steps.Step.TheVariants as step
 use Rattle.aio_base.specs.declared.steps.Answer.{Answer}
 use Rattle.aio_base.specs.declared.steps.Answer.TheVariants as answer
 use Rattle.aio_base.specs.World.{PollerAnswer, ListenerEntry, TimerEntry, RoundState, World, directions, directions_of, poll_waiter, mark_of, serial_of, is_empty_list, opening}
-use Rattle.aio_base.specs.Machine.{Outcome, next_answer, fails, pending, poll_source, step_listener, unregistered, registered, fired, set_deadline, tick_deadline, tick_timer, set_timer, next_deadline, is_waker, is_fresh_since, is_listener, is_timer, begin_round, wait_round, handle_round, handle_each, hand_of, gave_none, is_zero, ends_with_pass, finish_in, react, step_result}
+use Rattle.aio_base.specs.Machine.{Outcome, next_answer, fails, pending, poll_source, step_listener, tick_deadline, tick_timer, next_deadline, is_waker, is_fresh_since, is_listener, is_timer, begin_round, wait_round, handle_round, handle_each, hand_of, gave_none, is_zero, ends_with_pass, finish_in, react, step_result}
 use Rattle.aio_base.specs.Refusals.{is_refusal}
 use Rattle.aio_base.specs.Runs.{PolledStep, outcome_of, world_of}
 use Rattle.aio_base.specs.Storings.{Place, OfPoll, OfListener, OfTimer, Stored, Storings, no_storings, standing_at, none_at, stored_at, given_up_at, woken_at, each_taken, each_given_up, round_woken, timer_place, places_of, due_places, poll_moves, listener_moves, registered_anew, tick_moves_at, tick_moves, set_moves, end_moves, drop_moves, del_moves, begin_moves, event_moves, handle_moves_first, handle_moves, finish_moves_in, finish_moves, handle_each_moves, react_moves, step_storings, step_ended, storings_from, storings_of}
-use Rattle.aio_base.specs.Succession.{poll_places, waker_kept, id_kept, stored_as, own_storing, has_to_wait, stores, event_places, events_given, taken_places, may_give_up, ends_round, is_poll, StoringsFollow}
+use Rattle.aio_base.specs.Succession.{poll_places, waker_kept, id_kept, stored_as, own_storing, has_to_wait, registers, stores, event_places, events_given, taken_places, standing_in, may_give_up, gives_up, ends_round, is_poll, StoringsFollow}
+use Rattle.aio_base.proofs.Clearing.{Cleared, step_clears}
 use Rattle.aio_base.proofs.Membership.{none_is_in, first_is_in, found_is_in}
 use Rattle.aio_base.proofs.Leaving.{Leave, one_leaves, Taking, none_taken, both_taken, all_taken, GivingUp, none_given_up, one_given_up, all_given_up}
 use Rattle.aio_base.proofs.RoundLemmas.{Same, listeners_places, same_events, in_hand_of, event_handled, all_handled, is_handled, handled_out, hand_is, round_begun, round_waited, none_due_left}
@@ -39,10 +40,10 @@ record Storing (P : Place → Type 0) (does : Bool) (may : List Stored) (l m : S
   pub woken : m.woken ≡ l.woken
   pub taken : m.taken ≡ l.taken
 
-nothing_stored : (P : Place → Type 0) (may : List Stored) (l m : Storings) → GivingUp P l m → Storing P false may l m
-nothing_stored P may l m g = record {
+stored_none : (P : Place → Type 0) (does : Bool) (may : List Stored) (l m : Storings) → cond does may [] ≡ [] → GivingUp P l m → Storing P does may l m
+stored_none P does may l m none g = record {
   stored = [];
-  is = refl;
+  is = sym none;
   now = g.now;
   given = g.given ∙ omega arith;
   stands = λ x here. inl (g.leave.stays x here);
@@ -53,6 +54,9 @@ nothing_stored P may l m g = record {
   woken = g.woken;
   taken = g.taken;
 }
+
+nothing_stored : (P : Place → Type 0) (may : List Stored) (l m : Storings) → GivingUp P l m → Storing P false may l m
+nothing_stored P may l m g = stored_none P false may l m refl g
 
 nothing_moved : (P : Place → Type 0) (may : List Stored) (l : Storings) → Storing P false may l l
 nothing_moved P may l = nothing_stored P may l l (none_given_up P l)
@@ -138,79 +142,55 @@ listen_stores w number waker (Some entry) answers l found =
 registration_given_up : (entry : TimerEntry) (l : Storings) → GivingUp (Contains (timer_place entry.id)) l (each_given_up (timer_place entry.id) l)
 registration_given_up entry l = all_given_up (Contains (timer_place entry.id)) (timer_place entry.id) (λ p among. among) l
 
--- whether a world has drawn an id since
-abbrev has_drawn : World → World → Bool
-has_drawn w v = nat_lt w.ids_drawn v.ids_drawn
-
-unregistered_ids : (w : World) (id : Option ℕ) → (unregistered w id).ids_drawn ≡ w.ids_drawn
-unregistered_ids w None = refl
-unregistered_ids w (Some id) = refl
-
-drawn_none : (w v : World) → v.ids_drawn ≡ w.ids_drawn → has_drawn w v ≡ false
-drawn_none w v same = le-ltb w.ids_drawn v.ids_drawn (omega (arith, same))
-
-drawn_one : (w v : World) → v.ids_drawn ≡ w.ids_drawn + 1 → has_drawn w v ≡ true
-drawn_one w v next = lt-ltb w.ids_drawn v.ids_drawn (omega (arith, next))
-
 -- what a step of a timer stores and gives up
 abbrev Registers : World → TimerEntry → List Stored → Storings → Bool → Storings → Type 0
 Registers w entry may l does m = Storing (Contains (timer_place entry.id)) does may l m
 
-registered_one : (w : World) (entry set : TimerEntry) (deadline : ℕ) (waker : Waker) (l : Storings)
-    → Registers w entry (stored_as l.given (OfTimer (w.ids_drawn + 1)) waker ∷ []) l (has_drawn w (registered (unregistered w entry.id) set deadline waker))
-    (registered_anew w entry (Some waker) l)
-registered_one w entry set deadline waker l =
-    subst (λ does. Registers w entry (stored_as l.given (OfTimer (w.ids_drawn + 1)) waker ∷ []) l does (registered_anew w entry (Some waker) l))
-    (sym (drawn_one w (registered (unregistered w entry.id) set deadline waker) (ap (λ n. n + 1) (unregistered_ids w entry.id))))
-    (then_stored _ (OfTimer (w.ids_drawn + 1)) waker l _ (registration_given_up entry l))
+registered_one : (w : World) (entry : TimerEntry) (waker : Waker) (l : Storings)
+    → Registers w entry (stored_as l.given (OfTimer (w.ids_drawn + 1)) waker ∷ []) l true (registered_anew w entry (Some waker) l)
+registered_one w entry waker l = then_stored _ (OfTimer (w.ids_drawn + 1)) waker l _ (registration_given_up entry l)
 
-registered_none : (w v : World) (entry : TimerEntry) (may : List Stored) (l : Storings) → v.ids_drawn ≡ w.ids_drawn
-    → Registers w entry may l (has_drawn w v) (registered_anew w entry None l)
-registered_none w v entry may l same =
-    subst (λ does. Registers w entry may l does (registered_anew w entry None l)) (sym (drawn_none w v same))
-    (nothing_stored _ may l _ (registration_given_up entry l))
+set_anew : (w : World) (entry : TimerEntry) (waker : Option Waker) (l : Storings)
+    → Registers w entry (map (stored_as l.given (OfTimer (w.ids_drawn + 1))) (option_to_list waker)) l true (registered_anew w entry waker l)
+set_anew w entry None l = stored_none _ true [] l _ refl (registration_given_up entry l)
+set_anew w entry (Some waker) l = registered_one w entry waker l
 
-unregistered_none : (w v : World) (entry : TimerEntry) (may : List Stored) (l : Storings) → v.ids_drawn ≡ w.ids_drawn
-    → Registers w entry may l (has_drawn w v) l
-unregistered_none w v entry may l same = subst (λ does. Registers w entry may l does l) (sym (drawn_none w v same)) (nothing_moved _ may l)
-
-set_anew : (w : World) (entry set : TimerEntry) (deadline : ℕ) (waker : Option Waker) (l : Storings)
-    → Registers w entry (map (stored_as l.given (OfTimer (w.ids_drawn + 1))) (option_to_list waker)) l
-    (has_drawn w (set_deadline (unregistered w entry.id) set deadline waker)) (registered_anew w entry waker l)
-set_anew w entry set deadline None l = registered_none w (set_deadline (unregistered w entry.id) set deadline None) entry _ l (unregistered_ids w entry.id)
-set_anew w entry set deadline (Some waker) l = registered_one w entry set deadline waker l
-
--- a timer that is not there stores nothing
-no_timer : (P : Place → Type 0) (w : World) (may : List Stored) (l : Storings) → Storing P (has_drawn w w) may l l
-no_timer P w may l = subst (λ does. Storing P does may l l) (sym (drawn_none w w refl)) (nothing_moved P may l)
-
-set_stores : (w : World) (deadline : ℕ) (period : Option ℕ) (entry : Option TimerEntry) (answers : List PollerAnswer) (l : Storings)
-    → Storing (Contains (timer_place (id_kept entry))) (has_drawn w (set_timer w deadline period entry answers).world)
+set_stores : (w : World) (entry : Option TimerEntry) (l : Storings)
+    → Storing (Contains (timer_place (id_kept entry))) true
     (map (stored_as l.given (OfTimer (w.ids_drawn + 1))) (option_to_list (waker_kept entry))) l (set_moves w entry l)
-set_stores w deadline period None answers l = no_timer _ w _ l
-set_stores w deadline period (Some entry) answers l = set_anew w entry (cond (is_some period) (record entry { period = period }) entry) deadline entry.kept l
+set_stores w None l = stored_none _ true [] l l refl (none_given_up _ l)
+set_stores w (Some entry) l = set_anew w entry entry.kept l
 
 fired_anew : (w : World) (waker : Waker) (entry : TimerEntry) (next : Option ℕ) (l : Storings)
-    → Registers w entry (stored_as l.given (OfTimer (w.ids_drawn + 1)) waker ∷ []) l (has_drawn w (fired (unregistered w entry.id) entry waker next))
+    → Registers w entry (stored_as l.given (OfTimer (w.ids_drawn + 1)) waker ∷ []) l (is_some next)
     (registered_anew w entry (option_map (λ later. waker) next) l)
-fired_anew w waker entry None l = registered_none w (fired (unregistered w entry.id) entry waker None) entry _ l (unregistered_ids w entry.id)
-fired_anew w waker entry (Some deadline) l = registered_one w entry entry deadline waker l
+fired_anew w waker entry None l = nothing_stored _ _ l _ (registration_given_up entry l)
+fired_anew w waker entry (Some deadline) l = registered_one w entry waker l
 
-tick_stores_at : (w : World) (waker : Waker) (entry : TimerEntry) (deadline : Option ℕ) (answers : List PollerAnswer) (l : Storings)
-    → Registers w entry (stored_as l.given (OfTimer (w.ids_drawn + 1)) waker ∷ []) l (has_drawn w (tick_deadline w entry waker deadline answers).world)
-    (tick_moves_at w waker entry deadline l)
-tick_stores_at w waker entry None answers l = unregistered_none w w entry _ l refl
-tick_stores_at w waker entry (Some deadline) answers l =
+-- where nothing is done, or something is
+unless : (C : Bool → Storings → Type 0) (test : Bool) (l m : Storings) → C false l → C true m → C (not test) (cond test l m)
+unless C true l m first second = first
+unless C false l m first second = second
+
+tick_stores_at : (w : World) (waker : Waker) (entry : TimerEntry) (deadline : Option ℕ) (answers : List PollerAnswer) (l : Storings) → entry.deadline ≡ deadline
+    → Registers w entry (stored_as l.given (OfTimer (w.ids_drawn + 1)) waker ∷ []) l
+    (registers (tick_deadline w entry waker deadline answers).answer waker (Some entry)) (tick_moves_at w waker entry deadline l)
+tick_stores_at w waker entry None answers l at =
     let C : Bool → Storings → Type 0 = Registers w entry (stored_as l.given (OfTimer (w.ids_drawn + 1)) waker ∷ []) l in
-    by_case (λ (o : Outcome). has_drawn w o.world) C (nat_le deadline w.now) _ _ _ _ (fired_anew w waker entry (next_deadline deadline entry.period) l)
-    (by_case (has_drawn w) C (is_some entry.id && is_waker waker entry.kept) _ _ l _ (unregistered_none w w entry _ l refl)
-    (registered_one w entry entry deadline waker l))
+    subst (λ (d : Option ℕ). C (is_some d && not (is_some entry.id && is_waker waker entry.kept)) l) (sym at) (nothing_moved _ _ l)
+tick_stores_at w waker entry (Some deadline) answers l at =
+    let C : Bool → Storings → Type 0 = Registers w entry (stored_as l.given (OfTimer (w.ids_drawn + 1)) waker ∷ []) l in
+    let kept : Bool = is_some entry.id && is_waker waker entry.kept in
+    by_case (λ (o : Outcome). registers o.answer waker (Some entry)) C (nat_le deadline w.now) _ _ _ _
+    (fired_anew w waker entry (next_deadline deadline entry.period) l)
+    (subst (λ (d : Option ℕ). C (is_some d && not kept) (cond kept l (registered_anew w entry (Some waker) l))) (sym at)
+    (unless C kept l _ (nothing_moved _ _ l) (registered_one w entry waker l)))
 
 tick_stores : (w : World) (waker : Waker) (entry : Option TimerEntry) (answers : List PollerAnswer) (l : Storings)
-    → Storing (Contains (timer_place (id_kept entry))) (has_drawn w (tick_timer w waker entry answers).world)
+    → Storing (Contains (timer_place (id_kept entry))) (registers (tick_timer w waker entry answers).answer waker entry)
     (stored_as l.given (OfTimer (w.ids_drawn + 1)) waker ∷ []) l (tick_moves w waker entry l)
-tick_stores w waker None answers l = no_timer _ w _ l
-tick_stores w waker (Some entry) answers l = tick_stores_at w waker entry entry.deadline answers l
+tick_stores w waker None answers l = nothing_moved _ _ l
+tick_stores w waker (Some entry) answers l = tick_stores_at w waker entry entry.deadline answers l refl
 
 end_stores : (entry : Option TimerEntry) (l : Storings) → Storing (Contains (timer_place (id_kept entry))) false [] l (end_moves entry l)
 end_stores None l = nothing_moved _ [] l
@@ -266,6 +246,7 @@ record Ending (places : List Place) (ends : Bool) (l m : Storings) : Type 0 wher
   pub now : List Stored
   pub leave : Leave (Contains places) l.standing m.standing now
   pub emptied : (x : Stored) → Contains m.standing x → Contains places x.place → ⊥
+  pub order : now ≡ standing_in places l.standing
   pub given : m.given ≡ l.given
   pub woken : m.woken ≡ l.woken
   pub given_up : m.given_up ≡ l.given_up
@@ -277,6 +258,7 @@ going_on places l m t = record {
   now = t.now;
   leave = t.leave;
   emptied = t.emptied;
+  order = t.order;
   given = t.given;
   woken = t.woken;
   given_up = t.given_up;
@@ -289,6 +271,7 @@ all_woken places l m t = record {
   now = t.now;
   leave = t.leave;
   emptied = t.emptied;
+  order = t.order;
   given = t.given;
   woken = t.woken;
   given_up = t.given_up;
@@ -392,9 +375,10 @@ woken_with l m now before waking =
 -- a step that may give storings up and then store one
 giving_follows : (w : World) (s : Step) (answers : List PollerAnswer) (l m : Storings) → l.waking ≡ [] → ends_round w s answers ≡ false
     → taken_places w s answers ≡ [] → (x : Storing (Contains (may_give_up w s)) (stores w s answers) (own_storing w s l.given) l m)
+    → (gives_up w s answers ≡ true → Cleared (may_give_up w s) (cond (stores w s answers) (own_storing w s l.given) []) m)
     → (is_poll s ≡ true → x.stored ≡ [] → m ≡ l) → (is_refusal (step_result w s answers).answer ≡ true → m ≡ l)
     → StoringsFollow w s answers l (step_ended m)
-giving_follows w s answers l m rests runs takes_none x polls refused = record {
+giving_follows w s answers l m rests runs takes_none x clears polls refused = record {
   stored_now = x.stored;
   replaced_now = [];
   taken_now = [];
@@ -404,9 +388,10 @@ giving_follows w s answers l m rests runs takes_none x polls refused = record {
   stands = x.stands;
   stood = x.stood;
   replaced = λ y gone. none_is_in y gone;
-  taken = λ y gone. none_is_in y gone;
+  taken = sym (ap (λ places. standing_in places l.standing) takes_none);
   given_up = x.from;
   emptied = λ y here nowhere. none_is_in y.place (subst (λ places. Contains places y.place) takes_none nowhere);
+  cleared = λ gives y here place. subst (λ stored. Contains stored y) (sym x.is) (clears gives y here place);
   ends = λ ends. absurd cc;
   goes_on = λ on. (woken_with l m [] x.woken (x.waking ∙ rests), x.taken ∙ sym (append-nil l.taken));
   gone = x.given_up;
@@ -416,17 +401,19 @@ giving_follows w s answers l m rests runs takes_none x polls refused = record {
 }
 
 still_follows : (w : World) (s : Step) (answers : List PollerAnswer) (l : Storings) → l.waking ≡ [] → ends_round w s answers ≡ false
-    → taken_places w s answers ≡ [] → stores w s answers ≡ false → StoringsFollow w s answers l (step_ended l)
-still_follows w s answers l rests runs takes_none stores_none =
+    → taken_places w s answers ≡ [] → may_give_up w s ≡ [] → stores w s answers ≡ false → StoringsFollow w s answers l (step_ended l)
+still_follows w s answers l rests runs takes_none gives_none stores_none =
     giving_follows w s answers l l rests runs takes_none
     (subst (λ does. Storing (Contains (may_give_up w s)) does (own_storing w s l.given) l l) (sym stores_none) (nothing_moved _ _ l))
+    (λ gives y here place. none_is_in y.place (subst (λ places. Contains places y.place) gives_none place))
     (λ poll none. refl) (λ refused. refl)
 
 -- a step in which a round takes storings, and may end
-taking_follows : (w : World) (s : Step) (answers : List PollerAnswer) (l m : Storings) → l.waking ≡ [] → is_poll s ≡ false → stores w s answers ≡ false
+taking_follows : (w : World) (s : Step) (answers : List PollerAnswer) (l m : Storings) → l.waking ≡ [] → is_poll s ≡ false → may_give_up w s ≡ []
+    → stores w s answers ≡ false
     → Ending (taken_places w s answers) (ends_round w s answers) l m → (is_refusal (step_result w s answers).answer ≡ true → m ≡ l)
     → StoringsFollow w s answers l (step_ended m)
-taking_follows w s answers l m rests no_poll stores_none x refused = record {
+taking_follows w s answers l m rests no_poll gives_none stores_none x refused = record {
   stored_now = [];
   replaced_now = [];
   taken_now = x.now;
@@ -437,9 +424,10 @@ taking_follows w s answers l m rests no_poll stores_none x refused = record {
   stood = λ y here.
       ⊎_elim (λ (stays : Contains m.standing y). inl stays) (λ (goes : Contains x.now y). inr (Contains-append_left x.now [] y goes)) (x.leave.goes y here);
   replaced = λ y gone. none_is_in y gone;
-  taken = x.leave.from;
+  taken = x.order;
   given_up = λ y gone. none_is_in y gone;
   emptied = x.emptied;
+  cleared = λ gives y here place. none_is_in y.place (subst (λ places. Contains places y.place) gives_none place);
   ends = λ ends. (woken_with l m (l.taken ++ x.now) x.woken ((x.ended ends).0 ∙ ap (λ (front : List Stored). front ++ (l.taken ++ x.now)) rests), (x.ended ends).1);
   goes_on = λ on. (woken_with l m [] x.woken ((x.goes_on on).0 ∙ rests), (x.goes_on on).1);
   gone = x.given_up ∙ sym (append-nil l.given_up);
@@ -474,9 +462,10 @@ replacing_follows w key dir waker answers serial l rests at does refused =
           ⊎_elim (λ (stays : Contains left x). inl (Contains-append_left left new x stays))
           (λ (goes : Contains old x). inr (Contains-append_left (old ++ []) [] x (Contains-append_left old [] x goes))) (leave.goes x here);
       replaced = λ x gone. let from = leave.from x gone in (from.0, subst (λ ps. Contains ps x.place) (sym places) from.1);
-      taken = λ x gone. none_is_in x gone;
+      taken = refl;
       given_up = λ x gone. none_is_in x gone;
       emptied = λ x here nowhere. none_is_in x.place nowhere;
+      cleared = λ gives x here nowhere. none_is_in x.place nowhere;
       ends = λ ends. absurd cc;
       goes_on = λ on. (ap (λ (front : List Stored). l.woken ++ (front ++ old) ∷ []) rests, sym (append-nil l.taken));
       gone = sym (append-nil l.given_up);
@@ -502,7 +491,7 @@ poll_follows : (w : World) (key : Key) (dir : Dir) (waker : Waker) (answers : Li
     → StoringsFollow w (step.Poll key dir waker) answers l (step_ended (poll_moves w dir waker serial l))
 unfolding step_result
 poll_follows w key dir waker answers None l rests at refused =
-    still_follows w (step.Poll key dir waker) answers l rests refl refl
+    still_follows w (step.Poll key dir waker) answers l rests refl refl refl
     (ap (λ o. has_to_wait (poll_source w key.0 dir waker o answers).answer && not (is_waker waker (option_and_then (λ serial. poll_waiter w.poll_waiters serial dir) o))) at)
 poll_follows w key dir waker answers (Some serial) l rests at refused =
     let Follows : Storings → Type 0 = λ m. (is_refusal (step_result w (step.Poll key dir waker) answers).answer ≡ true → m ≡ l)
@@ -513,7 +502,7 @@ poll_follows w key dir waker answers (Some serial) l rests at refused =
     ap (λ o. has_to_wait (poll_source w key.0 dir waker o answers).answer && not (is_waker waker (option_and_then (λ serial. poll_waiter w.poll_waiters serial dir) o))) at
     ∙ poll_stores fresh same _ _ _ refl (pending_waits _ _ _ _ _ _) in
     cond_both (fresh || same) l (stored_at (OfPoll serial dir) waker (woken_at (OfPoll serial dir) l)) Follows
-    (λ kept refused. still_follows w (step.Poll key dir waker) answers l rests refl refl (does ∙ ap not kept))
+    (λ kept refused. still_follows w (step.Poll key dir waker) answers l rests refl refl refl (does ∙ ap not kept))
     (λ new refused. replacing_follows w key dir waker answers serial l rests at (does ∙ ap not new) refused) refused
 
 moves_follow : (w : World) (s : Step) (answers : List PollerAnswer) (l : Storings) → l.waking ≡ []
@@ -521,47 +510,50 @@ moves_follow : (w : World) (s : Step) (answers : List PollerAnswer) (l : Storing
     → StoringsFollow w s answers l (step_ended (step_storings w s answers l))
 unfolding Listens step_result
 moves_follow w (step.Del key) answers l rests refused =
-    giving_follows w (step.Del key) answers l _ rests refl refl (del_stores w (serial_of w key.0) l) (λ poll. absurd cc) refused
+    giving_follows w (step.Del key) answers l _ rests refl refl (del_stores w (serial_of w key.0) l) (step_clears w (step.Del key) answers l)
+    (λ poll. absurd cc) refused
 moves_follow w (step.Poll key dir waker) answers l rests refused = poll_follows w key dir waker answers (serial_of w key.0) l rests refl refused
 moves_follow w (step.StepEar number waker) answers l rests refused =
     let listens = listen_stores w number waker (find (is_listener number) w.listeners) answers l refl in
-    giving_follows w (step.StepEar number waker) answers l _ rests refl refl listens.0 (λ poll. listens.1) refused
+    giving_follows w (step.StepEar number waker) answers l _ rests refl refl listens.0 (step_clears w (step.StepEar number waker) answers l)
+    (λ poll. listens.1) refused
 moves_follow w (step.DropEar number) answers l rests refused =
     giving_follows w (step.DropEar number) answers l _ rests refl refl
-    (drop_stores number w.listeners (find (is_listener number) w.listeners) l refl) (λ poll. absurd cc) refused
+    (drop_stores number w.listeners (find (is_listener number) w.listeners) l refl) (step_clears w (step.DropEar number) answers l) (λ poll. absurd cc) refused
 moves_follow w (step.Tick number waker) answers l rests refused =
     giving_follows w (step.Tick number waker) answers l _ rests refl refl
-    (tick_stores w waker (find (is_timer number) w.timers) answers l) (λ poll. absurd cc) refused
+    (tick_stores w waker (find (is_timer number) w.timers) answers l) (step_clears w (step.Tick number waker) answers l) (λ poll. absurd cc) refused
 moves_follow w (step.SetAt number deadline) answers l rests refused =
     giving_follows w (step.SetAt number deadline) answers l _ rests refl refl
-    (set_stores w deadline None (find (is_timer number) w.timers) answers l) (λ poll. absurd cc) refused
+    (set_stores w (find (is_timer number) w.timers) l) (step_clears w (step.SetAt number deadline) answers l) (λ poll. absurd cc) refused
 moves_follow w (step.SetEvery number deadline period) answers l rests refused =
     giving_follows w (step.SetEvery number deadline period) answers l _ rests refl refl
-    (set_stores w deadline (Some period) (find (is_timer number) w.timers) answers l) (λ poll. absurd cc) refused
+    (set_stores w (find (is_timer number) w.timers) l) (step_clears w (step.SetEvery number deadline period) answers l)
+    (λ poll. absurd cc) refused
 moves_follow w (step.End number) answers l rests refused =
     giving_follows w (step.End number) answers l _ rests refl refl
-    (end_stores (find (is_timer number) w.timers) l) (λ poll. absurd cc) refused
+    (end_stores (find (is_timer number) w.timers) l) (step_clears w (step.End number) answers l) (λ poll. absurd cc) refused
 moves_follow w (step.Begin limit) answers l rests refused =
-    taking_follows w (step.Begin limit) answers l _ rests refl refl (going_on _ l _ (begin_taken w l)) refused
+    taking_follows w (step.Begin limit) answers l _ rests refl refl refl (going_on _ l _ (begin_taken w l)) refused
 moves_follow w step.Handle answers l rests refused =
-    taking_follows w step.Handle answers l _ rests refl refl (going_on _ l _ (first_taken w (hand_of w.round) l)) refused
+    taking_follows w step.Handle answers l _ rests refl refl refl (going_on _ l _ (first_taken w (hand_of w.round) l)) refused
 moves_follow w step.Finish answers l rests refused =
-    taking_follows w step.Finish answers l _ rests refl refl
+    taking_follows w step.Finish answers l _ rests refl refl refl
     (subst (λ ends. Ending (taken_places w step.Finish answers) ends l (finish_moves w l)) (sym (finish_proceeds w w.round answers)) (finish_ends w w.round [] l l (none_taken l)))
     refused
 moves_follow w step.React answers l rests refused =
-    taking_follows w step.React answers l _ rests refl refl
+    taking_follows w step.React answers l _ rests refl refl refl
     (subst (λ ends. Ending (taken_places w step.React answers) ends l (react_moves w answers l)) (sym (react_proceeds w answers)) (react_ends w answers l)) refused
-moves_follow w step.Add answers l rests refused = still_follows w step.Add answers l rests refl refl refl
-moves_follow w (step.New key dir) answers l rests refused = still_follows w (step.New key dir) answers l rests refl refl refl
-moves_follow w (step.TimerAt deadline) answers l rests refused = still_follows w (step.TimerAt deadline) answers l rests refl refl refl
-moves_follow w (step.TimerEvery deadline period) answers l rests refused = still_follows w (step.TimerEvery deadline period) answers l rests refl refl refl
-moves_follow w step.TimerNever answers l rests refused = still_follows w step.TimerNever answers l rests refl refl refl
-moves_follow w (step.Now moment) answers l rests refused = still_follows w (step.Now moment) answers l rests refl refl refl
-moves_follow w (step.Note event) answers l rests refused = still_follows w (step.Note event) answers l rests refl refl refl
-moves_follow w (step.Fault kind) answers l rests refused = still_follows w (step.Fault kind) answers l rests refl refl refl
-moves_follow w step.Interrupt answers l rests refused = still_follows w step.Interrupt answers l rests refl refl refl
-moves_follow w step.Wait answers l rests refused = still_follows w step.Wait answers l rests refl refl refl
+moves_follow w step.Add answers l rests refused = still_follows w step.Add answers l rests refl refl refl refl
+moves_follow w (step.New key dir) answers l rests refused = still_follows w (step.New key dir) answers l rests refl refl refl refl
+moves_follow w (step.TimerAt deadline) answers l rests refused = still_follows w (step.TimerAt deadline) answers l rests refl refl refl refl
+moves_follow w (step.TimerEvery deadline period) answers l rests refused = still_follows w (step.TimerEvery deadline period) answers l rests refl refl refl refl
+moves_follow w step.TimerNever answers l rests refused = still_follows w step.TimerNever answers l rests refl refl refl refl
+moves_follow w (step.Now moment) answers l rests refused = still_follows w (step.Now moment) answers l rests refl refl refl refl
+moves_follow w (step.Note event) answers l rests refused = still_follows w (step.Note event) answers l rests refl refl refl refl
+moves_follow w (step.Fault kind) answers l rests refused = still_follows w (step.Fault kind) answers l rests refl refl refl refl
+moves_follow w step.Interrupt answers l rests refused = still_follows w step.Interrupt answers l rests refl refl refl refl
+moves_follow w step.Wait answers l rests refused = still_follows w step.Wait answers l rests refl refl refl refl
 
 pub step_follows : (w : World) (s : Step) (answers : List PollerAnswer) (l : Storings) → l.waking ≡ []
     → StoringsFollow w s answers l (step_ended (step_storings w s answers l))

@@ -4,6 +4,7 @@ use Rattle.std.specs.List.{Contains}
 use Rattle.std.proofs.lemmas.Bool.{cases_Bool, not_from_false}
 use Rattle.std.proofs.lemmas.List.Elements.{Contains-append_left, Contains-append_right, Contains-append_cases}
 use Rattle.aio_base.specs.Storings.{Place, same_place, Stored, Storings, standing_at, none_at, given_up_at, taken_at, each_taken, each_given_up}
+use Rattle.aio_base.specs.Succession.{standing_in}
 use Rattle.aio_base.proofs.Membership.{none_is_in, first_is_in, later_is_in, among_cases, filtered_is_in, filtered_passes, passing_is_kept}
 use Rattle.aio_base.proofs.Places.{same_place-eq, same_place-from}
 
@@ -56,11 +57,38 @@ both_leave P xs ys zs gone more first second = record {
 
 -- ## What a round takes
 
--- what stood at these places, in any order, is taken, and nothing is left there
+-- what is left of some storings once nothing stands at these places
+abbrev none_in : List Place → List Stored → List Stored
+none_in [] stored = stored
+none_in (p ∷ places) stored = none_in places (none_at p stored)
+
+standing_after : (ps qs : List Place) (xs : List Stored) → standing_in ps xs ++ standing_in qs (none_in ps xs) ≡ standing_in (ps ++ qs) xs
+standing_after [] qs xs = refl
+standing_after (p ∷ ps) qs xs =
+    append_assoc (standing_at p xs) (standing_in ps (none_at p xs)) (standing_in qs (none_in ps (none_at p xs)))
+    ∙ ap (λ (more : List Stored). standing_at p xs ++ more) (standing_after ps qs (none_at p xs))
+
+none_after : (ps qs : List Place) (xs : List Stored) → none_in qs (none_in ps xs) ≡ none_in (ps ++ qs) xs
+none_after [] qs xs = refl
+none_after (p ∷ ps) qs xs = none_after ps qs (none_at p xs)
+
+-- what stands in these places stood there
+pub stood_in : (ps : List Place) (xs : List Stored) (x : Stored) → Contains (standing_in ps xs) x → Contains xs x × Contains ps x.place
+stood_in [] xs x nowhere = none_is_in x nowhere
+stood_in (p ∷ ps) xs x among =
+    ⊎_elim (λ (first : Contains (standing_at p xs) x). (one_leaves (Contains (p ∷ ps)) p (first_is_in p ps) xs).from x first)
+    (λ (later : Contains (standing_in ps (none_at p xs)) x).
+    let at = stood_in ps (none_at p xs) x later in
+    (filtered_is_in (λ (s : Stored). not (same_place p s.place)) xs x at.0, later_is_in p ps x.place at.1))
+    (Contains-append_cases (standing_at p xs) (standing_in ps (none_at p xs)) x among)
+
+-- what stood at these places is taken in their order, and nothing is left there
 pub record Taking (places : List Place) (l m : Storings) : Type 0 where
   pub now : List Stored
   pub leave : Leave (Contains places) l.standing m.standing now
   pub emptied : (x : Stored) → Contains m.standing x → Contains places x.place → ⊥
+  pub order : now ≡ standing_in places l.standing
+  pub left : m.standing ≡ none_in places l.standing
   pub taken : m.taken ≡ l.taken ++ now
   pub given : m.given ≡ l.given
   pub waking : m.waking ≡ l.waking
@@ -72,6 +100,8 @@ none_taken l = record {
   now = [];
   leave = none_leave (Contains []) l.standing;
   emptied = λ x here nowhere. none_is_in x.place nowhere;
+  order = refl;
+  left = refl;
   taken = sym (append-nil l.taken);
   given = refl;
   waking = refl;
@@ -88,6 +118,11 @@ both_taken ps qs l m n first second = record {
   emptied = λ x here among.
       ⊎_elim (λ (front : Contains ps x.place). first.emptied x (second.leave.stays x here) front) (λ (later : Contains qs x.place). second.emptied x here later)
       (Contains-append_cases ps qs x.place among);
+  order =
+      ap (λ (front : List Stored). front ++ second.now) first.order
+      ∙ ap (λ (more : List Stored). standing_in ps l.standing ++ more) (second.order ∙ ap (standing_in qs) first.left)
+      ∙ standing_after ps qs l.standing;
+  left = second.left ∙ ap (none_in qs) first.left ∙ none_after ps qs l.standing;
   taken = second.taken ∙ ap (λ (front : List Stored). front ++ second.now) first.taken ∙ append_assoc l.taken first.now second.now;
   given = second.given ∙ first.given;
   waking = second.waking ∙ first.waking;
@@ -95,7 +130,7 @@ both_taken ps qs l m n first second = record {
   given_up = second.given_up ∙ first.given_up;
 }
 
-emptied_place : (p : Place) (xs : List Stored) (x : Stored) → Contains (none_at p xs) x → Contains (p ∷ []) x.place → ⊥
+pub emptied_place : (p : Place) (xs : List Stored) (x : Stored) → Contains (none_at p xs) x → Contains (p ∷ []) x.place → ⊥
 emptied_place p xs x here among =
     let other = filtered_passes (λ (s : Stored). not (same_place p s.place)) xs x here in
     ⊎_elim (λ (same : p ≡ x.place). let there = same_place-from p x.place same in let wrong : false ≡ true = sym (ap not there) ∙ other in cc)
@@ -106,6 +141,8 @@ one_taken p l = record {
   now = standing_at p l.standing;
   leave = one_leaves (Contains (p ∷ [])) p (first_is_in p []) l.standing;
   emptied = emptied_place p l.standing;
+  order = sym (append-nil (standing_at p l.standing));
+  left = refl;
   taken = refl;
   given = refl;
   waking = refl;

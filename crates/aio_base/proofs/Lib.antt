@@ -2,6 +2,7 @@ pub mod Apart
 pub mod BetweenSteps
 pub mod BookChanges
 pub mod BookLemmas
+pub mod Clearing
 pub mod CoverReact
 pub mod CoverRounds
 pub mod CoverRuns

@@ -1,6 +1,6 @@
 -- How the storings of wakers after a step follow those before it: what any step, in any world, may store, replace, take and give up. Nothing here
 -- rests on the functions by which storings are moved.
-use Rattle.std.specs.Prelude.{◌≡◌, ◌⊎◌, ℕ, ◌+◌, Bool, true, false, not, ◌&&◌, if◌then◌else◌, List, [], ◌∷◌, ◌++◌, map, find, flat_map, length, take, nat_lt, Option, None, Some, is_some, option_to_list, option_and_then}
+use Rattle.std.specs.Prelude.{◌≡◌, ◌⊎◌, ℕ, ◌+◌, Bool, true, false, not, ◌&&◌, ◌||◌, if◌then◌else◌, List, [], ◌∷◌, ◌++◌, map, find, flat_map, length, take, Option, None, Some, is_some, option_to_list, option_and_then}
 use Rattle.std.specs.List.{Contains}
 use Rattle.aio_base.specs.declared.names.Waker.{Waker}
 use Rattle.aio_base.specs.declared.names.Dir.{Dir}
@@ -10,9 +10,9 @@ use Rattle.aio_base.specs.declared.steps.Step.TheVariants as step
 use Rattle.aio_base.specs.declared.steps.Answer.{Answer}
 use Rattle.aio_base.specs.declared.steps.Answer.TheVariants as answer
 use Rattle.aio_base.specs.World.{PollerAnswer, Succeeds, Gives, IsInterrupted, Fails, TimerEntry, World, directions, directions_of, serial_of, poll_waiter}
-use Rattle.aio_base.specs.Machine.{is_timer, is_waker, ends_with_pass, hand_of, next_answer, step_result}
+use Rattle.aio_base.specs.Machine.{is_timer, is_waker, next_deadline, ends_with_pass, hand_of, next_answer, step_result}
 use Rattle.aio_base.specs.Refusals.{is_refusal}
-use Rattle.aio_base.specs.Storings.{Place, OfPoll, OfListener, OfTimer, Stored, Storings, step_ended, timer_place, places_of, due_places}
+use Rattle.aio_base.specs.Storings.{Place, OfPoll, OfListener, OfTimer, Stored, Storings, standing_at, none_at, step_ended, timer_place, places_of, due_places}
 
 -- ## What a step stores
 
@@ -36,20 +36,24 @@ has_to_wait answer.Pending = true
 has_to_wait answer.FaultArm = true
 has_to_wait _ = false
 
--- whether a step draws an id for a new registration
-abbrev pub draws_id : World → Step → List PollerAnswer → Bool
-draws_id w s answers = nat_lt w.ids_drawn (step_result w s answers).world.ids_drawn
+-- Whether the poll of a timer registers it with the waker of the poll, by its answer: where it waits for its deadline, unless it keeps an id and that
+-- very waker already; where it fired, if there is a next deadline.
+abbrev pub registers : Answer → Waker → Option TimerEntry → Bool
+registers answer.Pending waker (Some entry) = is_some entry.deadline && not (is_some entry.id && is_waker waker entry.kept)
+registers (answer.ReadyAt deadline) waker (Some entry) = is_some (next_deadline deadline entry.period)
+registers _ _ _ = false
 
--- Whether a step stores a waker: a poll that has to wait, of a source only where the waker is not its poll waiter already; a step of a timer that
--- registers it.
+-- Whether a step stores its waker: a poll that has to wait, of a source only where the waker is not its poll waiter already; a poll of a timer that
+-- registers it; and each step that sets a timer, where that keeps a waker.
 abbrev pub stores : World → Step → List PollerAnswer → Bool
 stores w (step.Poll key dir waker) answers =
     has_to_wait (step_result w (step.Poll key dir waker) answers).answer
     && not (is_waker waker (option_and_then (λ serial. poll_waiter w.poll_waiters serial dir) (serial_of w key.0)))
 stores w (step.StepEar number waker) answers = has_to_wait (step_result w (step.StepEar number waker) answers).answer
-stores w (step.Tick number waker) answers = draws_id w (step.Tick number waker) answers
-stores w (step.SetAt number deadline) answers = draws_id w (step.SetAt number deadline) answers
-stores w (step.SetEvery number deadline period) answers = draws_id w (step.SetEvery number deadline period) answers
+stores w (step.Tick number waker) answers =
+    registers (step_result w (step.Tick number waker) answers).answer waker (find (is_timer number) w.timers)
+stores w (step.SetAt number deadline) answers = true
+stores w (step.SetEvery number deadline period) answers = true
 stores _ _ _ = false
 
 abbrev pub stored_as : ℕ → Place → Waker → Stored
@@ -95,6 +99,11 @@ taken_places w step.React answers =
     if is_some w.round then [] else (due_places w.now w.registrations ++ flat_map (event_places w) (events_given (next_answer answers)))
 taken_places _ _ _ = []
 
+-- what of some storings stands at these places, in the order of the places; what stands at a place that is named again is there once
+abbrev pub standing_in : List Place → List Stored → List Stored
+standing_in [] stored = []
+standing_in (p ∷ places) stored = standing_at p stored ++ standing_in places (none_at p stored)
+
 -- a source that is taken out gives up its poll waiters, a listener that is polled or dropped its own waker, a timer its own registration
 abbrev pub may_give_up : World → Step → List Place
 may_give_up w (step.Del key) = poll_places (serial_of w key.0) directions
@@ -105,6 +114,19 @@ may_give_up w (step.SetAt number deadline) = timer_place (id_kept (find (is_time
 may_give_up w (step.SetEvery number deadline period) = timer_place (id_kept (find (is_timer number) w.timers))
 may_give_up w (step.End number) = timer_place (id_kept (find (is_timer number) w.timers))
 may_give_up _ _ = []
+
+-- the answer of a timer that has fired
+abbrev pub has_fired : Answer → Bool
+has_fired (answer.ReadyAt deadline) = true
+has_fired _ = false
+
+-- Whether a step gives up what stands where it may: a listener's poll where it stores its waker, the poll of a timer where it registers the timer or the
+-- timer has fired, and each other step where it is not refused.
+abbrev pub gives_up : World → Step → List PollerAnswer → Bool
+gives_up w (step.StepEar number waker) answers = stores w (step.StepEar number waker) answers
+gives_up w (step.Tick number waker) answers =
+    stores w (step.Tick number waker) answers || has_fired (step_result w (step.Tick number waker) answers).answer
+gives_up w s answers = not (is_refusal (step_result w s answers).answer)
 
 -- ## How the storings after a step follow those before it
 
@@ -139,12 +161,14 @@ pub record StoringsFollow (w : World) (s : Step) (answers : List PollerAnswer) (
   pub stands : (x : Stored) → Contains after.standing x → Contains before.standing x ⊎ Contains stored_now x
   pub stood : (x : Stored) → Contains before.standing x
       → Contains after.standing x ⊎ Contains (replaced_now ++ taken_now ++ given_up_now) x
-  -- each of these stood before, where this very step replaces, takes or may give up
+  -- what was replaced or given up stood before, where this very step replaces or may give up
   pub replaced : StoodAt (replaced_places w s) before.standing replaced_now
-  pub taken : StoodAt (taken_places w s answers) before.standing taken_now
   pub given_up : StoodAt (may_give_up w s) before.standing given_up_now
-  -- where a round takes it leaves nothing standing
+  -- a round takes all that stood where it takes, in the order of those places, and leaves nothing standing there
+  pub taken : taken_now ≡ standing_in (taken_places w s answers) before.standing
   pub emptied : (x : Stored) → Contains after.standing x → Contains (taken_places w s answers) x.place → ⊥
+  -- where a step gives up, it leaves nothing standing but what it stores
+  pub cleared : gives_up w s answers ≡ true → (x : Stored) → Contains after.standing x → Contains (may_give_up w s) x.place → Contains stored_now x
   -- a step that ends a round wakes all that the round has taken, also in this step, and leaves nothing taken
   pub ends : ends_round w s answers ≡ true
       → (after.woken ≡ before.woken ++ (before.taken ++ taken_now) ∷ []) × (after.taken ≡ [])

@@ -105,13 +105,15 @@ pub fn no_storing_is_lost_or_woken_twice()
 
 /// How the storings of wakers follow from step to step (`StoringsFollow`): a storing keeps its number,
 /// its place and its waker for good. A step stores one waker or none, under the next number and at the
-/// place of which it speaks. What stood before a step stands on, or leaves where that step may empty a
-/// place: a poll replaces what stood with its direction, and wakes it; a round takes what is due at a
-/// pass and the waiters of each event that it handles, all of them; what is given up stood with the
-/// source that `del` takes out, with the listener that `step` or `drop` names, or with the
-/// registration of the timer that `tick`, `set` or `end` names. What a round has taken stays taken
-/// until the step that ends it, a `finish` or a `react` that is not refused: that one wakes all of it,
-/// in order, also what it took itself, and leaves nothing taken. A step that is refused moves nothing.
+/// place of which it speaks: a poll that has to wait stores its own, and a timer that is set stores the
+/// one that it keeps. What stood before a step stands on, or leaves where that step may empty a place: a
+/// poll replaces what stood with its direction, and wakes it; a round takes what is due at a pass and
+/// the waiters of each event that it handles, all of them and in order; what is given up stood with the
+/// source that `del` takes out, with the listener that `step` or `drop` names, or with the registration
+/// of the timer that `tick`, `set` or `end` names, and nothing but what is stored is left standing there.
+/// What a round has taken stays taken until the step that ends it, a `finish` or a `react` that is not
+/// refused: that one wakes all of it, in order, also what it took itself, and leaves nothing taken. A
+/// step that is refused moves nothing.
 ///
 /// `step` says so of any world and any storings between two steps, `run` of each step of every run,
 /// whatever the poller answered. Histories that break it, by the kind of the step, are a table of their
