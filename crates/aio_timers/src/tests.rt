@@ -67,8 +67,8 @@ fn an_insert_of_a_pair_that_is_there_replaces_its_waker(rt: HostRuntime) -> Resu
 
 /// 10,000 timers, of which every third goes before two passes, at the middle and at the end: the
 /// other wakers, which are the deadlines, rise.
-fn check_order(rt: &HostRuntime, falling: bool) -> Result<(), Fail> {
-    let mut book = TimerBook::new(rt.alloc());
+fn check_order(rt: &impl Abort, alloc: Global, falling: bool) -> Result<(), Fail> {
+    let mut book = TimerBook::new(alloc);
     for number in 0u32..10_000 {
         let deadline = if falling { 9_999 - number } else { number };
         book.reserve(1)?;
@@ -84,13 +84,13 @@ fn check_order(rt: &HostRuntime, falling: bool) -> Result<(), Fail> {
         remove(rt, &mut book, 3 * number, 3 * number * 1_099_511_627_776);
     }
     assert_eq!(rt; book.due_count(moment(rt, 10_000)), 6_666);
-    let early = passed(rt.alloc(), &mut book, moment(rt, 4_999))?;
+    let early = passed(alloc, &mut book, moment(rt, 4_999))?;
     assert_eq!(rt; early.len(), 3_333);
     assert_eq!(rt;
         book.first(),
         Some((moment(rt, 5_000), TimerId(5_000 * 1_099_511_627_776)))
     );
-    let late = passed(rt.alloc(), &mut book, moment(rt, 10_000))?;
+    let late = passed(alloc, &mut book, moment(rt, 10_000))?;
     assert_eq!(rt; late.len(), 3_333);
     assert!(rt; early.iter().chain(late.iter()).is_sorted());
     assert_eq!(rt; book.len(), 0);
@@ -100,12 +100,12 @@ fn check_order(rt: &HostRuntime, falling: bool) -> Result<(), Fail> {
 
 #[test]
 fn a_heap_as_deep_as_it_is_long_keeps_the_order(rt: HostRuntime) -> Result<(), Fail> {
-    check_order(&rt, true)
+    check_order(&rt, rt.alloc(), true)
 }
 
 #[test]
 fn a_root_with_all_others_below_it_keeps_the_order(rt: HostRuntime) -> Result<(), Fail> {
-    check_order(&rt, false)
+    check_order(&rt, rt.alloc(), false)
 }
 
 /// Removals in all places of the heap: of the root, of a first child, between siblings and of the
