@@ -1,13 +1,23 @@
 -- What a reader of lines holds of a source, and what a read of it adds.
-use Rattle.std.specs.Prelude.{◌≡◌, ℕ, ◌==◌, Bool, false, List, ◌++◌, length, Option}
+use Rattle.std.specs.Prelude.{◌≡◌, ℕ, ◌==◌, ◌||◌, Bool, false, List, ◌++◌, length, take, Option, Result, Ok, Err}
 use Rattle.std.specs.List.{list_any}
 use Rattle.std.specs.Io.KnownBytes.{Consumes, IsAtEnd}
+use Rattle.aio_base.specs.declared.outcomes.Failed.{Failed}
+
+-- the answer of a read with the bytes that it read, which stand at the front of these
+abbrev pub with_bytes : Result ℕ Failed → List ℕ → Result (List ℕ) Failed
+with_bytes (Ok count) bytes = Ok (take count bytes)
+with_bytes (Err failed) bytes = Err failed
 
 -- The line found last without its line feed, the bytes read after it, and whether the last read gave less than it was asked for. A read that failed, or that was not made yet, counts as short.
 pub record Held : Type 0 where
   pub line : List ℕ
   pub ahead : List ℕ
   pub short : Bool
+
+-- whether the next read may have to wait: the last one was short, or no byte of an unfinished line is in hand
+abbrev pub may_wait : Held → Bool
+may_wait held = held.short || length held.ahead == 0
 
 abbrev pub is_line_feed : ℕ → Bool
 is_line_feed byte = byte == 10

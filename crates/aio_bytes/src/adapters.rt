@@ -1,9 +1,11 @@
 //! Adapters over std's readers and writers: the trusted edge. What the system gives and takes is not
 //! proved.
 
-ghost use Rattle.std.specs.Prelude.{◌≡◌, ◌≢◌, ◌<◌, ◌≤◌, length, false, None, Err, IfOk, IsErr, is_ok, if◌then◌else◌};
+ghost use Rattle.std.specs.Prelude.{◌≡◌, ◌<◌, ◌≤◌, length, false, None, IfOk, IsErr};
 ghost use Rattle.std.specs.Io.KnownBytes.{ReadConsumes, WriteAppends};
-ghost use Rattle.aio_base.specs.Devices.{HasCause, raised};
+ghost use Rattle.aio_base.specs.Devices.{HasCause};
+ghost use Rattle.aio_bytes.specs.Adapters.{ReadsBy, WritesBy};
+ghost use Rattle.aio_bytes.specs.Held.{with_bytes};
 ghost use Rattle.aio_bytes.specs.Sinks.{HasFailed};
 
 use crate::traits::{Sink, SinkRefusal, Source};
@@ -97,14 +99,13 @@ impl<R> Faults for StdSource<R> {
 impl<R: Read> Source for StdSource<R> {
     ghost remaining = { λ _. None };
 
+    ghost read_step = { λ old room answer new. ReadsBy R.remaining old answer new };
+
     /// One read of the reader, tried again at most 1,000 times where it is interrupted. `Failed` where
     /// the reader fails otherwise or is interrupted at each try; the count of faults then rises by one.
     fn read(&mut self, buf: &mut [u8]) -> Result<usize, Failed>
         requires { 0 < length buf.old }
-        ensures faults { self.new.fault_count
-            ≡ (if is_ok result then self.old.fault_count else raised self.old.fault_count) }
-        ensures inner { ReadConsumes (R.remaining self.old.inner) (R.remaining self.new.inner)
-            result buf.new }
+        ensures step { ReadsBy R.remaining self.old (with_bytes result buf.new) self.new }
         ensures bound { IfOk result (λ n. n ≤ length buf.new) }
         ensures bytes { ReadConsumes None None result buf.new }
         ensures cause { HasCause self.old.fault_count self.new.fault_count false (IsErr result) }
@@ -161,16 +162,14 @@ impl<W> Faults for StdSink<W> {
 impl<W: Write> Sink for StdSink<W> {
     ghost contents = { λ _. None };
 
+    ghost write_step = { λ old piece answer new. WritesBy W.contents old piece answer new };
+
     /// One write to the writer, tried again at most 1,000 times where it is interrupted. `Failed` where
     /// the writer fails otherwise, is interrupted at each try or takes nothing; the count of faults
     /// then rises by one. Never `OutOfMemory`.
     fn write(&mut self, piece: &[u8]) -> Result<usize, SinkRefusal>
         requires { 0 < length piece.now }
-        ensures faults { self.new.fault_count
-            ≡ (if is_ok result then self.old.fault_count else raised self.old.fault_count) }
-        ensures inner { WriteAppends (W.contents self.old.inner) (W.contents self.new.inner)
-            result piece.now }
-        ensures memory { result ≢ Err SinkRefusal.OutOfMemory }
+        ensures step { WritesBy W.contents self.old piece.now result self.new }
         ensures bound { IfOk result (λ n. (0 < n) × (n ≤ length piece.now)) }
         ensures bytes { WriteAppends None None result piece.now }
         ensures cause { HasCause self.old.fault_count self.new.fault_count

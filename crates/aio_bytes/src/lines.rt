@@ -5,7 +5,7 @@ ghost use Rattle.std.specs.List.{position_or_len};
 ghost use Rattle.std.specs.Bool.{OnTrue, OnFalse};
 ghost use Rattle.std.specs.Io.KnownBytes.{Keeps, ReadConsumes};
 ghost use Rattle.aio_base.specs.Devices.{TellsFaults};
-ghost use Rattle.aio_bytes.specs.Held.{HasNoLineFeed, PutsAhead};
+ghost use Rattle.aio_bytes.specs.Held.{HasNoLineFeed, PutsAhead, may_wait, with_bytes};
 
 use crate::traits::Source;
 use aio_base::Failed;
@@ -94,6 +94,8 @@ impl LineReader {
     /// as before. No line is found afterwards.
     pub fn read<S: Source>(&mut self, source: &mut S) -> Result<usize, Failed>
         requires { length self.old.ahead < LONGEST }
+        ensures call { S.read_step source.old (LONGEST - length self.old.ahead)
+            (with_bytes result (drop (length self.old.ahead) self.new.ahead)) source.new }
         ensures ok { IfOk result (PutsAhead (S.remaining source.old) (S.remaining source.new)
             self.old.ahead self.new.ahead) }
         ensures short { IfOk result (λ n.
@@ -163,7 +165,7 @@ impl LineReader {
     /// Whether the next read may have to wait: the last one gave less than it was asked for or
     /// failed, or none was made yet, or no byte of an unfinished line is in hand.
     pub fn may_wait(&self) -> bool
-        ensures { result ≡ (self.now.short || length self.now.ahead == 0) }
+        ensures { result ≡ may_wait self.now }
     {
         self.short || self.end == self.start
     }
@@ -223,6 +225,8 @@ fn move_to_front(bytes: &mut [u8], start: usize, end: usize)
 // One read of the source into the bytes behind the first `held`, which stay.
 fn read_behind<S: Source>(source: &mut S, bytes: &mut [u8], held: usize) -> Result<usize, Failed>
     requires { held < length bytes.old }
+    ensures call { S.read_step source.old (length bytes.old - held)
+        (with_bytes result (drop held bytes.new)) source.new }
     ensures front { take held bytes.new ≡ take held bytes.old }
     ensures bound { IfOk result (λ n. held + n ≤ length bytes.new) }
     ensures bytes { ReadConsumes (S.remaining source.old) (S.remaining source.new)

@@ -38,6 +38,8 @@ impl Faults for Pieces<'_> {
 impl Source for Pieces<'_> {
     ghost remaining = { λ _. None };
 
+    ghost read_step = { λ old room answer new. Unit {0} };
+
     fn read(&mut self, buf: &mut [u8]) -> Result<usize, Failed> {
         if self.fails {
             self.fails = false;

@@ -4,7 +4,8 @@ ghost use Rattle.std.specs.Prelude.{◌≡◌, ◌<◌, ◌≤◌, [], ◌++◌,
 ghost use Rattle.std.specs.Io.KnownBytes.{ReadConsumes, WriteAppends};
 ghost use Rattle.aio_base.specs.Devices.{HasCause, raised};
 ghost use Rattle.aio_bytes.specs.Sinks.{HasFailed};
-ghost use Rattle.aio_bytes.specs.Memory.{ScriptedSource, ScriptedSink, is_next_failing, is_failed, given_count, after_read, after_write};
+ghost use Rattle.aio_bytes.specs.Held.{with_bytes};
+ghost use Rattle.aio_bytes.specs.Memory.{ScriptedSource, ScriptedSink, ScriptedReads, ScriptedWrites, is_next_failing};
 
 use crate::traits::{Sink, SinkRefusal, Source};
 use aio_base::{Failed, Faults};
@@ -109,13 +110,14 @@ impl Faults for MemSource {
 impl Source for MemSource {
     ghost remaining = { λ s. Some s.left };
 
+    ghost read_step = { ScriptedReads };
+
     /// Gives the least of the room in `buf`, the piece and what is left. `Failed` exactly where the
     /// call's number stands in the script; then no byte is taken.
     fn read(&mut self, buf: &mut [u8]) -> Result<usize, Failed>
         requires { 0 < length buf.old }
-        ensures fails { is_err result ≡ is_next_failing self.old.fails self.old.calls }
-        ensures count { IfOk result (λ n. n ≡ given_count self.old (length buf.new)) }
-        ensures state { self.new ≡ after_read self.old result }
+        ensures step { ScriptedReads self.old (length buf.old)
+            (with_bytes result buf.new) self.new }
         ensures bound { IfOk result (λ n. n ≤ length buf.new) }
         ensures bytes { ReadConsumes (Some self.old.left) (Some self.new.left) result buf.new }
         ensures cause { HasCause self.old.fault_count self.new.fault_count false (IsErr result) }
@@ -132,7 +134,7 @@ impl Source for MemSource {
 /// and answers how many.
 pub(crate) fn copy_front(from: &[u8], to: &mut [u8], most: usize) -> usize
     ensures count { result ≡ min (min (length to.old) most) (length from.now) }
-    ensures copied { from.now ≡ take result to.new ++ drop result from.now }
+    ensures copied { take result to.new ≡ take result from.now }
 {
     let count = to.len().min(most).min(from.len());
     to[..count].copy_from_slice(&from[..count]);
@@ -196,13 +198,13 @@ impl Faults for MemSink {
 impl Sink for MemSink {
     ghost contents = { λ s. Some s.written };
 
+    ghost write_step = { ScriptedWrites };
+
     /// Takes the whole piece. `Failed` exactly where the call's number stands in the script;
     /// `OutOfMemory` for want of memory. Both add nothing.
     fn write(&mut self, piece: &[u8]) -> Result<usize, SinkRefusal>
         requires { 0 < length piece.now }
-        ensures fails { is_failed result ≡ is_next_failing self.old.fails self.old.calls }
-        ensures count { IfOk result (λ n. n ≡ length piece.now) }
-        ensures state { self.new ≡ after_write self.old piece.now result }
+        ensures step { ScriptedWrites self.old piece.now result self.new }
         ensures bound { IfOk result (λ n. (0 < n) × (n ≤ length piece.now)) }
         ensures bytes { WriteAppends (Some self.old.written) (Some self.new.written)
             result piece.now }

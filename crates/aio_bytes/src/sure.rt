@@ -1,9 +1,11 @@
 //! A source and a sink over bytes in memory that never fail.
 
-ghost use Rattle.std.specs.Prelude.{◌≡◌, ◌<◌, ◌≤◌, List, ℕ, [], ◌++◌, drop, length, min, true, Some, Ok, Err, IfOk, IsErr, OnErr};
+ghost use Rattle.std.specs.Prelude.{◌≡◌, ◌<◌, ◌≤◌, List, ℕ, [], take, drop, length, true, Some, Ok, IfOk, IsErr};
 ghost use Rattle.std.proofs.Common.{arith};
 ghost use Rattle.std.specs.Io.KnownBytes.{ReadConsumes, WriteAppends};
 ghost use Rattle.aio_base.specs.Devices.{HasCause};
+ghost use Rattle.aio_bytes.specs.Held.{with_bytes};
+ghost use Rattle.aio_bytes.specs.Memory.{SureWrites};
 ghost use Rattle.aio_bytes.specs.Sinks.{HasFailed};
 
 use crate::memory::copy_front;
@@ -55,11 +57,13 @@ impl Faults for SureSource {
 impl Source for SureSource {
     ghost remaining = { λ s. Some s };
 
+    ghost read_step = { λ old room answer new. (answer ≡ Ok (take room old)) × (new ≡ drop room old) };
+
     /// Gives the least of the room in `buf` and what is left. Never fails.
     fn read(&mut self, buf: &mut [u8]) -> Result<usize, Failed>
         requires { 0 < length buf.old }
-        ensures count { result ≡ Ok (min (length buf.new) (length self.old)) }
-        ensures left { self.new ≡ drop (length buf.new) self.old }
+        ensures step { (with_bytes result buf.new ≡ Ok (take (length buf.old) self.old))
+            × (self.new ≡ drop (length buf.old) self.old) }
         ensures bound { IfOk result (λ n. n ≤ length buf.new) }
         ensures bytes { ReadConsumes (Some self.old) (Some self.new) result buf.new }
         ensures cause { HasCause 0 0 true (IsErr result) }
@@ -121,14 +125,13 @@ impl Faults for SureSink {
 impl Sink for SureSink {
     ghost contents = { λ s. Some s };
 
+    ghost write_step = { SureWrites };
+
     /// Takes the whole piece. `OutOfMemory` for want of memory, and then nothing is added; never
     /// `Failed`.
     fn write(&mut self, piece: &[u8]) -> Result<usize, SinkRefusal>
         requires { 0 < length piece.now }
-        ensures all { IfOk result (λ n.
-            (n ≡ length piece.now) × (self.new ≡ self.old ++ piece.now)) }
-        ensures refused { OnErr result
-            ((result ≡ Err SinkRefusal.OutOfMemory) × (self.new ≡ self.old)) }
+        ensures step { SureWrites self.old piece.now result self.new }
         ensures bound { IfOk result (λ n. (0 < n) × (n ≤ length piece.now)) }
         ensures bytes { WriteAppends (Some self.old) (Some self.new) result piece.now }
         ensures cause { HasCause 0 0 true (HasFailed result) }

@@ -1,6 +1,6 @@
 //! What a source of bytes and a sink of bytes promise.
 
-ghost use Rattle.std.specs.Prelude.{ℕ, ◌<◌, ◌≤◌, List, Option, length, IfOk, IsErr};
+ghost use Rattle.std.specs.Prelude.{ℕ, ◌<◌, ◌≤◌, List, Option, Result, length, IfOk, IsErr};
 ghost use Rattle.std.specs.Io.KnownBytes.{ReadConsumes, WriteAppends};
 
 use aio_base::{Failed, Faults};
@@ -8,14 +8,21 @@ use aio_base::{Failed, Faults};
 /// A source of bytes.
 pub trait Source: Faults {
     ghost use Rattle.aio_base.specs.Devices.{TellsFaults};
+    ghost use Rattle.aio_base.specs.declared.outcomes.Failed.{Failed};
+    ghost use Rattle.aio_bytes.specs.Held.{with_bytes};
 
     /// The bytes that it has left, where it tells them.
     ghost remaining: { Self → Option (List ℕ) };
+
+    /// The state before a read, how many bytes it has room for, its answer with the bytes that it
+    /// read, and the state after it.
+    ghost read_step: { Self → ℕ → Result (List ℕ) Failed → Self → Type 0 };
 
     /// Reads the next bytes into the front of `buf` and answers how many; 0 is the end. `Failed` only
     /// where the count of faults rose, and then no byte is taken. Takes no memory.
     fn read(&mut self, buf: &mut [u8]) -> Result<usize, Failed>
         requires { 0 < length buf.old }
+        ensures step { read_step self.old (length buf.old) (with_bytes result buf.new) self.new }
         ensures bound { IfOk result (λ n. n ≤ length buf.new) }
         ensures bytes { ReadConsumes (remaining self.old) (remaining self.new) result buf.new }
         ensures faults { TellsFaults Self.fault_count Self.is_sure
@@ -33,14 +40,19 @@ pub enum SinkRefusal {
 pub trait Sink: Faults {
     ghost use Rattle.aio_base.specs.Devices.{TellsFaults};
     ghost use Rattle.aio_bytes.specs.Sinks.{HasFailed};
+    ghost use Rattle.aio_bytes.specs.declared.traits.SinkRefusal.{SinkRefusal};
 
     /// The bytes that it holds, where it tells them.
     ghost contents: { Self → Option (List ℕ) };
+
+    /// The state before a write, the bytes that it is handed, its answer, and the state after it.
+    ghost write_step: { Self → List ℕ → Result ℕ SinkRefusal → Self → Type 0 };
 
     /// Adds the first bytes of `piece` at the end and answers how many, at least one. A refusal adds
     /// nothing; `Failed` only where the count of faults rose.
     fn write(&mut self, piece: &[u8]) -> Result<usize, SinkRefusal>
         requires { 0 < length piece.now }
+        ensures step { write_step self.old piece.now result self.new }
         ensures bound { IfOk result (λ n. (0 < n) × (n ≤ length piece.now)) }
         ensures bytes { WriteAppends (contents self.old) (contents self.new) result piece.now }
         ensures faults { TellsFaults Self.fault_count Self.is_sure

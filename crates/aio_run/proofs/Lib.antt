@@ -40,6 +40,7 @@ pub mod Simulation
 pub mod StepFollows
 pub mod StepLemmas
 pub mod Taken
+pub mod Telling
 pub mod TickFollows
 pub mod TicketCounts
 pub mod TimedFollows

@@ -1,15 +1,39 @@
 -- Facts on what is unread of an input, and on what is written of a text.
-use Rattle.std.proofs.Common.{◌≡◌, ◌≢◌, ℕ, ◌≤◌, Bool, true, false, ◌||◌, if◌then◌else◌, List, [], ◌∷◌, ◌++◌, length, Option, None, Some, Ok, refl, sym, ap, ◌∙◌, subst, append_assoc, append-nil, length-append, arith}
+use Rattle.std.proofs.Common.{◌≡◌, ◌≢◌, ℕ, ◌≤◌, Bool, IsTrue, true, false, ◌||◌, if◌then◌else◌, List, [], ◌∷◌, ◌++◌, length, Option, None, Some, Result, Ok, Err, bytes_eq, refl, sym, ap, ◌∙◌, subst, append_assoc, append-nil, length-append, arith}
 use Rattle.std.specs.List.{list_any}
-use Rattle.std.specs.Io.KnownBytes.{Consumes, Keeps, IsAtEnd}
+use Rattle.std.specs.Io.KnownBytes.{Appends, Consumes, Keeps, IsAtEnd}
 use Rattle.std.proofs.KnownBytes.{Appends-trans, Appends-nil}
-use Rattle.aio_base.specs.Trace.{lines_of, onto_first_line}
+use Rattle.aio_base.specs.Trace.{lines_of, onto_first_line, written_step, header_text}
 use Rattle.aio_base.proofs.Spellings.{long_front_spells_none, long_front_is_no_header}
 use Rattle.aio_bytes.specs.Held.{HasNoLineFeed, is_line_feed, PutsAhead}
-use Rattle.aio_bytes.specs.Sinks.{AppendsPart}
+use Rattle.aio_bytes.specs.declared.traits.SinkRefusal.{SinkRefusal}
+use Rattle.aio_bytes.specs.declared.traits.SinkRefusal.TheVariants as refused
+use Rattle.aio_bytes.specs.Sinks.{AppendsPart, HasFailed, Writes, is_failed}
+use Rattle.aio_base.specs.Devices.{TellsFaults}
 use Rattle.aio_run.specs.declared.ends.Next.{Next}
 use Rattle.aio_run.specs.declared.ends.Next.TheVariants as next
-use Rattle.aio_run.specs.Session.{Sends, Unread, LeavesAllBut, BeginsUnread, TakesLine, FindsNext}
+use Rattle.aio_run.specs.Session.{Causes, Sends, Unread, LeavesAllBut, BeginsLong, TakesLine, FindsNext}
+
+-- ## Faults of the output
+
+failed_where_tested : {T : Type 0} (r : Result T SinkRefusal) → IsTrue (is_failed r) → HasFailed r
+failed_where_tested (Ok done) t = cc
+failed_where_tested (Err refused.Failed) t = refl
+failed_where_tested (Err refused.OutOfMemory) t = cc
+
+-- what a call of a sink tells of its faults, by the test of its answer
+pub tells_by_test : {S T : Type 0} (count : S → ℕ) (is_sure : S → Bool) (old new : S) (r : Result T SinkRefusal)
+    → TellsFaults count is_sure old new (HasFailed r) → Causes count is_sure old new (is_failed r)
+tells_by_test count is_sure old new r t = record {
+  cause = record {
+    later = t.cause.later;
+    rose = λ failed. t.cause.rose (failed_where_tested r failed);
+    never = λ sure. (λ failed. (t.cause.never sure).0 (failed_where_tested r failed), (t.cause.never sure).1);
+  };
+  sure = t.sure;
+}
+
+-- ## What is written of a text
 
 pub Sends-nil : (out : Option (List ℕ)) (text : List ℕ) → Sends out out text text
 Sends-nil out text = record { sent = []; appended = Appends-nil out; whole = refl }
@@ -28,6 +52,15 @@ Sends-part a b c x y p q = record {
   whole = p.whole ∙ ap (λ t. p.sent ++ t) q.whole ∙ sym (append_assoc p.sent q.added q.rest);
   appended = Appends-trans a b c p.sent q.added p.appended q.appended;
 }
+
+-- all of the text went out
+pub Sends-all : (a b : Option (List ℕ)) (x y : List ℕ) → Appends a b x → y ≡ [] → Sends a b x y
+Sends-all a b x y p none = record { sent = x; appended = p; whole = sym (append-nil x) ∙ ap (λ t. x ++ t) (sym none) }
+
+-- a front part of the text went out, and then the rest as far as the sink took it
+pub Sends-writes : (r : Result (Unit {0}) SinkRefusal) (a b c : Option (List ℕ)) (x y : List ℕ) → Sends a b x y → Writes r b c y → Writes r a c x
+Sends-writes (Ok done) a b c x y p q = subst (Appends a c) (sym p.whole) (Appends-trans a b c p.sent y p.appended q)
+Sends-writes (Err refusal) a b c x y p q = Sends-part a b c x y p q
 
 consumed : (left : List ℕ) (after : Option (List ℕ)) (piece : List ℕ) → Consumes (Some left) after piece
     → (rest : List ℕ) × (after ≡ Some rest) × (left ≡ piece ++ rest)
@@ -57,11 +90,7 @@ unread-kept told after ahead new unread u k same = record {
 }
 
 pub unread-most : (told : Option (List ℕ)) (ahead unread : List ℕ) → Unread told ahead unread → length ahead ≤ 257 → LeavesAllBut 257 told unread
-unread-most told ahead unread u le = record {
-  left = u.left;
-  is_left = u.is_left;
-  most = rw u.whole (omega (arith, length-append ahead u.left));
-}
+unread-most told ahead unread u le = record { taken = ahead; left = u.left; is_left = u.is_left; whole = u.whole; most = le }
 
 cons_not_nil : (c : ℕ) (bytes : List ℕ) → c ∷ bytes ≡ [] → ⊥
 cons_not_nil c bytes e = cc
@@ -117,7 +146,10 @@ takes_line told ahead line new unread u cut none le =
       rest = new ++ u.left;
       is_rest = record { left = u.left; is_left = u.is_left; whole = refl };
       lines = ap lines_of split ∙ lines_of-first line (new ++ u.left) none;
-      most = omega (arith, ap length split, length-append line (10 ∷ (new ++ u.left)), ap length cut, length-append line (10 ∷ new));
+      taken = line ++ 10 ∷ [];
+      whole = split ∙ sym (append_assoc line (10 ∷ []) (new ++ u.left));
+      within = omega (arith, length-append line (10 ∷ []));
+      most = omega (arith, le, ap length cut, length-append line (10 ∷ []), length-append line (10 ∷ new));
       held = unread-most told ahead unread u le;
     }
 
@@ -130,7 +162,10 @@ takes_last told ahead unread u at_end some none le =
       rest = [];
       is_rest = record { left = []; is_left = u.is_left ∙ ap Some empty; whole = refl };
       lines = ap lines_of whole ∙ lines_of-last ahead some none;
-      most = omega (arith, ap length whole);
+      taken = ahead;
+      whole = whole ∙ sym (append-nil ahead);
+      within = omega arith;
+      most = le;
       held = unread-most told ahead unread u le;
     }
 
@@ -140,18 +175,33 @@ ends_unread told ahead unread u at_end nothing =
     let empty : u.left ≡ [] = subst IsAtEnd u.is_left at_end in
     (u.whole ∙ ap (λ t. t ++ u.left) nothing ∙ empty, u.is_left ∙ ap Some empty)
 
-pub begins_unread : (told : Option (List ℕ)) (ahead unread : List ℕ) → Unread told ahead unread → length ahead ≡ 257 → HasNoLineFeed ahead
-    → BeginsUnread unread
-begins_unread told [] unread u full none = absurd (omega (arith, full))
-begins_unread told (c ∷ front) unread u full none =
-    let found = lines_of-begins front u.left c none in
+pub begins_long : (told : Option (List ℕ)) (ahead unread : List ℕ) → Unread told ahead unread → length ahead ≡ 257 → HasNoLineFeed ahead
+    → BeginsLong unread
+begins_long told ahead unread u full none = record { front = ahead; more = u.left; whole = u.whole; long = full; no_line_feed = none }
+
+-- the first of these lines is spelled by no step, and is no header
+pub record BeginsUnspelled (unread : List ℕ) : Type 0 where
+  pub first : List ℕ
+  pub others : List (List ℕ)
+  pub lines : lines_of unread ≡ first ∷ others
+  pub no_step : written_step first ≡ None
+  pub no_header : bytes_eq first header_text ≡ false
+
+long_first : (unread front more : List ℕ) → unread ≡ front ++ more → length front ≡ 257 → HasNoLineFeed front → BeginsUnspelled unread
+long_first unread [] more whole full none = absurd (omega (arith, full))
+long_first unread (c ∷ front) more whole full none =
+    let found = lines_of-begins front more c none in
     record {
       first = c ∷ front ++ found.0;
       others = found.1;
-      lines = ap lines_of u.whole ∙ found.2;
+      lines = ap lines_of whole ∙ found.2;
       no_step = long_front_spells_none (c ∷ front) found.0 full;
       no_header = long_front_is_no_header (c ∷ front) found.0 full;
     }
+
+-- a line that is too long is none that a trace can have
+pub long_is_unspelled : (unread : List ℕ) → BeginsLong unread → BeginsUnspelled unread
+long_is_unspelled unread b = long_first unread b.front b.more b.whole b.long b.no_line_feed
 
 pub unread-same : (told : Option (List ℕ)) (ahead new unread : List ℕ) → Unread told ahead unread → new ≡ ahead → Unread told new unread
 unread-same told ahead new unread u same = record {

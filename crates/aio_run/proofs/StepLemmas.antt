@@ -1,5 +1,5 @@
 -- From what stands before a line to what stands after it, or to what an end says.
-use Rattle.std.proofs.Common.{◌≡◌, ℕ, ◌+◌, ◌*◌, ◌≤◌, ◌<◌, Bool, true, false, nat_lt, if◌then◌else◌, List, [], ◌∷◌, ◌++◌, length, Option, None, Some, Result, Ok, Err, refl, sym, ap, ◌∙◌, subst, append_assoc, append-nil, arith, bytes_eq}
+use Rattle.std.proofs.Common.{◌≡◌, ℕ, ◌+◌, ◌-◌, ◌*◌, ◌≤◌, ◌<◌, Bool, true, false, nat_lt, if◌then◌else◌, List, [], ◌∷◌, ◌++◌, length, length-append, take, Option, None, Some, Result, Ok, Err, refl, sym, ap, ◌∙◌, subst, append_assoc, append-nil, arith, bytes_eq}
 use Rattle.std.proofs.lemmas.Bool.Decides.{nat_tests}
 use Rattle.std.specs.Io.KnownBytes.{Appends}
 use Rattle.std.proofs.KnownBytes.{Appends-trans, Appends-nil}
@@ -13,14 +13,17 @@ use Rattle.aio_base.specs.declared.steps.Reason.TheVariants as reason
 use Rattle.aio_base.specs.World.{World, opening}
 use Rattle.aio_base.specs.Script.{output, output_from, world_after, script_step, reply_text}
 use Rattle.aio_base.specs.Trace.{IsBuilt, IsBuiltFault, Trace, Refusal, lines_of, trace_of, trace_of_lines, trace_from, trace_after, written_step, with_step, refused, line_limit, header_text}
-use Rattle.aio_bytes.specs.Sinks.{AppendsPart}
+use Rattle.std.proofs.lemmas.List.{take_at}
+use Rattle.aio_bytes.specs.declared.traits.SinkRefusal.{SinkRefusal}
+use Rattle.aio_bytes.specs.Sinks.{AppendsPart, Writes}
 use Rattle.aio_run.specs.declared.ends.Stop.{Stop}
 use Rattle.aio_run.specs.declared.ends.End.{End}
 use Rattle.aio_run.specs.declared.ends.End.TheVariants as ends
 use Rattle.aio_run.specs.Kept.{Kept, StepsKept, IsRun, IsTellable}
 use Rattle.aio_run.specs.Ties.{StandsFor, Follows}
-use Rattle.aio_run.specs.Session.{Sends, SendsOrStops, Unread, LeavesAllBut, BeginsUnread, TakesLine, EndsSo, bytes_of_end}
-use Rattle.aio_run.specs.Steps.{Opens, Answers, Standing, LineTaken, Closes, Closing, after_steps, refusal_of, IsRead}
+use Rattle.aio_run.specs.Session.{Sends, Unread, LeavesAllBut, BeginsLong, TakesLine, StoppedBehind, EndsSo, sink_answer, length_of_lines, bytes_before, bytes_of_end}
+use Rattle.aio_run.specs.Steps.{Opens, Answers, TakesLines, Standing, LineTaken, Closes, Closing, after_steps, refusal_of, IsRead}
+use Rattle.aio_run.proofs.SessionLemmas.{long_is_unspelled}
 use Rattle.aio_run.proofs.Simulation.{steps-follow}
 use Rattle.aio_run.proofs.OpeningStands.{new_stands_for}
 
@@ -100,6 +103,63 @@ after_steps-push done s t = ap (λ (steps : List Step). let r : Trace = record {
 after_steps-end : (done : List Step) (r : Option Refusal) → after_steps done (record { steps = []; refusal = r }) ≡ record { steps = done; refusal = r }
 after_steps-end done r = ap (λ (steps : List Step). let t : Trace = record { steps = steps; refusal = r } in t) (append-nil done)
 
+-- ## The bytes before a line
+
+length_of_lines-push : (lines : List (List ℕ)) (line : List ℕ) → length_of_lines (lines ++ line ∷ []) ≡ length_of_lines lines + (length line + 1)
+length_of_lines-push [] line = omega arith
+length_of_lines-push (first ∷ lines) line = omega (arith, length_of_lines-push lines line)
+
+-- nothing is taken before the first line
+takes_none : (input : List ℕ) → TakesLines input 1 input
+takes_none input = record { front = []; taken = []; whole = refl; lines = refl; count = refl; within = omega arith; most = omega arith }
+
+-- one more line
+takes_one : (input : List ℕ) (now : Option (List ℕ)) (line : ℕ) (bytes left rest : List ℕ) → TakesLines input line rest
+    → (t : TakesLine now bytes left rest) → TakesLines input (line + 1) t.rest
+takes_one input now line bytes left rest s t = record {
+  front = s.front ++ bytes ∷ [];
+  taken = s.taken ++ t.taken;
+  whole = s.whole ∙ ap (λ x. s.taken ++ x) t.whole ∙ sym (append_assoc s.taken t.taken t.rest);
+  lines = s.lines ∙ ap (λ x. s.front ++ x) t.lines ∙ sym (append_assoc s.front (bytes ∷ []) (lines_of t.rest));
+  count = omega (arith, length-append s.front (bytes ∷ []), s.count);
+  within = omega (arith, length-append s.taken t.taken, length_of_lines-push s.front bytes, s.within, t.within);
+  most = omega (arith, length-append s.taken t.taken, s.most, t.most);
+}
+
+before_is : (input : List ℕ) (line : ℕ) (rest : List ℕ) → (t : TakesLines input line rest) → bytes_before line input ≡ length_of_lines t.front
+before_is input line rest t =
+    let count : length t.front ≡ line - 1 = omega (arith, t.count) in
+    ap (λ lines. length_of_lines (take (line - 1) lines)) t.lines ∙ ap length_of_lines (take_at t.front (lines_of rest) (line - 1) count)
+
+-- what a source gave of the rest, it gave of the input behind the lines before
+held_behind : (input : List ℕ) (now : Option (List ℕ)) (line : ℕ) (rest : List ℕ) → TakesLines input line rest → LeavesAllBut 257 now rest
+    → LeavesAllBut (bytes_before line input + 257) now input
+held_behind input now line rest t l = record {
+  taken = t.taken ++ l.taken;
+  left = l.left;
+  is_left = l.is_left;
+  whole = t.whole ∙ ap (λ x. t.taken ++ x) l.whole ∙ sym (append_assoc t.taken l.taken l.left);
+  most = omega (arith, length-append t.taken l.taken, t.within, l.most, before_is input line rest t);
+}
+
+held_few : (input : List ℕ) (now : Option (List ℕ)) (line : ℕ) (rest : List ℕ) → TakesLines input line rest → LeavesAllBut 257 now rest
+    → LeavesAllBut (257 * line) now input
+held_few input now line rest t l = record {
+  taken = t.taken ++ l.taken;
+  left = l.left;
+  is_left = l.is_left;
+  whole = t.whole ∙ ap (λ x. t.taken ++ x) l.whole ∙ sym (append_assoc t.taken l.taken l.left);
+  most = omega (arith, length-append t.taken l.taken, t.most, l.most);
+}
+
+pub leaves_more : (a b : ℕ) (now : Option (List ℕ)) (input : List ℕ) → a ≤ b → LeavesAllBut a now input → LeavesAllBut b now input
+leaves_more a b now input le l = record { taken = l.taken; left = l.left; is_left = l.is_left; whole = l.whole; most = omega (arith, le, l.most) }
+
+-- at most the bytes of a million and one lines
+held_at_last : (input : List ℕ) (now : Option (List ℕ)) (line : ℕ) (rest : List ℕ) → line ≤ 1000001 → TakesLines input line rest → LeavesAllBut 257 now rest
+    → LeavesAllBut (257 * 1000001) now input
+held_at_last input now line rest le t l = leaves_more (257 * line) (257 * 1000001) now input (omega (arith, le)) (held_few input now line rest t l)
+
 -- ## From a line that is found
 
 pub takes : (input : List ℕ) (told now first old new : Option (List ℕ)) (line : ℕ) (ahead bytes left text kept_text : List ℕ) (kept : Kept)
@@ -114,8 +174,9 @@ takes input told now first old new line ahead bytes left text kept_text kept s t
   sent = s.sent ++ sends.sent;
   appended = Appends-trans first old new s.sent sends.sent s.appended sends.appended;
   whole = append_assoc s.sent sends.sent kept_text ∙ ap (λ x. s.sent ++ x) (sym sends.whole) ∙ s.whole;
-  most = omega (arith, s.most, t.most);
-  held = record { left = t.held.left; is_left = t.held.is_left; most = omega (arith, s.most, t.held.most) };
+  before = takes_one input now line bytes left s.rest s.before t;
+  held = held_behind input now line s.rest s.before t.held;
+  held_few = held_few input now line s.rest s.before t.held;
 }
 
 pub goes_on : (input : List ℕ) (told first out : Option (List ℕ)) (line : ℕ) (bytes ahead text new : List ℕ) (kept after : Kept) (s : Step)
@@ -136,7 +197,7 @@ goes_on input told first out line bytes ahead text new kept after s t le some an
           ∙ sym (append_assoc t.sent text (reply_text (script_step (world_after opening t.done) s).answer (script_step (world_after opening t.done) s).wakes))
           ∙ ap (λ x. x ++ reply_text (script_step (world_after opening t.done) s).answer (script_step (world_after opening t.done) s).wakes) t.whole
           ∙ sym (output-push t.done s);
-      most = omega (arith, t.most);
+      before = t.before;
     }
 
 -- the text is written between two lines
@@ -151,66 +212,72 @@ flushed input told first old new line ahead text kept_text kept s sends = record
   sent = s.sent ++ sends.sent;
   appended = Appends-trans first old new s.sent sends.sent s.appended sends.appended;
   whole = append_assoc s.sent sends.sent kept_text ∙ ap (λ x. s.sent ++ x) (sym sends.whole) ∙ s.whole;
-  most = s.most;
+  before = s.before;
 }
 
 -- ## To an end
 
--- a front part of what is written by steps that are done, and by more
-part_of : (first old new : Option (List ℕ)) (sent text whole more : List ℕ) → Appends first old sent → AppendsPart old new text → sent ++ text ≡ whole
-    → AppendsPart first new (whole ++ more)
-part_of first old new sent text whole more p q e = record {
+-- what was written of a text, behind what was written before it
+pub written_behind : (r : Result (Unit {0}) SinkRefusal) (first old new : Option (List ℕ)) (sent text whole : List ℕ) → Appends first old sent → Writes r old new text
+    → sent ++ text ≡ whole → Writes r first new whole
+written_behind (Ok done) first old new sent text whole p q e = subst (Appends first new) e (Appends-trans first old new sent text p q)
+written_behind (Err refusal) first old new sent text whole p q e = record {
   added = sent ++ q.added;
-  rest = q.rest ++ more;
-  whole = ap (λ t. t ++ more) (sym e) ∙ ap (λ t. (sent ++ t) ++ more) q.whole
-      ∙ ap (λ t. t ++ more) (sym (append_assoc sent q.added q.rest)) ∙ append_assoc (sent ++ q.added) q.rest more;
+  rest = q.rest;
+  whole = sym e ∙ ap (λ t. sent ++ t) q.whole ∙ sym (append_assoc sent q.added q.rest);
   appended = Appends-trans first old new sent q.added p q.appended;
 }
 
+written_of_more : (r : Result (Unit {0}) SinkRefusal) (old new : Option (List ℕ)) (bytes more : List ℕ) → Writes r old new bytes → AppendsPart old new (bytes ++ more)
+written_of_more (Ok done) old new bytes more q = record { added = bytes; rest = more; whole = refl; appended = q }
+written_of_more (Err refusal) old new bytes more q = record {
+  added = q.added;
+  rest = q.rest ++ more;
+  whole = ap (λ t. t ++ more) q.whole ∙ append_assoc q.added q.rest more;
+  appended = q.appended;
+}
+
+-- where a replay was stopped, a front part of its output is written
+pub stopped_part : (s : Stop) (input : List ℕ) (old new : Option (List ℕ)) → StoppedBehind s input old new → AppendsPart old new (output (trace_of input).steps)
+stopped_part s input old new b =
+    subst (AppendsPart old new) (sym (ap output b.steps ∙ output-append opening b.done b.more))
+    (written_of_more (sink_answer s) old new (output b.done) (output_from (world_after opening b.done) b.more) b.written)
+
 pub stops : (input : List ℕ) (now first old new : Option (List ℕ)) (sent text : List ℕ) (done : List Step) (t : Trace) (s : Stop)
-    → trace_of input ≡ after_steps done t → Appends first old sent → sent ++ text ≡ output done → AppendsPart old new text
+    → trace_of input ≡ after_steps done t → Appends first old sent → sent ++ text ≡ output done → Writes (sink_answer s) old new text
     → LeavesAllBut (257 * 1000001) now input → EndsSo (ends.Stopped s) input now first new
-stops input now first old new sent text done t s says appended whole part taken =
-    let steps : output (trace_of input).steps ≡ output done ++ output_from (world_after opening done) t.steps =
-    ap (λ (x : Trace). output x.steps) says ∙ output-append opening done t.steps in
-    record {
-      says = subst (AppendsPart first new) (sym steps) (part_of first old new sent text (output done) (output_from (world_after opening done) t.steps) appended part whole);
-      taken = taken;
-    }
-
-pub nothing_written : (out : Option (List ℕ)) (text : List ℕ) → AppendsPart out out text
-nothing_written out text = record { added = []; rest = text; whole = refl; appended = Appends-nil out }
-
-pub leaves_more : (a b : ℕ) (now : Option (List ℕ)) (input : List ℕ) → a ≤ b → LeavesAllBut a now input → LeavesAllBut b now input
-leaves_more a b now input le l = record { left = l.left; is_left = l.is_left; most = omega (arith, le, l.most) }
+stops input now first old new sent text done t s says appended whole written taken = record {
+  says = record {
+    done = done;
+    more = t.steps;
+    steps = ap (λ (x : Trace). x.steps) says;
+    written = written_behind (sink_answer s) first old new sent text (output done) appended written whole;
+  };
+  taken = taken;
+}
 
 -- it was stopped while a line was looked for
 pub stops_before : (input : List ℕ) (told now first old new : Option (List ℕ)) (line : ℕ) (ahead text : List ℕ) (kept : Kept) (e : Stop)
-    → (s : Standing input told first old line ahead text kept) → line ≤ 1000001 → LeavesAllBut 257 now s.rest → AppendsPart old new text
+    → (s : Standing input told first old line ahead text kept) → line ≤ 1000001 → LeavesAllBut 257 now s.rest → Writes (sink_answer e) old new text
     → EndsSo (ends.Stopped e) input now first new
 stops_before input told now first old new line ahead text kept e s le l part =
     stops input now first old new s.sent text s.done _ e s.says s.appended s.whole part
-    (record { left = l.left; is_left = l.is_left; most = omega (arith, s.most, l.most, le) })
+    (held_at_last input now line s.rest le s.before l)
 
 -- it was stopped after a line was found
 pub stops_after : (input : List ℕ) (told first old new : Option (List ℕ)) (line : ℕ) (bytes ahead text : List ℕ) (kept : Kept) (e : Stop)
-    → LineTaken input told first old line bytes ahead text kept → line ≤ 1000000 → AppendsPart old new text
+    → LineTaken input told first old line bytes ahead text kept → line ≤ 1000000 → Writes (sink_answer e) old new text
     → EndsSo (ends.Stopped e) input told first new
 stops_after input told first old new line bytes ahead text kept e t le part =
     stops input told first old new t.sent text t.done _ e t.says t.appended t.whole part
-    (record { left = t.held.left; is_left = t.held.is_left; most = omega (arith, t.held.most, le) })
+    (leaves_more (257 * line) (257 * 1000001) told input (omega (arith, le)) t.held_few)
 
 -- it was stopped before the next line
 pub stops_between : (input : List ℕ) (told first old new : Option (List ℕ)) (line : ℕ) (ahead text : List ℕ) (kept : Kept) (e : Stop)
-    → Standing input told first old line ahead text kept → LeavesAllBut (257 * 1000001) told input → AppendsPart old new text
+    → Standing input told first old line ahead text kept → LeavesAllBut (257 * 1000001) told input → Writes (sink_answer e) old new text
     → EndsSo (ends.Stopped e) input told first new
 stops_between input told first old new line ahead text kept e s l part =
     stops input told first old new s.sent text s.done _ e s.says s.appended s.whole part l
-
--- what a flush wrote is a front part of the text, whether it stopped or not
-pub part_sent : (r : Result (Unit {0}) Stop) (old new : Option (List ℕ)) (text kept_text : List ℕ) → SendsOrStops r old new text kept_text → AppendsPart old new text
-part_sent (Ok done) old new text kept_text s = record { added = s.sent; rest = kept_text; whole = s.whole; appended = s.appended }
-part_sent (Err stop) old new text kept_text s = s
 
 pub closes : (result wanted : End) (input : List ℕ) (told first old new : Option (List ℕ)) (text : List ℕ) → Closing wanted input told first old text
     → Closes result wanted old new text → EndsSo result input told first new
@@ -223,7 +290,7 @@ closes ends.Done wanted input told first old new text c e =
         ap (λ (t : Trace). t.refusal) c.says ∙ ap refusal_of same,
         subst (Appends first new) (c.whole ∙ ap output (sym steps)) (Appends-trans first old new c.sent text c.appended e.1),
       );
-      taken = subst (λ (x : End). LeavesAllBut (bytes_of_end x) told input) same c.taken;
+      taken = subst (λ (x : End). LeavesAllBut (bytes_of_end x input) told input) same c.taken;
     }
 closes (ends.Refused line why) wanted input told first old new text c e =
     let same : wanted ≡ ends.Refused line why = e.0 in
@@ -233,12 +300,11 @@ closes (ends.Refused line why) wanted input told first old new text c e =
         ap (λ (t : Trace). t.refusal) c.says ∙ ap refusal_of same,
         subst (Appends first new) (c.whole ∙ ap output (sym steps)) (Appends-trans first old new c.sent text c.appended e.1),
       );
-      taken = subst (λ (x : End). LeavesAllBut (bytes_of_end x) told input) same c.taken;
+      taken = subst (λ (x : End). LeavesAllBut (bytes_of_end x input) told input) same c.taken;
     }
 closes (ends.Stopped s) wanted input told first old new text c e =
     stops input told first old new c.sent text c.done (record { steps = []; refusal = refusal_of wanted }) s
-    (c.says ∙ sym (after_steps-end c.done (refusal_of wanted))) c.appended c.whole e
-    (leaves_more (bytes_of_end wanted) (257 * 1000001) told input c.few c.taken)
+    (c.says ∙ sym (after_steps-end c.done (refusal_of wanted))) c.appended c.whole e c.taken_few
 
 -- a line that spells no step is refused
 pub refuses_line : (input : List ℕ) (told first out : Option (List ℕ)) (line : ℕ) (bytes ahead text : List ℕ) (kept : Kept)
@@ -252,13 +318,13 @@ refuses_line input told first out line bytes ahead text kept t le none = record 
   whole = t.whole;
   is_read = tt;
   taken = t.held;
-  few = omega (arith, le);
+  taken_few = leaves_more (257 * line) (257 * 1000001) told input (omega (arith, le)) t.held_few;
 }
 
 -- what is written of the text before an end stays to be written of it
 closing_sends : (wanted : End) (input : List ℕ) (now first old new : Option (List ℕ)) (text kept_text sent : List ℕ) (done : List Step)
     → trace_of input ≡ record { steps = done; refusal = refusal_of wanted } → Appends first old sent → sent ++ text ≡ output done → Sends old new text kept_text
-    → IsRead wanted now → LeavesAllBut (bytes_of_end wanted) now input → bytes_of_end wanted ≤ 257 * 1000001
+    → IsRead wanted now → LeavesAllBut (bytes_of_end wanted input) now input → LeavesAllBut (257 * 1000001) now input
     → Closing wanted input now first new kept_text
 closing_sends wanted input now first old new text kept_text sent done says appended whole sends is_read taken few = record {
   done = done;
@@ -268,33 +334,35 @@ closing_sends wanted input now first old new text kept_text sent done says appen
   whole = append_assoc sent sends.sent kept_text ∙ ap (λ x. sent ++ x) (sym sends.whole) ∙ whole;
   is_read = is_read;
   taken = taken;
-  few = few;
+  taken_few = few;
 }
-
-held_more : (input : List ℕ) (now : Option (List ℕ)) (rest : List ℕ) (line : ℕ) → length input + 257 ≤ 257 * line + length rest → LeavesAllBut 257 now rest
-    → LeavesAllBut (257 * line) now input
-held_more input now rest line most l = record { left = l.left; is_left = l.is_left; most = omega (arith, most, l.most) }
 
 -- nothing is left of the input
 pub ends_here : (input : List ℕ) (told now first old new : Option (List ℕ)) (line : ℕ) (ahead text kept_text : List ℕ) (kept : Kept)
     → (s : Standing input told first old line ahead text kept) → line ≤ 1000001 → (s.rest ≡ []) × (now ≡ Some []) → Sends old new text kept_text
     → Closing ends.Done input now first new kept_text
 ends_here input told now first old new line ahead text kept_text kept s le nothing sends =
+    let taken : LeavesAllBut (257 * 1000001) now input = record {
+      taken = s.before.taken;
+      left = [];
+      is_left = nothing.1;
+      whole = s.before.whole ∙ ap (λ r. s.before.taken ++ r) nothing.0;
+      most = omega (arith, s.before.most, le);
+    } in
     closing_sends ends.Done input now first old new text kept_text s.sent s.done
     (s.says ∙ ap (λ r. after_steps s.done (trace_from line (lines_of r))) nothing.0 ∙ after_steps-end s.done None)
-    s.appended s.whole sends nothing.1
-    (record { left = []; is_left = nothing.1; most = omega (arith, s.most, ap length nothing.0, le) })
-    (omega arith)
+    s.appended s.whole sends nothing.1 taken taken
 
 -- a line that is too long is refused
 pub refuses_long : (input : List ℕ) (told now first old new : Option (List ℕ)) (line : ℕ) (ahead text kept_text : List ℕ) (kept : Kept)
-    → (s : Standing input told first old line ahead text kept) → line ≤ 1000000 → BeginsUnread s.rest → LeavesAllBut 257 now s.rest → Sends old new text kept_text
+    → (s : Standing input told first old line ahead text kept) → line ≤ 1000000 → BeginsLong s.rest → LeavesAllBut 257 now s.rest → Sends old new text kept_text
     → Closing (ends.Refused line reason.Stage) input now first new kept_text
-refuses_long input told now first old new line ahead text kept_text kept s le b l sends =
+refuses_long input told now first old new line ahead text kept_text kept s le long l sends =
+    let b = long_is_unspelled s.rest long in
     closing_sends (ends.Refused line reason.Stage) input now first old new text kept_text s.sent s.done
     (s.says ∙ ap (λ lines. after_steps s.done (trace_from line lines)) b.lines
     ∙ ap (after_steps s.done) (says_refused line b.first b.others le b.no_step) ∙ after_steps-end s.done (refusal_of (ends.Refused line reason.Stage)))
-    s.appended s.whole sends tt (held_more input now s.rest line s.most l) (omega (arith, le))
+    s.appended s.whole sends tt (held_behind input now line s.rest s.before l) (held_at_last input now line s.rest (omega (arith, le)) s.before l)
 
 past : (line : ℕ) (bytes : List ℕ) (lines : List (List ℕ)) → 1000000 < line → trace_from line (bytes ∷ lines) ≡ refused line reason.Lines
 past line bytes lines lt =
@@ -309,7 +377,7 @@ refuses_past input told now first old new ahead text kept_text first_line others
     closing_sends (ends.Refused 1000001 reason.Lines) input now first old new text kept_text s.sent s.done
     (s.says ∙ ap (λ x. after_steps s.done (trace_from 1000001 x)) lines
     ∙ ap (after_steps s.done) (past 1000001 first_line others (omega arith)) ∙ after_steps-end s.done (refusal_of (ends.Refused 1000001 reason.Lines)))
-    s.appended s.whole sends tt (held_more input now s.rest 1000001 s.most l) (omega arith)
+    s.appended s.whole sends tt (held_behind input now 1000001 s.rest s.before l) (held_at_last input now 1000001 s.rest (omega arith) s.before l)
 
 -- ## The header
 
@@ -319,9 +387,6 @@ says_of input = refl
 
 pub opens_unread : (input ahead text : List ℕ) (told : Option (List ℕ)) (kept : Kept) → Opens ahead text kept → told ≡ Some input → Unread told ahead input
 opens_unread input ahead text told kept o is = record { left = input; is_left = is; whole = ap (λ t. t ++ input) (sym o.nothing_ahead) }
-
-no_bytes_held : (input : List ℕ) (now : Option (List ℕ)) (n : ℕ) → 257 ≤ n → LeavesAllBut 257 now input → LeavesAllBut n now input
-no_bytes_held input now n le l = record { left = l.left; is_left = l.is_left; most = omega (arith, l.most, le) }
 
 -- nothing was written before
 sent_none : (first : Option (List ℕ)) (text : List ℕ) → text ≡ [] → ([] ++ text ≡ output [])
@@ -341,7 +406,7 @@ header_read input ahead text kept_text bytes left now first new kept o t is send
   sent = sends.sent;
   appended = sends.appended;
   whole = sym sends.whole ∙ o.no_text;
-  most = omega (arith, t.most);
+  before = takes_one input now 1 bytes left input (takes_none input) t;
 }
 
 header_closing : (input ahead text kept_text : List ℕ) (now first new : Option (List ℕ)) (kept : Kept) → Opens ahead text kept
@@ -354,8 +419,8 @@ header_closing input ahead text kept_text now first new kept o says l sends = re
   appended = sends.appended;
   whole = sym sends.whole ∙ o.no_text;
   is_read = tt;
-  taken = l;
-  few = omega arith;
+  taken = held_behind input now 1 input (takes_none input) l;
+  taken_few = held_at_last input now 1 input (omega arith) (takes_none input) l;
 }
 
 -- the first line is no header
@@ -367,22 +432,23 @@ header_refused input ahead text kept_text bytes left now first new kept o t othe
     (says_of input ∙ ap trace_of_lines t.lines ∙ ap (λ (b : Bool). if b then trace_from 2 (lines_of t.rest) else refused 1 reason.Header) other) t.held sends
 
 pub header_long : (input ahead text kept_text : List ℕ) (now first new : Option (List ℕ)) (kept : Kept) → Opens ahead text kept
-    → BeginsUnread input × LeavesAllBut 257 now input → Sends first new text kept_text
+    → BeginsLong input × LeavesAllBut 257 now input → Sends first new text kept_text
     → Closing (ends.Refused 1 reason.Header) input now first new kept_text
 header_long input ahead text kept_text now first new kept o b sends =
+    let u = long_is_unspelled input b.0 in
     header_closing input ahead text kept_text now first new kept o
-    (says_of input ∙ ap trace_of_lines b.0.lines ∙ ap (λ (t : Bool). if t then trace_from 2 b.0.others else refused 1 reason.Header) b.0.no_header) b.1 sends
+    (says_of input ∙ ap trace_of_lines u.lines ∙ ap (λ (t : Bool). if t then trace_from 2 u.others else refused 1 reason.Header) u.no_header) b.1 sends
 
 pub header_missing : (input ahead text kept_text : List ℕ) (now first new : Option (List ℕ)) (kept : Kept) → Opens ahead text kept
     → (input ≡ []) × (now ≡ Some []) → Sends first new text kept_text
     → Closing (ends.Refused 1 reason.Header) input now first new kept_text
 header_missing input ahead text kept_text now first new kept o e sends =
     header_closing input ahead text kept_text now first new kept o
-    (says_of input ∙ ap (λ t. trace_of_lines (lines_of t)) e.0) (record { left = []; is_left = e.1; most = omega (arith, ap length e.0) }) sends
+    (says_of input ∙ ap (λ t. trace_of_lines (lines_of t)) e.0) (record { taken = []; left = []; is_left = e.1; whole = e.0; most = omega arith }) sends
 
 -- it was stopped before the header was read
 pub header_stopped : (input ahead text : List ℕ) (now first new : Option (List ℕ)) (kept : Kept) (s : Stop) → Opens ahead text kept
-    → LeavesAllBut 257 now input → AppendsPart first new text → EndsSo (ends.Stopped s) input now first new
+    → LeavesAllBut 257 now input → Writes (sink_answer s) first new text → EndsSo (ends.Stopped s) input now first new
 header_stopped input ahead text now first new kept s o l part =
     stops input now first first new [] text [] (trace_of input) s refl (Appends-nil first) o.no_text part
-    (no_bytes_held input now (257 * 1000001) (omega arith) l)
+    (leaves_more 257 (257 * 1000001) now input (omega arith) l)

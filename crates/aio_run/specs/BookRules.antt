@@ -7,7 +7,7 @@ abbrev pub book_rules : HostRules BookHost
 book_rules = record {
   inserted = λ old at waker id new. BookInserts old.book.entries old.drawn at waker id new.book.entries new.drawn;
   removed = λ old at id new. BookRemoves old.book.entries old.drawn at id new.book.entries new.drawn;
-  insert_refused = λ old at waker new. BookStays old.book.entries old.drawn new.book.entries new.drawn;
+  insert_refused = λ old at waker new. BookStays old.book.spare old.book.entries old.drawn new.book.entries new.drawn;
   removal_refused = λ old at id new. ⊥;
   faults = λ h. 0;
   pass = λ h. 0;

@@ -1,12 +1,15 @@
 -- What a status says: its number, its text, and what became of input and output.
-use Rattle.std.specs.Prelude.{◌≡◌, ℕ, ◌*◌, Bool, true, false, List, [], ◌∷◌, Option, None, Some, codes}
+use Rattle.std.specs.Prelude.{◌≡◌, ℕ, ◌+◌, Bool, true, false, List, [], ◌∷◌, Option, None, Some, Result, IfErr, codes}
 use Rattle.std.specs.Io.KnownBytes.{Appends}
 use Rattle.aio_base.specs.Script.{output}
 use Rattle.aio_base.specs.Text.{ended_line}
 use Rattle.aio_base.specs.Trace.{trace_of}
-use Rattle.aio_bytes.specs.Sinks.{AppendsPart}
+use Rattle.aio_base.specs.Devices.{TellsFaults}
+use Rattle.aio_bytes.specs.Sinks.{AppendsPart, HasFailed, RefusedBy, Writes}
+use Rattle.aio_bytes.specs.declared.traits.SinkRefusal.{SinkRefusal}
 use Rattle.aio_run.specs.declared.status.Why.{Why}
 use Rattle.aio_run.specs.declared.status.Why.TheVariants as why
+use Rattle.aio_run.specs.Session.{bytes_before}
 use Rattle.aio_run.specs.Writing.{refusal_text}
 
 -- the words of the command that replays a trace
@@ -64,7 +67,15 @@ TellsCounts (why.ReadFault fault) reads_old reads_new writes_old writes_new = (f
 TellsCounts (why.WriteFault fault) reads_old reads_new writes_old writes_new = (fault.before ≡ writes_old) × (fault.after ≡ writes_new)
 TellsCounts _ reads_old reads_new writes_old writes_new = Unit {0}
 
--- the bytes that a replay may take of its source
-abbrev pub bytes_taken : Why → ℕ
-bytes_taken (why.Refused line reason) = 257 * line
-bytes_taken _ = 257000257
+-- the bytes that a replay of this input takes of its source at most: of a refused line at most 257, behind the lines before it
+abbrev pub bytes_taken : Why → List ℕ → ℕ
+bytes_taken (why.Refused line reason) input = bytes_before line input + 257
+bytes_taken _ input = 257000257
+
+-- The text for the user was written to a sink: whole, or a front part of it where a call of the sink was answered by a refusal; being sure stays.
+pub record IsTold {S : Type 0} (contents : S → Option (List ℕ)) (write_step : S → List ℕ → Result ℕ SinkRefusal → S → Type 0)
+    (count : S → ℕ) (is_sure : S → Bool) (old new : S) (text : List ℕ) : Type 0 where
+  pub answer : Result (Unit {0}) SinkRefusal
+  pub written : Writes answer (contents old) (contents new) text
+  pub refused : IfErr answer (RefusedBy write_step new)
+  pub cause : TellsFaults count is_sure old new (HasFailed answer)

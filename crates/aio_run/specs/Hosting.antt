@@ -22,8 +22,9 @@ pub record BookRemoves (old : List Registration) (drawn_old : ℕ) (at : ℕ) (i
   pub book : new ≡ changed (Unregisters at id.0) old
   pub drawn : drawn_new ≡ drawn_old
 
--- where there is no memory for a registration, all stays
-pub record BookStays (old : List Registration) (drawn_old : ℕ) (new : List Registration) (drawn_new : ℕ) : Type 0 where
+-- where there is no room for a registration and no memory for more, all stays
+pub record BookStays (spare : ℕ) (old : List Registration) (drawn_old : ℕ) (new : List Registration) (drawn_new : ℕ) : Type 0 where
+  pub full : spare ≡ 0
   pub book : new ≡ old
   pub drawn : drawn_new ≡ drawn_old
 

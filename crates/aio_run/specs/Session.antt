@@ -1,13 +1,13 @@
 -- What stands while a trace is replayed, and what its end says.
-use Rattle.std.specs.Prelude.{◌≡◌, ℕ, ◌+◌, ◌*◌, ◌≤◌, Bool, true, false, IsTrue, List, [], ◌∷◌, ◌++◌, length, Option, None, Some, Result, Ok, Err, bytes_eq}
+use Rattle.std.specs.Prelude.{◌≡◌, ℕ, ◌+◌, ◌-◌, ◌*◌, ◌≤◌, Bool, true, false, IsTrue, List, [], ◌∷◌, ◌++◌, length, take, Option, None, Some, Result, Ok, Err, IfErr, ⊤}
 use Rattle.std.specs.Io.KnownBytes.{Appends, Keeps}
 use Rattle.aio_base.specs.Devices.{TellsFaults}
 use Rattle.aio_base.specs.Script.{output}
-use Rattle.aio_base.specs.Trace.{lines_of, trace_of, written_step, header_text}
+use Rattle.aio_base.specs.Trace.{lines_of, trace_of}
+use Rattle.aio_base.specs.declared.steps.Step.{Step}
 use Rattle.aio_bytes.specs.declared.traits.SinkRefusal.{SinkRefusal}
-use Rattle.aio_bytes.specs.declared.traits.SinkRefusal.TheVariants as refusal
-use Rattle.aio_bytes.specs.Sinks.{AppendsPart}
-use Rattle.aio_bytes.specs.Held.{PutsAhead}
+use Rattle.aio_bytes.specs.Sinks.{RefusedBy, Writes, is_failed}
+use Rattle.aio_bytes.specs.Held.{HasNoLineFeed, PutsAhead}
 use Rattle.aio_run.specs.declared.ends.Stop.{Stop}
 use Rattle.aio_run.specs.declared.ends.Stop.TheVariants as stop
 use Rattle.aio_run.specs.declared.ends.End.{End}
@@ -15,23 +15,28 @@ use Rattle.aio_run.specs.declared.ends.End.TheVariants as ends
 use Rattle.aio_run.specs.declared.ends.Next.{Next}
 use Rattle.aio_run.specs.declared.ends.Next.TheVariants as next
 
-abbrev pub stop_of : SinkRefusal → Stop
-stop_of refusal.Failed = stop.Write
-stop_of refusal.OutOfMemory = stop.OutOfMemory
+-- what the sink answered to the last answers that were written before a stop
+abbrev pub sink_answer : Stop → Result (Unit {0}) SinkRefusal
+sink_answer (stop.Read sent) = sent
+sink_answer (stop.Write refusal) = Err refusal
+sink_answer (stop.OutOfMemory sent) = sent
+
+-- where the sink refused answers, one of its calls was answered so and was the last
+abbrev pub StopsBy : {S : Type 0} → (S → List ℕ → Result ℕ SinkRefusal → S → Type 0) → S → Stop → Type 0
+StopsBy write_step new s = IfErr (sink_answer s) (RefusedBy write_step new)
 
 -- what a call that uses a device tells of its faults, where the device may have failed
 abbrev pub Causes : {S : Type 0} → (S → ℕ) → (S → Bool) → (old new : S) → Bool → Type 0
 Causes count is_sure old new did_fail = TellsFaults count is_sure old new (IsTrue did_fail)
 
 abbrev pub is_read_fault : Stop → Bool
-is_read_fault stop.Read = true
-is_read_fault stop.Write = false
-is_read_fault stop.OutOfMemory = false
+is_read_fault (stop.Read sent) = true
+is_read_fault (stop.Write refusal) = false
+is_read_fault (stop.OutOfMemory sent) = false
 
+-- whether the output failed, also where it is not what stopped the replay
 abbrev pub is_write_fault : Stop → Bool
-is_write_fault stop.Read = false
-is_write_fault stop.Write = true
-is_write_fault stop.OutOfMemory = false
+is_write_fault s = is_failed (sink_answer s)
 
 -- whether a result stopped with such a fault
 abbrev pub stops_with : {T : Type 0} → (Stop → Bool) → Result T Stop → Bool
@@ -44,33 +49,38 @@ pub record Unread (told : Option (List ℕ)) (ahead unread : List ℕ) : Type 0 
   pub is_left : told ≡ Some left
   pub whole : unread ≡ ahead ++ left
 
--- a source has all but so many of these bytes left
+-- a source has the end of these bytes left, and gave at most so many
 pub record LeavesAllBut (count : ℕ) (told : Option (List ℕ)) (unread : List ℕ) : Type 0 where
+  pub taken : List ℕ
   pub left : List ℕ
   pub is_left : told ≡ Some left
-  pub most : length unread ≤ count + length left
+  pub whole : unread ≡ taken ++ left
+  pub most : length taken ≤ count
 
--- the first of these lines is spelled by no step, and is no header
-pub record BeginsUnread (unread : List ℕ) : Type 0 where
-  pub first : List ℕ
-  pub others : List (List ℕ)
-  pub lines : lines_of unread ≡ first ∷ others
-  pub no_step : written_step first ≡ None
-  pub no_header : bytes_eq first header_text ≡ false
+-- these bytes begin with a line that is too long: 257 of them without a line feed
+pub record BeginsLong (unread : List ℕ) : Type 0 where
+  pub front : List ℕ
+  pub more : List ℕ
+  pub whole : unread ≡ front ++ more
+  pub long : length front ≡ 257
+  pub no_line_feed : HasNoLineFeed front
 
--- a line was taken of the bytes that were unread
+-- a line was taken of the bytes that were unread, with its line feed where it has one
 pub record TakesLine (told : Option (List ℕ)) (line ahead unread : List ℕ) : Type 0 where
+  pub taken : List ℕ
   pub rest : List ℕ
   pub is_rest : Unread told ahead rest
+  pub whole : unread ≡ taken ++ rest
   pub lines : lines_of unread ≡ line ∷ lines_of rest
-  pub most : length unread ≤ 257 + length rest
+  pub within : length taken ≤ length line + 1
+  pub most : length taken ≤ 257
   pub held : LeavesAllBut 257 told unread
 
 -- what was found next of the bytes that were unread: a line, the first bytes of a line that is too long, or nothing; in any case at most 257
 -- bytes of them are out of the source
 abbrev pub FindsNext : Result Next Stop → Option (List ℕ) → List ℕ → List ℕ → List ℕ → Type 0
 FindsNext (Ok next.Line) told line ahead unread = TakesLine told line ahead unread
-FindsNext (Ok next.Long) told line ahead unread = BeginsUnread unread × LeavesAllBut 257 told unread
+FindsNext (Ok next.Long) told line ahead unread = BeginsLong unread × LeavesAllBut 257 told unread
 FindsNext (Ok next.End) told line ahead unread = (unread ≡ []) × (told ≡ Some [])
 FindsNext (Err s) told line ahead unread = LeavesAllBut 257 told unread
 
@@ -80,16 +90,32 @@ pub record Sends (out_old out_new : Option (List ℕ)) (text_old text_new : List
   pub appended : Appends out_old out_new sent
   pub whole : text_old ≡ sent ++ text_new
 
--- the same where it did not stop; else a part of the text went out and nothing is said of the rest
+-- the same where it did not stop; else the text went out as far as the sink took it, and nothing is said of the rest
 abbrev pub SendsOrStops : {T : Type 0} → Result T Stop → Option (List ℕ) → Option (List ℕ) → List ℕ → List ℕ → Type 0
 SendsOrStops (Ok x) out_old out_new text_old text_new = Sends out_old out_new text_old text_new
-SendsOrStops (Err s) out_old out_new text_old text_new = AppendsPart out_old out_new text_old
+SendsOrStops (Err s) out_old out_new text_old text_new = Writes (sink_answer s) out_old out_new text_old
+
+-- the bytes of some lines, each with its line feed
+abbrev pub length_of_lines : List (List ℕ) → ℕ
+length_of_lines [] = 0
+length_of_lines (line ∷ lines) = length line + 1 + length_of_lines lines
+
+-- the bytes of an input that stand before the line of this number, counted from 1
+abbrev pub bytes_before : ℕ → List ℕ → ℕ
+bytes_before line input = length_of_lines (take (line - 1) (lines_of input))
 
 -- how many bytes of a source an end has taken at most
-abbrev pub bytes_of_end : End → ℕ
-bytes_of_end ends.Done = 257 * 1000001
-bytes_of_end (ends.Refused line reason) = 257 * line
-bytes_of_end (ends.Stopped s) = 257 * 1000001
+abbrev pub bytes_of_end : End → List ℕ → ℕ
+bytes_of_end ends.Done input = 257 * 1000001
+bytes_of_end (ends.Refused line reason) input = bytes_before line input + 257
+bytes_of_end (ends.Stopped s) input = 257 * 1000001
+
+-- a replay was stopped after some steps of its trace, whose answers were written as far as the sink took them
+pub record StoppedBehind (s : Stop) (input : List ℕ) (out_old out_new : Option (List ℕ)) : Type 0 where
+  pub done : List Step
+  pub more : List Step
+  pub steps : (trace_of input).steps ≡ done ++ more
+  pub written : Writes (sink_answer s) out_old out_new (output done)
 
 -- what an end says of the input: whether it is whole, which line is refused, and what was written
 abbrev pub Says : End → List ℕ → Option (List ℕ) → Option (List ℕ) → Option (List ℕ) → Type 0
@@ -97,11 +123,17 @@ Says ends.Done input told out_old out_new =
     (told ≡ Some []) × ((trace_of input).refusal ≡ None) × Appends out_old out_new (output (trace_of input).steps)
 Says (ends.Refused line reason) input told out_old out_new =
     ((trace_of input).refusal ≡ Some (record { line = line; reason = reason })) × Appends out_old out_new (output (trace_of input).steps)
-Says (ends.Stopped s) input told out_old out_new = AppendsPart out_old out_new (output (trace_of input).steps)
+Says (ends.Stopped s) input told out_old out_new = StoppedBehind s input out_old out_new
 
 pub record EndsSo (result : End) (input : List ℕ) (told out_old out_new : Option (List ℕ)) : Type 0 where
   pub says : Says result input told out_old out_new
-  pub taken : LeavesAllBut (bytes_of_end result) told input
+  pub taken : LeavesAllBut (bytes_of_end result input) told input
+
+-- where an end is a stop, this holds of it
+abbrev pub IfStopped : End → (Stop → Type 0) → Type 0
+IfStopped ends.Done P = ⊤
+IfStopped (ends.Refused line reason) P = ⊤
+IfStopped (ends.Stopped s) P = P s
 
 -- whether an end is a fault of a kind
 abbrev pub ends_with : (Stop → Bool) → End → Bool

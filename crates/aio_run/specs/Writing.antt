@@ -1,5 +1,5 @@
 -- The line that tells which line of a trace is refused, and why.
-use Rattle.std.specs.Prelude.{◌≡◌, ℕ, List, ◌++◌, codes, decimal}
+use Rattle.std.specs.Prelude.{◌≡◌, ℕ, ◌+◌, ◌<◌, List, ◌++◌, length, codes, decimal}
 use Rattle.aio_base.specs.declared.steps.Answer.{Answer}
 use Rattle.aio_base.specs.declared.steps.Answer.TheVariants as answer
 use Rattle.aio_base.specs.declared.steps.Reason.{Reason}
@@ -12,6 +12,10 @@ refusal_text line reason = ended_line (codes "line " ++ decimal line ++ codes ":
 pub record KeepsFront (old new : List ℕ) : Type 0 where
   pub added : List ℕ
   pub is : new ≡ old ++ added
+
+-- with room for so many bytes there was none for this text behind these
+abbrev pub LacksRoom : ℕ → List ℕ → List ℕ → Type 0
+LacksRoom capacity held text = capacity < length held + length text
 
 -- an answer whose line is not the same words each time
 abbrev pub HasNumbers : Answer → Type 0

@@ -1,19 +1,18 @@
 //! How the replay of a trace ends, and what stops it in the middle.
 
-ghost use Rattle.std.specs.Prelude.{◌≡◌};
-
 use aio_base::Reason;
 use aio_bytes::SinkRefusal;
 
-/// What stops a replay in the middle.
+/// What stops a replay in the middle. Where it is not the output, the answers that were gathered are
+/// written before the replay ends, and the stop carries what the output answered to that.
 #[derive(Clone, Copy, Debug, PartialEq, Eq)]
 pub(crate) enum Stop {
     /// The input failed.
-    Read,
-    /// The output failed.
-    Write,
-    /// Memory ran out.
-    OutOfMemory,
+    Read(Result<(), SinkRefusal>),
+    /// The output refused answers.
+    Write(SinkRefusal),
+    /// Memory ran out for a step or for its answer.
+    OutOfMemory(Result<(), SinkRefusal>),
 }
 
 /// How a replay ends.
@@ -35,18 +34,4 @@ pub(crate) enum Next {
     Long,
     /// Nothing is left.
     End,
-}
-
-impl Stop {
-    ghost use Rattle.aio_run.specs.Session.{stop_of};
-
-    /// What stops a replay where its output refused bytes.
-    pub(crate) fn of(refusal: SinkRefusal) -> Stop
-        ensures { result ≡ stop_of refusal }
-    {
-        match refusal {
-            SinkRefusal::Failed => Stop::Write,
-            SinkRefusal::OutOfMemory => Stop::OutOfMemory,
-        }
-    }
 }

@@ -1,6 +1,6 @@
 //! The places of a reactor's sources: the source with a key stands at the place of that number.
 
-ghost use Rattle.std.specs.Prelude.{◌≡◌, ◌<◌, ◌≤◌, OnOk, vec_len, vec_capacity};
+ghost use Rattle.std.specs.Prelude.{◌≡◌, ◌<◌, ◌≤◌, OnErr, OnOk, vec_len, vec_capacity};
 ghost use Rattle.aio_run.specs.Kept.{free_key, placed};
 
 use aio_source::SourceState;
@@ -19,12 +19,15 @@ pub(crate) fn first_free_place(places: &[Option<SourceState>], from: usize) -> u
     places.len()
 }
 
-/// Takes memory for a source at a place that is the first past the end.
+/// Takes memory for a source at a place that is the first past the end. `AllocError` only where there
+/// was no room for it.
 pub(crate) fn reserve_place(
     places: &mut Vec<Option<SourceState>>,
     at: usize,
 ) -> Result<(), AllocError>
     ensures items { places.new.items ≡ places.old.items }
+    ensures refused { OnErr result
+        ((vec_len places.old ≤ at) × (vec_capacity places.old ≤ vec_len places.old)) }
     ensures room { OnOk result (vec_len places.new ≤ at → vec_len places.new < vec_capacity places.new) }
 {
     if at < places.len() {

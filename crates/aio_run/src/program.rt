@@ -1,21 +1,21 @@
 //! The top call of the program.
 
-ghost use Rattle.std.specs.Prelude.{◌≡◌, ◌≢◌, ℕ, ◌<◌, ◌↔◌, [], List, Option, Some, IfSome, OnOk, OnErr, true, false, string_bytes, map, take};
-ghost use Rattle.std.specs.Io.KnownBytes.{Appends};
+ghost use Rattle.std.specs.Prelude.{◌≡◌, ◌≢◌, ℕ, ◌<◌, ◌↔◌, List, Some, IfErr, true, false, string_bytes, map, take};
 ghost use Rattle.aio_base.specs.Between.{StandsAfter};
 ghost use Rattle.aio_base.specs.Trace.{trace_of};
 ghost use Rattle.aio_base.specs.Devices.{TellsFaults};
-ghost use Rattle.aio_bytes.specs.Sinks.{AppendsPart, HasFailed};
+ghost use Rattle.aio_bytes.specs.Sinks.{HasFailed, RefusedBy, Writes};
 ghost use Rattle.aio_run.specs.Session.{Causes, LeavesAllBut};
-ghost use Rattle.aio_run.specs.Commands.{IsReplay, exit_of, text_of, Replays, TellsCounts, bytes_taken, is_read_fault, is_write_fault};
+ghost use Rattle.aio_run.specs.Commands.{IsReplay, IsTold, exit_of, text_of, Replays, TellsCounts, bytes_taken, is_read_fault, is_write_fault};
 ghost use Rattle.aio_run.specs.Writing.{refusal_text};
 
 use crate::ends::{End, Stop};
 use crate::session::Session;
 use crate::status::{Status, Why};
-use crate::writing::push_refusal;
+use crate::writing::refusal_end;
 use aio_base::{CountFault, Reason};
 use aio_bytes::{Sink, SinkRefusal, Source, write_all};
+use itoa::Buffer;
 use std::alloc::Global;
 use std::sync::Wait;
 use std::thread::Threads;
@@ -37,7 +37,13 @@ const USAGE: &[u8] =
 ///   this call, by the two counts. `out` grew by a front part of the output.
 /// - `Why::OutOfMemory`: at any time. `out` grew by a front part of the output.
 ///
-/// At most 257,000,257 bytes of `input` are taken, and at most 257 of a line before it is refused.
+/// The text for the user is written to `err` as far as that takes it; a refusal of `err` changes no
+/// status. What is taken of `input` is the front of what it has left: at most 257 bytes of a refused
+/// line, behind the lines before it, and at most 257,000,257 bytes otherwise.
+///
+/// The parts below that are handed no runtime are proved to return. Of this call itself no clause
+/// says so, since what is handed a runtime may wait: it is seen from its body, which makes no use of
+/// it.
 pub fn run<R: Wait + Threads + Sync + Send + Copy, S: Source, K: Sink, E: Sink>(
     _rt: &R,
     alloc: Global,
@@ -57,7 +63,7 @@ pub fn run<R: Wait + Threads + Sync + Send + Copy, S: Source, K: Sink, E: Sink>(
     ensures replays { IsReplay (map string_bytes words.now) → (bytes : List ℕ) → S.remaining input.old ≡ Some bytes
         → Replays result.why bytes (S.remaining input.new) (K.contents out.old) (K.contents out.new) }
     ensures taken { (bytes : List ℕ) → S.remaining input.old ≡ Some bytes
-        → LeavesAllBut (bytes_taken result.why) (S.remaining input.new) bytes }
+        → LeavesAllBut (bytes_taken result.why bytes) (S.remaining input.new) bytes }
 
     // Between any two steps of the trace each waiter is covered, no storing of a waker is lost or woken twice,
     // and right after a whole round no timer is left that was due at it.
@@ -70,20 +76,18 @@ pub fn run<R: Wait + Threads + Sync + Send + Copy, S: Source, K: Sink, E: Sink>(
     ensures write_cause { Causes K.fault_count K.is_sure out.old out.new (is_write_fault result.why) }
 
     // The user is told why, as far as `err` takes it; a refusal of `err` changes nothing else.
-    ensures told { OnOk result.told (Appends (E.contents err.old) (E.contents err.new) (text_of result.why)) }
-    ensures told_part { OnErr result.told (AppendsPart (E.contents err.old) (E.contents err.new) (text_of result.why)) }
-    ensures told_cause { TellsFaults E.fault_count E.is_sure
-        err.old err.new (HasFailed result.told) }
+    ensures told { IsTold E.contents E.write_step E.fault_count E.is_sure err.old err.new
+        (text_of result.why) }
 {
     let why = if is_replay(words) {
         replay(alloc, input, out)
     } else {
         Why::Usage
     };
+    let _ = tell(err, why);
     Status {
         exit: exit_status(why),
         why,
-        told: tell(alloc, err, why),
     }
 }
 
@@ -102,7 +106,7 @@ fn replay<S: Source, K: Sink>(alloc: Global, input: &mut S, out: &mut K) -> Why
     ensures replays { (bytes : List ℕ) → S.remaining input.old ≡ Some bytes
         → Replays result bytes (S.remaining input.new) (K.contents out.old) (K.contents out.new) }
     ensures taken { (bytes : List ℕ) → S.remaining input.old ≡ Some bytes
-        → LeavesAllBut (bytes_taken result) (S.remaining input.new) bytes }
+        → LeavesAllBut (bytes_taken result bytes) (S.remaining input.new) bytes }
     ensures counts { TellsCounts result (S.fault_count input.old) (S.fault_count input.new) (K.fault_count out.old) (K.fault_count out.new) }
     ensures read_cause { Causes S.fault_count S.is_sure input.old input.new (is_read_fault result) }
     ensures write_cause { Causes K.fault_count K.is_sure out.old out.new (is_write_fault result) }
@@ -116,15 +120,16 @@ fn replay<S: Source, K: Sink>(alloc: Global, input: &mut S, out: &mut K) -> Why
     match session.replay(input, out) {
         End::Done => Why::Done,
         End::Refused { line, reason } => Why::Refused { line, reason },
-        End::Stopped(Stop::Read) => Why::ReadFault(CountFault {
+        End::Stopped(Stop::Read(_)) => Why::ReadFault(CountFault {
             before: reads,
             after: input.faults(),
         }),
-        End::Stopped(Stop::Write) => Why::WriteFault(CountFault {
+        End::Stopped(Stop::Write(SinkRefusal::Failed)) => Why::WriteFault(CountFault {
             before: writes,
             after: out.faults(),
         }),
-        End::Stopped(Stop::OutOfMemory) => Why::OutOfMemory,
+        End::Stopped(Stop::Write(SinkRefusal::OutOfMemory)) => Why::OutOfMemory,
+        End::Stopped(Stop::OutOfMemory(_)) => Why::OutOfMemory,
     }
 }
 
@@ -143,16 +148,17 @@ fn exit_status(why: Why) -> u8
     }
 }
 
-/// Tells the user why the call ended, where that is not plain; or what kept `err` from taking it.
-fn tell<E: Sink>(alloc: Global, err: &mut E, why: Why) -> Result<(), SinkRefusal>
-    ensures told { OnOk result (Appends (E.contents err.old) (E.contents err.new) (text_of why)) }
-    ensures part { OnErr result (AppendsPart (E.contents err.old) (E.contents err.new) (text_of why)) }
+/// Tells the user why the call ended, where that is not plain; or what kept `err` from taking it. It
+/// takes no memory.
+fn tell<E: Sink>(err: &mut E, why: Why) -> Result<(), SinkRefusal>
+    ensures written { Writes result (E.contents err.old) (E.contents err.new) (text_of why) }
+    ensures refused { IfErr result (RefusedBy E.write_step err.new) }
     ensures cause { TellsFaults E.fault_count E.is_sure err.old err.new (HasFailed result) }
 {
     match why {
         Why::Done => Ok(()),
         Why::Usage => write_all(err, USAGE),
-        Why::Refused { line, reason } => tell_refusal(alloc, err, line, reason),
+        Why::Refused { line, reason } => tell_refusal(err, line, reason),
         Why::ReadFault(_) => write_all(err, b"read fault\n"),
         Why::WriteFault(_) => write_all(err, b"write fault\n"),
         Why::OutOfMemory => write_all(err, b"out of memory\n"),
@@ -161,19 +167,20 @@ fn tell<E: Sink>(alloc: Global, err: &mut E, why: Why) -> Result<(), SinkRefusal
 }
 
 /// Tells the user which line of a trace is refused, and why.
-fn tell_refusal<E: Sink>(
-    alloc: Global,
-    err: &mut E,
-    line: u64,
-    reason: Reason,
-) -> Result<(), SinkRefusal>
-    ensures told { OnOk result (Appends (E.contents err.old) (E.contents err.new) (refusal_text line reason)) }
-    ensures part { OnErr result (AppendsPart (E.contents err.old) (E.contents err.new) (refusal_text line reason)) }
+fn tell_refusal<E: Sink>(err: &mut E, line: u64, reason: Reason) -> Result<(), SinkRefusal>
+    ensures written { Writes result (E.contents err.old) (E.contents err.new)
+        (refusal_text line reason) }
+    ensures refused { IfErr result (RefusedBy E.write_step err.new) }
     ensures cause { TellsFaults E.fault_count E.is_sure err.old err.new (HasFailed result) }
 {
-    let mut text = Vec::new(alloc);
-    match push_refusal(&mut text, line, reason) {
-        Ok(()) => write_all(err, text.as_slice()),
-        Err(_) => Err(SinkRefusal::OutOfMemory),
+    match write_all(err, b"line ") {
+        Ok(()) => {}
+        Err(refusal) => return Err(refusal),
     }
+    let mut digits = Buffer::new();
+    match write_all(err, digits.format(line).as_bytes()) {
+        Ok(()) => {}
+        Err(refusal) => return Err(refusal),
+    }
+    write_all(err, refusal_end(reason))
 }

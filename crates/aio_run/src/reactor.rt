@@ -42,7 +42,7 @@ pub(crate) struct Reactor {
 }
 
 impl Reactor {
-    ghost use Rattle.std.specs.Prelude.{◌≡◌, ◌≢◌, ℕ, ◌+◌, ◌-◌, ◌^◌, ◌<◌, ◌≤◌, [], option_to_list, is_some, IfOk};
+    ghost use Rattle.std.specs.Prelude.{◌≡◌, ◌≢◌, ℕ, ◌+◌, ◌-◌, ◌^◌, ◌<◌, ◌≤◌, [], option_to_list, is_some, IfOk, OnErr};
     ghost use Rattle.std.specs.Bool.{OnTrue};
     ghost use Rattle.aio_script.specs.Script.{new_script};
     ghost use Rattle.aio_run.specs.Kept.{source_at, kept_add, kept_del, kept_poll, kept_new, kept_drop, kept_note, kept_fault, kept_react, StepsListener, SteppedBy, given_up, IsRun, StepsKept};
@@ -127,9 +127,12 @@ impl Reactor {
         }
     }
 
-    /// Makes a listener of a direction of a source.
+    /// Makes a listener of a direction of a source. `AllocError` only where there was no room for it.
     fn new_listener(&mut self, key: Key, dir: Dir) -> Result<Answer, AllocError>
-        ensures { IfOk result (λ answer. record { answer = answer; wakes = []; kept = kept_of self.new } ≡ kept_new (kept_of self.old) key dir) }
+        ensures refused { OnErr result (vec_capacity self.old.listeners ≤ vec_len self.old.listeners) }
+        ensures made { IfOk result (λ answer.
+            record { answer = answer; wakes = []; kept = kept_of self.new }
+            ≡ kept_new (kept_of self.old) key dir) }
     {
         if !self.is_live(key) {
             return Ok(Answer::NoSource);

@@ -1,18 +1,18 @@
 //! The replay of a trace: lines are read, their steps run, and answers gathered in a block of text.
 
-ghost use Rattle.std.specs.Prelude.{◌≡◌, ℕ, ◌+◌, ◌-◌, ◌*◌, ◌^◌, ◌<◌, ◌≤◌, ◌++◌, ◌≢◌, [], List, Option, Some, length, vec_len, IsOk, OnOk, OnErr, false, true, bytes_eq};
+ghost use Rattle.std.specs.Prelude.{◌≡◌, ℕ, ◌+◌, ◌<◌, ◌≤◌, ◌≢◌, [], List, Option, Err, length, vec_len, IfErr, OnOk, OnErr, false, true, bytes_eq};
 ghost use Rattle.aio_base.specs.Trace.{header_text};
-ghost use Rattle.std.specs.Io.KnownBytes.{Appends};
-ghost use Rattle.aio_bytes.specs.Sinks.{AppendsPart};
+ghost use Rattle.aio_bytes.specs.Held.{may_wait};
+ghost use Rattle.aio_bytes.specs.Sinks.{RefusedBy, Writes, is_failed};
 ghost use Rattle.aio_run.specs.Steps.{Closes};
-ghost use Rattle.aio_run.specs.Session.{ends_with, Causes, is_read_fault, is_write_fault, stops_with, Unread, FindsNext, SendsOrStops, ReadsMore};
+ghost use Rattle.aio_run.specs.Session.{ends_with, Causes, is_read_fault, is_write_fault, stops_with, StopsBy, IfStopped, Unread, FindsNext, SendsOrStops, ReadsMore};
 
 use crate::ends::{End, Next, Stop};
 use crate::reactor::Reactor;
 use crate::reading::read_step;
 use crate::writing::push_reply;
 use aio_base::{Reason, Step, Waker};
-use aio_bytes::{LineReader, Sink, Source, write_all};
+use aio_bytes::{LineReader, Sink, SinkRefusal, Source, write_all};
 use std::alloc::{AllocError, Global};
 
 /// How many bytes of answers are gathered before they are written.
@@ -35,11 +35,11 @@ pub(crate) struct Session {
 }
 
 impl Session {
-    ghost use Rattle.std.specs.Prelude.{IfOk, List, Option};
+    ghost use Rattle.std.specs.Prelude.{IfOk, List, None, Option, Some};
     ghost use Rattle.aio_base.specs.World.{World};
     ghost use Rattle.aio_run.specs.Steps.{Closes};
-    ghost use Rattle.aio_run.specs.Session.{ends_with, Causes, goes_on_with, ends_with, is_read_fault, is_write_fault, EndsSo};
-    ghost use Rattle.aio_run.specs.Steps.{Answers, Standing, LineTaken, GoesOn, Opens};
+    ghost use Rattle.aio_run.specs.Session.{ends_with, Causes, goes_on_with, is_read_fault, is_write_fault, StopsBy, IfStopped, EndsSo};
+    ghost use Rattle.aio_run.specs.Steps.{Answers, Standing, LineTaken, GoesOn, IfEnded, Opens};
     ghost use Rattle.aio_run.specs.Kept.{IsRun};
     ghost use Rattle.aio_run.specs.Reactors.{kept_of};
     ghost use Rattle.aio_run.specs.Within.{IsWithin};
@@ -80,6 +80,7 @@ impl Session {
         ensures ends { (all : List ℕ) → S.remaining input.old ≡ Some all → EndsSo result all (S.remaining input.new) (K.contents out.old) (K.contents out.new) }
         ensures read_cause { Causes S.fault_count S.is_sure input.old input.new (ends_with is_read_fault result) }
         ensures write_cause { Causes K.fault_count K.is_sure out.old out.new (ends_with is_write_fault result) }
+        ensures refused { IfStopped result (StopsBy K.write_step out.new) }
     {
         match self.header(input, out) {
             None => {}
@@ -103,6 +104,7 @@ impl Session {
         ensures reactor { self.new.reactor ≡ self.old.reactor }
         ensures read_cause { Causes S.fault_count S.is_sure input.old input.new (goes_on_with is_read_fault result) }
         ensures write_cause { Causes K.fault_count K.is_sure out.old out.new (goes_on_with is_write_fault result) }
+        ensures refused { IfEnded result (StopsBy K.write_step out.new) }
     {
         let next = match next_line(&mut self.reader, &mut self.text, input, out) {
             Ok(next) => next,
@@ -135,8 +137,10 @@ impl Session {
             → GoesOn result all (S.remaining input.new) first (K.contents out.new) (line + 1) self.new.reader.ahead self.new.text.items (kept_of self.new.reactor) }
         ensures bound { length self.new.reader.ahead ≤ 257 }
         ensures within { result ≡ None → IsWithin (line + 1) (kept_of self.new.reactor) }
+        ensures block { result ≡ None → vec_len self.new.text < BLOCK }
         ensures read_cause { Causes S.fault_count S.is_sure input.old input.new (goes_on_with is_read_fault result) }
         ensures write_cause { Causes K.fault_count K.is_sure out.old out.new (goes_on_with is_write_fault result) }
+        ensures refused { IfEnded result (StopsBy K.write_step out.new) }
     {
         let next = match next_line(&mut self.reader, &mut self.text, input, out) {
             Ok(next) => next,
@@ -157,6 +161,7 @@ impl Session {
             → EndsSo result all (S.remaining input.new) first (K.contents out.new) }
         ensures read_cause { Causes S.fault_count S.is_sure input.old input.new (ends_with is_read_fault result) }
         ensures write_cause { Causes K.fault_count K.is_sure out.old out.new (ends_with is_write_fault result) }
+        ensures refused { IfStopped result (StopsBy K.write_step out.new) }
     {
         let next = match next_line(&mut self.reader, &mut self.text, input, out) {
             Ok(next) => next,
@@ -178,9 +183,11 @@ impl Session {
             → LineTaken input told first (K.contents out.old) line self.old.reader.line self.old.reader.ahead self.old.text.items (kept_of self.old.reactor)
             → GoesOn result input told first (K.contents out.new) (line + 1) self.new.reader.ahead self.new.text.items (kept_of self.new.reactor) }
         ensures within { result ≡ None → IsWithin (line + 1) (kept_of self.new.reactor) }
+        ensures block { result ≡ None → vec_len self.new.text < BLOCK }
         ensures reader { self.new.reader ≡ self.old.reader }
         ensures reads { goes_on_with is_read_fault result ≡ false }
         ensures cause { Causes K.fault_count K.is_sure out.old out.new (goes_on_with is_write_fault result) }
+        ensures refused { IfEnded result (StopsBy K.write_step out.new) }
     {
         let step = match read_step(self.reader.line()) {
             Some(step) => step,
@@ -189,8 +196,8 @@ impl Session {
         match self.answer(&step) {
             Ok(()) => {}
             Err(_) => {
-                let _ = flush(&mut self.text, out);
-                return Some(End::Stopped(Stop::OutOfMemory));
+                let sent = flush(&mut self.text, out);
+                return Some(End::Stopped(Stop::OutOfMemory(sent)));
             }
         }
         if self.text.len() < BLOCK {
@@ -198,7 +205,7 @@ impl Session {
         }
         match flush(&mut self.text, out) {
             Ok(()) => None,
-            Err(stop) => Some(End::Stopped(stop)),
+            Err(refusal) => Some(End::Stopped(Stop::Write(refusal))),
         }
     }
 }
@@ -215,10 +222,11 @@ fn close<K: Sink>(text: &mut Vec<u8>, out: &mut K, end: End) -> End
     ensures closes { Closes result end (K.contents out.old) (K.contents out.new) text.old.items }
     ensures reads { ends_with is_read_fault end ≡ false → ends_with is_read_fault result ≡ false }
     ensures cause { ends_with is_write_fault end ≡ false → Causes K.fault_count K.is_sure out.old out.new (ends_with is_write_fault result) }
+    ensures refused { IfStopped end (λ stop. ⊥) → IfStopped result (StopsBy K.write_step out.new) }
 {
     match flush(text, out) {
         Ok(()) => end,
-        Err(stop) => End::Stopped(stop),
+        Err(refusal) => End::Stopped(Stop::Write(refusal)),
     }
 }
 
@@ -227,29 +235,29 @@ fn refuse<K: Sink>(text: &mut Vec<u8>, out: &mut K, line: u64, reason: Reason) -
     ensures closes { Closes result (End.Refused line reason) (K.contents out.old) (K.contents out.new) text.old.items }
     ensures reads { ends_with is_read_fault result ≡ false }
     ensures cause { Causes K.fault_count K.is_sure out.old out.new (ends_with is_write_fault result) }
+    ensures refused { IfStopped result (StopsBy K.write_step out.new) }
 {
     close(text, out, End::Refused { line, reason })
 }
 
-/// Writes the text, and is left with none of it.
-fn flush<K: Sink>(text: &mut Vec<u8>, out: &mut K) -> Result<(), Stop>
-    ensures sends { SendsOrStops result (K.contents out.old) (K.contents out.new) text.old.items text.new.items }
+/// Writes the text, and is left with none of it; where the output refuses some of it, the text stays.
+fn flush<K: Sink>(text: &mut Vec<u8>, out: &mut K) -> Result<(), SinkRefusal>
+    ensures written { Writes result (K.contents out.old) (K.contents out.new) text.old.items }
     ensures empty { OnOk result (text.new.items ≡ []) }
-    ensures never_read { stops_with is_read_fault result ≡ false }
-    ensures cause { Causes K.fault_count K.is_sure out.old out.new (stops_with is_write_fault result) }
+    ensures kept { OnErr result (text.new.items ≡ text.old.items) }
+    ensures refused { IfErr result (RefusedBy K.write_step out.new) }
+    ensures cause { Causes K.fault_count K.is_sure out.old out.new (is_failed result) }
 {
-    match write_all(out, text.as_slice()) {
-        Ok(()) => {
-            text.clear();
-            Ok(())
-        }
-        Err(refusal) => Err(Stop::of(refusal)),
+    let result = write_all(out, text.as_slice());
+    if result.is_ok() {
+        text.clear();
     }
+    result
 }
 
-/// Reads more of the input, after the text was written where the read may have to wait for it.
-/// Answers how many bytes came; 0 is the end of the input. Where the input fails, what was answered
-/// before is written as far as the output takes it.
+/// Reads more of the input. Where the read may have to wait for it, the text is written before, and
+/// else it is left as it is. Answers how many bytes came; 0 is the end of the input. Where the input
+/// fails, what was answered before is written as far as the output takes it.
 fn read_more<S: Source, K: Sink>(
     reader: &mut LineReader,
     text: &mut Vec<u8>,
@@ -260,21 +268,24 @@ fn read_more<S: Source, K: Sink>(
     ensures read { ReadsMore result (S.remaining input.old) (S.remaining input.new) reader.old.ahead reader.new.ahead }
     ensures bound { length reader.new.ahead ≤ 257 }
     ensures sends { SendsOrStops result (K.contents out.old) (K.contents out.new) text.old.items text.new.items }
+    ensures sent_before_waiting { may_wait reader.old ≡ true → OnOk result (text.new.items ≡ []) }
+    ensures gathers { may_wait reader.old ≡ false
+        → OnOk result ((text.new.items ≡ text.old.items) × (out.new ≡ out.old)) }
+    ensures not_read { (refusal : SinkRefusal) → result ≡ Err (Stop.Write refusal)
+        → input.new ≡ input.old }
+    ensures refused { IfErr result (StopsBy K.write_step out.new) }
     ensures read_cause { Causes S.fault_count S.is_sure input.old input.new (stops_with is_read_fault result) }
     ensures write_cause { Causes K.fault_count K.is_sure out.old out.new (stops_with is_write_fault result) }
 {
     if reader.may_wait() {
         match flush(text, out) {
             Ok(()) => {}
-            Err(stop) => return Err(stop),
+            Err(refusal) => return Err(Stop::Write(refusal)),
         }
     }
     match reader.read(input) {
         Ok(count) => Ok(count),
-        Err(_) => {
-            let _ = flush(text, out);
-            Err(Stop::Read)
-        }
+        Err(_) => Err(Stop::Read(flush(text, out))),
     }
 }
 
@@ -293,6 +304,7 @@ fn next_line<S: Source, K: Sink>(
     ensures sends { SendsOrStops result (K.contents out.old) (K.contents out.new) text.old.items text.new.items }
     ensures read_cause { Causes S.fault_count S.is_sure input.old input.new (stops_with is_read_fault result) }
     ensures write_cause { Causes K.fault_count K.is_sure out.old out.new (stops_with is_write_fault result) }
+    ensures refused { IfErr result (StopsBy K.write_step out.new) }
 {
     if reader.find_line() {
         return Ok(Next::Line);
@@ -315,6 +327,7 @@ fn read_line<S: Source, K: Sink>(
     ensures sends { SendsOrStops result (K.contents out.old) (K.contents out.new) text.old.items text.new.items }
     ensures read_cause { Causes S.fault_count S.is_sure input.old input.new (stops_with is_read_fault result) }
     ensures write_cause { Causes K.fault_count K.is_sure out.old out.new (stops_with is_write_fault result) }
+    ensures refused { IfErr result (StopsBy K.write_step out.new) }
 {
     loop {
         if reader.find_line() {

@@ -1,7 +1,6 @@
 //! How a call of the program ended.
 
 use aio_base::{CountFault, Reason};
-use aio_bytes::SinkRefusal;
 
 /// How a call of the program ended, by its exit status and by its cause.
 #[derive(Clone, Copy, Debug, PartialEq, Eq)]
@@ -9,8 +8,6 @@ pub struct Status {
     /// The exit status of the program, 0 to 6 in the order of `Why`.
     pub exit: u8,
     pub why: Why,
-    /// Whether the text for the user, if there is one, was written whole; or the refusal of that sink.
-    pub told: Result<(), SinkRefusal>,
 }
 
 /// Why a call of the program ended.

@@ -1,16 +1,16 @@
 //! Writing the lines of a trace's answers, at the end of a block of output.
 
-ghost use Rattle.std.specs.Prelude.{◌≡◌, ◌++◌, [], ◌∷◌, codes, decimal, flat_map, MatchOption, OnErr, OnOk};
+ghost use Rattle.std.specs.Prelude.{◌≡◌, ◌≤◌, ◌++◌, [], ◌∷◌, codes, decimal, flat_map, MatchOption, OnErr, OnOk, vec_capacity};
 ghost use Rattle.aio_base.specs.Script.{reply_text};
 ghost use Rattle.aio_base.specs.Text.{answer_line, end_text, ended_line, fault_text, limit_text, reason_text};
-ghost use Rattle.aio_run.specs.Writing.{HasNumbers, KeepsFront, refusal_text};
+ghost use Rattle.aio_run.specs.Writing.{HasNumbers, KeepsFront, LacksRoom};
 
 use aio_base::{Answer, EndWord, Key, Reason, Waker};
 use itoa::Buffer;
 use std::alloc::AllocError;
 
-/// Writes an answer's line and then one line for each wake. `AllocError` where memory runs out, and
-/// then `out` is as before.
+/// Writes an answer's line and then one line for each wake. `AllocError` only where there was no room
+/// for them, and then `out` holds what it held.
 pub(crate) fn push_reply(
     out: &mut Vec<u8>,
     answer: Answer,
@@ -18,6 +18,8 @@ pub(crate) fn push_reply(
 ) -> Result<(), AllocError>
     ensures ok { OnOk result (out.new.items ≡ out.old.items ++ reply_text answer wakes.now) }
     ensures err { OnErr result (out.new.items ≡ out.old.items) }
+    ensures full { OnErr result (LacksRoom (vec_capacity out.old) out.old.items
+        (reply_text answer wakes.now)) }
 {
     let written = out.len();
     let result = push_lines(out, answer, wakes);
@@ -33,6 +35,8 @@ pub(crate) fn push_reply(
 fn push_lines(out: &mut Vec<u8>, answer: Answer, wakes: &[Waker]) -> Result<(), AllocError>
     ensures ok { OnOk result (out.new.items ≡ out.old.items ++ reply_text answer wakes.now) }
     ensures kept { OnErr result (KeepsFront out.old.items out.new.items) }
+    ensures full { OnErr result (LacksRoom (vec_capacity out.old) out.old.items
+        (reply_text answer wakes.now)) }
 {
     push_answer(out, answer)?;
     push_wakes(out, wakes)
@@ -44,6 +48,9 @@ fn push_wakes(out: &mut Vec<u8>, wakes: &[Waker]) -> Result<(), AllocError>
     ensures ok { OnOk result (out.new.items ≡ out.old.items
         ++ flat_map (λ waker. ended_line (answer_line (Answer.Wake waker))) wakes.now) }
     ensures kept { OnErr result (KeepsFront out.old.items out.new.items) }
+    ensures full { OnErr result (LacksRoom (vec_capacity out.old) out.old.items
+        (flat_map (λ waker. ended_line (answer_line (Answer.Wake waker))) wakes.now)) }
+    ensures grown { vec_capacity out.old ≤ vec_capacity out.new }
 {
     for waker in wakes {
         push_numbered(out, b"wake ", u64::from(waker.0))?;
@@ -57,6 +64,9 @@ fn push_wakes(out: &mut Vec<u8>, wakes: &[Waker]) -> Result<(), AllocError>
 fn push_answer(out: &mut Vec<u8>, answer: Answer) -> Result<(), AllocError>
     ensures ok { OnOk result (out.new.items ≡ out.old.items ++ ended_line (answer_line answer)) }
     ensures kept { OnErr result (KeepsFront out.old.items out.new.items) }
+    ensures full { OnErr result (LacksRoom (vec_capacity out.old) out.old.items
+        (ended_line (answer_line answer))) }
+    ensures grown { vec_capacity out.old ≤ vec_capacity out.new }
 {
     match answer {
         Answer::Pending => out.extend_from_slice(b"pending\n"),
@@ -71,6 +81,9 @@ fn push_answer(out: &mut Vec<u8>, answer: Answer) -> Result<(), AllocError>
 fn push_other_answer(out: &mut Vec<u8>, answer: Answer) -> Result<(), AllocError>
     ensures ok { OnOk result (out.new.items ≡ out.old.items ++ ended_line (answer_line answer)) }
     ensures kept { OnErr result (KeepsFront out.old.items out.new.items) }
+    ensures full { OnErr result (LacksRoom (vec_capacity out.old) out.old.items
+        (ended_line (answer_line answer))) }
+    ensures grown { vec_capacity out.old ≤ vec_capacity out.new }
 {
     match fixed_line(&answer) {
         Some(line) => out.extend_from_slice(line),
@@ -115,6 +128,9 @@ fn push_with_numbers(out: &mut Vec<u8>, answer: &Answer) -> Result<(), AllocErro
     ensures ok { HasNumbers answer.now → OnOk result (out.new.items
         ≡ out.old.items ++ ended_line (answer_line answer.now)) }
     ensures kept { OnErr result (KeepsFront out.old.items out.new.items) }
+    ensures full { OnErr result (LacksRoom (vec_capacity out.old) out.old.items
+        (ended_line (answer_line answer.now))) }
+    ensures grown { vec_capacity out.old ≤ vec_capacity out.new }
 {
     match *answer {
         Answer::KeyIs(key) => push_numbered(out, b"key ", u64::from(key.0)),
@@ -143,6 +159,10 @@ fn push_round(out: &mut Vec<u8>, number: u64, events: u32, end: EndWord) -> Resu
     ensures ok { OnOk result (out.new.items ≡ out.old.items ++ ended_line (codes "round "
         ++ decimal number ++ codes " events " ++ decimal events ++ codes " " ++ end_text end)) }
     ensures kept { OnErr result (KeepsFront out.old.items out.new.items) }
+    ensures full { OnErr result (LacksRoom (vec_capacity out.old) out.old.items
+        (ended_line (codes "round " ++ decimal number ++ codes " events " ++ decimal events
+        ++ codes " " ++ end_text end))) }
+    ensures grown { vec_capacity out.old ≤ vec_capacity out.new }
 {
     out.extend_from_slice(b"round ")?;
     push_number(out, number)?;
@@ -157,6 +177,9 @@ fn push_end(out: &mut Vec<u8>, end: EndWord) -> Result<(), AllocError>
     ensures ok { OnOk result (out.new.items
         ≡ out.old.items ++ ended_line (codes "end " ++ end_text end)) }
     ensures kept { OnErr result (KeepsFront out.old.items out.new.items) }
+    ensures full { OnErr result (LacksRoom (vec_capacity out.old) out.old.items
+        (ended_line (codes "end " ++ end_text end))) }
+    ensures grown { vec_capacity out.old ≤ vec_capacity out.new }
 {
     out.extend_from_slice(b"end ")?;
     out.extend_from_slice(end_line(end))
@@ -178,6 +201,9 @@ fn push_begin(out: &mut Vec<u8>, number: u64, limit: Option<u64>) -> Result<(), 
     ensures ok { OnOk result (out.new.items ≡ out.old.items ++ ended_line (codes "begin "
         ++ decimal number ++ codes " wait " ++ limit_text limit)) }
     ensures kept { OnErr result (KeepsFront out.old.items out.new.items) }
+    ensures full { OnErr result (LacksRoom (vec_capacity out.old) out.old.items
+        (ended_line (codes "begin " ++ decimal number ++ codes " wait " ++ limit_text limit))) }
+    ensures grown { vec_capacity out.old ≤ vec_capacity out.new }
 {
     out.extend_from_slice(b"begin ")?;
     push_number(out, number)?;
@@ -193,6 +219,9 @@ fn push_handled(out: &mut Vec<u8>, key: Key, fault: bool) -> Result<(), AllocErr
     ensures ok { OnOk result (out.new.items ≡ out.old.items ++ ended_line (codes "handled "
         ++ decimal key.0 ++ fault_text fault)) }
     ensures kept { OnErr result (KeepsFront out.old.items out.new.items) }
+    ensures full { OnErr result (LacksRoom (vec_capacity out.old) out.old.items
+        (ended_line (codes "handled " ++ decimal key.0 ++ fault_text fault))) }
+    ensures grown { vec_capacity out.old ≤ vec_capacity out.new }
 {
     if !fault {
         return push_numbered(out, b"handled ", u64::from(key.0));
@@ -207,6 +236,9 @@ fn push_numbered(out: &mut Vec<u8>, word: &[u8], number: u64) -> Result<(), Allo
     ensures ok { OnOk result (out.new.items
         ≡ out.old.items ++ ended_line (word.now ++ decimal number)) }
     ensures kept { OnErr result (KeepsFront out.old.items out.new.items) }
+    ensures full { OnErr result (LacksRoom (vec_capacity out.old) out.old.items
+        (ended_line (word.now ++ decimal number))) }
+    ensures grown { vec_capacity out.old ≤ vec_capacity out.new }
 {
     out.extend_from_slice(word)?;
     push_number(out, number)?;
@@ -218,42 +250,31 @@ fn push_numbered(out: &mut Vec<u8>, word: &[u8], number: u64) -> Result<(), Allo
 fn push_number(out: &mut Vec<u8>, number: u64) -> Result<(), AllocError>
     ensures ok { OnOk result (out.new.items ≡ out.old.items ++ decimal number) }
     ensures kept { OnErr result (KeepsFront out.old.items out.new.items) }
+    ensures full { OnErr result (LacksRoom (vec_capacity out.old) out.old.items (decimal number)) }
+    ensures grown { vec_capacity out.old ≤ vec_capacity out.new }
 {
     let mut digits = Buffer::new();
     out.extend_from_slice(digits.format(number).as_bytes())
 }
 
-/// The word of a reason.
-pub(crate) fn reason_word(reason: Reason) -> &'static [u8]
-    ensures { result.now ≡ reason_text reason }
+/// How the line ends that tells why a line of a trace is refused.
+pub(crate) fn refusal_end(reason: Reason) -> &'static [u8]
+    ensures { result.now ≡ ended_line (codes ": " ++ reason_text reason) }
 {
     match reason {
-        Reason::Long => b"long",
-        Reason::Byte => b"byte",
-        Reason::Empty => b"empty",
-        Reason::Command => b"command",
-        Reason::Count => b"count",
-        Reason::Number => b"number",
-        Reason::Direction => b"direction",
-        Reason::Flags => b"flags",
-        Reason::Choice => b"choice",
-        Reason::Header => b"header",
-        Reason::Lines => b"lines",
-        Reason::Stage => b"stage",
+        Reason::Long => b": long\n",
+        Reason::Byte => b": byte\n",
+        Reason::Empty => b": empty\n",
+        Reason::Command => b": command\n",
+        Reason::Count => b": count\n",
+        Reason::Number => b": number\n",
+        Reason::Direction => b": direction\n",
+        Reason::Flags => b": flags\n",
+        Reason::Choice => b": choice\n",
+        Reason::Header => b": header\n",
+        Reason::Lines => b": lines\n",
+        Reason::Stage => b": stage\n",
     }
-}
-
-/// Writes the line that tells which line of a trace is refused, and why.
-pub(crate) fn push_refusal(out: &mut Vec<u8>, line: u64, reason: Reason) -> Result<(), AllocError>
-    ensures ok { OnOk result (out.new.items ≡ out.old.items ++ refusal_text line reason) }
-    ensures kept { OnErr result (KeepsFront out.old.items out.new.items) }
-{
-    out.extend_from_slice(b"line ")?;
-    push_number(out, line)?;
-    out.extend_from_slice(b": ")?;
-    out.extend_from_slice(reason_word(reason))?;
-    out.push(b'\n')?;
-    Ok(())
 }
 
 #[cfg(test)]
@@ -343,16 +364,16 @@ mod tests {
     }
 
     #[test]
-    fn replies_and_refusals_follow_what_was_written(rt: HostRuntime) -> Result<(), Fail> {
+    fn replies_follow_what_was_written(rt: HostRuntime) -> Result<(), Fail> {
         let mut out = Vec::new(rt.alloc());
         let round = Answer::Round {
             number: 2,
             events: 1,
             end: EndWord::FaultArm,
         };
+        push_reply(&mut out, Answer::Noted, &[])?;
         push_reply(&mut out, round, &[Waker(2), Waker(1)])?;
-        push_refusal(&mut out, 12, Reason::Stage)?;
-        let want = "round 2 events 1 fault arm\nwake 2\nwake 1\nline 12: stage\n";
+        let want = "noted\nround 2 events 1 fault arm\nwake 2\nwake 1\n";
         assert_eq!(rt; out.as_slice(), want.as_bytes());
         Ok(())
     }

@@ -70,6 +70,16 @@ fn strangers_are_given_too(rt: HostRuntime) -> Result<(), Fail> {
 }
 
 #[test]
+fn events_are_noted_while_memory_is_left(rt: HostRuntime) -> Result<(), Fail> {
+    let mut poller = ScriptPoller::new(rt.alloc())?;
+    for _ in 0..5_000 {
+        assert_eq!(rt; poller.give(READABLE), Ok(()));
+    }
+    assert_eq!(rt; poller.noted().len(), 5_000);
+    Ok(())
+}
+
+#[test]
 fn told_twice_fails_once(rt: HostRuntime) -> Result<(), Fail> {
     let mut poller = ScriptPoller::new(rt.alloc())?;
     for which in [Which::Add, Which::Arm, Which::Remove, Which::Wait] {

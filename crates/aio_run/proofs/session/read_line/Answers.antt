@@ -2,7 +2,7 @@ use Rattle.std.proofs.Common.{◌≡◌, length, arith, ap, sym, ◌∙◌}
 use Rattle.std.proofs.lemmas.Grind.{common_steps}
 use Rattle.std.specs.List.{list_any}
 use Rattle.aio_bytes.specs.Held.{is_line_feed}
-use Rattle.aio_run.proofs.SessionLemmas.{unread-same, read-none, finds_last, Sends-trans, Sends-part, unread-read, unread-kept, unread-most, takes_line, begins_unread}
+use Rattle.aio_run.proofs.SessionLemmas.{unread-same, read-none, finds_last, Sends-trans, Sends-writes, unread-read, unread-kept, unread-most, takes_line, begins_long}
 use Rattle.aio_run.proofs.session.read_line.Goals as goal
 
 pub returns-then-find_line-clause-found : goal.returns-then-find_line-clause-found
@@ -12,7 +12,7 @@ returns-then-find_line-clause-found g c = λ unread is.
 pub returns-then-is_full-clause-found : goal.returns-then-is_full-clause-found
 returns-then-is_full-clause-found g c = λ unread is.
     let stands = c.loop-reader.invariant.unread unread is in
-    (begins_unread _ _ unread stands (ap length (sym c.if-find_line.ensures.kept) ∙ c.is_full.ensures.full.0 c.if-is_full.true) c.if-find_line.ensures.none, unread-most _ _ unread stands c.loop-reader.invariant.bound)
+    (begins_long _ _ unread stands (ap length (sym c.if-find_line.ensures.kept) ∙ c.is_full.ensures.full.0 c.if-is_full.true) c.if-find_line.ensures.none, unread-most _ _ unread stands c.loop-reader.invariant.bound)
 
 pub returns-in-Ok-eq0-clause-found : goal.returns-in-Ok-eq0-clause-found
 returns-in-Ok-eq0-clause-found g c = λ unread is.
@@ -43,4 +43,4 @@ returns-in-Err-clause-found g c = λ unread is.
     unread-most _ c.read_more.new.reader.ahead unread (unread-kept _ _ _ _ unread ahead read.0 read.1) c.in-Err.ensures.bound
 
 pub returns-in-Err-clause-sends : goal.returns-in-Err-clause-sends
-returns-in-Err-clause-sends g c = Sends-part _ _ _ _ _ c.loop-reader.invariant.sends c.in-Err.ensures.sends
+returns-in-Err-clause-sends g c = Sends-writes _ _ _ _ _ _ c.loop-reader.invariant.sends c.in-Err.ensures.sends

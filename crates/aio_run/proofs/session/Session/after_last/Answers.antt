@@ -1,5 +1,6 @@
 use Rattle.std.proofs.Common.{arith}
 use Rattle.aio_run.proofs.StepLemmas.{closes, stops_before, refuses_past, ends_here}
+use Rattle.aio_run.proofs.SessionLemmas.{long_is_unspelled}
 use Rattle.aio_run.proofs.session.Session.after_last.Goals as goal
 
 pub returns-in-Err-clause-ends : goal.returns-in-Err-clause-ends
@@ -14,7 +15,7 @@ returns-in-Line-clause-ends g c = λ all first s.
 pub returns-in-Long-clause-ends : goal.returns-in-Long-clause-ends
 returns-in-Long-clause-ends g c = λ all first s.
     let found = rw c.in-Long.is at (c.in-Ok.ensures.found s.rest s.is_rest) in
-    closes _ _ all _ first _ _ _ (refuses_past all _ _ first _ _ _ _ _ _ _ _ s found.0.lines found.1 c.in-Ok.ensures.sends) c.refuse-in-Long.ensures.closes
+    closes _ _ all _ first _ _ _ (refuses_past all _ _ first _ _ _ _ _ _ _ _ s (long_is_unspelled s.rest found.0).lines found.1 c.in-Ok.ensures.sends) c.refuse-in-Long.ensures.closes
 
 pub returns-in-End-clause-ends : goal.returns-in-End-clause-ends
 returns-in-End-clause-ends g c = λ all first s.
