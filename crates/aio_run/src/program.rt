@@ -65,8 +65,8 @@ pub fn run<R: Wait + Threads + Sync + Send + Copy, S: Source, K: Sink, E: Sink>(
     ensures taken { (bytes : List ℕ) → S.remaining input.old ≡ Some bytes
         → LeavesAllBut (bytes_taken result.why bytes) (S.remaining input.new) bytes }
 
-    // Between any two steps of the trace each waiter is covered, no storing of a waker is lost or woken twice,
-    // and right after a whole round no timer is left that was due at it.
+    // After any steps of the trace each waiter is covered, no storing of a waker is lost or woken twice and
+    // the last step moved storings as it may, and right after a pass no timer is left that was due.
     ensures between { IsReplay (map string_bytes words.now) → (bytes : List ℕ) → S.remaining input.old ≡ Some bytes
         → (n : ℕ) → StandsAfter (take n (trace_of bytes).steps) }
 
