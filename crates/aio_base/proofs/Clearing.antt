@@ -11,7 +11,7 @@ use Rattle.aio_base.specs.World.{PollerAnswer, ListenerEntry, TimerEntry, World,
 use Rattle.aio_base.specs.Machine.{Outcome, del_source, drop_listener, step_listener, tick_deadline, tick_timer, set_timer, end_timer, next_deadline, is_waker, is_fresh_since, is_listener, is_timer, step_result}
 use Rattle.aio_base.specs.Refusals.{is_refusal}
 use Rattle.aio_base.specs.Storings.{Place, OfPoll, OfListener, OfTimer, Stored, Storings, stored_at, given_up_at, each_given_up, timer_place, registered_anew, tick_moves_at, tick_moves, set_moves, end_moves, drop_moves, del_moves, listener_moves, step_storings}
-use Rattle.aio_base.specs.Succession.{poll_places, id_kept, waker_kept, stored_as, own_storing, has_to_wait, registers, has_fired, stores, gives_up, may_give_up}
+use Rattle.aio_base.specs.Succession.{poll_places, id_kept, waker_kept, stored_as, own_storing, has_to_wait, is_ahead, registers, has_fired, stores, gives_up, may_give_up}
 use Rattle.aio_base.proofs.Leaving.{emptied_place, all_given_up}
 use Rattle.aio_base.proofs.Membership.{none_is_in, first_is_in, among_cases, found_is_in}
 
@@ -114,32 +114,40 @@ fired_clears w waker entry (Some deadline) l = anew_clears w entry (Some waker) 
 -- what the poll of a timer stores, by its answer
 abbrev Ticked : World → Waker → TimerEntry → Storings → Outcome → Storings → Type 0
 Ticked w waker entry l o m =
-    (registers o.answer waker (Some entry) || has_fired o.answer) ≡ true
-    → Cleared (timer_place entry.id) (cond (registers o.answer waker (Some entry)) (stored_as l.given (OfTimer (w.ids_drawn + 1)) waker ∷ []) []) m
+    (registers w.now o.answer waker (Some entry) || has_fired o.answer) ≡ true
+    → Cleared (timer_place entry.id) (cond (registers w.now o.answer waker (Some entry)) (stored_as l.given (OfTimer (w.ids_drawn + 1)) waker ∷ []) []) m
 
 -- where a timer waits, it is registered anew or left
-left_or_anew : (w : World) (waker : Waker) (entry : TimerEntry) (l : Storings) (dated kept : Bool) → dated ≡ true
-    → ((dated && not kept) || false) ≡ true
-    → Cleared (timer_place entry.id) (cond (dated && not kept) (stored_as l.given (OfTimer (w.ids_drawn + 1)) waker ∷ []) [])
+left_or_anew : (w : World) (waker : Waker) (entry : TimerEntry) (l : Storings) (dated kept ahead : Bool) → dated ≡ true → ahead ≡ true
+    → ((dated && not (kept && ahead)) || false) ≡ true
+    → Cleared (timer_place entry.id) (cond (dated && not (kept && ahead)) (stored_as l.given (OfTimer (w.ids_drawn + 1)) waker ∷ []) [])
     (cond kept l (registered_anew w entry (Some waker) l))
-left_or_anew w waker entry l true true is gives = absurd cc
-left_or_anew w waker entry l true false is gives = anew_clears w entry (Some waker) l
-left_or_anew w waker entry l false kept is gives = absurd cc
+left_or_anew w waker entry l true true true is still gives = absurd cc
+left_or_anew w waker entry l true true false is still gives = absurd cc
+left_or_anew w waker entry l true false ahead is still gives = anew_clears w entry (Some waker) l
+left_or_anew w waker entry l false kept ahead is still gives = absurd cc
+
+-- one of two outcomes, the second where the test fails
+or_else : (C : Outcome → Storings → Type 0) (test : Bool) (o p : Outcome) (l m : Storings) → C o l → (test ≡ false → C p m) → C (cond test o p) (cond test l m)
+or_else C true o p l m first second = first
+or_else C false o p l m first second = second refl
 
 tick_clears_at : (w : World) (waker : Waker) (entry : TimerEntry) (deadline : Option ℕ) (answers : List PollerAnswer) (l : Storings)
     → entry.deadline ≡ deadline → Ticked w waker entry l (tick_deadline w entry waker deadline answers) (tick_moves_at w waker entry deadline l)
 tick_clears_at w waker entry None answers l at = λ gives.
     absurd (let none : is_some entry.deadline ≡ false = ap is_some at in
-    let wrong : ((false && not (is_some entry.id && is_waker waker entry.kept)) || false) ≡ true =
-    subst (λ d. ((d && not (is_some entry.id && is_waker waker entry.kept)) || false) ≡ true) none gives in cc)
+    let kept : Bool = (is_some entry.id && is_waker waker entry.kept) && is_ahead w.now entry.deadline in
+    let wrong : ((false && not kept) || false) ≡ true = subst (λ d. ((d && not kept) || false) ≡ true) none gives in cc)
 tick_clears_at w waker entry (Some deadline) answers l at =
-    either (Ticked w waker entry l) (nat_le deadline w.now) _ _ _ _ (λ gives. fired_clears w waker entry (next_deadline deadline entry.period) l)
-    (λ gives. left_or_anew w waker entry l (is_some entry.deadline) (is_some entry.id && is_waker waker entry.kept) (ap is_some at) gives)
+    or_else (Ticked w waker entry l) (nat_le deadline w.now) _ _ _ _ (λ gives. fired_clears w waker entry (next_deadline deadline entry.period) l)
+    (λ later gives.
+    left_or_anew w waker entry l (is_some entry.deadline) (is_some entry.id && is_waker waker entry.kept) (is_ahead w.now entry.deadline) (ap is_some at)
+    (ap (is_ahead w.now) at ∙ ap not later) gives)
 
 tick_clears : (w : World) (waker : Waker) (entry : Option TimerEntry) (answers : List PollerAnswer) (l : Storings)
-    → (registers (tick_timer w waker entry answers).answer waker entry || has_fired (tick_timer w waker entry answers).answer) ≡ true
+    → (registers w.now (tick_timer w waker entry answers).answer waker entry || has_fired (tick_timer w waker entry answers).answer) ≡ true
     → Cleared (timer_place (id_kept entry))
-    (cond (registers (tick_timer w waker entry answers).answer waker entry) (stored_as l.given (OfTimer (w.ids_drawn + 1)) waker ∷ []) [])
+    (cond (registers w.now (tick_timer w waker entry answers).answer waker entry) (stored_as l.given (OfTimer (w.ids_drawn + 1)) waker ∷ []) [])
     (tick_moves w waker entry l)
 tick_clears w waker None answers l gives = absurd cc
 tick_clears w waker (Some entry) answers l gives = tick_clears_at w waker entry entry.deadline answers l refl gives

@@ -17,7 +17,7 @@ use Rattle.aio_base.specs.Machine.{Outcome, next_answer, fails, pending, poll_so
 use Rattle.aio_base.specs.Refusals.{is_refusal}
 use Rattle.aio_base.specs.Runs.{PolledStep, outcome_of, world_of}
 use Rattle.aio_base.specs.Storings.{Place, OfPoll, OfListener, OfTimer, Stored, Storings, no_storings, standing_at, none_at, stored_at, given_up_at, woken_at, each_taken, each_given_up, round_woken, timer_place, places_of, due_places, poll_moves, listener_moves, registered_anew, tick_moves_at, tick_moves, set_moves, end_moves, drop_moves, del_moves, begin_moves, event_moves, handle_moves_first, handle_moves, finish_moves_in, finish_moves, handle_each_moves, react_moves, step_storings, step_ended, storings_from, storings_of}
-use Rattle.aio_base.specs.Succession.{poll_places, waker_kept, id_kept, stored_as, own_storing, has_to_wait, registers, stores, event_places, events_given, taken_places, standing_in, may_give_up, gives_up, ends_round, is_poll, StoringsFollow}
+use Rattle.aio_base.specs.Succession.{poll_places, waker_kept, id_kept, stored_as, own_storing, has_to_wait, is_ahead, registers, stores, event_places, events_given, taken_places, standing_in, may_give_up, gives_up, ends_round, is_poll, StoringsFollow}
 use Rattle.aio_base.proofs.Clearing.{Cleared, step_clears}
 use Rattle.aio_base.proofs.Membership.{none_is_in, first_is_in, found_is_in}
 use Rattle.aio_base.proofs.Leaving.{Leave, one_leaves, Taking, none_taken, both_taken, all_taken, GivingUp, none_given_up, one_given_up, all_given_up}
@@ -168,26 +168,34 @@ fired_anew w waker entry None l = nothing_stored _ _ l _ (registration_given_up 
 fired_anew w waker entry (Some deadline) l = registered_one w entry waker l
 
 -- where nothing is done, or something is
-unless : (C : Bool → Storings → Type 0) (test : Bool) (l m : Storings) → C false l → C true m → C (not test) (cond test l m)
+unless : (C : Bool → Storings → Type 0) (test : Bool) (l m : Storings) → C false l → C true m → C (not (test && true)) (cond test l m)
 unless C true l m first second = first
 unless C false l m first second = second
 
+-- one of two cases, the second where the test fails
+or_else : (f : Outcome → Bool) (C : Bool → Storings → Type 0) (test : Bool) (x y : Outcome) (l m : Storings) → C (f x) l → (test ≡ false → C (f y) m)
+    → C (f (cond test x y)) (cond test l m)
+or_else f C true x y l m first second = first
+or_else f C false x y l m first second = second refl
+
 tick_stores_at : (w : World) (waker : Waker) (entry : TimerEntry) (deadline : Option ℕ) (answers : List PollerAnswer) (l : Storings) → entry.deadline ≡ deadline
     → Registers w entry (stored_as l.given (OfTimer (w.ids_drawn + 1)) waker ∷ []) l
-    (registers (tick_deadline w entry waker deadline answers).answer waker (Some entry)) (tick_moves_at w waker entry deadline l)
+    (registers w.now (tick_deadline w entry waker deadline answers).answer waker (Some entry)) (tick_moves_at w waker entry deadline l)
 tick_stores_at w waker entry None answers l at =
     let C : Bool → Storings → Type 0 = Registers w entry (stored_as l.given (OfTimer (w.ids_drawn + 1)) waker ∷ []) l in
-    subst (λ (d : Option ℕ). C (is_some d && not (is_some entry.id && is_waker waker entry.kept)) l) (sym at) (nothing_moved _ _ l)
+    subst (λ (d : Option ℕ). C (is_some d && not ((is_some entry.id && is_waker waker entry.kept) && is_ahead w.now d)) l) (sym at) (nothing_moved _ _ l)
 tick_stores_at w waker entry (Some deadline) answers l at =
     let C : Bool → Storings → Type 0 = Registers w entry (stored_as l.given (OfTimer (w.ids_drawn + 1)) waker ∷ []) l in
     let kept : Bool = is_some entry.id && is_waker waker entry.kept in
-    by_case (λ (o : Outcome). registers o.answer waker (Some entry)) C (nat_le deadline w.now) _ _ _ _
+    or_else (λ (o : Outcome). registers w.now o.answer waker (Some entry)) C (nat_le deadline w.now) _ _ _ _
     (fired_anew w waker entry (next_deadline deadline entry.period) l)
-    (subst (λ (d : Option ℕ). C (is_some d && not kept) (cond kept l (registered_anew w entry (Some waker) l))) (sym at)
-    (unless C kept l _ (nothing_moved _ _ l) (registered_one w entry waker l)))
+    (λ later.
+    subst (λ (d : Option ℕ). C (is_some d && not (kept && is_ahead w.now d)) (cond kept l (registered_anew w entry (Some waker) l))) (sym at)
+    (subst (λ due. C (not (kept && not due)) (cond kept l (registered_anew w entry (Some waker) l))) (sym later)
+    (unless C kept l _ (nothing_moved _ _ l) (registered_one w entry waker l))))
 
 tick_stores : (w : World) (waker : Waker) (entry : Option TimerEntry) (answers : List PollerAnswer) (l : Storings)
-    → Storing (Contains (timer_place (id_kept entry))) (registers (tick_timer w waker entry answers).answer waker entry)
+    → Storing (Contains (timer_place (id_kept entry))) (registers w.now (tick_timer w waker entry answers).answer waker entry)
     (stored_as l.given (OfTimer (w.ids_drawn + 1)) waker ∷ []) l (tick_moves w waker entry l)
 tick_stores w waker None answers l = nothing_moved _ _ l
 tick_stores w waker (Some entry) answers l = tick_stores_at w waker entry entry.deadline answers l refl

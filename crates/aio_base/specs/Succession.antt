@@ -1,6 +1,6 @@
 -- How the storings of wakers after a step follow those before it: what any step, in any world, may store, replace, take and give up. Nothing here
 -- rests on the functions by which storings are moved.
-use Rattle.std.specs.Prelude.{◌≡◌, ◌⊎◌, ℕ, ◌+◌, Bool, true, false, not, ◌&&◌, ◌||◌, if◌then◌else◌, List, [], ◌∷◌, ◌++◌, map, find, flat_map, length, take, Option, None, Some, is_some, option_to_list, option_and_then}
+use Rattle.std.specs.Prelude.{◌≡◌, ◌⊎◌, ℕ, ◌+◌, Bool, true, false, not, ◌&&◌, ◌||◌, if◌then◌else◌, List, [], ◌∷◌, ◌++◌, map, find, flat_map, length, take, nat_le, Option, None, Some, is_some, option_to_list, option_and_then}
 use Rattle.std.specs.List.{Contains}
 use Rattle.aio_base.specs.declared.names.Waker.{Waker}
 use Rattle.aio_base.specs.declared.names.Dir.{Dir}
@@ -36,12 +36,18 @@ has_to_wait answer.Pending = true
 has_to_wait answer.FaultArm = true
 has_to_wait _ = false
 
--- Whether the poll of a timer registers it with the waker of the poll, by its answer: where it waits for its deadline, unless it keeps an id and that
--- very waker already; where it fired, if there is a next deadline.
-abbrev pub registers : Answer → Waker → Option TimerEntry → Bool
-registers answer.Pending waker (Some entry) = is_some entry.deadline && not (is_some entry.id && is_waker waker entry.kept)
-registers (answer.ReadyAt deadline) waker (Some entry) = is_some (next_deadline deadline entry.period)
-registers _ _ _ = false
+-- whether a timer's deadline is after a moment
+abbrev pub is_ahead : ℕ → Option ℕ → Bool
+is_ahead now None = false
+is_ahead now (Some deadline) = not (nat_le deadline now)
+
+-- Whether the poll of a timer at a moment registers it with the waker of the poll, by its answer: where it waits, unless it keeps an id and that very
+-- waker already, for a deadline that is still ahead; where it fired, if there is a next deadline.
+abbrev pub registers : ℕ → Answer → Waker → Option TimerEntry → Bool
+registers now answer.Pending waker (Some entry) =
+    is_some entry.deadline && not ((is_some entry.id && is_waker waker entry.kept) && is_ahead now entry.deadline)
+registers now (answer.ReadyAt deadline) waker (Some entry) = is_some (next_deadline deadline entry.period)
+registers _ _ _ _ = false
 
 -- Whether a step stores its waker: a poll that has to wait, of a source only where the waker is not its poll waiter already; a poll of a timer that
 -- registers it; and each step that sets a timer, where that keeps a waker.
@@ -51,7 +57,7 @@ stores w (step.Poll key dir waker) answers =
     && not (is_waker waker (option_and_then (λ serial. poll_waiter w.poll_waiters serial dir) (serial_of w key.0)))
 stores w (step.StepEar number waker) answers = has_to_wait (step_result w (step.StepEar number waker) answers).answer
 stores w (step.Tick number waker) answers =
-    registers (step_result w (step.Tick number waker) answers).answer waker (find (is_timer number) w.timers)
+    registers w.now (step_result w (step.Tick number waker) answers).answer waker (find (is_timer number) w.timers)
 stores w (step.SetAt number deadline) answers = true
 stores w (step.SetEvery number deadline period) answers = true
 stores _ _ _ = false
