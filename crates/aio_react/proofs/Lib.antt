@@ -1,0 +1,2 @@
+mod FirstDeadline
+mod FirstEvent

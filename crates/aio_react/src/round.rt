@@ -1,0 +1,383 @@
+//! A round in sections.
+
+ghost use Rattle.std.specs.Prelude.{◌≡◌, ◌≢◌, ◌<◌, ◌≤◌, ◌+◌, ◌++◌, [], true, false, not, ℕ, List, None, Some, IfOk, IfSome, IsErr, OnOk, OnErr, length, option_map, slice_get, vec_len, vec_capacity};
+ghost use Rattle.std.specs.List.{All};
+ghost use Rattle.std.specs.Option.{option_or};
+ghost use Rattle.aio_base.specs.Devices.{TellsFaults, raised};
+ghost use Rattle.aio_base.specs.Timers.{due_wakers, after_pass, limit_of, lesser, time_to, first_deadline};
+ghost use Rattle.aio_base.specs.Waits.{IsCountOf};
+ghost use Rattle.aio_base.specs.World.{Registration, directions};
+ghost use Rattle.aio_base.specs.declared.names.Event.{Event};
+ghost use Rattle.aio_source.specs.Lent.{told, fault_of, UsesArm, arm_of, settled};
+ghost use Rattle.aio_source.specs.Rules.{waiters_in};
+ghost use Rattle.aio_react.specs.Rounds.{new_round, begun, HasRisen, wait_of, poller_told, wait_told, waited, given_by, handling_first, taken_first, arm_told, skipped, handled, has_second_pass, second_wakers, second_book, finished};
+
+use aio_base::{
+    Arm, ArmFault, CountFault, DIRS, Event, EventWait, Failed, Moment, OutOfMemory, Waited, Waker,
+};
+use aio_source::SourceState;
+use aio_timers::TimerBook;
+use std::alloc::Global;
+use std::marker::Model;
+
+/// How many events one wait gives at most.
+const WAIT_ROOM: u32 = 1024;
+
+/// What failed in a round first.
+#[derive(Clone, Copy, Debug, PartialEq, Eq)]
+pub enum RoundFault {
+    /// A wait of the round failed, between these two counts of the poller's faults.
+    Wait(CountFault),
+    /// An arm of the round failed, between these two counts of the lent arm's faults.
+    Arm(ArmFault),
+}
+
+/// One round after another, each in sections (`async-io` 2, `reactor.rs`, `ReactorLock::react`): a
+/// begin, waits, events that are handled one by one, and a finish.
+///
+/// The book of timers, the poller, a source and the arm are lent to the calls that need them. What
+/// a round leaves to its caller: the count of rounds, which is raised to the round's number before
+/// any wait; the source of an event's key, with a skip where there is none; and the waking of
+/// `woken`.
+///
+/// Contracts see the running round, or the last one as it ended. At most 1,024 events are in hand,
+/// and none on an idle round. A fault that is kept has two counts between which the count rose.
+#[derive(Drop)]
+pub struct Round {
+    /// The events of the last wait, of which so many were handled or skipped.
+    events: Vec<Event>,
+    done: usize,
+    taken: Vec<Waker>,
+    number: u64,
+    limit: Option<u64>,
+    last: Option<Result<Waited, Failed>>,
+    fault: Option<RoundFault>,
+    running: bool,
+}
+
+impl Model for Round {
+    ghost use Rattle.std.specs.Prelude.{◌≡◌, ◌≤◌, [], false, drop, option_map, IfSome, vec_capacity, vec_len};
+    ghost use Rattle.aio_react.specs.Rounds.{RoundValue, wait_answer, HasRisen};
+
+    ghost Value = { RoundValue };
+
+    ghost view = { λ r. record {
+      running = r.running;
+      number = r.number;
+      limit = r.limit;
+      hand = drop r.done r.events.items;
+      taken = r.taken.items;
+      last = option_map (wait_answer r.limit r.events.items) r.last;
+      fault = r.fault;
+    } };
+
+    ghost invariant = { λ r. (1024 ≤ vec_capacity r.events) × (vec_len r.events ≤ 1024)
+        × (r.done ≤ vec_len r.events) × (r.running ≡ false → drop r.done r.events.items ≡ [])
+        × IfSome r.fault HasRisen };
+}
+
+impl Round {
+    /// An idle round before the first begin, with room for 1,024 events. Its wakers take their
+    /// memory from `alloc` too.
+    pub fn new(alloc: Global) -> Result<Round, OutOfMemory>
+        ensures { IfOk result (λ round. round ≡ new_round) }
+    {
+        match Vec::with_capacity(alloc, WAIT_ROOM as usize) {
+            Ok(events) => Ok(Round {
+                events,
+                done: 0,
+                taken: Vec::new(alloc),
+                number: 0,
+                limit: None,
+                last: None,
+                fault: None,
+                running: false,
+            }),
+            Err(_) => Err(OutOfMemory),
+        }
+    }
+
+    /// Begins the round of this number: a pass over the timers at the moment `now`. Answers the
+    /// limit of its waits in nanoseconds: 0 where the pass took a timer, otherwise the lesser of
+    /// the time to the first deadline and the given limit, each where there is one. `OutOfMemory`
+    /// where there is no memory for the wakers that are due; round and book are then as before.
+    pub fn begin(
+        &mut self,
+        book: &mut TimerBook,
+        now: Moment,
+        given: Option<u64>,
+        number: u64,
+    ) -> Result<Option<u64>, OutOfMemory>
+        requires { self.old.running ≡ false }
+        ensures limit { IfOk result (λ limit. limit ≡ limit_of now book.old.entries given) }
+        ensures round { IfOk result (λ limit.
+            self.new ≡ begun number limit (due_wakers now book.old.entries)) }
+        ensures book { OnOk result (book.new.entries ≡ after_pass now book.old.entries) }
+        ensures spare { OnOk result (book.old.spare ≤ book.new.spare) }
+        ensures refused { OnErr result ((self.new ≡ self.old) × (book.new ≡ book.old)) }
+    {
+        let due = book.due_count(now);
+        match self.taken.reserve(due.saturating_sub(self.taken.len())) {
+            Ok(()) => {}
+            Err(_) => return Err(OutOfMemory),
+        }
+        self.taken.clear();
+        book.pass(now, &mut self.taken);
+        let limit = if self.taken.is_empty() {
+            lesser(time_left(book, now), given)
+        } else {
+            Some(0)
+        };
+        self.events.clear();
+        self.done = 0;
+        self.number = number;
+        self.limit = limit;
+        self.last = None;
+        self.fault = None;
+        self.running = true;
+        Ok(limit)
+    }
+
+    /// Waits once, for at most the round's limit. The events that the poller gives, at most 1,024,
+    /// are in hand then, in its order; an interrupted or failed wait gives none. `CountFault` only
+    /// where the poller's count of faults rose; it is kept where no fault was. It takes no memory.
+    pub fn wait<W: EventWait>(&mut self, poller: &mut W) -> Result<Waited, CountFault>
+        requires running { self.old.running ≡ true }
+        requires hand { self.old.hand ≡ [] }
+        ensures round { self.new ≡ waited self.old result self.new.hand }
+        ensures step { W.wait_step poller.old (wait_of self.old.limit) (poller_told result)
+            self.new.hand poller.new }
+        ensures count { IsCountOf (poller_told result) 1024 self.new.hand }
+        ensures fault { result ≡ wait_told (W.fault_count poller.old) (W.fault_count poller.new)
+            (poller_told result) }
+        ensures waits { W.wait_count poller.new ≡ raised (W.wait_count poller.old) }
+        ensures faults { TellsFaults W.fault_count W.is_sure
+            poller.old poller.new (IsErr (poller_told result)) }
+    {
+        self.events.clear();
+        self.done = 0;
+        let before = poller.faults();
+        let answer = poller.wait(&mut self.events, WAIT_ROOM, self.limit);
+        self.last = Some(answer);
+        match answer {
+            Ok(waited) => Ok(waited),
+            Err(_) => {
+                let fault = CountFault {
+                    before,
+                    after: poller.faults(),
+                };
+                self.keep(RoundFault::Wait(fault));
+                Err(fault)
+            }
+        }
+    }
+
+    /// The first event in hand. `None` exactly where none is, as on an idle round.
+    pub fn peek(&self) -> Option<Event>
+        ensures value { result ≡ slice_get self.now.hand 0 }
+        ensures none { result ≡ None → self.now.hand ≡ [] }
+        ensures idle { self.now.running ≡ false → result ≡ None }
+    {
+        self.hand().first().copied()
+    }
+
+    /// Handles the first event in hand on its source: the wakers that it takes join those of the
+    /// round, and the arm is lent to the source, which arms it once at most. Answers the fault of
+    /// an arm that failed, which is kept where no fault was; the event is handled all the same.
+    /// `OutOfMemory` where there is no memory for the wakers; the event then stays in hand, and all
+    /// is as before.
+    pub fn handle<A: Arm>(
+        &mut self,
+        s: &mut SourceState,
+        arm: &mut A,
+    ) -> Result<Option<ArmFault>, OutOfMemory>
+        requires { option_map (λ (event : Event). event.key) (slice_get self.old.hand 0)
+            ≡ Some s.old.key }
+        ensures round { IfOk result (λ fault.
+            self.new ≡ handled self.old (taken_first self.old s.old) fault) }
+        ensures source { let p = handling_first self.old s.old in
+            IfOk result (λ fault. s.new ≡ settled p.arms (told (arm_told fault)) p.source) }
+        ensures lent { let p = handling_first self.old s.old in
+            IfOk result (λ fault. UsesArm A.arm_step A.interests A.rest A.fault_count A.is_sure
+            p.arms (arm_of p.source) (told (arm_told fault)) arm.old arm.new) }
+        ensures fault { IfOk result (λ fault. arm_told fault ≡ fault_of s.old.key
+            (A.fault_count arm.old) (A.fault_count arm.new) (told (arm_told fault))) }
+        ensures key { s.new.key ≡ s.old.key }
+        ensures refused { OnErr result
+            ((self.new ≡ self.old) × (s.new ≡ s.old) × (arm.new ≡ arm.old)) }
+    {
+        let event = self.events[self.done];
+        match make_room(&mut self.taken, s) {
+            Ok(()) => {}
+            Err(refusal) => return Err(refusal),
+        }
+        self.done += 1;
+        match s.handle(arm, event, self.number, &mut self.taken) {
+            Ok(()) => Ok(None),
+            Err(fault) => {
+                self.keep(RoundFault::Arm(fault));
+                Ok(Some(fault))
+            }
+        }
+    }
+
+    /// Drops the first event in hand, whose key no source has. It takes no memory.
+    pub fn skip(&mut self)
+        requires { self.old.hand ≢ [] }
+        ensures { self.new ≡ skipped self.old }
+    {
+        self.done += 1;
+    }
+
+    /// Ends the round and answers its first fault. Where its last wait gave no event and had time
+    /// to wait, a second pass over the timers is made at the moment `now`. The round is idle then,
+    /// and all wakers that it took are to be woken. `OutOfMemory` where there is no memory for the
+    /// wakers that are due; the round then runs on, and round and book are as before.
+    pub fn finish(
+        &mut self,
+        book: &mut TimerBook,
+        now: Moment,
+    ) -> Result<Option<RoundFault>, OutOfMemory>
+        requires running { self.old.running ≡ true }
+        requires hand { self.old.hand ≡ [] }
+        ensures fault { IfOk result (λ fault. fault ≡ self.old.fault) }
+        ensures cause { IfOk result (λ fault. IfSome fault HasRisen) }
+        ensures round { OnOk result
+            (self.new ≡ finished self.old (second_wakers self.old now book.old.entries)) }
+        ensures book { OnOk result
+            (book.new.entries ≡ second_book self.old now book.old.entries) }
+        ensures spare { OnOk result (book.old.spare ≤ book.new.spare) }
+        ensures refused { OnErr result ((self.new ≡ self.old) × (book.new ≡ book.old)) }
+    {
+        if self.has_second_pass() {
+            match self.taken.reserve(book.due_count(now)) {
+                Ok(()) => {}
+                Err(_) => return Err(OutOfMemory),
+            }
+            book.pass(now, &mut self.taken);
+        }
+        self.running = false;
+        Ok(self.fault)
+    }
+
+    /// On an idle round the wakers that are to be woken for its last finish, in the order in which
+    /// they were taken; on a running one those taken so far.
+    pub fn woken(&self) -> &[Waker]
+        ensures { result.now ≡ self.now.taken }
+    {
+        self.taken.as_slice()
+    }
+
+    /// On an idle round what its last finish answered, and `None` before the first; on a running
+    /// one its first fault so far.
+    pub fn fault(&self) -> Option<RoundFault>
+        ensures value { result ≡ self.now.fault }
+        ensures cause { IfSome result HasRisen }
+    {
+        self.fault
+    }
+
+    /// How many events the last wait of this round gave, on an idle round that of the last finished
+    /// one: 0 where that wait failed or was interrupted, and where none was made.
+    pub fn given(&self) -> u32
+        ensures value { result ≡ given_by self.now.last }
+        ensures bound { result ≤ 1024 }
+    {
+        match self.last {
+            Some(Ok(Waited::Given(_))) => self.events.len() as u32,
+            _ => 0,
+        }
+    }
+
+    /// Whether no round runs.
+    pub fn is_idle(&self) -> bool
+        ensures { result ≡ not self.now.running }
+    {
+        !self.running
+    }
+
+    /// How many events are in hand.
+    pub fn in_hand(&self) -> usize
+        ensures value { result ≡ length self.now.hand }
+        ensures bound { result ≤ 1024 }
+        ensures none { result ≡ 0 → self.now.hand ≡ [] }
+        ensures idle { self.now.running ≡ false → result ≡ 0 }
+    {
+        self.hand().len()
+    }
+
+    /// The events in hand.
+    fn hand(&self) -> &[Event]
+        ensures value { result.now ≡ self.now.hand }
+        ensures bound { length result.now ≤ 1024 }
+        ensures idle { self.now.running ≡ false → result.now ≡ [] }
+    {
+        self.events.as_slice().split_at(self.done).1
+    }
+
+    /// Whether the last wait gave no event, and had time to wait. A wait that failed or was
+    /// interrupted gave none either, but asks for no second pass.
+    fn has_second_pass(&self) -> bool
+        ensures { result ≡ has_second_pass self.now }
+    {
+        match self.last {
+            Some(Ok(Waited::Given(_))) => self.events.is_empty() && self.limit != Some(0),
+            _ => false,
+        }
+    }
+
+    /// Keeps a fault, unless one was kept before.
+    fn keep(&mut self, fault: RoundFault)
+        requires { HasRisen fault }
+        ensures { self.new ≡ record self.old { fault = option_or self.old.fault (Some fault) } }
+    {
+        if self.fault.is_none() {
+            self.fault = Some(fault);
+        }
+    }
+}
+
+/// Makes room behind `taken` for all waiters of a source.
+fn make_room(taken: &mut Vec<Waker>, s: &SourceState) -> Result<(), OutOfMemory>
+    ensures items { taken.new.items ≡ taken.old.items }
+    ensures room { OnOk result (vec_len taken.new
+        + length (waiters_in directions s.now.directions) ≤ vec_capacity taken.new) }
+{
+    match count_waiters(s) {
+        Some(waiting) => taken.reserve(waiting as usize).map_err(|_| OutOfMemory),
+        None => Err(OutOfMemory),
+    }
+}
+
+/// How many waiters a source has in all directions. `None` where they are more than a number
+/// counts.
+fn count_waiters(s: &SourceState) -> Option<u64>
+    ensures { IfSome result (λ n. n ≡ length (waiters_in directions s.now.directions)) }
+{
+    let mut waiting = 0_u64;
+    for dir in DIRS {
+        waiting = waiting.checked_add(s.waiting(dir))?;
+    }
+    Some(waiting)
+}
+
+/// The time from a moment to the first deadline in nanoseconds, where each is later.
+fn time_left(book: &TimerBook, now: Moment) -> Option<u64>
+    requires { All (λ (r : Registration). now < r.deadline) book.now.entries }
+    ensures { result ≡ time_to now (first_deadline book.now.entries) }
+{
+    let (deadline, _) = book.first()?;
+    let left = deadline.get() - now.get();
+    Some(left)
+}
+
+/// The lesser of two limits, each where there is one.
+fn lesser(a: Option<u64>, b: Option<u64>) -> Option<u64>
+    ensures { result ≡ lesser a b }
+{
+    match (a, b) {
+        (None, b) => b,
+        (a, None) => a,
+        (Some(a), Some(b)) => Some(a.min(b)),
+    }
+}
