@@ -1,6 +1,6 @@
 //! What ends a wait of a poller from another thread.
 
-ghost use Rattle.std.specs.Prelude.{◌≡◌, ℕ, IsTrue, IfOk, IsErr};
+ghost use Rattle.std.specs.Prelude.{◌≡◌, ℕ, IsTrue, IfOk, IsErr, Result};
 
 use crate::devices::Faults;
 use crate::outcomes::{Failed, OutOfMemory};
@@ -14,8 +14,12 @@ pub trait Notify: Faults {
     /// The number of its notifies so far.
     ghost call_count: { Self → ℕ };
 
+    /// The object's state before a notify, its answer and the state after it.
+    ghost notify_step: { Self → Result (Unit {0}) Failed → Self → Type 0 };
+
     /// Notifies. `Failed` only where the count of faults rose. Takes no memory.
     fn notify(&mut self) -> Result<(), Failed>
+        ensures step { notify_step self.old result self.new }
         ensures calls { call_count self.new ≡ raised (call_count self.old) }
         ensures faults { TellsFaults Self.fault_count Self.is_sure self.old self.new (IsErr result) };
 
