@@ -1,5 +1,5 @@
 -- What contracts see of listeners: a list of tickets with their wakers in the order of arrival, and how many tickets were drawn.
-use Rattle.std.specs.Prelude.{ℕ, ◌≡◌, ◌^◌, ◌<◌, ◌≤◌, Bool, IsTrue, not, if◌then◌else◌, List, [], ◌∷◌, length, map, filter, slice_index_or, Option, Some, None}
+use Rattle.std.specs.Prelude.{ℕ, ◌≡◌, ◌^◌, ◌<◌, ◌≤◌, Bool, IsTrue, not, if◌then◌else◌, List, [], ◌∷◌, length, map, filter, Option, Some, None}
 use Rattle.std.specs.List.{list_any, filter_map}
 use Rattle.aio_listen.specs.declared.ticket.Ticket.{Ticket}
 use Rattle.aio_listen.specs.Tickets.{same_ticket}
@@ -41,10 +41,6 @@ emptied {W} entries = map (λ (e : Entry W). (e.0, None)) entries
 abbrev pub SerialsRise : {W : Type 0} → ℕ → List (Entry W) → ℕ → Type 0
 SerialsRise low [] drawn = low ≤ drawn
 SerialsRise low (e ∷ es) drawn = (low < e.0.serial) × SerialsRise e.0.serial es drawn
-
--- the entry at this index has this ticket
-abbrev pub IsAt : {W : Type 0} → List (Entry W) → ℕ → Ticket → Type 0
-IsAt {W} entries index ticket = (index < length entries) × ((d : Entry W) → (slice_index_or entries index d).0 ≡ ticket)
 
 -- what stands of every list: the serials rise up to the number of tickets drawn, of which there are fewer than 2^64, and `waiting` is how
 -- many entries have a waker

@@ -6,6 +6,7 @@
 pub struct Ticket {
     /// How many tickets of the list were drawn with this one: the first has 1.
     pub serial: u64,
-    /// Where the list keeps the entry, a number that only the list itself reads.
+    /// Where the list keeps the listener, a number that only the list itself reads. It is given
+    /// again once the listener was removed, to one with another serial.
     pub place: u32,
 }

@@ -1,30 +1,34 @@
--- The removal is at the place of the ticket, so it takes out its entry; the count falls where the entry had a waker.
-use Rattle.std.proofs.Common.{ap, sym, ◌∙◌}
-use Rattle.aio_listen.proofs.EntryLemmas.{listed, remove-at}
-use Rattle.aio_listen.proofs.SoundLemmas.{removed_waker, removed_none}
+-- The node at the place is that of the ticket, and leaves the order.
+use Rattle.std.proofs.Common.{ap, sym, subst}
+use Rattle.aio_listen.specs.Listening.{Listening, Holds}
+use Rattle.aio_listen.specs.Order.{entries_along}
+use Rattle.aio_listen.proofs.EntryLemmas.{listed}
+use Rattle.aio_listen.proofs.UnlinkLemmas.{leaves}
 use Rattle.aio_listen.proofs.listeners.Listeners.remove.Goals as goal
 
-pub overflow_sub-self : goal.overflow_sub-self
-overflow_sub-self g c =
-    let at = rw c.as_slice.ensures.value at c.index_of-index.ensures in
-    (removed_waker _ _ _ _ _ c.self.invariant at.0 c.remove-waker.ensures.value (sym c.is_some.ensures ∙ c.if-is_some.true)).0
+pub unlink-node-requires : goal.unlink-node-requires
+unlink-node-requires g c =
+    let i = c.self.inside in
+    let held : Holds (entries_along c.self.inside.nodes c.self.inside.first) c.args.ticket = subst (λ (v : Listening g.row.W.Denot). Holds v.entries c.args.ticket) (sym c.self.view_is) c.requires in
+    (leaves i.nodes i.first i.last i.drawn i.waiting c.args.ticket c.self.invariant held).linked
+
+pub left_behind-self-inside-requires : goal.left_behind-self-inside-requires
+left_behind-self-inside-requires g c =
+    let i = c.self.inside in
+    let held : Holds (entries_along c.self.inside.nodes c.self.inside.first) c.args.ticket = subst (λ (v : Listening g.row.W.Denot). Holds v.entries c.args.ticket) (sym c.self.view_is) c.requires in
+    let l = (leaves i.nodes i.first i.last i.drawn i.waiting c.args.ticket c.self.invariant held).shrunk c.unlink-node.new.nodes c.unlink-node.ensures.nodes in
+    rw c.unlink-node.ensures.node l.enough
 
 pub invariant_of-self : goal.invariant_of-self
 invariant_of-self g c =
-    let at = rw c.as_slice.ensures.value at c.index_of-index.ensures in
-    rw c.remove-waker.ensures.items (removed_waker _ _ _ _ _ c.self.invariant at.0 c.remove-waker.ensures.value (sym c.is_some.ensures ∙ c.if-is_some.true)).1
+    let i = c.self.inside in
+    let held : Holds (entries_along c.self.inside.nodes c.self.inside.first) c.args.ticket = subst (λ (v : Listening g.row.W.Denot). Holds v.entries c.args.ticket) (sym c.self.view_is) c.requires in
+    let l = (leaves i.nodes i.first i.last i.drawn i.waiting c.args.ticket c.self.invariant held).shrunk c.unlink-node.new.nodes c.unlink-node.ensures.nodes in
+    rw (c.choose-self-inside.ensures, c.choose-self-inside-2.ensures, c.unlink-node.ensures.node) (l.listed c.left_behind-self-inside.result (rw (← c.unlink-node.ensures.node) c.left_behind-self-inside.ensures))
 
-pub invariant_of-self-else-is_some : goal.invariant_of-self-else-is_some
-invariant_of-self-else-is_some g c =
-    let at = rw c.as_slice.ensures.value at c.index_of-index.ensures in
-    rw c.remove-waker.ensures.items (removed_none _ _ _ _ _ c.self.invariant at.0 c.remove-waker.ensures.value (sym c.is_some.ensures ∙ c.if-is_some.false))
-
-pub returns-then-is_some : goal.returns-then-is_some
-returns-then-is_some g c =
-    let at = rw c.as_slice.ensures.value at c.index_of-index.ensures in
-    rw (← c.self.view_is) (ap (λ es. listed es c.self.inside.drawn) (rw c.remove-waker.ensures.items (remove-at 0 _ _ _ c.args.ticket c.self.invariant.order at)))
-
-pub returns-else-is_some : goal.returns-else-is_some
-returns-else-is_some g c =
-    let at = rw c.as_slice.ensures.value at c.index_of-index.ensures in
-    rw (← c.self.view_is) (ap (λ es. listed es c.self.inside.drawn) (rw c.remove-waker.ensures.items (remove-at 0 _ _ _ c.args.ticket c.self.invariant.order at)))
+pub returns : goal.returns
+returns g c =
+    let i = c.self.inside in
+    let held : Holds (entries_along c.self.inside.nodes c.self.inside.first) c.args.ticket = subst (λ (v : Listening g.row.W.Denot). Holds v.entries c.args.ticket) (sym c.self.view_is) c.requires in
+    let l = (leaves i.nodes i.first i.last i.drawn i.waiting c.args.ticket c.self.invariant held).shrunk c.unlink-node.new.nodes c.unlink-node.ensures.nodes in
+    rw (← c.self.view_is, c.choose-self-inside.ensures, c.unlink-node.ensures.node) (ap (λ es. listed es i.drawn) l.entries)

@@ -1,31 +1,39 @@
--- The write is at the place of the ticket, so it is the change of its entry; the count rises where the entry had no waker.
-use Rattle.std.proofs.Common.{ap, sym, ◌∙◌, arith}
-use Rattle.aio_listen.proofs.EntryLemmas.{listed, set-at}
-use Rattle.aio_listen.proofs.SoundLemmas.{set_first, set_again}
+-- The node at the place is that of the ticket, and the count rises where it had no waker.
+use Rattle.std.proofs.Common.{◌+◌, arith, ap, sym, subst, ◌∙◌}
+use Rattle.aio_listen.specs.Listening.{Listening, Holds}
+use Rattle.aio_listen.specs.Order.{entries_along}
+use Rattle.aio_listen.proofs.EntryLemmas.{listed}
+use Rattle.aio_listen.proofs.ListedLemmas.{rewoken, held-present, waiting-small, waker-none, waker-some}
 use Rattle.aio_listen.proofs.listeners.Listeners.set.Goals as goal
 
+pub store-requires : goal.store-requires
+store-requires g c =
+    let held : Holds (entries_along c.self.inside.nodes c.self.inside.first) c.args.ticket = subst (λ (v : Listening g.row.W.Denot). Holds v.entries c.args.ticket) (sym c.self.view_is) c.requires in
+    held-present c.self.inside.nodes c.self.inside.first c.self.inside.last c.self.inside.drawn c.self.inside.waiting c.args.ticket c.self.invariant held
+
 pub overflow_add-self : goal.overflow_add-self
-overflow_add-self g c =
-    let at = rw c.as_slice.ensures.value at c.index_of-index.ensures in
-    let first = set_first _ _ _ _ _ c.args.ticket c.args.waker c.self.invariant at c.index.ensures (sym c.is_some-had_waker.ensures ∙ c.if-not-had_waker.true) in
-    omega (arith, first.0)
+overflow_add-self g c = omega (arith, waiting-small _ _ _ _ _ c.self.invariant)
 
 pub invariant_of-self : goal.invariant_of-self
 invariant_of-self g c =
-    let at = rw c.as_slice.ensures.value at c.index_of-index.ensures in
-    (set_first _ _ _ _ _ c.args.ticket c.args.waker c.self.invariant at c.index.ensures (sym c.is_some-had_waker.ensures ∙ c.if-not-had_waker.true)).1
+    let held : Holds (entries_along c.self.inside.nodes c.self.inside.first) c.args.ticket = subst (λ (v : Listening g.row.W.Denot). Holds v.entries c.args.ticket) (sym c.self.view_is) c.requires in
+    let r = rewoken c.self.inside.nodes c.store.new.nodes c.self.inside.first c.self.inside.last c.self.inside.drawn c.self.inside.waiting c.args.ticket c.args.waker c.self.invariant held c.store.ensures.nodes in
+    r.listed (c.self.inside.waiting + 1) (omega (arith, waker-none _ (sym c.store.ensures.first ∙ c.if-store.true)))
 
-pub invariant_of-self-else-not-had_waker : goal.invariant_of-self-else-not-had_waker
-invariant_of-self-else-not-had_waker g c =
-    let at = rw c.as_slice.ensures.value at c.index_of-index.ensures in
-    set_again _ _ _ _ _ c.args.ticket c.args.waker c.self.invariant at c.index.ensures (sym c.is_some-had_waker.ensures ∙ c.if-not-had_waker.false)
+pub invariant_of-self-else-store : goal.invariant_of-self-else-store
+invariant_of-self-else-store g c =
+    let held : Holds (entries_along c.self.inside.nodes c.self.inside.first) c.args.ticket = subst (λ (v : Listening g.row.W.Denot). Holds v.entries c.args.ticket) (sym c.self.view_is) c.requires in
+    let r = rewoken c.self.inside.nodes c.store.new.nodes c.self.inside.first c.self.inside.last c.self.inside.drawn c.self.inside.waiting c.args.ticket c.args.waker c.self.invariant held c.store.ensures.nodes in
+    r.listed c.self.inside.waiting (omega (arith, waker-some _ (sym c.store.ensures.first ∙ c.if-store.false)))
 
-pub returns-then-not-had_waker : goal.returns-then-not-had_waker
-returns-then-not-had_waker g c =
-    let at = rw c.as_slice.ensures.value at c.index_of-index.ensures in
-    rw (← c.self.view_is) (ap (λ es. listed es c.self.inside.drawn) (set-at 0 _ _ _ c.args.ticket c.args.waker c.self.invariant.order at))
+pub returns-then-store : goal.returns-then-store
+returns-then-store g c =
+    let held : Holds (entries_along c.self.inside.nodes c.self.inside.first) c.args.ticket = subst (λ (v : Listening g.row.W.Denot). Holds v.entries c.args.ticket) (sym c.self.view_is) c.requires in
+    let r = rewoken c.self.inside.nodes c.store.new.nodes c.self.inside.first c.self.inside.last c.self.inside.drawn c.self.inside.waiting c.args.ticket c.args.waker c.self.invariant held c.store.ensures.nodes in
+    rw (← c.self.view_is) (ap (λ es. listed es c.self.inside.drawn) r.entries)
 
-pub returns-else-not-had_waker : goal.returns-else-not-had_waker
-returns-else-not-had_waker g c =
-    let at = rw c.as_slice.ensures.value at c.index_of-index.ensures in
-    rw (← c.self.view_is) (ap (λ es. listed es c.self.inside.drawn) (set-at 0 _ _ _ c.args.ticket c.args.waker c.self.invariant.order at))
+pub returns-else-store : goal.returns-else-store
+returns-else-store g c =
+    let held : Holds (entries_along c.self.inside.nodes c.self.inside.first) c.args.ticket = subst (λ (v : Listening g.row.W.Denot). Holds v.entries c.args.ticket) (sym c.self.view_is) c.requires in
+    let r = rewoken c.self.inside.nodes c.store.new.nodes c.self.inside.first c.self.inside.last c.self.inside.drawn c.self.inside.waiting c.args.ticket c.args.waker c.self.invariant held c.store.ensures.nodes in
+    rw (← c.self.view_is) (ap (λ es. listed es c.self.inside.drawn) r.entries)
