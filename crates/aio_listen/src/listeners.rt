@@ -63,8 +63,8 @@ impl<W: Copy> Drop for Listeners<W> {
 }
 
 impl<W: Copy> Listeners<W> {
-    /// No listeners, with no ticket drawn, in constant time. It takes no memory; `add` takes it from
-    /// `alloc`.
+    /// No listeners, with no ticket drawn, in constant time. It takes no memory; `add` takes it
+    /// from `alloc`.
     pub fn new(alloc: Global) -> Listeners<W>
         ensures { result ≡ record { entries = []; drawn = 0 } }
     {
