@@ -24,12 +24,15 @@ pub mod Holding
 pub mod InterestLemmas
 pub mod Kept
 pub mod Leaving
+pub mod LockSeats
+pub mod LockSteps
 pub mod Membership
 pub mod NotesUnread
 pub mod OnceRuns
 pub mod PassLemmas
 pub mod Places
 pub mod RefusalLemmas
+mod RefusedLocks
 mod RefusedWorlds
 pub mod Registering
 pub mod Rewaiting

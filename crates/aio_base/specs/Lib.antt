@@ -19,4 +19,6 @@ pub mod SharedWords
 pub mod WordLaws
 pub mod WordCalls
 pub mod Tasks
+pub mod SharedLock
+pub mod LockLaws
 pub mod Polls

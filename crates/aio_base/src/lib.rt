@@ -4,14 +4,16 @@
 //!
 //! It stands on nothing but std. The traits promise what `devices` says; the definitions of
 //! `specs/` say what the machine answers to each step, which bytes a trace of steps writes, and which
-//! rule holds of the words that threads share.
+//! rule holds of the words that threads share and of a lock whose tokens know what it holds.
 #![tactic(auto)]
 
 pub mod devices;
 pub mod freshness;
 pub mod later;
 pub mod laws;
+pub mod lock_laws;
 pub mod names;
+pub mod notes;
 pub mod notify;
 pub mod outcomes;
 pub mod seats;
@@ -24,6 +26,7 @@ pub mod word_laws;
 pub use devices::{Arm, EventWait, Faults, Poller};
 pub use later::Later;
 pub use names::{DIRS, Dir, Event, Interest, Key, Moment, TimerId, Waker};
+pub use notes::{LockSeat, LockView, Noted};
 pub use notify::Notify;
 pub use outcomes::{ArmFault, CountFault, EndWord, Failed, OutOfMemory, Poll, Waited, Which};
 pub use seats::{Mode, Owed, Role, SeatView, WordStep};

@@ -1,0 +1,42 @@
+-- What contracts see of the tokens of a lock, and what their types keep.
+use Rattle.std.specs.Prelude.{◌≡◌, ℕ, List, [], ◌∷◌}
+use Rattle.atomic_table.specs.Seated.{TableId}
+use Rattle.aio_base.specs.declared.notes.LockView.{LockView}
+use Rattle.aio_base.specs.declared.notes.LockSeat.{LockSeat}
+use Rattle.aio_base.specs.SharedLock.{nobody, took_out, taken_first, taken_second, without_slot}
+
+-- an owner: the lock to which it belongs, and what it knows
+pub record OwnerValue : Type 0 where
+  pub lock : TableId
+  pub knows : LockView
+
+-- a visit: the lock that is visited, and the two notes of the value that was taken out
+pub record VisitValue : Type 0 where
+  pub lock : TableId
+  pub first : List ℕ
+  pub second : List ℕ
+
+-- the one view of a badge
+abbrev pub view_of : List LockSeat → LockView
+view_of [] = nobody
+view_of (s ∷ seats) = s.view
+
+-- between calls the slot is in its place, or has the value
+abbrev pub IsResting : List LockSeat → Type 0
+IsResting views = views ≡ without_slot (view_of views) ∷ []
+
+-- a visitor owns nothing, and is inside
+abbrev pub IsVisiting : List LockSeat → Type 0
+IsVisiting views = views ≡ without_slot (took_out (taken_first (view_of views)) (taken_second (view_of views)) nobody) ∷ []
+
+-- an owner of this lock that knows this
+abbrev pub owner_of : TableId → LockView → OwnerValue
+owner_of lock knows = record { lock = lock; knows = knows }
+
+-- a visit of this lock that knows the notes of the value that it took out
+abbrev pub visit_of : TableId → LockView → VisitValue
+visit_of lock view = record { lock = lock; first = taken_first view; second = taken_second view }
+
+-- a table of one word and one slot
+abbrev pub IsLock : TableId → Type 0
+IsLock l = (l.words ≡ 1) × (l.slots ≡ 1)
