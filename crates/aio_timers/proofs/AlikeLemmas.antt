@@ -1,14 +1,12 @@
 -- Nodes that differ in their chains or their wakers alone make the same heap.
-use Rattle.std.proofs.Common.{◌≡◌, ◌≢◌, ℕ, zero, suc, ◌+◌, ◌<◌, ◌≤◌, Bool, true, false, List, [], ◌∷◌, length, map, get_or, Option, None, Some, is_some, arith, refl, sym, ap, ◌∙◌}
+use Rattle.std.proofs.Common.{◌≡◌, ℕ, zero, suc, false, List, [], ◌∷◌, length, get_or, Option, None, Some, is_some, arith, refl, sym, ap, ◌∙◌}
 use Rattle.std.specs.List.{filter_map}
-use Rattle.std.proofs.lemmas.Bool.Decides.{nat_tests}
-use Rattle.std.proofs.lemmas.List.{length-map, ext_get_or}
-use Rattle.aio_base.specs.World.{Registration}
+use Rattle.std.proofs.lemmas.List.{length-map}
 use Rattle.aio_timers.specs.declared.node.Node.{Node}
-use Rattle.aio_timers.specs.Held.{Held, held_at, held_of, helds, node_at, blank_node, vacant, live_of, registered}
-use Rattle.aio_timers.specs.Precedes.{precedes, IsNotAfter}
-use Rattle.aio_timers.specs.Forest.{Forest, Bare, Rooted, first_root, times, one_if, LinksAre, Laid, NoneBefore, HeapOrdered}
-use Rattle.aio_timers.specs.Heap.{IsHeap, FreeChain, times_in}
+use Rattle.aio_timers.specs.Held.{Held, held_at, held_of, helds, node_at, vacant, live_of}
+use Rattle.aio_timers.specs.Precedes.{IsNotAfter}
+use Rattle.aio_timers.specs.Forest.{Forest, Bare, Rooted, first_root, LinksAre, Laid, NoneBefore, HeapOrdered}
+use Rattle.aio_timers.specs.Heap.{IsHeap, FreeChain}
 use Rattle.aio_timers.specs.Chains.{ChainsChange}
 
 -- what a node holds is read where it stands, and nothing behind the last node

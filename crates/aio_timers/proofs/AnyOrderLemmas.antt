@@ -1,5 +1,5 @@
 -- Registrations that stand in any order, and the book that they make.
-use Rattle.std.proofs.Common.{◌≡◌, ℕ, zero, suc, inl, inr, ◌⊎◌, ◌<◌, ◌≤◌, Bool, true, false, cond, List, [], ◌∷◌, ◌++◌, length, get_or, set, Option, None, Some, refl, sym, ap, ◌∙◌, arith}
+use Rattle.std.proofs.Common.{◌≡◌, ℕ, zero, suc, inl, inr, ◌⊎◌, ◌<◌, Bool, true, false, cond, List, [], ◌∷◌, ◌++◌, length, get_or, set, Option, None, Some, refl, sym, ap, ◌∙◌, arith}
 use Rattle.std.specs.Prelude.{option_to_list}
 use Rattle.std.proofs.lemmas.List.{append_assoc}
 use Rattle.std.specs.List.{All, filter_map, cons_option}
@@ -7,8 +7,8 @@ use Rattle.std.proofs.lemmas.List.Elements.{All-nil, All-cons, All-head, All-tai
 use Rattle.std.proofs.lemmas.Bool.Decides.{nat_tests}
 use Rattle.aio_base.specs.World.{Registration}
 use Rattle.aio_base.specs.Timers.{fires_before, placed, in_order, is_pair, without_pair, IsBook}
-use Rattle.aio_timers.proofs.OrderLemmas.{fires_before-asym, fires_before-trans, fires_before-total}
-use Rattle.aio_timers.proofs.BookLemmas.{Follows, IsOther, placed-front, All-placed, without_pair-others}
+use Rattle.aio_timers.proofs.OrderLemmas.{fires_before-asym}
+use Rattle.aio_timers.proofs.BookLemmas.{Follows, IsOther, without_pair-others}
 
 true-or-false : (x : Bool) → (x ≡ true) ⊎ (x ≡ false)
 true-or-false true = inl refl
@@ -20,6 +20,7 @@ stands-between x a b h k = grind (arith, nat_tests)
 one-is-first : (a b : Registration) → is_pair b.deadline b.id a ≡ false → fires_before b a ≡ false → fires_before a b ≡ true
 one-is-first a b h k = grind (arith, nat_tests)
 
+-- two registrations of different pairs are placed in either order
 pub placed-commutes : (a b : Registration) (xs : List Registration) → is_pair b.deadline b.id a ≡ false → placed a (placed b xs) ≡ placed b (placed a xs)
 placed-commutes a b [] ne =
     elim (true-or-false (fires_before b a)) as (λ _. placed a (placed b []) ≡ placed b (placed a [])) [
@@ -41,6 +42,7 @@ placed-commutes a b (x ∷ xs) ne =
       ]
     ]
 
+-- one that stands among others is as good as the first
 pub in_order-within : (front : List Registration) (r : Registration) (back : List Registration) → All (IsOther r.deadline r.id) front → in_order (front ++ r ∷ back) ≡ placed r (in_order (front ++ back))
 in_order-within [] r back others = refl
 in_order-within (x ∷ front) r back others =
@@ -89,6 +91,7 @@ others-ahead (x ∷ front) r back h =
     let one : IsOther x.deadline x.id r = All-append_head (IsOther x.deadline x.id) front r back (All-in_order (IsOther x.deadline x.id) (front ++ r ∷ back) both.0) in
     All-cons (IsOther r.deadline r.id) x front (IsOther-sym x r one) (others-ahead front r back both.1)
 
+-- one leaves from among others
 pub record LeavesWithin (front back : List Registration) (r : Registration) : Type 0 where
   pub placed_is : in_order (front ++ r ∷ back) ≡ placed r (in_order (front ++ back))
   pub book : IsBook (in_order (front ++ back))
@@ -108,6 +111,7 @@ All-front : (P : Registration → Type 0) (front back : List Registration) → A
 All-front P [] back h = All-nil P
 All-front P (x ∷ front) back h = All-cons P x front (All-head P x (front ++ back) h) (All-front P front back (All-tail P x (front ++ back) h))
 
+-- one that was placed and goes
 pub without_pair-placed : (r : Registration) (book : List Registration) → All (IsOther r.deadline r.id) book → without_pair r.deadline r.id (placed r book) ≡ book
 without_pair-placed r [] h = let same : is_pair r.deadline r.id r ≡ true = same_pair r in rw same refl
 without_pair-placed r (x ∷ book) h =

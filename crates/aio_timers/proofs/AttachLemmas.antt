@@ -1,11 +1,11 @@
 -- A root below another one.
-use Rattle.std.proofs.Common.{◌≡◌, ◌≢◌, ℕ, zero, suc, ◌+◌, ◌<◌, ◌≤◌, List, [], ◌∷◌, length, get_or, set, Option, None, Some, arith, refl, sym, ap, ◌∙◌, length-set}
+use Rattle.std.proofs.Common.{◌≡◌, ◌≢◌, ℕ, ◌+◌, ◌<◌, ◌≤◌, List, length, Option, Some, arith, sym, ap, ◌∙◌, length-set}
 use Rattle.aio_timers.specs.declared.node.Node.{Node}
 use Rattle.aio_timers.specs.Nodes.{with_child, with_next, with_prev, with_prev_of, attached}
 use Rattle.aio_timers.specs.Forest.{Forest, Bare, Rooted, first_root, one_if, times, LinksAre, Laid}
-use Rattle.aio_timers.proofs.CountLemmas.{one_if-same, one_if-other, one_if-le}
+use Rattle.aio_timers.proofs.CountLemmas.{one_if-same}
 use Rattle.aio_timers.proofs.LayoutLemmas.{Laid-within, Laid-frame, Laid-reprev, set-here, set-there, prev_of-there, prev_of-here, length-prev_of}
-use Rattle.aio_timers.specs.Held.{blank_node, node_at}
+use Rattle.aio_timers.specs.Held.{node_at}
 
 module _ (ns : List Node) (p q : ℕ) where
   abbrev pub first : Option ℕ
@@ -50,6 +50,7 @@ module _ (ns : List Node) (p q : ℕ) where
       let c : node_at step_c q ≡ record (node_at ns q) { next = first; prev = Some p } = set-here step_b q _ (omega (arith, length-b)) ∙ ap (λ (x : Node). record x { prev = Some p }) b in
       set-there step_c p _ q nqp ∙ c
 
+-- a first root stands in its shape
 pub root-times : (t : Forest) (i : ℕ) → first_root t ≡ Some i → 0 < times i t
 root-times Bare i e = cc
 root-times (Rooted k c n) i e = let same : k ≡ i = cc in rw same (omega (arith, one_if-same i))
@@ -58,6 +59,7 @@ pub record Attached (ns ms : List Node) (p q : ℕ) (ps qs : Forest) (pn pp : Op
   pub parent : LinksAre ms p (Some q) pn pp
   pub below : Laid ms (Some p) (Rooted q qs ps)
 
+-- the new child stands before the other ones
 pub attached-links : (ns : List Node) (p q : ℕ) (ps qs : Forest) (pn pp qn qp : Option ℕ) → LinksAre ns p (first_root ps) pn pp → Laid ns (Some p) ps → LinksAre ns q (first_root qs) qn qp → Laid ns (Some q) qs → ((j : ℕ) → one_if j p + one_if j q + times j ps + times j qs ≤ 1) → Attached ns (attached ns p q) p q ps qs pn pp
 attached-links ns p q ps qs pn pp qn qp hp lp hq lq once =
     let npq : p ≢ q = λ e. omega (arith, once p, one_if-same p, ap (one_if p) e) in

@@ -1,8 +1,8 @@
 -- What nodes hold after a write of a link of a chain.
-use Rattle.std.proofs.Common.{◌≡◌, ◌≢◌, ℕ, inl, inr, ◌⊎◌, ◌<◌, List, length, Option, refl, ap, ◌∙◌}
+use Rattle.std.proofs.Common.{◌≡◌, ◌≢◌, ℕ, inl, inr, ◌<◌, List, length, Option, ap}
 use Rattle.std.proofs.lemmas.Bool.{cases_eq}
 use Rattle.aio_timers.specs.declared.node.Node.{Node}
-use Rattle.aio_timers.specs.Held.{Held, held_at, held_of, node_at}
+use Rattle.aio_timers.specs.Held.{Held, held_at, held_of}
 use Rattle.aio_timers.specs.Nodes.{with_chain}
 use Rattle.aio_timers.proofs.LayoutLemmas.{set-here, set-there}
 

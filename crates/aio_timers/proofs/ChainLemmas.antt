@@ -1,5 +1,5 @@
 -- What a change of nodes or of buckets does to the chains.
-use Rattle.std.proofs.Common.{◌≡◌, ◌≢◌, ℕ, zero, suc, inl, inr, ◌⊎◌, ◌+◌, ◌<◌, ◌≤◌, ◌%◌, ◌==◌, Bool, true, false, cond, List, [], ◌∷◌, ◌++◌, length, get_or, set, Option, None, Some, arith, refl, sym, ap, ◌∙◌, length-set, append_assoc}
+use Rattle.std.proofs.Common.{◌≡◌, ◌≢◌, ℕ, inl, inr, ◌+◌, ◌<◌, ◌≤◌, ◌==◌, Bool, true, false, cond, List, [], ◌∷◌, ◌++◌, length, get_or, set, Option, None, Some, arith, refl, sym, ap, ◌∙◌, length-set, append_assoc}
 use Rattle.std.proofs.lemmas.List.{get_or-set_same, get_or-set_other}
 use Rattle.std.proofs.lemmas.Bool.{cases_eq}
 use Rattle.std.proofs.lemmas.Bool.Decides.{nat_tests}
@@ -8,7 +8,7 @@ use Rattle.aio_timers.specs.Forest.{one_if}
 use Rattle.aio_timers.specs.Heap.{times_in}
 use Rattle.aio_timers.specs.Chains.{IsChain, IsTable, IsAmong, IsJustBefore, IsWithout, bucket_in}
 use Rattle.aio_timers.proofs.CountLemmas.{one_if-same, one_if-other, some_or_none}
-use Rattle.aio_timers.proofs.SeekLemmas.{times_in-append, length-le, IsChain-within}
+use Rattle.aio_timers.proofs.SeekLemmas.{times_in-append}
 
 pub IsChain-frame : (f g : ℕ → Held) (n m : ℕ) (l : Option ℕ) (xs : List ℕ) → n ≤ m → ((j : ℕ) → 0 < times_in j xs → (g j).chain ≡ (f j).chain) → IsChain f n l xs → IsChain g m l xs
 IsChain-frame f g n m l [] le same c = c

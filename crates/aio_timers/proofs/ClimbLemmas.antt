@@ -1,17 +1,18 @@
 -- The way of a walk.
-use Rattle.std.proofs.Common.{subst, ◌≡◌, ◌≢◌, ℕ, zero, suc, inl, inr, ◌⊎◌, ◌+◌, ◌<◌, ◌≤◌, Bool, true, false, cond, List, length, Option, None, Some, is_some, arith, refl, sym, ap, ◌∙◌}
+use Rattle.std.proofs.Common.{◌≡◌, ◌≢◌, ℕ, ◌+◌, ◌<◌, ◌≤◌, Bool, true, false, cond, List, length, None, Some, arith, refl, sym, ap, ◌∙◌}
 use Rattle.aio_timers.specs.declared.node.Node.{Node}
 use Rattle.aio_timers.specs.Nodes.{leads_to}
-use Rattle.aio_timers.specs.Forest.{Forest, Bare, Rooted, first_root, one_if, times, LinksAre, Laid, Path, AtTop, UnderParent, AfterSibling, rebuilt, back_link, times_around}
+use Rattle.aio_timers.specs.Forest.{Forest, Bare, Rooted, first_root, times, LinksAre, Path, AtTop, UnderParent, AfterSibling, rebuilt, back_link}
 use Rattle.aio_timers.specs.Walk.{sum_around, depth, IsLaidOnce, ComesAt, ComesNext, ClimbsTo, left_behind, onward}
 use Rattle.aio_timers.proofs.CountLemmas.{one_if-same}
 use Rattle.aio_timers.proofs.LayoutLemmas.{Laid-within}
 use Rattle.aio_timers.proofs.AttachLemmas.{root-times}
 use Rattle.aio_timers.proofs.SizeLemmas.{size, size-le}
-use Rattle.aio_timers.proofs.PathLemmas.{times-rebuilt, LinkedParts, Laid-parts}
+use Rattle.aio_timers.proofs.PathLemmas.{times-rebuilt, Laid-parts}
 use Rattle.aio_timers.proofs.CutLemmas.{leads_to-same, leads_to-other}
 use Rattle.aio_timers.specs.Held.{node_at}
 
+-- a path passes no more nodes than there are
 pub depth-size : (k : Path) (t : Forest) → depth k + size t ≤ size (rebuilt k t)
 depth-size AtTop t = omega arith
 depth-size (UnderParent i n k) t = omega (arith, depth-size k (Rooted i t n))
@@ -20,9 +21,11 @@ depth-size (AfterSibling i c k) t = omega (arith, depth-size k (Rooted i c t))
 pub depth-lt : (ns : List Node) (t : Forest) (k : Path) (i : ℕ) (c n : Forest) → IsLaidOnce ns t → rebuilt k (Rooted i c n) ≡ t → depth k < length ns
 depth-lt ns t k i c n w e = omega (arith, depth-size k (Rooted i c n), ap size e, size-le (length ns) t w.once (λ j h. Laid-within ns None t j w.linked h))
 
+-- the links of a node in its place
 pub own : (ns : List Node) (t : Forest) (k : Path) (i : ℕ) (c n : Forest) → IsLaidOnce ns t → rebuilt k (Rooted i c n) ≡ t → LinksAre ns i (first_root c) (first_root n) (back_link k)
 own ns t k i c n w e = let p = Laid-parts ns k (Rooted i c n) (rw e w.linked) in p.inside.0
 
+-- a climb from a node
 pub start : (t : Forest) (k : Path) (at : ℕ) (c n : Forest) → rebuilt k (Rooted at c n) ≡ t → ClimbsTo t at true 0 (depth k) (left_behind k n)
 start t k at c n e = record { around = k; below = c; later = n; is = e; same = λ f z. refl; deep = omega arith }
 
@@ -98,5 +101,6 @@ pub climb-up-within : (ns : List Node) (t : Forest) (w : IsLaidOnce ns t) (top :
 climb-up-within ns t w top left at index up ahead c none e =
     climb-within ns t w top left up (leads_to (node_at ns up).child at) (index + 1) (climb-up ns t w top left at index up ahead c none e)
 
+-- it ends
 pub climb-over : (ns : List Node) (t : Forest) (k : Path) (i : ℕ) (c n : Forest) (at index : ℕ) (ahead : Bool) → IsLaidOnce ns t → rebuilt k (Rooted i c n) ≡ t → ClimbsTo t at ahead index (depth k) (left_behind k n) → length ns ≤ index → ⊥
 climb-over ns t k i c n at index ahead w e climbs over = omega (arith, depth-lt ns t k i c n w e, climbs.deep)

@@ -1,16 +1,16 @@
 -- A node that leaves its siblings.
-use Rattle.std.proofs.Common.{◌≡◌, ◌≢◌, ℕ, zero, suc, inl, inr, ◌⊎◌, ◌+◌, ◌<◌, ◌≤◌, Bool, true, false, List, length, set, Option, None, Some, arith, refl, sym, ap, ◌∙◌, length-set}
+use Rattle.std.proofs.Common.{◌≡◌, ◌≢◌, ℕ, inl, inr, ◌+◌, ◌<◌, ◌≤◌, true, false, List, length, set, Option, None, Some, arith, refl, ap, ◌∙◌, length-set}
 use Rattle.std.proofs.lemmas.Bool.{cases_eq}
 use Rattle.std.proofs.lemmas.Bool.Decides.{nat_tests}
 use Rattle.aio_timers.specs.declared.node.Node.{Node}
-use Rattle.aio_timers.specs.Nodes.{with_child, with_next, with_prev_of, leads_to, bypassed, cut_out}
-use Rattle.aio_timers.specs.Forest.{Forest, Bare, Rooted, first_root, one_if, times, LinksAre, Laid, Heads, KeepsHeld, Path, AtTop, UnderParent, AfterSibling, rebuilt, back_link, times_around, LaidAround, StandsAt, CutOut}
-use Rattle.aio_timers.proofs.CountLemmas.{one_if-same, one_if-other, one_if-le, some_or_none}
+use Rattle.aio_timers.specs.Nodes.{with_prev_of, leads_to, cut_out}
+use Rattle.aio_timers.specs.Forest.{Forest, Rooted, first_root, one_if, times, LinksAre, Laid, Heads, KeepsHeld, Path, AtTop, UnderParent, AfterSibling, back_link, times_around, LaidAround, StandsAt, CutOut}
+use Rattle.aio_timers.proofs.CountLemmas.{one_if-same}
 use Rattle.aio_timers.proofs.LayoutLemmas.{Laid-frame, Laid-reprev, Laid-within, set-here, set-there, prev_of-here, prev_of-there, length-prev_of}
 use Rattle.aio_timers.proofs.AttachLemmas.{root-times}
 use Rattle.aio_timers.proofs.MeldLemmas.{not_same}
-use Rattle.aio_timers.proofs.FirstPassLemmas.{KeepsHeld-set, KeepsHeld-refl, KeepsHeld-trans}
-use Rattle.aio_timers.proofs.PathLemmas.{times-rebuilt, LinkedParts, Laid-parts, Laid-rebuilt, Around-frame}
+use Rattle.aio_timers.proofs.FirstPassLemmas.{KeepsHeld-set, KeepsHeld-refl}
+use Rattle.aio_timers.proofs.PathLemmas.{times-rebuilt, Laid-parts, Laid-rebuilt, Around-frame}
 use Rattle.aio_timers.specs.Held.{held_at, held_of, node_at}
 
 pub leads_to-same : (i : ℕ) → leads_to (Some i) i ≡ true
@@ -63,6 +63,7 @@ after ns p x i c n lt key own lc ln once =
       ];
     }
 
+-- whether it was the first root, a first child or a later sibling
 pub cut_out-tells : (ns : List Node) (i : ℕ) (k : Path) (c n : Forest) → StandsAt ns i k c n → CutOut ns (cut_out ns i) i k c n
 cut_out-tells ns i AtTop c n h =
     let p = Laid-parts ns AtTop (Rooted i c n) h.linked in

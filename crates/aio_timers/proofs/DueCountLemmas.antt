@@ -1,5 +1,5 @@
 -- The nodes that a walk counts are the registrations that are due.
-use Rattle.std.proofs.Common.{inl, inr, ◌⊎◌, ◌≡◌, ◌≢◌, ℕ, zero, suc, ◌+◌, ◌<◌, ◌≤◌, ◌==◌, Bool, true, false, cond, List, [], ◌∷◌, length, map, get_or, Option, None, Some, is_some, refl, sym, ap, ◌∙◌, arith}
+use Rattle.std.proofs.Common.{inl, inr, ◌≡◌, ◌≢◌, ℕ, zero, suc, ◌+◌, ◌<◌, ◌≤◌, ◌==◌, Bool, true, false, cond, List, [], ◌∷◌, length, get_or, Option, None, Some, is_some, refl, sym, ap, ◌∙◌, arith}
 use Rattle.std.specs.Prelude.{nat_le}
 use Rattle.std.specs.List.{filter, filter_map, cons_option}
 use Rattle.std.proofs.lemmas.Bool.{cases_eq}
@@ -11,14 +11,13 @@ use Rattle.aio_base.specs.Timers.{fires_before, placed, in_order, due_wakers}
 use Rattle.aio_timers.specs.declared.node.Node.{Node}
 use Rattle.aio_timers.specs.Held.{Held, held_at, held_of, helds, vacant, live_of, registered}
 use Rattle.aio_timers.specs.Forest.{Forest, Bare, Rooted, one_if, times}
-use Rattle.aio_timers.specs.Heap.{times_in, IsHeap}
+use Rattle.aio_timers.specs.Heap.{IsHeap}
 use Rattle.aio_timers.specs.Walk.{due_unit, due_among, IsHeapTree}
-use Rattle.aio_timers.specs.Sound.{registrations, IsSound}
+use Rattle.aio_timers.specs.Sound.{registrations}
 use Rattle.aio_timers.proofs.CountLemmas.{one_if-same, one_if-other, some_or_none}
 use Rattle.aio_timers.proofs.LayoutLemmas.{Laid-within}
 use Rattle.aio_timers.proofs.AlikeLemmas.{held-read}
-use Rattle.aio_timers.proofs.LeastLemmas.{used-inside}
-use Rattle.aio_timers.proofs.SoundLemmas.{length-in_order, length-placed}
+use Rattle.aio_timers.proofs.SoundLemmas.{length-in_order}
 
 -- ## Sums below a bound
 

@@ -1,15 +1,16 @@
 -- A merge, first pass.
-use Rattle.std.proofs.Common.{◌≡◌, ◌≢◌, ℕ, zero, suc, inl, inr, ◌⊎◌, ◌+◌, ◌<◌, ◌≤◌, List, length, set, Option, None, Some, arith, refl, sym, ap, ◌∙◌, length-set}
+use Rattle.std.proofs.Common.{◌≡◌, ℕ, inl, inr, ◌+◌, ◌<◌, ◌≤◌, List, length, set, Option, None, Some, arith, refl, sym, ap, ◌∙◌, length-set}
 use Rattle.std.proofs.lemmas.Bool.{cases_eq}
 use Rattle.aio_timers.specs.declared.node.Node.{Node}
 use Rattle.aio_timers.specs.Nodes.{with_next, melded, upper_root, IsNode}
-use Rattle.aio_timers.specs.Forest.{Forest, Bare, Rooted, first_root, one_if, times, Laid, Heads, InRow, NoneBefore, HeapOrdered, IsSiblings, KeepsHeld, PairsUp, row_length, row_steps}
-use Rattle.aio_timers.proofs.CountLemmas.{one_if-same, one_if-other, one_if-le}
+use Rattle.aio_timers.specs.Forest.{Forest, Bare, Rooted, first_root, one_if, times, InRow, NoneBefore, HeapOrdered, IsSiblings, KeepsHeld, PairsUp, row_length, row_steps}
+use Rattle.aio_timers.proofs.CountLemmas.{one_if-same}
 use Rattle.aio_timers.proofs.LayoutLemmas.{set-here, set-there}
 use Rattle.aio_timers.proofs.MeldLemmas.{Heads-frame, InRow-frame, MeldTells, melded-tells, not_same, IsNode-top}
 use Rattle.aio_timers.proofs.SizeLemmas.{walk-row}
 use Rattle.aio_timers.specs.Held.{Held, held_at, held_of, node_at}
 
+-- the order looks at what nodes hold alone
 pub NoneBefore-held : (f g : ℕ → Held) (k : Held) (t : Forest) → ((j : ℕ) → g j ≡ f j) → NoneBefore f k t → NoneBefore g k t
 NoneBefore-held f g k Bare same a = tt
 NoneBefore-held f g k (Rooted i c n) same a = (rw (same i) a.0, NoneBefore-held f g k n same a.1)
@@ -18,6 +19,7 @@ pub HeapOrdered-held : (f g : ℕ → Held) (t : Forest) → ((j : ℕ) → g j 
 HeapOrdered-held f g Bare same o = tt
 HeapOrdered-held f g (Rooted i c n) same o = (rw (same i) (NoneBefore-held f g (f i) c same o.0), HeapOrdered-held f g c same o.1, HeapOrdered-held f g n same o.2)
 
+-- writes of links follow one another
 pub KeepsHeld-refl : (ns : List Node) (t : Forest) → KeepsHeld ns ns t
 KeepsHeld-refl ns t = record { len = refl; held = λ j. refl; outside = λ j h. refl }
 
@@ -44,6 +46,7 @@ KeepsHeld-next ns t i l lt inside = KeepsHeld-set ns t i (record (node_at ns i) 
 abbrev pub IsOnce : Forest → Type 0
 IsOnce t = (j : ℕ) → times j t ≤ 1
 
+-- at first all siblings are left
 pub PairsUp-start : (ns : List Node) (t : Forest) (first : Option ℕ) → IsSiblings ns t first → PairsUp ns ns t first None
 PairsUp-start ns t first h = record {
   left = t;
@@ -58,6 +61,7 @@ PairsUp-start ns t first h = record {
   kept = KeepsHeld-refl ns t;
 }
 
+-- two siblings fewer are left
 pub record TwoFewer (ns ls : List Node) (t left : Forest) (rest ended : Option ℕ) (w : ℕ) : Type 0 where
   pub next : PairsUp ns (with_next ls w ended) t rest (Some w)
   pub size : row_length next.left + 2 ≡ row_length left
@@ -128,6 +132,7 @@ module _ (ns ms : List Node) (t : Forest) (ended : Option ℕ) (once : (j : ℕ)
             };
           }
 
+-- the odd last one
 pub PairsUp-last : (ns ms : List Node) (t : Forest) (a : ℕ) (ended : Option ℕ) → IsOnce t → PairsUp ns ms t (Some a) ended → (node_at ms a).next ≡ None → PairsUp ns (with_next ms a ended) t None (Some a)
 PairsUp-last ns ms t a ended once p none = go p.left p.left_is p.left_row p.left_order p.counts
   where
@@ -136,6 +141,7 @@ PairsUp-last ns ms t a ended once p none = go p.left p.left_is p.left_row p.left
     go (Rooted i c Bare) e row order counts = let k : i ≡ a = cc in rw (← k) (last ns ms t ended once p.kept p.joined p.joined_is p.joined_row p.joined_order i c row order counts)
     go (Rooted i c (Rooted b cb n)) e row order counts = let k : i ≡ a = cc in let h : (node_at ms a).next ≡ Some b = rw (← k) row.1 in cc
 
+-- two neighbours
 pub PairsUp-two : (ns ms : List Node) (t : Forest) (a b : ℕ) (ended : Option ℕ) → IsOnce t → (p : PairsUp ns ms t (Some a) ended) → (node_at ms a).next ≡ Some b → TwoFewer ns (melded ms a b) t p.left (node_at ms b).next ended (upper_root ms a b)
 PairsUp-two ns ms t a b ended once p some = go p.left p.left_is p.left_row p.left_order p.counts
   where
@@ -163,6 +169,7 @@ PairsUp-reaches ns ms t a ended p = go p.left p.left_is p.left_row
 pub PairsUp-walk : (ns ms : List Node) (t : Forest) (rest ended : Option ℕ) → IsOnce t → (p : PairsUp ns ms t rest ended) → row_steps (length ms) ms rest ≡ row_length p.left
 PairsUp-walk ns ms t rest ended once p = rw (← p.left_is) (walk-row ms p.left p.left_row (λ j. omega (arith, p.counts j, once j)))
 
+-- each round leaves fewer
 pub PairsUp-falls : (ns ms : List Node) (t : Forest) (a b : ℕ) (ended : Option ℕ) → IsOnce t → PairsUp ns ms t (Some a) ended → (node_at ms a).next ≡ Some b
     → row_steps (length (with_next (melded ms a b) (upper_root ms a b) ended)) (with_next (melded ms a b) (upper_root ms a b) ended) (node_at ms b).next < row_steps (length ms) ms (Some a)
 PairsUp-falls ns ms t a b ended once p some =

@@ -1,12 +1,12 @@
 -- Free nodes that join the others, and a row of buckets that is filled anew.
-use Rattle.std.proofs.Common.{inl, inr, ◌⊎◌, ◌≡◌, ◌≢◌, ℕ, zero, suc, ◌+◌, ◌<◌, ◌≤◌, ◌^◌, ◌==◌, Bool, true, false, cond, List, [], ◌∷◌, ◌++◌, length, map, get_or, Option, None, Some, is_some, refl, sym, ap, ◌∙◌, arith}
+use Rattle.std.proofs.Common.{inl, inr, ◌⊎◌, ◌≡◌, ◌≢◌, ℕ, zero, suc, ◌+◌, ◌<◌, ◌≤◌, ◌^◌, ◌==◌, Bool, true, false, cond, List, [], ◌∷◌, ◌++◌, length, Option, None, Some, is_some, refl, sym, ap, ◌∙◌, arith}
 use Rattle.std.specs.Prelude.{nat_lt}
 use Rattle.std.specs.List.{filter_map, cons_option}
 use Rattle.std.proofs.lemmas.Bool.{cases_eq}
 use Rattle.std.proofs.lemmas.Bool.Decides.{nat_tests}
 use Rattle.std.proofs.lemmas.List.{length-append}
 use Rattle.aio_base.specs.World.{Registration}
-use Rattle.aio_base.specs.Timers.{in_order, IsBook}
+use Rattle.aio_base.specs.Timers.{in_order}
 use Rattle.aio_timers.specs.declared.node.Node.{Node}
 use Rattle.aio_timers.specs.Held.{Held, held_at, held_of, helds, node_at, blank_node, free_node, live_of}
 use Rattle.aio_timers.specs.Forest.{Forest, Bare, Rooted, first_root, one_if, times, LinksAre, Laid}
@@ -19,7 +19,7 @@ use Rattle.aio_timers.proofs.LayoutLemmas.{Laid-within}
 use Rattle.aio_timers.proofs.NewcomerLemmas.{HeapOrdered-in}
 use Rattle.aio_timers.proofs.ChainLemmas.{IsTable-frame, cond-zero}
 use Rattle.aio_timers.proofs.AlikeLemmas.{Alike, IsHeap-alike, Alike-chains, live-chains}
-use Rattle.aio_timers.proofs.SoundLemmas.{used-yes, used-no, used-le, below, used-some}
+use Rattle.aio_timers.proofs.SoundLemmas.{used-yes, below, used-some}
 
 -- ## One more free node
 

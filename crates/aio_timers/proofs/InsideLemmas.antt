@@ -1,21 +1,22 @@
 -- A node below the root goes.
-use Rattle.std.proofs.Common.{◌≡◌, ◌≢◌, ℕ, zero, suc, inl, inr, ◌⊎◌, ◌+◌, ◌<◌, ◌≤◌, Bool, true, false, List, [], ◌∷◌, length, map, get_or, set, Option, None, Some, is_some, arith, refl, sym, ap, ◌∙◌, length-set}
+use Rattle.std.proofs.Common.{◌≡◌, ◌≢◌, ℕ, inl, inr, ◌+◌, ◌<◌, ◌≤◌, true, false, List, length, Option, None, Some, is_some, arith, refl, sym, ap, ◌∙◌}
 use Rattle.std.specs.Prelude.{IfSome}
 use Rattle.aio_timers.specs.declared.node.Node.{Node}
-use Rattle.aio_timers.specs.Nodes.{melded, upper_root, IsNode, cut_out}
-use Rattle.aio_timers.specs.Forest.{Forest, Bare, Rooted, first_root, one_if, times, LinksAre, Laid, Heads, InRow, NoneBefore, HeapOrdered, IsSiblings, KeepsHeld, HasOneRoot, Merges, Path, AtTop, UnderParent, AfterSibling, rebuilt, back_link, times_around, StandsAt, CutOut}
-use Rattle.aio_timers.specs.Heap.{FreeChain, times_in, IsHeap, Sets, released}
-use Rattle.aio_timers.proofs.CountLemmas.{one_if-same, one_if-other, one_if-le, some_or_none}
+use Rattle.aio_timers.specs.Nodes.{melded, upper_root, cut_out}
+use Rattle.aio_timers.specs.Forest.{Forest, Bare, Rooted, first_root, one_if, times, Laid, NoneBefore, HeapOrdered, IsSiblings, HasOneRoot, Merges, Path, AtTop, UnderParent, AfterSibling, rebuilt, back_link, times_around, StandsAt, CutOut}
+use Rattle.aio_timers.specs.Heap.{times_in, IsHeap, Sets, released}
+use Rattle.aio_timers.proofs.CountLemmas.{one_if-same, some_or_none}
 use Rattle.aio_timers.proofs.LayoutLemmas.{Laid-frame, Laid-within}
 use Rattle.aio_timers.proofs.AttachLemmas.{root-times}
-use Rattle.aio_timers.proofs.MeldLemmas.{not_same, IfSome-all, IsNode-top}
+use Rattle.aio_timers.proofs.MeldLemmas.{IfSome-all, IsNode-top}
 use Rattle.aio_timers.proofs.FirstPassLemmas.{HeapOrdered-held}
 use Rattle.aio_timers.proofs.PathLemmas.{times-rebuilt, Laid-parts, FoundIn, find-in}
 use Rattle.aio_timers.proofs.CutLemmas.{cut_out-tells}
-use Rattle.aio_timers.proofs.NewcomerLemmas.{FreeChain-frame, HeapOrdered-in, StandsAlone, StandsAlone-linked, BecomesOne, joined, BothNodes}
-use Rattle.aio_timers.proofs.RootLemmas.{OutOfHeap, freed, InRow-linked}
-use Rattle.aio_timers.specs.Held.{Held, blank_node, gone, held_at, helds, node_at, vacant}
+use Rattle.aio_timers.proofs.NewcomerLemmas.{FreeChain-frame, StandsAlone, StandsAlone-linked, BecomesOne, joined, BothNodes}
+use Rattle.aio_timers.proofs.RootLemmas.{freed, InRow-linked}
+use Rattle.aio_timers.specs.Held.{Held, gone, held_at, node_at}
 
+-- another shape inside keeps the order
 pub HeapOrdered-swap : (f : ℕ → Held) (k : Path) (t s : Forest) → ((e : Held) → NoneBefore f e t → NoneBefore f e s) → (HeapOrdered f t → HeapOrdered f s) → HeapOrdered f (rebuilt k t) → HeapOrdered f (rebuilt k s)
 HeapOrdered-swap f AtTop t s above order o = order o
 HeapOrdered-swap f (UnderParent i n k) t s above order o = HeapOrdered-swap f k (Rooted i t n) (Rooted i s n) (λ e a. a) (λ o. (above (f i) o.0, order o.1, o.2)) o
@@ -36,6 +37,7 @@ root-deep AtTop i c n d m = refl
 root-deep (UnderParent p q k) i c n d m = root-deep k p (Rooted i c n) q (Rooted i d m) q
 root-deep (AfterSibling p q k) i c n d m = root-deep k p q (Rooted i c n) q (Rooted i d m)
 
+-- a node below the root, and the heap around it
 pub record Inside (ns : List Node) (root at : ℕ) (t : Forest) : Type 0 where
   pub around : Path
   pub below : Forest
@@ -92,6 +94,7 @@ inside_of ns root at free h lt used other =
           below_order = i.1;
         }
 
+-- its links lead to nodes
 pub record LinksLead (ns : List Node) (at : ℕ) : Type 0 where
   pub next : IfSome (Node.next (node_at ns at)) (λ f. f < length ns)
   pub prev : IfSome (Node.prev (node_at ns at)) (λ f. f < length ns)
@@ -194,6 +197,7 @@ module _ (ns us ms : List Node) (root at : ℕ) (free : Option ℕ) (h : IsHeap 
           let j_ : BecomesOne ms (melded ms b a) b a d c (upper_root ms b a) = joined ms b a d c first second (λ j. omega (arith, h.once j, all j, counts j)) in
           rw (← same_a, ← same_b) (record { first = IsNode-top ms b d first.top; second = IsNode-top ms a c second.top }, step (melded ms b a) (upper_root ms b a) a b c d (λ j. omega (arith, all j, counts j)) j_)
 
+-- the heap after each step of a removal
 pub record Removal (ns us ms : List Node) (root at : ℕ) (free result : Option ℕ) (h : IsHeap ns (Some root) free) : Type 0 where
   pub place : Inside ns root at h.forest
   pub gone : CutOut ns us at place.around place.below place.later

@@ -1,5 +1,5 @@
 -- The root holds the registration that fires first.
-use Rattle.std.proofs.Common.{inl, inr, ◌⊎◌, ◌≡◌, ◌≢◌, ℕ, zero, suc, ◌+◌, ◌<◌, ◌≤◌, Bool, true, false, List, [], ◌∷◌, length, map, get_or, set, Option, None, Some, is_some, refl, sym, ap, ◌∙◌, arith}
+use Rattle.std.proofs.Common.{inl, inr, ◌≡◌, ◌≢◌, ℕ, suc, ◌<◌, true, false, List, [], ◌∷◌, length, get_or, set, Option, None, Some, is_some, refl, sym, ap, ◌∙◌, arith}
 use Rattle.std.specs.List.{All, filter_map, cons_option}
 use Rattle.std.proofs.lemmas.Bool.{cases_eq}
 use Rattle.std.proofs.lemmas.Bool.Decides.{nat_tests}
@@ -7,17 +7,17 @@ use Rattle.std.proofs.lemmas.List.{length-map, get_or-set_same, get_or-set_other
 use Rattle.std.proofs.lemmas.List.Elements.{All-nil, All-cons}
 use Rattle.aio_base.specs.declared.names.Waker.{Waker}
 use Rattle.aio_base.specs.World.{Registration}
-use Rattle.aio_base.specs.Timers.{fires_before, placed, in_order, is_pair, IsBook}
+use Rattle.aio_base.specs.Timers.{fires_before, in_order, is_pair, IsBook}
 use Rattle.aio_timers.specs.declared.node.Node.{Node}
 use Rattle.aio_timers.specs.Held.{Held, held_at, held_of, helds, vacant, gone, live_of, registered}
-use Rattle.aio_timers.specs.Precedes.{precedes, IsNotAfter}
-use Rattle.aio_timers.specs.Forest.{Forest, Bare, Rooted, first_root, one_if, times, NoneBefore, HeapOrdered, HasOneRoot}
+use Rattle.aio_timers.specs.Precedes.{IsNotAfter}
+use Rattle.aio_timers.specs.Forest.{Forest, Bare, Rooted, first_root, times, NoneBefore, HeapOrdered, HasOneRoot}
 use Rattle.aio_timers.specs.Heap.{times_in, IsHeap}
 use Rattle.aio_timers.specs.Sound.{registrations}
-use Rattle.aio_timers.proofs.BookLemmas.{IsOther, Follows, All-placed, placed-front}
+use Rattle.aio_timers.proofs.BookLemmas.{Follows, All-placed, placed-front}
 use Rattle.aio_timers.proofs.AnyOrderLemmas.{GivesUp, gives_up}
 use Rattle.aio_timers.proofs.AlikeLemmas.{held-read}
-use Rattle.aio_timers.proofs.CountLemmas.{one_if-same, one_if-other, some_or_none}
+use Rattle.aio_timers.proofs.CountLemmas.{one_if-other, some_or_none}
 use Rattle.aio_timers.proofs.PrecedesLemmas.{IsNotAfter-trans}
 
 -- no node below fires before one that none of these roots fires before

@@ -1,5 +1,5 @@
 -- A vector whose elements were lent as a slice.
-use Rattle.std.proofs.Common.{◌≡◌, ℕ, zero, suc, List, [], ◌∷◌, ◌++◌, length, take, drop, refl, sym, ap, ◌∙◌, arith}
+use Rattle.std.proofs.Common.{◌≡◌, ℕ, List, [], ◌∷◌, ◌++◌, length, take, drop, refl, sym, ap, ◌∙◌, arith}
 
 back : {X : Type 0} (xs ys : List X) → length xs ≡ length ys → take (length xs) (xs ++ drop (length xs) ys) ≡ xs
 back [] ys e = refl

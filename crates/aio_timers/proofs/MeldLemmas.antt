@@ -1,18 +1,18 @@
 -- Two trees as one.
-use Rattle.std.proofs.Common.{◌≡◌, ◌≢◌, ℕ, zero, suc, inl, inr, ◌⊎◌, ◌+◌, ◌<◌, ◌≤◌, Bool, true, false, List, [], ◌∷◌, length, get_or, set, Option, None, Some, arith, refl, sym, ap, ◌∙◌, length-set}
-use Rattle.std.specs.Prelude.{nat_lt, IfSome}
+use Rattle.std.proofs.Common.{◌≡◌, ◌≢◌, ℕ, inl, inr, ◌⊎◌, ◌+◌, ◌<◌, ◌≤◌, Bool, true, false, List, length, Option, None, Some, arith, refl, sym, ap, ◌∙◌}
+use Rattle.std.specs.Prelude.{IfSome}
 use Rattle.std.proofs.lemmas.Bool.{cases_eq}
-use Rattle.std.proofs.lemmas.Bool.Decides.{nat_tests}
 use Rattle.aio_timers.specs.declared.node.Node.{Node}
 use Rattle.aio_timers.proofs.PrecedesLemmas.{precedes-asym}
-use Rattle.aio_timers.specs.Nodes.{with_child, with_next, with_prev, with_prev_of, attached, melded, upper_root, IsNode}
-use Rattle.aio_timers.specs.Forest.{Forest, Bare, Rooted, first_root, one_if, times, LinksAre, Laid, Heads, InRow, NoneBefore, HeapOrdered}
-use Rattle.aio_timers.proofs.CountLemmas.{one_if-same, one_if-other, one_if-le}
-use Rattle.aio_timers.proofs.LayoutLemmas.{Laid-within, Laid-frame, Laid-reprev, set-here, set-there}
-use Rattle.aio_timers.proofs.AttachLemmas.{first, Attached, attached-links, attached-other, attached-first, attached-parent, attached-child, length-attached, root-times}
+use Rattle.aio_timers.specs.Nodes.{attached, melded, upper_root, IsNode}
+use Rattle.aio_timers.specs.Forest.{Forest, Bare, Rooted, one_if, times, Heads, InRow, NoneBefore, HeapOrdered}
+use Rattle.aio_timers.proofs.CountLemmas.{one_if-same}
+use Rattle.aio_timers.proofs.LayoutLemmas.{Laid-within, Laid-frame}
+use Rattle.aio_timers.proofs.AttachLemmas.{first, attached-links, attached-other, attached-first, attached-parent, attached-child, length-attached, root-times}
 use Rattle.aio_timers.specs.Precedes.{IsNotAfter, precedes}
-use Rattle.aio_timers.specs.Held.{blank_node, held_at, held_of, node_at}
+use Rattle.aio_timers.specs.Held.{held_at, held_of, node_at}
 
+-- children stay where their nodes stay
 pub Heads-frame : (ns ms : List Node) (i : ℕ) (c : Forest) → length ms ≡ length ns → (node_at ms i).child ≡ (node_at ns i).child → ((j : ℕ) → 0 < times j c → node_at ms j ≡ node_at ns j) → Heads ns i c → Heads ms i c
 Heads-frame ns ms i c len child same top = record {
   within = omega (arith, len, top.within);
@@ -20,6 +20,7 @@ Heads-frame ns ms i c len child same top = record {
   below = Laid-frame ns ms (Some i) c len same top.below;
 }
 
+-- and so does a row
 pub InRow-frame : (ns ms : List Node) (t : Forest) → length ms ≡ length ns → ((j : ℕ) → 0 < times j t → node_at ms j ≡ node_at ns j) → InRow ns t → InRow ms t
 InRow-frame ns ms Bare len same row = tt
 InRow-frame ns ms (Rooted i c n) len same row =
@@ -29,6 +30,7 @@ InRow-frame ns ms (Rooted i c n) len same row =
       InRow-frame ns ms n len (λ j h. same j (omega (arith, h))) row.2,
     )
 
+-- a first child stands among the children
 pub Heads-first : (ns : List Node) (i : ℕ) (c : Forest) (f : ℕ) → Heads ns i c → (node_at ns i).child ≡ Some f → (0 < times f c) × (f < length ns)
 Heads-first ns i c f top e =
     let inside : 0 < times f c = root-times c f (sym top.child_is ∙ e) in
@@ -38,12 +40,14 @@ pub IfSome-all : (l : Option ℕ) (P : ℕ → Type 0) → ((f : ℕ) → l ≡ 
 IfSome-all None P h = tt
 IfSome-all (Some f) P h = h f refl
 
+-- a node with children has a first one
 pub IsNode-top : (ns : List Node) (i : ℕ) (c : Forest) → Heads ns i c → IsNode ns i
 IsNode-top ns i c top = record {
   here = top.within;
   child = IfSome-all (node_at ns i).child (λ f. f < length ns) (λ f e. let both = Heads-first ns i c f top e in both.1);
 }
 
+-- two trees are one: which nodes it has, and what else changed
 pub record MeldTells (ns ms : List Node) (a b : ℕ) (ca cb : Forest) (w : ℕ) : Type 0 where
   pub forest : Forest
   pub top : Heads ms w forest
@@ -117,6 +121,7 @@ swapped ns ms a b ca cb w m = record {
   outside = λ j none. m.outside j (omega (arith, none));
 }
 
+-- in both cases
 pub melded-tells : (ns : List Node) (a b : ℕ) (ca cb : Forest) → Heads ns a ca → Heads ns b cb → ((j : ℕ) → one_if j a + one_if j b + times j ca + times j cb ≤ 1)
     → NoneBefore (held_at ns) (held_at ns a) ca → HeapOrdered (held_at ns) ca → NoneBefore (held_at ns) (held_at ns b) cb → HeapOrdered (held_at ns) cb
     → MeldTells ns (melded ns a b) a b ca cb (upper_root ns a b)

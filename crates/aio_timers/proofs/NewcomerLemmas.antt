@@ -1,25 +1,26 @@
 -- A free node that comes into use.
-use Rattle.std.proofs.Common.{◌≡◌, ◌≢◌, ℕ, zero, suc, inl, inr, ◌⊎◌, ◌+◌, ◌<◌, ◌≤◌, Bool, cond, true, false, List, [], ◌∷◌, length, map, get_or, set, Option, None, Some, is_some, arith, refl, sym, ap, ◌∙◌, length-set}
+use Rattle.std.proofs.Common.{◌≡◌, ◌≢◌, ℕ, inl, inr, ◌⊎◌, ◌+◌, ◌<◌, ◌≤◌, Bool, cond, true, false, List, [], ◌∷◌, length, set, Option, None, Some, is_some, arith, refl, sym, ap, ◌∙◌, length-set}
 use Rattle.std.proofs.lemmas.Bool.{cases_eq}
 use Rattle.std.proofs.lemmas.List.{map-set, length-map, get_or-map, ext_get_or}
 use Rattle.aio_timers.specs.declared.node.Node.{Node}
 use Rattle.aio_timers.specs.Nodes.{melded, upper_root, IsNode}
-use Rattle.aio_timers.specs.Forest.{Forest, Bare, Rooted, first_root, one_if, times, LinksAre, Laid, Heads, InRow, NoneBefore, HeapOrdered, IsSiblings, KeepsHeld, HasOneRoot, Merges}
-use Rattle.aio_timers.specs.Heap.{FreeChain, times_in, IsHeap, Sets, released}
-use Rattle.aio_timers.proofs.CountLemmas.{one_if-same, one_if-other, one_if-le, some_or_none}
-use Rattle.aio_timers.proofs.LayoutLemmas.{Laid-frame, Laid-within, set-here, set-there}
-use Rattle.aio_timers.proofs.AttachLemmas.{root-times}
-use Rattle.aio_timers.proofs.MeldLemmas.{Heads-frame, MeldTells, melded-tells, not_same, IsNode-top}
-use Rattle.aio_timers.proofs.FirstPassLemmas.{NoneBefore-held, HeapOrdered-held, KeepsHeld-refl, KeepsHeld-trans}
-use Rattle.aio_timers.specs.Precedes.{IsNotAfter, precedes}
+use Rattle.aio_timers.specs.Forest.{Forest, Bare, Rooted, first_root, one_if, times, Laid, Heads, NoneBefore, HeapOrdered, HasOneRoot}
+use Rattle.aio_timers.specs.Heap.{FreeChain, times_in, IsHeap, Sets}
+use Rattle.aio_timers.proofs.CountLemmas.{one_if-same, one_if-other, some_or_none}
+use Rattle.aio_timers.proofs.LayoutLemmas.{Laid-frame, set-here, set-there}
+use Rattle.aio_timers.proofs.MeldLemmas.{MeldTells, melded-tells, not_same, IsNode-top}
+use Rattle.aio_timers.proofs.FirstPassLemmas.{HeapOrdered-held}
+use Rattle.aio_timers.specs.Precedes.{precedes}
 use Rattle.aio_timers.specs.Held.{Held, blank_node, held_at, held_of, helds, lone_node, node_at, vacant}
 
+-- free nodes that stay keep their links
 pub FreeChain-frame : (ns ms : List Node) (l : Option ℕ) (xs : List ℕ) → length ms ≡ length ns → ((j : ℕ) → 0 < times_in j xs → node_at ms j ≡ node_at ns j) → FreeChain ns l xs → FreeChain ms l xs
 FreeChain-frame ns ms l [] len same c = c
 FreeChain-frame ns ms l (i ∷ xs) len same c =
     let here : node_at ms i ≡ node_at ns i = same i (omega (arith, one_if-same i)) in
     (c.0, omega (arith, c.1, len), rw here (FreeChain-frame ns ms (node_at ns i).next xs len (λ j h. same j (omega (arith, h))) c.2))
 
+-- where each node holds the same, all do
 pub helds-same : (ns ms : List Node) → length ms ≡ length ns → ((j : ℕ) → held_at ms j ≡ held_at ns j) → helds ms ≡ helds ns
 helds-same ns ms len same =
     ext_get_or vacant (helds ms) (helds ns) (length-map ms _ ∙ len ∙ sym (length-map ns _))
@@ -46,11 +47,13 @@ NoneBefore-in : (f g : ℕ → Held) (k : Held) (t : Forest) → ((j : ℕ) → 
 NoneBefore-in f g k Bare same a = tt
 NoneBefore-in f g k (Rooted i c n) same a = (rw (same i (omega (arith, one_if-same i))) a.0, NoneBefore-in f g k n (λ j h. same j (omega (arith, h))) a.1)
 
+-- the order looks at the nodes of a shape alone
 pub HeapOrdered-in : (f g : ℕ → Held) (t : Forest) → ((j : ℕ) → 0 < times j t → g j ≡ f j) → HeapOrdered f t → HeapOrdered g t
 HeapOrdered-in f g Bare same o = tt
 HeapOrdered-in f g (Rooted i c n) same o =
     (rw (same i (omega (arith, one_if-same i))) (NoneBefore-in f g (f i) c (λ j h. same j (omega (arith, h))) o.0), HeapOrdered-in f g c (λ j h. same j (omega (arith, h))) o.1, HeapOrdered-in f g n (λ j h. same j (omega (arith, h))) o.2)
 
+-- the free list behind its head
 pub record FreeTail (ns : List Node) (h_tree : Forest) (spare : List ℕ) (at : ℕ) : Type 0 where
   pub more : List ℕ
   pub within : at < length ns
@@ -93,6 +96,7 @@ live-here at e ms some here j k =
       | inr ne ↦ absurd (omega (arith, one_if-other j at ne))
     ]
 
+-- into an empty heap
 pub place-none : (ns : List Node) (at : ℕ) (e : Held) → is_some e.waker ≡ true → IsHeap ns None (Some at) → Sets ns (set ns at (lone_node e)) at e (Some at) (node_at ns at).next
 place-none ns at e some h =
     let r : FreeTail ns h.forest h.spare at = free_tail ns h.forest h.spare at h.chained in
@@ -117,6 +121,7 @@ place-none ns at e some h =
       helds_are = f.helds_are;
     }
 
+-- a tree with no siblings and no parent
 pub record StandsAlone (ns : List Node) (i : ℕ) (c : Forest) : Type 0 where
   pub top : Heads ns i c
   pub next : (node_at ns i).next ≡ None
@@ -127,6 +132,7 @@ pub record StandsAlone (ns : List Node) (i : ℕ) (c : Forest) : Type 0 where
 pub StandsAlone-linked : (ns : List Node) (i : ℕ) (c : Forest) → Laid ns None (Rooted i c Bare) → HeapOrdered (held_at ns) (Rooted i c Bare) → StandsAlone ns i c
 StandsAlone-linked ns i c l o = record { top = record { within = l.0.within; child_is = l.0.child_is; below = l.1 }; next = l.0.next_is; prev = l.0.prev_is; above = o.0; order = o.1 }
 
+-- two such trees are one
 pub record BecomesOne (ns ms : List Node) (a b : ℕ) (ca cb : Forest) (w : ℕ) : Type 0 where
   pub forest : Forest
   pub linked : Laid ms None (Rooted w forest Bare)
@@ -162,6 +168,7 @@ pub record BothNodes (ms : List Node) (top at : ℕ) : Type 0 where
   pub first : IsNode ms top
   pub second : IsNode ms at
 
+-- beside the root
 pub place-some : (ns : List Node) (top at : ℕ) (e : Held) → is_some e.waker ≡ true → IsHeap ns (Some top) (Some at)
     → BothNodes (set ns at (lone_node e)) top at × Sets ns (melded (set ns at (lone_node e)) top at) at e (Some (upper_root (set ns at (lone_node e)) top at)) (node_at ns at).next
 place-some ns top at e some h =

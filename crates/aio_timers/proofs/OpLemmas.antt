@@ -1,5 +1,5 @@
 -- What every operation on timers needs.
-use Rattle.std.proofs.Common.{ℕ, ◌≤◌, arith}
+use Rattle.std.proofs.Common.{◌≤◌, arith}
 use Rattle.aio_timers.specs.declared.op.TimerOp.{TimerOp}
 use Rattle.aio_timers.specs.declared.op.TimerOp.TheVariants.{Insert, Remove}
 use Rattle.aio_timers.specs.Book.{entries_needed}

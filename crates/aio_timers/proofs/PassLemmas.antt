@@ -1,5 +1,5 @@
 -- A pass takes the front of a book, as long as it is due.
-use Rattle.std.proofs.Common.{◌≡◌, inl, inr, ◌⊎◌, ℕ, ◌+◌, ◌<◌, ◌≤◌, Bool, true, false, not, List, [], ◌∷◌, ◌++◌, length, map, refl, sym, ap, ◌∙◌, arith, append_assoc}
+use Rattle.std.proofs.Common.{◌≡◌, ℕ, ◌<◌, Bool, true, false, not, List, [], ◌∷◌, map, refl, sym, ap, ◌∙◌, arith}
 use Rattle.std.specs.Prelude.{nat_le}
 use Rattle.std.specs.List.{All, filter}
 use Rattle.std.proofs.lemmas.List.Elements.{All-head, All-tail, All-cons, All-weaker, filter_passes}
@@ -8,7 +8,6 @@ use Rattle.aio_base.specs.declared.names.Waker.{Waker}
 use Rattle.aio_base.specs.World.{Registration}
 use Rattle.aio_base.specs.Timers.{fires_before, placed, is_pair, without_pair, due_wakers, after_pass, IsBook}
 use Rattle.aio_timers.specs.Book.{is_first_due}
-use Rattle.aio_timers.proofs.OrderLemmas.{fires_before-le}
 use Rattle.aio_timers.proofs.BookLemmas.{Follows, IsOther, IsBook-filter, in_order-book, without_pair-others}
 use Rattle.aio_timers.proofs.AnyOrderLemmas.{without_pair-placed}
 

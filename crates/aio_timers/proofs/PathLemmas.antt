@@ -1,12 +1,13 @@
 -- A shape and one inside it.
-use Rattle.std.proofs.Common.{◌≡◌, ◌≢◌, ℕ, zero, suc, inl, inr, ◌⊎◌, ◌+◌, ◌<◌, ◌≤◌, List, length, set, Option, None, Some, arith, refl, sym, ap, ◌∙◌, length-set}
+use Rattle.std.proofs.Common.{◌≡◌, ℕ, inl, inr, ◌+◌, ◌<◌, List, length, Option, None, Some, arith, sym, ap, ◌∙◌}
 use Rattle.std.proofs.lemmas.Bool.{cases_eq}
 use Rattle.aio_timers.specs.declared.node.Node.{Node}
-use Rattle.aio_timers.specs.Forest.{Forest, Bare, Rooted, first_root, one_if, times, LinksAre, Laid, Path, AtTop, UnderParent, AfterSibling, rebuilt, back_link, times_around, LaidAround}
-use Rattle.aio_timers.proofs.CountLemmas.{one_if-same, one_if-other, one_if-le, some_or_none}
+use Rattle.aio_timers.specs.Forest.{Forest, Bare, Rooted, first_root, times, Laid, Path, AtTop, UnderParent, AfterSibling, rebuilt, back_link, times_around, LaidAround}
+use Rattle.aio_timers.proofs.CountLemmas.{one_if-same, one_if-other, some_or_none}
 use Rattle.aio_timers.proofs.LayoutLemmas.{Laid-frame}
 use Rattle.aio_timers.specs.Held.{node_at}
 
+-- what stands in a shape stands inside or around
 pub times-rebuilt : (j : ℕ) (k : Path) (t : Forest) → times j (rebuilt k t) ≡ times_around j k + times j t
 times-rebuilt j AtTop t = omega arith
 times-rebuilt j (UnderParent i n k) t = omega (arith, times-rebuilt j k (Rooted i t n))
@@ -16,6 +17,7 @@ pub record LinkedParts (ns : List Node) (k : Path) (t : Forest) : Type 0 where
   pub around : LaidAround ns k (first_root t)
   pub inside : Laid ns (back_link k) t
 
+-- links inside and around
 pub Laid-parts : (ns : List Node) (k : Path) (t : Forest) → Laid ns None (rebuilt k t) → LinkedParts ns k t
 Laid-parts ns AtTop t l = record { around = tt; inside = l }
 Laid-parts ns (UnderParent i n k) t l = let p = Laid-parts ns k (Rooted i t n) l in record { around = (p.inside.0, p.inside.2, p.around); inside = p.inside.1 }
@@ -41,6 +43,7 @@ Around-frame ns ms (AfterSibling i c k) l len same a =
       Around-frame ns ms k (Some i) len (λ j h. same j (omega (arith, h))) a.2,
     )
 
+-- the path to a node
 pub record FoundIn (i : ℕ) (t : Forest) : Type 0 where
   pub around : Path
   pub children : Forest

@@ -1,5 +1,5 @@
 -- The order of what nodes hold.
-use Rattle.std.proofs.Common.{◌≡◌, ℕ, ◌<◌, ◌≤◌, ◌⊎◌, true, false, arith}
+use Rattle.std.proofs.Common.{◌≡◌, true, false, arith}
 use Rattle.std.proofs.lemmas.Bool.Decides.{nat_tests}
 use Rattle.aio_timers.specs.Precedes.{IsNotAfter, precedes}
 use Rattle.aio_timers.specs.Held.{Held}

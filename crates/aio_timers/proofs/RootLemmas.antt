@@ -1,18 +1,18 @@
 -- The root goes.
-use Rattle.std.proofs.Common.{◌≡◌, ◌≢◌, ℕ, zero, suc, inl, inr, ◌⊎◌, ◌+◌, ◌<◌, ◌≤◌, Bool, true, false, List, [], ◌∷◌, length, map, get_or, set, Option, None, Some, is_some, arith, refl, sym, ap, ◌∙◌, length-set}
+use Rattle.std.proofs.Common.{◌≡◌, ◌≢◌, ℕ, inl, inr, ◌+◌, ◌<◌, ◌≤◌, true, List, ◌∷◌, length, set, Option, None, Some, is_some, arith, refl, sym, ap, ◌∙◌, length-set}
 use Rattle.std.proofs.lemmas.Bool.{cases_eq}
 use Rattle.std.proofs.lemmas.List.{map-set}
 use Rattle.aio_timers.specs.declared.node.Node.{Node}
-use Rattle.aio_timers.specs.Nodes.{melded, upper_root, IsNode}
-use Rattle.aio_timers.specs.Forest.{Forest, Bare, Rooted, first_root, one_if, times, LinksAre, Laid, Heads, InRow, NoneBefore, HeapOrdered, IsSiblings, KeepsHeld, HasOneRoot, Merges}
+use Rattle.aio_timers.specs.Forest.{Forest, Bare, Rooted, first_root, one_if, times, Laid, InRow, HeapOrdered, IsSiblings, HasOneRoot, Merges}
 use Rattle.aio_timers.specs.Heap.{FreeChain, times_in, IsHeap, Sets, released}
-use Rattle.aio_timers.proofs.CountLemmas.{one_if-same, one_if-other, one_if-le, some_or_none}
-use Rattle.aio_timers.proofs.LayoutLemmas.{Laid-frame, Laid-within, set-here, set-there}
+use Rattle.aio_timers.proofs.CountLemmas.{one_if-other}
+use Rattle.aio_timers.proofs.LayoutLemmas.{Laid-frame, set-here, set-there}
 use Rattle.aio_timers.proofs.MeldLemmas.{not_same}
 use Rattle.aio_timers.proofs.FirstPassLemmas.{HeapOrdered-held}
 use Rattle.aio_timers.proofs.NewcomerLemmas.{FreeChain-frame, helds-same, HeapOrdered-in}
-use Rattle.aio_timers.specs.Held.{Held, blank_node, gone, held_at, held_of, helds, node_at, vacant}
+use Rattle.aio_timers.specs.Held.{Held, gone, held_at, held_of, helds, node_at}
 
+-- a node that neither the heap nor the free list knows
 pub record OutOfHeap (ns ls : List Node) (at : ℕ) (t : Forest) (spare : List ℕ) (root free : Option ℕ) : Type 0 where
   pub len : length ls ≡ length ns
   pub held : (j : ℕ) → held_at ls j ≡ held_at ns j
@@ -27,6 +27,7 @@ pub record OutOfHeap (ns ls : List Node) (at : ℕ) (t : Forest) (spare : List �
   pub live : (j : ℕ) → 0 < times j t → is_some (held_at ns j).waker ≡ true
   pub idle : (j : ℕ) → 0 < times_in j spare → (held_at ns j).waker ≡ None
 
+-- it is the head of the free list
 pub freed : (ns ls : List Node) (at : ℕ) (t : Forest) (spare : List ℕ) (root free : Option ℕ) → OutOfHeap ns ls at t spare root free → Sets ns (released ls at free) at (gone (held_at ns at)) root (Some at)
 freed ns ls at t spare root free o =
     let len : length (released ls at free) ≡ length ls = length-set ls at _ in
@@ -58,6 +59,7 @@ pub InRow-linked : (ns : List Node) (p : Option ℕ) (t : Forest) → Laid ns p 
 InRow-linked ns p Bare l = tt
 InRow-linked ns p (Rooted i c n) l = (record { within = l.0.within; child_is = l.0.child_is; below = l.1 }, l.0.next_is, InRow-linked ns (Some i) n l.2)
 
+-- all but the root stand below it
 pub record RootChildren (ns : List Node) (root : ℕ) (h_tree : Forest) : Type 0 where
   pub below : Forest
   pub row : IsSiblings ns below (node_at ns root).child
@@ -73,6 +75,7 @@ root-children ns root free h = go h.forest h.root_is h.alone h.linked h.order h.
         let k : i ≡ root = cc in
         rw (← k) (record { below = c; row = record { root = sym l.0.child_is; row = InRow-linked ns (Some i) c l.1; once = λ j. omega (arith, once j); order = o.1 }; counts = λ j. omega arith })
 
+-- they are the heap
 pub take-root : (ns ms : List Node) (root : ℕ) (free result : Option ℕ) → (h : IsHeap ns (Some root) free) → root < length ns → (ch : RootChildren ns root h.forest) → Merges ns ms ch.below result
     → Sets ns (released ms root free) root (gone (held_at ns root)) result (Some root)
 take-root ns ms root free result h lt ch m = freed ns ms root m.forest h.spare result free (record {

@@ -1,16 +1,16 @@
 -- A merge, second pass, and both of them.
-use Rattle.std.proofs.Common.{◌≡◌, ◌≢◌, ℕ, zero, suc, inl, inr, ◌⊎◌, ◌+◌, ◌<◌, ◌≤◌, List, length, set, Option, None, Some, arith, refl, sym, ap, ◌∙◌, length-set}
-use Rattle.std.proofs.lemmas.Bool.{cases_eq}
+use Rattle.std.proofs.Common.{◌≡◌, ℕ, ◌+◌, ◌<◌, List, length, Option, None, Some, arith, refl, sym, ap, ◌∙◌, length-set}
 use Rattle.aio_timers.specs.declared.node.Node.{Node}
 use Rattle.aio_timers.specs.Nodes.{with_next, with_prev, melded, upper_root, IsNode}
-use Rattle.aio_timers.specs.Forest.{Forest, Bare, Rooted, first_root, one_if, times, LinksAre, Laid, Heads, InRow, NoneBefore, HeapOrdered, IsSiblings, KeepsHeld, PairsUp, FoldsUp, IsLone, HasOneRoot, Merges, row_length, row_steps}
-use Rattle.aio_timers.proofs.CountLemmas.{one_if-same, one_if-other, one_if-le}
-use Rattle.aio_timers.proofs.LayoutLemmas.{Laid-frame, set-here, set-there}
+use Rattle.aio_timers.specs.Forest.{Forest, Bare, Rooted, first_root, times, Heads, InRow, HeapOrdered, IsSiblings, KeepsHeld, PairsUp, FoldsUp, IsLone, Merges, row_length, row_steps}
+use Rattle.aio_timers.proofs.CountLemmas.{one_if-same}
+use Rattle.aio_timers.proofs.LayoutLemmas.{set-here, set-there}
 use Rattle.aio_timers.proofs.MeldLemmas.{Heads-frame, InRow-frame, MeldTells, melded-tells, not_same, IsNode-top}
 use Rattle.aio_timers.proofs.SizeLemmas.{walk-row}
 use Rattle.aio_timers.proofs.FirstPassLemmas.{IsOnce, NoneBefore-held, HeapOrdered-held, KeepsHeld-refl, KeepsHeld-trans, KeepsHeld-set, KeepsHeld-next}
 use Rattle.aio_timers.specs.Held.{held_at, node_at}
 
+-- at first all trees are left
 pub FoldsUp-start : (ns : List Node) (t : Forest) (first : Option ℕ) → IsSiblings ns t first → FoldsUp ns ns t first None
 FoldsUp-start ns t first h = record {
   left = t;
@@ -25,10 +25,12 @@ FoldsUp-start ns t first h = record {
   kept = KeepsHeld-refl ns t;
 }
 
+-- one tree fewer is left
 pub record OneFewer (ns ls : List Node) (t left : Forest) (rest : Option ℕ) (w : ℕ) : Type 0 where
   pub next : FoldsUp ns ls t rest (Some w)
   pub size : row_length next.left + 1 ≡ row_length left
 
+-- the first tree
 pub FoldsUp-first : (ns ms : List Node) (t : Forest) (a : ℕ) → IsOnce t → (p : FoldsUp ns ms t (Some a) None) → OneFewer ns ms t p.left (node_at ms a).next a
 FoldsUp-first ns ms t a once p = go p.left p.left_is p.left_row p.left_order p.joined p.joined_is p.counts
   where
@@ -74,6 +76,7 @@ two-melded ns ms ls t w a b ca cb n once kept row order top counts m =
       };
     }
 
+-- each later one joins it
 pub FoldsUp-next : (ns ms : List Node) (t : Forest) (a r : ℕ) → IsOnce t → (p : FoldsUp ns ms t (Some a) (Some r)) → OneFewer ns (melded ms r a) t p.left (node_at ms a).next (upper_root ms r a)
 FoldsUp-next ns ms t a r once p = go p.left p.left_is p.left_row p.left_order p.joined p.joined_is p.single p.joined_order p.counts
   where
@@ -111,6 +114,7 @@ pub OneFewer-falls : (ns ms ls : List Node) (t : Forest) (a w : ℕ) (rest root 
     → row_steps (length ls) ls rest < row_steps (length ms) ms (Some a)
 OneFewer-falls ns ms ls t a w rest root once p s = omega (arith, s.size, FoldsUp-walk ns ms t (Some a) root once p, FoldsUp-walk ns ls t rest (Some w) once s.next)
 
+-- between the passes there is a row again
 pub record IsPaired (ms : List Node) (t : Forest) (row : Option ℕ) : Type 0 where
   pub forest : Forest
   pub is : IsSiblings ms forest row
@@ -144,6 +148,7 @@ FoldsUp-whole ms ls s root g = go g.left g.left_is g.counts
 passes-held : (ns ms ls : List Node) (t : Forest) (row root : Option ℕ) → PairsUp ns ms t None row → (q : IsPaired ms t row) → OneTree ms ls q.forest root → KeepsHeld ns ls t
 passes-held ns ms ls t row root p q w = KeepsHeld-trans ns ms ls t p.kept (KeepsHeld-counts ms ls q.forest t q.counts w.kept)
 
+-- nothing was merged
 pub merged-none : (ns ms ls : List Node) (t : Forest) (row : Option ℕ) → IsOnce t → PairsUp ns ms t None row → ((s : Forest) → IsSiblings ms s row → FoldsUp ms ls s None None) → Merges ns ls t None
 merged-none ns ms ls t row once p gathered =
     let q : IsPaired ms t row = PairsUp-row ns ms t row once p in
@@ -154,6 +159,7 @@ merged-none ns ms ls t row once p gathered =
     go q w (Rooted i c n) e counts = cc
     go q w Bare e counts = record { forest = Bare; root_is = refl; linked = tt; alone = tt; counts = λ j. counts j ∙ q.counts j; order = tt; kept = passes-held ns ms ls t row None p q w }
 
+-- all is one tree
 pub merged-some : (ns ms ls : List Node) (t : Forest) (row : Option ℕ) (r : ℕ) → IsOnce t → PairsUp ns ms t None row → ((s : Forest) → IsSiblings ms s row → FoldsUp ms ls s None (Some r)) → Merges ns (with_prev (with_next ls r None) r None) t (Some r)
 merged-some ns ms ls t row r once p gathered =
     let q : IsPaired ms t row = PairsUp-row ns ms t row once p in

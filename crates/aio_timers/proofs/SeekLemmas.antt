@@ -1,12 +1,12 @@
 -- The search of a chain, and the way to the node before another.
-use Rattle.std.proofs.Common.{◌≡◌, ◌≢◌, ℕ, zero, suc, inl, inr, ◌⊎◌, ◌+◌, ◌<◌, ◌≤◌, true, false, List, [], ◌∷◌, ◌++◌, length, Option, None, Some, arith, refl, sym, ap, subst, ◌∙◌, append_assoc}
+use Rattle.std.proofs.Common.{◌≡◌, ◌≢◌, ℕ, zero, suc, inl, inr, ◌+◌, ◌<◌, ◌≤◌, false, List, [], ◌∷◌, ◌++◌, length, Option, None, Some, arith, refl, sym, ap, ◌∙◌, append_assoc}
 use Rattle.std.proofs.lemmas.List.{length-append}
 use Rattle.std.proofs.lemmas.Bool.{cases_eq}
 use Rattle.aio_timers.specs.Held.{Held, is_pair_of}
 use Rattle.aio_timers.specs.Forest.{one_if}
 use Rattle.aio_timers.specs.Heap.{times_in}
 use Rattle.aio_timers.specs.Chains.{IsChain, IsBucket, IsFound, IsSought, IsAmong, IsJustBefore, Nears}
-use Rattle.aio_timers.proofs.CountLemmas.{one_if-same, one_if-other, some_or_none}
+use Rattle.aio_timers.proofs.CountLemmas.{one_if-same, one_if-other}
 
 ones : ℕ → ℕ → ℕ
 ones zero i = 0
@@ -49,9 +49,11 @@ unfolding times_below
 times_below-le zero xs h = omega arith
 times_below-le (suc k) xs h = omega (arith, h k, times_below-le k xs h)
 
+-- a list of numbers that differ, all below a bound, is no longer than it
 pub length-le : (n : ℕ) (xs : List ℕ) → ((j : ℕ) → times_in j xs ≤ 1) → ((j : ℕ) → 0 < times_in j xs → j < n) → length xs ≤ n
 length-le n xs once h = omega (arith, times_below-length n xs h, times_below-le n xs once)
 
+-- a chain has nodes alone
 pub IsChain-within : (f : ℕ → Held) (n : ℕ) (l : Option ℕ) (xs : List ℕ) (j : ℕ) → IsChain f n l xs → 0 < times_in j xs → j < n
 IsChain-within f n l [] j c h = absurd (omega arith)
 IsChain-within f n l (i ∷ xs) j c h =
@@ -64,10 +66,12 @@ pub times_in-append : (j : ℕ) (xs ys : List ℕ) → times_in j (xs ++ ys) ≡
 times_in-append j [] ys = omega arith
 times_in-append j (x ∷ xs) ys = omega (arith, times_in-append j xs ys)
 
+-- ## The way to a node
 pub near-start : (f : ℕ → Held) (n : ℕ) (first at : ℕ) (front back : List ℕ) → first ≢ at → IsAmong f n (Some first) at front back → Nears f n at front back first 0
 near-start f n first at [] back ne h = absurd (ne (cc (h.chain.0)))
 near-start f n first at (x ∷ xs) back ne h = let e : first ≡ x = cc (h.chain.0) in rw e (record { passed = []; left = xs; is = refl; chain = (refl, h.chain.1, h.chain.2); size = refl })
 
+-- one node on
 pub record StepsOn (f : ℕ → Held) (n : ℕ) (at : ℕ) (front back : List ℕ) (here index : ℕ) (next : ℕ) : Type 0 where
   pub within : next < n
   pub found : next ≡ at → IsJustBefore f n front here at

@@ -1,11 +1,10 @@
 -- A shape whose nodes differ has no more of them than there are indices.
-use Rattle.std.proofs.Common.{◌≡◌, ◌≢◌, ℕ, zero, suc, inl, inr, ◌⊎◌, ◌+◌, ◌<◌, ◌≤◌, List, length, Option, None, Some, arith, refl, sym, ap, ◌∙◌}
+use Rattle.std.proofs.Common.{◌≡◌, ℕ, zero, suc, inl, inr, ◌+◌, ◌<◌, ◌≤◌, List, length, Some, arith, refl, ap}
 use Rattle.std.proofs.lemmas.Bool.{cases_eq}
 use Rattle.aio_timers.specs.declared.node.Node.{Node}
-use Rattle.aio_timers.specs.Forest.{Forest, Bare, Rooted, first_root, one_if, times, Laid, Heads, InRow, row_length, row_steps}
-use Rattle.aio_timers.proofs.CountLemmas.{one_if-same, one_if-other, one_if-le, some_or_none}
+use Rattle.aio_timers.specs.Forest.{Forest, Bare, Rooted, first_root, one_if, times, InRow, row_length, row_steps}
+use Rattle.aio_timers.proofs.CountLemmas.{one_if-same, one_if-other, some_or_none}
 use Rattle.aio_timers.proofs.LayoutLemmas.{Laid-within}
-use Rattle.aio_timers.specs.Held.{node_at}
 
 abbrev pub size : Forest → ℕ
 size Bare = 0
@@ -53,6 +52,7 @@ unfolding total
 total-le zero t h = omega arith
 total-le (suc k) t h = omega (arith, h k, total-le k t h)
 
+-- nodes that differ, all below a bound, are no more than it
 pub size-le : (n : ℕ) (t : Forest) → ((j : ℕ) → times j t ≤ 1) → ((j : ℕ) → 0 < times j t → j < n) → size t ≤ n
 size-le n t once h = omega (arith, total-size n t h, total-le n t once)
 
@@ -77,5 +77,6 @@ walk-enough zero ns (Rooted i c n) row h = absurd (omega arith)
 walk-enough (suc fuel) ns Bare row h = refl
 walk-enough (suc fuel) ns (Rooted i c n) row h = rw row.1 (omega (arith, walk-enough fuel ns n row.2 (omega arith)))
 
+-- a walk along a row takes as many steps as it has roots
 pub walk-row : (ns : List Node) (t : Forest) → InRow ns t → ((j : ℕ) → times j t ≤ 1) → row_steps (length ns) ns (first_root t) ≡ row_length t
 walk-row ns t row once = walk-enough (length ns) ns t row (omega (arith, row_length-le t, size-le (length ns) t once (λ j h. InRow-within ns t j row h)))

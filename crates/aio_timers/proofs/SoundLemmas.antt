@@ -1,5 +1,5 @@
 -- The book after a step.
-use Rattle.std.proofs.Common.{inl, inr, ◌⊎◌, ◌≡◌, ◌≢◌, ℕ, zero, suc, ◌+◌, ◌<◌, ◌≤◌, ◌^◌, ◌==◌, Bool, true, false, cond, List, [], ◌∷◌, length, map, get_or, set, Option, None, Some, is_some, refl, sym, ap, subst, ◌∙◌, arith}
+use Rattle.std.proofs.Common.{inl, inr, ◌≡◌, ◌≢◌, ℕ, zero, suc, ◌+◌, ◌<◌, ◌≤◌, ◌==◌, Bool, true, false, cond, List, [], ◌∷◌, length, get_or, set, Option, None, Some, is_some, refl, sym, ap, ◌∙◌, arith}
 use Rattle.std.specs.Prelude.{MatchOption}
 use Rattle.std.specs.List.{All, filter_map, cons_option}
 use Rattle.std.proofs.lemmas.Bool.{cases_eq}
@@ -7,7 +7,7 @@ use Rattle.std.proofs.lemmas.Bool.Decides.{nat_tests}
 use Rattle.std.proofs.lemmas.List.{length-map, get_or-set_same, get_or-set_other, length-set, map-set}
 use Rattle.aio_base.specs.declared.names.Waker.{Waker}
 use Rattle.aio_base.specs.World.{Registration}
-use Rattle.aio_base.specs.Timers.{fires_before, placed, in_order, is_pair, without_pair, IsBook}
+use Rattle.aio_base.specs.Timers.{fires_before, placed, in_order, is_pair, without_pair}
 use Rattle.aio_timers.specs.declared.node.Node.{Node}
 use Rattle.aio_timers.specs.Held.{Held, held_at, held_of, helds, node_at, vacant, gone, live_of, registered, is_pair_of}
 use Rattle.aio_timers.specs.Forest.{Forest, Bare, Rooted, first_root, one_if, times}
@@ -17,7 +17,7 @@ use Rattle.aio_timers.specs.Sound.{registrations, IsSound, IsAbsent, IsPairAt, G
 use Rattle.aio_timers.proofs.BookLemmas.{IsOther, IsBook-placed}
 use Rattle.aio_timers.proofs.AnyOrderLemmas.{gains, GivesUp, gives_up, without_pair-placed}
 use Rattle.aio_timers.proofs.AlikeLemmas.{held-read, Alike, IsHeap-alike, Alike-chains, live-chains}
-use Rattle.aio_timers.proofs.CountLemmas.{one_if-same, one_if-other, some_or_none}
+use Rattle.aio_timers.proofs.CountLemmas.{one_if-same, one_if-other}
 use Rattle.aio_timers.proofs.NewcomerLemmas.{FreeTail, free_tail}
 use Rattle.aio_timers.proofs.ChainLemmas.{IsTable-frame, joins, in-chain, in-use, cond-le}
 use Rattle.aio_timers.proofs.LayoutLemmas.{set-here, set-there}

@@ -1,8 +1,7 @@
 -- The buckets, and the chains of nodes that start at them.
 use Rattle.std.specs.Prelude.{ℕ, ◌≡◌, ◌+◌, ◌<◌, ◌≤◌, ◌%◌, ◌==◌, if◌then◌else◌, List, [], ◌∷◌, ◌++◌, length, Option, None, Some, MatchOption, is_some, true, false, slice_index_or}
-use Rattle.aio_base.specs.declared.names.Waker.{Waker}
 use Rattle.aio_timers.specs.declared.node.Node.{Node}
-use Rattle.aio_timers.specs.Held.{Held, node_at, held_at, is_pair_of}
+use Rattle.aio_timers.specs.Held.{Held, node_at, is_pair_of}
 use Rattle.aio_timers.specs.Forest.{one_if}
 use Rattle.aio_timers.specs.Heap.{times_in}
 

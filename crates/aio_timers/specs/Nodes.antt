@@ -1,9 +1,9 @@
 -- Nodes in a row, and writes of their links.
-use Rattle.std.specs.Prelude.{ℕ, ◌<◌, nat_lt, if◌then◌else◌, Bool, false, ◌==◌, length, IfSome, List, Option, None, Some, slice_index_or, slice_set}
+use Rattle.std.specs.Prelude.{ℕ, ◌<◌, if◌then◌else◌, Bool, false, ◌==◌, length, IfSome, List, Option, None, Some, slice_set}
 use Rattle.aio_base.specs.declared.names.Waker.{Waker}
 use Rattle.aio_timers.specs.declared.node.Node.{Node}
 use Rattle.aio_timers.specs.Precedes.{precedes}
-use Rattle.aio_timers.specs.Held.{Held, held_at, node_at}
+use Rattle.aio_timers.specs.Held.{held_at, node_at}
 
 abbrev pub with_child : List Node → ℕ → Option ℕ → List Node
 with_child nodes i l = slice_set nodes i (record (node_at nodes i) { child = l })

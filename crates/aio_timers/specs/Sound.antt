@@ -1,5 +1,5 @@
 -- What stands of a book of timers.
-use Rattle.std.specs.Prelude.{ℕ, ◌≡◌, ◌<◌, ◌≤◌, ◌^◌, ◌+◌, false, List, length, Option, None, Some}
+use Rattle.std.specs.Prelude.{ℕ, ◌≡◌, ◌<◌, ◌≤◌, ◌^◌, ◌+◌, false, List, length, Option, Some}
 use Rattle.std.specs.List.{All, filter_map}
 use Rattle.aio_base.specs.World.{Registration}
 use Rattle.aio_base.specs.Timers.{in_order, placed, is_pair, IsBook}

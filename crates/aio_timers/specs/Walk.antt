@@ -64,17 +64,17 @@ size_of Bare = 0
 size_of (Rooted i c n) = size_of c + size_of n + 1
 
 -- a walk at a node, before which so many due ones were met in so many steps
-pub record IsAmid (t : Forest) (i : ℕ) (due : Forest → ℕ) (times steps : ℕ) : Type 0 where
+pub record IsAmid (t : Forest) (i : ℕ) (due : Forest → ℕ) (met steps : ℕ) : Type 0 where
   pub around : Path
   pub below : Forest
   pub later : Forest
   pub is : rebuilt around (Rooted i below later) ≡ t
-  pub counted : times + (due (Rooted i below later) + sum_around due around) ≡ due t
+  pub counted : met + (due (Rooted i below later) + sum_around due around) ≡ due t
   pub left : steps + (size_of (Rooted i below later) + sum_around size_of around) ≤ size_of t
 
 abbrev pub WalksOn : Forest → Option ℕ → (Forest → ℕ) → ℕ → ℕ → Type 0
-WalksOn t None due times steps = times ≡ due t
-WalksOn t (Some i) due times steps = IsAmid t i due times steps
+WalksOn t None due met steps = met ≡ due t
+WalksOn t (Some i) due met steps = IsAmid t i due met steps
 
 -- what is walked: the heap from its root
 pub record IsHeapTree (nodes : List Node) (t : Forest) (root : Option ℕ) : Type 0 where

@@ -1,7 +1,6 @@
 -- Each round goes one node on, and the chain does not end before the node.
-use Rattle.std.proofs.Common.{◌≡◌, ◌<◌, ℕ, Some, None, List, length, sym, ◌∙◌}
+use Rattle.std.proofs.Common.{length, sym, ◌∙◌}
 use Rattle.aio_timers.specs.Held.{held_at}
-use Rattle.aio_timers.specs.Chains.{IsAmong, Nears}
 use Rattle.aio_timers.proofs.SeekLemmas.{near-start, steps_on, near-some, near-over}
 use Rattle.aio_timers.proofs.chains.before.Goals as goal
 

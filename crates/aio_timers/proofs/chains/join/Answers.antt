@@ -1,9 +1,9 @@
 -- The node is the first of its chain.
-use Rattle.std.proofs.Common.{◌≡◌, ◌≢◌, ◌<◌, ℕ, None, List, length, ap, sym, ◌∙◌, length-set}
+use Rattle.std.proofs.Common.{◌≡◌, ℕ, length, ap, sym, ◌∙◌, length-set}
 use Rattle.aio_timers.specs.Held.{Held, held_at}
 use Rattle.aio_timers.specs.Nodes.{with_chain}
-use Rattle.aio_timers.specs.Chains.{IsTable, IsWithout, bucket_in}
-use Rattle.aio_timers.proofs.ChainLemmas.{IsTable-frame, joins}
+use Rattle.aio_timers.specs.Chains.{bucket_in}
+use Rattle.aio_timers.proofs.ChainLemmas.{joins}
 use Rattle.aio_timers.proofs.BucketLemmas.{chain-here, chain-there, chain-id}
 use Rattle.aio_timers.proofs.chains.join.Goals as goal
 

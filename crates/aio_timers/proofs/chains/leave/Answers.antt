@@ -1,8 +1,8 @@
 -- The link that led to the node leads past it: that of the bucket, or that of the node before.
-use Rattle.std.proofs.Common.{◌≡◌, ◌≢◌, ◌<◌, ℕ, Option, None, Some, List, length, ap, sym, ◌∙◌, arith, get_or, subst, length-set}
+use Rattle.std.proofs.Common.{◌≡◌, ℕ, None, Some, length, ap, sym, ◌∙◌, arith, get_or, length-set}
 use Rattle.aio_timers.specs.Held.{Held, held_at}
 use Rattle.aio_timers.specs.Nodes.{with_chain}
-use Rattle.aio_timers.specs.Chains.{IsTable, IsWithout, IsJustBefore, bucket_in}
+use Rattle.aio_timers.specs.Chains.{IsTable, IsJustBefore}
 use Rattle.aio_timers.proofs.ChainLemmas.{leaves-first, leaves-behind, first-below, none-empty, InItsChain, in-its-chain, in-chain}
 use Rattle.aio_timers.proofs.BucketLemmas.{chain-here, chain-there, chain-id}
 use Rattle.aio_timers.proofs.chains.leave.Goals as goal

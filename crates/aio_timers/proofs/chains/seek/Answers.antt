@@ -1,7 +1,6 @@
 -- The chain is passed node by node.
-use Rattle.std.proofs.Common.{◌≡◌, ◌<◌, ℕ, Option, Some, None, List, length, sym, ◌∙◌}
+use Rattle.std.proofs.Common.{length, sym, ◌∙◌}
 use Rattle.aio_timers.specs.Held.{held_at}
-use Rattle.aio_timers.specs.Chains.{IsBucket, IsSought}
 use Rattle.aio_timers.proofs.SeekLemmas.{sought-end, sought-over, Passes, passes}
 use Rattle.aio_timers.proofs.chains.seek.Goals as goal
 

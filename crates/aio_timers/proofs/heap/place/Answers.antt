@@ -1,5 +1,5 @@
 -- The node stands alone, and then below the root or above it.
-use Rattle.std.proofs.Common.{Option, Some, None, sym, subst, set}
+use Rattle.std.proofs.Common.{Some, sym, subst, set}
 use Rattle.aio_timers.specs.declared.node.Node.{Node}
 use Rattle.aio_timers.specs.Held.{held_of, node_at}
 use Rattle.aio_timers.specs.Nodes.{melded, upper_root}

@@ -1,12 +1,9 @@
 -- The node leaves its siblings, its children become one tree, and that joins the rest.
-use Rattle.std.proofs.Common.{◌≡◌, ◌<◌, ℕ, Option, Some, None, length, arith, ap, sym, ◌∙◌}
-use Rattle.aio_timers.specs.Nodes.{cut_out}
+use Rattle.std.proofs.Common.{Some, None}
 use Rattle.aio_timers.specs.Forest.{CutOut}
-use Rattle.aio_timers.specs.Heap.{IsHeap, Sets}
 use Rattle.aio_timers.proofs.CutLemmas.{cut_out-tells}
-use Rattle.aio_timers.proofs.InsideLemmas.{Inside, inside_of, LinksLead, links-within, cut_out-row, take-alone, take-joined, Removal, steps}
+use Rattle.aio_timers.proofs.InsideLemmas.{Inside, inside_of, links-within, cut_out-row, take-alone, take-joined, Removal, steps}
 use Rattle.aio_timers.proofs.heap.take_inner.Goals as goal
-use Rattle.aio_timers.specs.Held.{gone, node_at}
 
 pub cut-requires-clause-next : goal.cut-requires-clause-next
 cut-requires-clause-next c =

@@ -1,9 +1,6 @@
 -- What was below the root is the heap.
-use Rattle.std.proofs.Common.{◌≡◌, ◌<◌, ℕ, Option, Some, None, length, arith, ap, sym, ◌∙◌}
-use Rattle.aio_timers.specs.Heap.{IsHeap, Sets}
 use Rattle.aio_timers.proofs.RootLemmas.{RootChildren, root-children, take-root}
 use Rattle.aio_timers.proofs.heap.take_root.Goals as goal
-use Rattle.aio_timers.specs.Held.{node_at}
 
 pub merge-rest-requires-clause-row : goal.merge-rest-requires-clause-row
 merge-rest-requires-clause-row c = let ch = root-children c.args.nodes.now c.args.root c.args.free c.requires.heap in (ch.below, rw c.child_of-children.ensures ch.row)

@@ -1,9 +1,7 @@
 -- Each round joins the next tree with that of the earlier ones.
-use Rattle.std.proofs.Common.{◌≡◌, ◌<◌, ℕ, Option, Some, None, length, sym, ◌∙◌}
-use Rattle.aio_timers.specs.Held.{node_at}
-use Rattle.aio_timers.specs.Nodes.{melded, upper_root}
-use Rattle.aio_timers.specs.Forest.{Forest, IsSiblings, FoldsUp}
-use Rattle.aio_timers.proofs.SecondPassLemmas.{OneFewer, FoldsUp-first, FoldsUp-next, FoldsUp-top, OneFewer-falls}
+use Rattle.std.proofs.Common.{Some, None}
+use Rattle.aio_timers.specs.Forest.{FoldsUp}
+use Rattle.aio_timers.proofs.SecondPassLemmas.{FoldsUp-first, FoldsUp-next, FoldsUp-top, OneFewer-falls}
 use Rattle.aio_timers.proofs.links.fold_up.Goals as goal
 
 pub meld-requires-clause-first : goal.meld-requires-clause-first

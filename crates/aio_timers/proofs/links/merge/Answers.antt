@@ -1,10 +1,7 @@
 -- The first pass leaves a row again, and the second one tree.
-use Rattle.std.proofs.Common.{◌≡◌, ◌<◌, ℕ, Option, Some, None, length, arith, ap, sym, ◌∙◌, length-set}
-use Rattle.aio_timers.specs.Nodes.{with_next, melded, upper_root}
-use Rattle.aio_timers.specs.Forest.{Forest, IsSiblings, FoldsUp, PairsUp}
+use Rattle.std.proofs.Common.{◌<◌, length, arith}
 use Rattle.aio_timers.proofs.SecondPassLemmas.{IsPaired, PairsUp-row, merged-none, merged-some, merged-top}
 use Rattle.aio_timers.proofs.links.merge.Goals as goal
-use Rattle.aio_timers.specs.Held.{node_at}
 
 pub fold_up-requires-clause-row : goal.fold_up-requires-clause-row
 fold_up-requires-clause-row c =

@@ -1,8 +1,6 @@
 -- Each round takes one sibling, the last, or two of them.
-use Rattle.std.proofs.Common.{◌≡◌, ◌<◌, ℕ, Option, Some, None, length, sym, ◌∙◌}
+use Rattle.std.proofs.Common.{◌≡◌, Some, sym, ◌∙◌}
 use Rattle.aio_timers.specs.Held.{node_at}
-use Rattle.aio_timers.specs.Nodes.{with_next, melded, upper_root}
-use Rattle.aio_timers.specs.Forest.{Forest, IsSiblings, PairsUp}
 use Rattle.aio_timers.proofs.FirstPassLemmas.{PairsUp-last, PairsUp-two, PairsUp-falls, PairsUp-upper_root}
 use Rattle.aio_timers.proofs.links.pair_up.Goals as goal
 

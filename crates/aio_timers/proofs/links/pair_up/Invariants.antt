@@ -1,5 +1,5 @@
 -- What is left of the siblings, and the trees that were made.
-use Rattle.std.proofs.Common.{ℕ, length}
+use Rattle.std.proofs.Common.{length}
 use Rattle.aio_timers.specs.Forest.{Forest, IsSiblings, PairsUp, row_steps}
 use Rattle.aio_timers.proofs.links.pair_up.Given as goal
 

@@ -1,5 +1,5 @@
 -- No bucket leads to a node.
-use Rattle.std.proofs.Common.{◌≡◌, ◌≤◌, ℕ, length, vec_capacity, vec_len}
+use Rattle.std.proofs.Common.{◌≡◌, ◌≤◌, length, vec_capacity, vec_len}
 use Rattle.aio_timers.specs.Growth.{IsBlankRow}
 use Rattle.aio_timers.proofs.room.clear_row.Given as goal
 

@@ -1,10 +1,10 @@
 -- One more free node.
-use Rattle.std.proofs.Common.{◌≡◌, ◌+◌, ◌++◌, [], ◌∷◌, ℕ, Option, Some, List, length, arith, ap, subst, sym, ◌∙◌}
+use Rattle.std.proofs.Common.{◌≡◌, ◌++◌, [], ◌∷◌, ℕ, Some, arith, ap, subst, ◌∙◌}
 use Rattle.std.proofs.lemmas.List.{length-append}
 use Rattle.aio_timers.specs.declared.node.Node.{Node}
 use Rattle.aio_timers.specs.Held.{free_node}
 use Rattle.aio_timers.specs.Growth.{Extends}
-use Rattle.aio_timers.proofs.GrowthLemmas.{pushed, Extends-refl, Extends-trans}
+use Rattle.aio_timers.proofs.GrowthLemmas.{pushed, Extends-trans}
 use Rattle.aio_timers.proofs.room.fill_up.Goals as goal
 
 pub loop-at-preserved : goal.loop-at-preserved

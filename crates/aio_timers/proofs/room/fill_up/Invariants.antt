@@ -1,5 +1,5 @@
 -- There are as many nodes as the index says.
-use Rattle.std.proofs.Common.{◌≡◌, ◌≤◌, ℕ, length, vec_capacity, vec_len}
+use Rattle.std.proofs.Common.{◌≡◌, ◌≤◌, length, vec_capacity, vec_len}
 use Rattle.aio_timers.specs.Growth.{Extends}
 use Rattle.aio_timers.proofs.room.fill_up.Given as goal
 

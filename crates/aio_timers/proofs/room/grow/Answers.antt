@@ -1,5 +1,5 @@
 -- The chains are new, or as they were; then free nodes join the others.
-use Rattle.std.proofs.Common.{◌≡◌, ◌≤◌, ℕ, Option, List, length, arith, ap, subst, sym, ◌∙◌}
+use Rattle.std.proofs.Common.{◌≡◌, ℕ, Option, List, length, arith, ap, subst}
 use Rattle.aio_timers.specs.declared.node.Node.{Node}
 use Rattle.aio_timers.specs.Growth.{Rehashes}
 use Rattle.aio_timers.proofs.GrowthLemmas.{grown, Extends-refl}

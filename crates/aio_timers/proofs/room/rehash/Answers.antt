@@ -1,5 +1,4 @@
 -- At first no bucket leads to a node; then each node in use joins its own.
-use Rattle.std.proofs.Common.{◌≡◌, ℕ, List, length, sym, ◌∙◌}
 use Rattle.aio_timers.proofs.GrowthLemmas.{ChainsChange-refl, blank-table}
 use Rattle.aio_timers.proofs.room.rehash.Goals as goal
 

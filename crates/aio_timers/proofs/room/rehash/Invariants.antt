@@ -1,5 +1,5 @@
 -- The nodes in use before the index are in their buckets.
-use Rattle.std.proofs.Common.{◌≡◌, ◌<◌, ℕ, length}
+use Rattle.std.proofs.Common.{length}
 use Rattle.aio_timers.specs.Held.{held_at}
 use Rattle.aio_timers.specs.Chains.{IsTable, ChainsChange}
 use Rattle.aio_timers.specs.Growth.{used_before}

@@ -1,5 +1,5 @@
 -- The slices are those of the vectors.
-use Rattle.std.proofs.Common.{◌≡◌, ◌++◌, ℕ, Option, Some, List, length, take, drop, subst}
+use Rattle.std.proofs.Common.{Some, List, subst}
 use Rattle.aio_timers.specs.declared.node.Node.{Node}
 use Rattle.aio_timers.specs.Sound.{IsSound, Gains}
 use Rattle.aio_timers.proofs.LentLemmas.{written-back}

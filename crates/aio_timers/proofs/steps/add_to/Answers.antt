@@ -1,7 +1,7 @@
 -- The first free node comes into use, in the heap and at the head of its bucket.
-use Rattle.std.proofs.Common.{◌≡◌, ◌<◌, ℕ, Option, None, Some, List, length, is_some, true, arith, ap, subst, sym, ◌∙◌}
+use Rattle.std.proofs.Common.{Some, arith, subst, sym}
 use Rattle.aio_timers.specs.declared.node.Node.{Node}
-use Rattle.aio_timers.specs.Held.{Held, held_at, held_of, node_at, lone_node}
+use Rattle.aio_timers.specs.Held.{held_of, node_at, lone_node}
 use Rattle.aio_timers.specs.Heap.{Sets}
 use Rattle.aio_timers.specs.Sound.{IsSound}
 use Rattle.aio_timers.proofs.SoundLemmas.{head-free, added}

@@ -1,5 +1,5 @@
 -- The slices are those of the vectors.
-use Rattle.std.proofs.Common.{◌≡◌, ℕ, Option, List, subst}
+use Rattle.std.proofs.Common.{List, subst}
 use Rattle.std.specs.Prelude.{MatchOption}
 use Rattle.aio_timers.specs.declared.node.Node.{Node}
 use Rattle.aio_timers.specs.Held.{helds}

@@ -1,5 +1,5 @@
 -- The chain of the bucket holds all nodes in use with this id.
-use Rattle.std.proofs.Common.{◌≡◌, ◌<◌, ℕ, Option, None, List, length, get_or, arith, ap, subst, sym, ◌∙◌}
+use Rattle.std.proofs.Common.{length, sym}
 use Rattle.aio_timers.specs.Held.{held_at}
 use Rattle.aio_timers.specs.Chains.{IsBucket}
 use Rattle.aio_timers.proofs.SoundLemmas.{its-bucket, search-tells}

@@ -1,6 +1,5 @@
 -- The slices are those of the vectors.
-use Rattle.std.proofs.Common.{◌≡◌, ◌++◌, ℕ, Option, Some, List, length, take, drop, subst, sym, ap, ◌∙◌}
-use Rattle.aio_base.specs.World.{Registration}
+use Rattle.std.proofs.Common.{◌≡◌, Some, List, subst, ap, ◌∙◌}
 use Rattle.aio_timers.specs.declared.node.Node.{Node}
 use Rattle.aio_timers.specs.Held.{held_at, live_of}
 use Rattle.aio_timers.specs.Sound.{IsSound, Drops}

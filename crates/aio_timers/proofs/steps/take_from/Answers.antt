@@ -1,9 +1,7 @@
 -- The node leaves its chain and the heap.
-use Rattle.std.proofs.Common.{◌≡◌, ◌<◌, ℕ, Option, None, Some, List, length, is_some, true, arith, ap, subst, sym, ◌∙◌}
-use Rattle.aio_base.specs.World.{Registration}
-use Rattle.aio_timers.specs.declared.node.Node.{Node}
-use Rattle.aio_timers.specs.Held.{Held, held_at, gone, live_of}
-use Rattle.aio_timers.specs.Heap.{IsHeap, Sets}
+use Rattle.std.proofs.Common.{ℕ, Some, subst, sym}
+use Rattle.aio_timers.specs.Held.{held_at, gone}
+use Rattle.aio_timers.specs.Heap.{Sets}
 use Rattle.aio_timers.specs.Chains.{used_of}
 use Rattle.aio_timers.specs.Sound.{IsSound}
 use Rattle.aio_timers.proofs.AlikeLemmas.{IsHeap-alike, Alike-chains}

@@ -1,11 +1,8 @@
 -- The walk climbs until a later sibling is still to come, or to the top.
-use Rattle.std.proofs.Common.{◌≡◌, ◌<◌, ◌+◌, ℕ, Option, Some, None, length, arith, ap, sym, ◌∙◌}
-use Rattle.aio_timers.specs.Nodes.{leads_to}
-use Rattle.aio_timers.specs.Forest.{Forest, Path, rebuilt, Rooted}
-use Rattle.aio_timers.specs.Walk.{IsLaidOnce, ClimbsTo, depth, left_behind, onward}
-use Rattle.aio_timers.proofs.ClimbLemmas.{own, start, climb-within, climb-next, climb-end, climb-up, climb-up-within, climb-over}
+use Rattle.std.proofs.Common.{ap, sym, ◌∙◌}
+use Rattle.aio_timers.specs.Walk.{depth, left_behind, onward}
+use Rattle.aio_timers.proofs.ClimbLemmas.{own, start, climb-next, climb-end, climb-up, climb-up-within, climb-over}
 use Rattle.aio_timers.proofs.walk.after.Goals as goal
-use Rattle.aio_timers.specs.Held.{node_at}
 
 pub loop-init : goal.loop-init
 loop-init c = record {

@@ -1,5 +1,5 @@
 -- All that was to come behind the first node is to come behind this one.
-use Rattle.std.proofs.Common.{◌≡◌, ◌<◌, ℕ, length}
+use Rattle.std.proofs.Common.{◌≡◌, ◌<◌, length}
 use Rattle.aio_timers.specs.Forest.{Forest, Path, rebuilt, Rooted}
 use Rattle.aio_timers.specs.Walk.{IsLaidOnce, ClimbsTo, depth, left_behind}
 use Rattle.aio_timers.proofs.walk.after.Given as goal

@@ -1,6 +1,6 @@
-use Rattle.std.proofs.Common.{subst, ◌≡◌, ◌<◌, ◌+◌, ℕ, Option, Some, None, length, arith, ap, sym, ◌∙◌}
-use Rattle.aio_timers.specs.Forest.{Forest}
-use Rattle.aio_timers.specs.Walk.{IsHeapTree, WalksOn, IsAmid, due_among}
+-- The walk goes on until nothing is to come.
+use Rattle.std.proofs.Common.{subst, ℕ, Option, arith}
+use Rattle.aio_timers.specs.Walk.{WalksOn, due_among}
 use Rattle.aio_timers.proofs.DueLemmas.{begins, within, over}
 use Rattle.aio_timers.proofs.walk.count_due.Goals as goal
 use Rattle.aio_timers.specs.Held.{held_at}

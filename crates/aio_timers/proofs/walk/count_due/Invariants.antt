@@ -1,5 +1,5 @@
 -- What was counted, and what is still to come, are all that is due.
-use Rattle.std.proofs.Common.{◌≡◌, ◌<◌, ◌≤◌, ℕ, length}
+use Rattle.std.proofs.Common.{◌≤◌}
 use Rattle.aio_timers.specs.Forest.{Forest}
 use Rattle.aio_timers.specs.Walk.{IsHeapTree, WalksOn, due_among}
 use Rattle.aio_timers.proofs.walk.count_due.Given as goal

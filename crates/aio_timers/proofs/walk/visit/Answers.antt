@@ -1,5 +1,5 @@
 -- A node that is due is counted, and the walk goes down; one that is not hides none that is.
-use Rattle.std.proofs.Common.{refl, sym, ◌∙◌}
+use Rattle.std.proofs.Common.{sym, ◌∙◌}
 use Rattle.aio_timers.specs.Held.{held_at}
 use Rattle.aio_timers.proofs.DueLemmas.{skips, counts, due-yes, due-no}
 use Rattle.aio_timers.proofs.walk.visit.Goals as goal

@@ -1,5 +1,5 @@
 -- The walk is that of the heap.
-use Rattle.std.proofs.Common.{◌≡◌, ◌≤◌, ℕ, List, length, arith, ap, subst, sym, ◌∙◌}
+use Rattle.std.proofs.Common.{◌≡◌, List, length, arith, ap, ◌∙◌}
 use Rattle.aio_base.specs.World.{Registration}
 use Rattle.aio_base.specs.Timers.{due_wakers}
 use Rattle.aio_timers.specs.declared.node.Node.{Node}

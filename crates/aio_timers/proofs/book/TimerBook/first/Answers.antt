@@ -1,11 +1,11 @@
 -- The root is the front of the book.
-use Rattle.std.proofs.Common.{◌≡◌, ℕ, List, [], Option, None, Some, arith, ap, subst, sym, ◌∙◌}
+use Rattle.std.proofs.Common.{◌≡◌, None, Some, ap, subst, sym, ◌∙◌}
 use Rattle.aio_base.specs.Timers.{first_deadline, IsBook}
 use Rattle.aio_timers.specs.Held.{held_at, helds}
 use Rattle.aio_timers.specs.Book.{first_pair}
 use Rattle.aio_timers.specs.Room.{Book}
 use Rattle.aio_timers.specs.Sound.{IsSound, registrations}
-use Rattle.aio_timers.proofs.LeastLemmas.{OfNode, of-node}
+use Rattle.aio_timers.proofs.LeastLemmas.{of-node}
 use Rattle.aio_timers.proofs.SoundLemmas.{no-root, RootLive, root-live}
 use Rattle.aio_timers.proofs.FrontLemmas.{front-pair, front-deadline}
 use Rattle.aio_timers.proofs.book.TimerBook.first.Goals as goal

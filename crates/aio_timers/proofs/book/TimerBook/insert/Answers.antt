@@ -1,12 +1,12 @@
 -- The pair gets another waker, or a free node comes into use.
-use Rattle.std.proofs.Common.{◌≡◌, ◌≤◌, ◌<◌, ◌-◌, ℕ, Option, List, length, arith, ap, sym, ◌∙◌}
+use Rattle.std.proofs.Common.{◌≡◌, ◌-◌, List, length, arith, ap, sym, ◌∙◌}
 use Rattle.aio_base.specs.World.{Registration}
 use Rattle.aio_base.specs.Timers.{placed, without_pair}
 use Rattle.aio_timers.specs.Held.{helds}
 use Rattle.aio_timers.specs.Room.{Book}
-use Rattle.aio_timers.specs.Sound.{IsPairAt, registrations, Gains}
+use Rattle.aio_timers.specs.Sound.{registrations}
 use Rattle.aio_timers.proofs.BookLemmas.{without_pair-others}
-use Rattle.aio_timers.proofs.SoundLemmas.{Rewakes, rewoken, has-free}
+use Rattle.aio_timers.proofs.SoundLemmas.{rewoken, has-free}
 use Rattle.aio_timers.proofs.book.TimerBook.insert.Goals as goal
 
 pub set_waker-requires : goal.set_waker-requires

@@ -1,10 +1,10 @@
 -- The root is the front of the book.
-use Rattle.std.proofs.Common.{◌≡◌, ℕ, List, [], Option, None, Some, arith, ap, sym, ◌∙◌}
+use Rattle.std.proofs.Common.{◌≡◌, None, Some, ap, sym, ◌∙◌}
 use Rattle.aio_timers.specs.Held.{held_at, helds}
 use Rattle.aio_timers.specs.Book.{is_first_due}
 use Rattle.aio_timers.specs.Room.{Book}
 use Rattle.aio_timers.specs.Sound.{IsSound, registrations}
-use Rattle.aio_timers.proofs.LeastLemmas.{OfNode, of-node}
+use Rattle.aio_timers.proofs.LeastLemmas.{of-node}
 use Rattle.aio_timers.proofs.SoundLemmas.{no-root, RootLive, root-live}
 use Rattle.aio_timers.proofs.FrontLemmas.{front-due}
 use Rattle.aio_timers.proofs.book.TimerBook.is_first_due.Goals as goal

@@ -1,9 +1,8 @@
 -- Each round takes the front while it is due.
-use Rattle.std.proofs.Common.{◌≡◌, ◌≤◌, ◌<◌, ◌+◌, ◌++◌, [], ◌∷◌, ℕ, true, false, List, length, arith, ap, sym, subst, ◌∙◌, append_assoc}
+use Rattle.std.proofs.Common.{◌++◌, [], ◌∷◌, List, length, arith, ap, sym, ◌∙◌, append_assoc}
 use Rattle.aio_base.specs.declared.names.Waker.{Waker}
 use Rattle.aio_base.specs.World.{Registration}
-use Rattle.aio_base.specs.Timers.{due_wakers, after_pass}
-use Rattle.aio_timers.specs.Book.{is_first_due}
+use Rattle.aio_base.specs.Timers.{due_wakers}
 use Rattle.aio_timers.proofs.PassLemmas.{Ends, ends, Takes, takes}
 use Rattle.aio_timers.proofs.FrontLemmas.{append-nil}
 use Rattle.aio_timers.proofs.book.TimerBook.pass.Goals as goal

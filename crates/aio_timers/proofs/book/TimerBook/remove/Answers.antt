@@ -1,11 +1,11 @@
 -- The node of the pair leaves; where there is none, nothing changes.
-use Rattle.std.proofs.Common.{◌≡◌, ◌≤◌, ◌<◌, ◌-◌, ℕ, Option, List, length, arith, ap, sym, subst, ◌∙◌}
+use Rattle.std.proofs.Common.{◌≡◌, ◌-◌, List, length, arith, ap, sym, subst, ◌∙◌}
 use Rattle.std.specs.List.{All}
 use Rattle.aio_base.specs.World.{Registration}
 use Rattle.aio_base.specs.Timers.{without_pair}
 use Rattle.aio_timers.specs.Held.{helds}
 use Rattle.aio_timers.specs.Room.{Book}
-use Rattle.aio_timers.specs.Sound.{IsPairAt, registrations, Drops}
+use Rattle.aio_timers.specs.Sound.{registrations}
 use Rattle.aio_timers.proofs.BookLemmas.{IsOther, without_pair-others}
 use Rattle.aio_timers.proofs.SoundLemmas.{dropped-entries, dropped-many}
 use Rattle.aio_timers.proofs.book.TimerBook.remove.Goals as goal

@@ -1,9 +1,6 @@
 -- The timers stand, and there are more nodes, or as many.
-use Rattle.std.proofs.Common.{◌≡◌, ◌≤◌, ◌-◌, ℕ, List, length, arith, ap, sym, ◌∙◌}
-use Rattle.aio_timers.specs.Held.{helds}
+use Rattle.std.proofs.Common.{◌≡◌, ◌-◌, length, arith, ap, ◌∙◌}
 use Rattle.aio_timers.specs.Room.{Book}
-use Rattle.aio_timers.specs.Sound.{registrations}
-use Rattle.aio_timers.specs.Growth.{GrowsTo}
 use Rattle.aio_timers.proofs.SoundLemmas.{used-within}
 use Rattle.aio_timers.proofs.book.TimerBook.reserve.Goals as goal
 

@@ -1,5 +1,5 @@
 -- There are at least as many nodes as timers.
-use Rattle.std.proofs.Common.{◌≤◌, arith}
+use Rattle.std.proofs.Common.{arith}
 use Rattle.aio_timers.proofs.SoundLemmas.{used-within}
 use Rattle.aio_timers.proofs.book.TimerBook.spare.Goals as goal
 

@@ -1,10 +1,10 @@
 -- The root is the front of the book, and the rest stays.
-use Rattle.std.proofs.Common.{◌≡◌, ◌≤◌, ◌<◌, ◌-◌, [], ◌∷◌, ℕ, Option, Some, None, List, length, arith, ap, sym, subst, ◌∙◌}
+use Rattle.std.proofs.Common.{◌≡◌, ◌-◌, ◌∷◌, Some, None, List, length, arith, ap, sym, subst, ◌∙◌}
 use Rattle.aio_base.specs.World.{Registration}
 use Rattle.aio_base.specs.Timers.{IsBook}
 use Rattle.aio_timers.specs.Held.{helds}
 use Rattle.aio_timers.specs.Room.{Book}
-use Rattle.aio_timers.specs.Sound.{IsSound, registrations, Drops}
+use Rattle.aio_timers.specs.Sound.{IsSound, registrations}
 use Rattle.aio_timers.proofs.PassLemmas.{front-goes}
 use Rattle.aio_timers.proofs.SoundLemmas.{no-root, RootLive, root-live, dropped-many}
 use Rattle.aio_timers.proofs.book.TimerBook.take_first.Goals as goal
