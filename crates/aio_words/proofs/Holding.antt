@@ -1,0 +1,32 @@
+-- The round seat between calls: which parker it holds, and what stays of it over a step.
+use Rattle.std.proofs.Common.{◌≡◌, ℕ, ◌+◌, ◌*◌, ◌<◌, sym, ap, ◌∙◌, subst, arith}
+use Rattle.atomic_table.specs.declared.shared.Seat.{Seat}
+use Rattle.aio_base.specs.declared.seats.Mode.{Mode}
+use Rattle.aio_base.specs.declared.seats.Mode.TheVariants as mode
+use Rattle.aio_base.specs.declared.seats.WordStep.{WordStep}
+use Rattle.aio_base.specs.declared.seats.SeatView.{SeatView}
+use Rattle.aio_base.specs.SharedWords.{after, held, word_count}
+use Rattle.aio_words.specs.Plays.{Sitter}
+use Rattle.aio_words.specs.Seats.{HoldsOnly, IsRoundSeat}
+use Rattle.aio_words.specs.Steps.{Made}
+
+-- what the seat keeps as the step makes it, it keeps after the step
+pub after_step : (old new : Seat (Unit {0}) SeatView) (s : WordStep) (rounds parker : ℕ) → Made s old new
+    → IsRoundSeat (after s old.me.0, old.me.1) rounds parker old.table_id.words → IsRoundSeat new.me rounds parker new.table_id.words
+after_step old new s rounds parker made is = subst (λ (x : Sitter × ℕ). IsRoundSeat x.0 rounds parker x.1) (λ k. (sym made.1 k, sym (ap (λ t. t.words) made.0) k)) is
+
+-- a seat that holds the parker that it held
+pub holds_still : (old new : Mode) (parker words : ℕ) → held new ≡ held old → HoldsOnly old parker words → HoldsOnly new parker words
+holds_still old new parker words same holds i h = holds i (sym same ∙ h)
+
+module _ (m : Mode) (parker words : ℕ) (holds : HoldsOnly m parker words) (i : ℕ) (blocks : m ≡ mode.Block i) where
+  -- the parker that the seat blocks stands in the seat
+  pub the_parker : i ≡ parker
+  the_parker = (holds i (ap held blocks)).0
+
+  pub blocks_it : m ≡ mode.Block parker
+  blocks_it = blocks ∙ ap mode.Block the_parker
+
+  -- and is one of those that there are
+  pub in_words : (n : ℕ) → words ≡ word_count n → parker < n
+  in_words n many = let same = the_parker in let below : 3 + 2 * i < words = (holds i (ap held blocks)).1 in let e : words ≡ 2 + 2 * n = many in omega arith

@@ -1,0 +1,53 @@
+-- The rule of the words as the table takes it, and what a step of each kind tells its seat.
+use Rattle.std.specs.Prelude.{◌≡◌, ℕ, ◌-◌, ◌^◌, ◌≤◌}
+use Rattle.atomic_table.specs.Table.{State, Me, Step}
+use Rattle.aio_base.specs.declared.seats.Role.TheVariants as role
+use Rattle.aio_base.specs.declared.seats.WordStep.{WordStep}
+use Rattle.aio_base.specs.declared.seats.WordStep.TheVariants as word_step
+use Rattle.aio_base.specs.declared.seats.SeatView.{SeatView}
+use Rattle.aio_base.specs.SharedWords.{WordRule, after, mask_place, blocked_place}
+
+-- a seat's view beside the slots that it holds, of which there are none
+abbrev pub Sitter : Type 0
+Sitter = Me (Unit {0}) SeatView
+
+abbrev pub Ruled : ℕ → State (Unit {0}) SeatView → Type 0
+Ruled parkers s = WordRule parkers s.words s.views
+
+-- the seat made this one step
+abbrev pub Makes : WordStep → Sitter → Sitter → Type 0
+Makes s old new = new ≡ (after s old.0, old.1)
+
+-- what a step tells: of its word and operands, the seat before, the number found and the seat after
+abbrev pub Tells : Type 1
+Tells = Step (Unit {0}) → Sitter → ℕ → Sitter → Type 0
+
+-- by the rule a load gives no less than the seat has seen, and to the round seat exactly that
+abbrev pub LoadsTicker : Tells
+LoadsTicker at old found new = Makes (word_step.LoadTicker found) old new × (old.0.seen ≤ found) × (old.0.role ≡ role.Round → found ≡ old.0.seen)
+
+abbrev pub AddsTicker : Tells
+AddsTicker at old found new = Makes (word_step.AddTicker found) old new × (found ≡ old.0.seen)
+
+-- a step on the word of a parker is told for the parker whose word it is
+abbrev pub SetsBit : Tells
+SetsBit at old found new = (i bit : ℕ) → at.word ≡ mask_place i → at.first ≡ 2 ^ bit → Makes (word_step.SetBit i bit found) old new
+
+abbrev pub LoadsBlocked : Tells
+LoadsBlocked at old found new = (i : ℕ) → at.word ≡ blocked_place i → Makes (word_step.LoadBlocked i found) old new
+
+abbrev pub ExchangesNotified : Tells
+ExchangesNotified at old found new = Makes (word_step.ExchangeNotified found) old new
+
+-- of a store the table tells the value stored; the value found is 0 where it stores 1, and 1 where it stores 0, by the rule
+abbrev pub StoresBlocked : Tells
+StoresBlocked at old stored new = (i : ℕ) → at.word ≡ blocked_place i → Makes (word_step.StoreBlocked i at.first (1 - at.first)) old new
+
+abbrev pub SwapsMask : Tells
+SwapsMask at old found new = (i : ℕ) → at.word ≡ mask_place i → Makes (word_step.SwapMask i found) old new
+
+abbrev pub LoadsMask : Tells
+LoadsMask at old found new = (i : ℕ) → at.word ≡ mask_place i → Makes (word_step.LoadMask i found) old new
+
+abbrev pub SwapsNotified : Tells
+SwapsNotified at old found new = Makes (word_step.SwapNotified found) old new

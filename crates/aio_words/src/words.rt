@@ -1,0 +1,362 @@
+//! The words, the seat of each thread, and the one seat that begins rounds and waits.
+
+ghost use Rattle.std.specs.Prelude.{◌≡◌, ◌≢◌, ◌↔◌, ℕ, ◌+◌, ◌-◌, ◌/◌, ◌^◌, ◌≤◌, ◌<◌, ◌*◌, replicate, vec_len, unwrap_or, IfSome, IfNone, IfOk, IsOk, IsErr, IfErr, OnErr, OnOk};
+ghost use Rattle.aio_base.specs.Devices.{TellsFaults, raised};
+ghost use Rattle.aio_base.specs.SharedWords.{May, after, first_view, joined, new_view, word_count};
+ghost use Rattle.aio_base.specs.WordCalls.{wake_steps};
+ghost use Rattle.aio_base.specs.declared.seats.Mode.TheVariants as mode;
+ghost use Rattle.aio_base.specs.declared.seats.WordStep.TheVariants as word_step;
+ghost use Rattle.aio_words.specs.Calls.{Offers, Parks, TellsCounts, WakesSlot, notify_steps, told};
+ghost use Rattle.aio_words.specs.Seats.{Belongs, Blocks, IsIdleOrWaits};
+ghost use Rattle.aio_words.specs.Steps.{Sits};
+
+use crate::plays::{NewPass, Rule, TakeIn};
+use crate::steps::{
+    Board, Place, add_ticker, exchange_notified, load_blocked, load_mask, load_ticker, set_bit,
+    store_blocked, swap_mask, swap_notified,
+};
+use aio_base::{CountFault, Notify, OutOfMemory, SeatView, Waker};
+use atomic_table::{Seat, Table};
+use std::alloc::Global;
+use std::marker::Model;
+use std::sync::Wait;
+use std::sync::atomic::{AtomicU64, Ordering};
+
+/// The answer where the ticker stands at 2^64 - 1, so that no round can begin any more.
+#[derive(Clone, Copy, Debug, PartialEq, Eq)]
+pub struct RoundsSpent;
+
+/// The words of one reactor, which its threads share by reference. Contracts see which words they are
+/// and for how many parkers.
+#[derive(Drop)]
+pub struct Words {
+    table: Table<(), SeatView, u32, Rule, Global>,
+    parkers: u32,
+    // One for each parker, on which a parked thread sleeps: how often its mask got its first bit. A
+    // sleep sees only the low 32 bits of its word, so a mask itself would hide the slots above.
+    wakes: Vec<AtomicU64>,
+}
+
+impl Model for Words {
+    ghost use Rattle.std.specs.Prelude.{vec_len};
+    ghost use Rattle.aio_words.specs.Seats.{IsWords, WordsValue};
+
+    ghost Value = { WordsValue };
+
+    ghost view = { λ w. record { identity = w.table.shared.table_id; parkers = w.parkers } };
+
+    ghost invariant = { λ w. IsWords w.table.shared.table_id w.table.shared.key w.parkers (vec_len w.wakes) };
+}
+
+/// The seat of one thread. Between calls it owes nothing, so each wake that it made was told.
+#[derive(Drop)]
+pub struct Pass {
+    seat: Seat<(), SeatView>,
+}
+
+impl Model for Pass {
+    ghost use Rattle.aio_words.specs.Seats.{IsPass, SeatValue};
+
+    ghost Value = { SeatValue };
+
+    ghost view = { λ p. record { words = p.seat.table_id; view = p.seat.me.0 } };
+
+    ghost invariant = { λ p. IsPass p.seat.me };
+}
+
+/// The one seat that begins rounds and waits for events. It is idle, blocks a parker or waits for one.
+#[derive(Drop)]
+pub struct RoundSeat {
+    seat: Seat<(), SeatView>,
+    // The ticker, which no other seat raises.
+    rounds: u64,
+    // The parker that the seat blocks or waits for, where there is one.
+    parker: u32,
+}
+
+impl Model for RoundSeat {
+    ghost use Rattle.aio_words.specs.Seats.{IsRoundSeat, SeatValue};
+
+    ghost Value = { SeatValue };
+
+    ghost view = { λ s. record { words = s.seat.table_id; view = s.seat.me.0 } };
+
+    ghost invariant = { λ s. IsRoundSeat s.seat.me s.rounds s.parker s.seat.table_id.words };
+}
+
+impl Words {
+    /// Words for so many parkers, all of them 0, with the round seat and a first pass. Takes all the
+    /// memory that the words ever take; `OutOfMemory` where it is not there.
+    pub fn new(alloc: Global, parkers: u32) -> Result<(Words, RoundSeat, Pass), OutOfMemory>
+        requires { (1 ≤ parkers) × (parkers ≤ 16) }
+        ensures words { IfOk result (λ made. made.0.parkers ≡ parkers) }
+        ensures round { IfOk result (λ made. Belongs made.0 made.1 × (made.1.view ≡ first_view)) }
+        ensures pass { IfOk result (λ made. Belongs made.0 made.2 × (made.2.view ≡ new_view 0)) }
+    {
+        let zeros = zero_words(alloc, parkers)?;
+        let wakes = no_wakes(alloc, parkers)?;
+        let Ok((table, mut seat)) = Table::of_words(alloc, zeros.as_slice(), &parkers) else {
+            return Err(OutOfMemory);
+        };
+        let pass = table.shared.split_seat::<NewPass>(&mut seat);
+        Ok((
+            Words {
+                table,
+                parkers,
+                wakes,
+            },
+            RoundSeat {
+                seat,
+                rounds: 0,
+                parker: 0,
+            },
+            Pass { seat: pass },
+        ))
+    }
+
+    /// Another seat, for another thread, which has seen what `from` has seen.
+    pub fn pass(&self, from: &mut Pass) -> Pass
+        requires { Belongs self.now from.old }
+        ensures made { Belongs self.now result × (result.view ≡ new_view from.old.view.seen) }
+        ensures from { from.new ≡ from.old }
+    {
+        Pass {
+            seat: self.table.shared.split_seat::<NewPass>(&mut from.seat),
+        }
+    }
+
+    /// Takes a pass in: `into` has then seen what either has seen.
+    pub fn join(&self, into: &mut Pass, old: Pass)
+        requires { Belongs self.now into.old × Belongs self.now old }
+        ensures words { into.new.words ≡ into.old.words }
+        ensures view { into.new.view ≡ joined into.old.view old.view }
+    {
+        let Pass { seat } = old;
+        self.table.shared.join_seat::<TakeIn>(&mut into.seat, seat);
+    }
+
+    /// The number of rounds begun, by one load: no less than the pass has seen before
+    /// (`async-io` 2, `reactor.rs`, `Reactor::ticker`).
+    pub fn ticker(&self, p: &mut Pass) -> u64
+        requires { Belongs self.now p.old }
+        ensures words { p.new.words ≡ p.old.words }
+        ensures view { p.new.view ≡ after (word_step.LoadTicker result) p.old.view }
+        ensures least { p.old.view.seen ≤ result }
+    {
+        load_ticker(&self.table.shared, &mut p.seat)
+    }
+
+    /// Wakes a task: sets bit `w % 64` in the mask of parker `w / 64`. Where that mask was 0, its
+    /// parked thread is told, and the parker's blocked flag is looked at; where that is set, `n` is
+    /// called as by `notify`. A waker of no parker is let be. `CountFault` where that call failed, so
+    /// only where the count of faults of `n` rose, with the two counts; the bit is set all the same.
+    pub fn wake<N: Notify>(&self, p: &mut Pass, w: Waker, n: &mut N) -> Result<(), CountFault>
+        requires { Belongs self.now p.old }
+        ensures words { p.new.words ≡ p.old.words }
+        ensures nobody { self.now.parkers ≤ w.0 / 64
+            → (p.new ≡ p.old) × (n.new ≡ n.old) × IsOk result }
+        ensures woke { Offers N.call_count N.notify_step (wake_steps w.0 self.now.parkers)
+            p.old.view p.new.view n.old n.new result }
+        ensures faults { TellsFaults N.fault_count N.is_sure n.old n.new (IsErr result) }
+        ensures counts { IfErr result (TellsCounts (N.fault_count n.old) (N.fault_count n.new)) }
+    {
+        let parker = w.0 / 64;
+        if parker >= self.parkers {
+            return Ok(());
+        }
+        let wakes = &self.wakes[parker as usize];
+        if wake_slot(&self.table.shared, &mut p.seat, wakes, parker, w.0 % 64) {
+            return call(n);
+        }
+        Ok(())
+    }
+
+    /// Sets `notified`, and calls `n` only where it was not set yet (`polling` 3, `lib.rs`,
+    /// `Poller::notify`). `CountFault` where that call failed, so only where the count of faults of `n`
+    /// rose, with the two counts.
+    pub fn notify<N: Notify>(&self, p: &mut Pass, n: &mut N) -> Result<(), CountFault>
+        requires { Belongs self.now p.old }
+        ensures words { p.new.words ≡ p.old.words }
+        ensures told { Offers N.call_count N.notify_step notify_steps
+            p.old.view p.new.view n.old n.new result }
+        ensures faults { TellsFaults N.fault_count N.is_sure n.old n.new (IsErr result) }
+        ensures counts { IfErr result (TellsCounts (N.fault_count n.old) (N.fault_count n.new)) }
+    {
+        if exchange_notified(&self.table.shared, &mut p.seat) == 0 {
+            return call(n);
+        }
+        Ok(())
+    }
+
+    /// The woken slots of a parker, which are woken no longer.
+    pub fn take(&self, p: &mut Pass, parker: u32) -> u64
+        requires { Belongs self.now p.old × (parker < self.now.parkers) }
+        ensures words { p.new.words ≡ p.old.words }
+        ensures view { p.new.view ≡ after (word_step.SwapMask parker result) p.old.view }
+    {
+        swap_mask(&self.table.shared, &mut p.seat, parker)
+    }
+
+    /// Waits until slots of a parker are woken, and answers them; they are woken no longer
+    /// (`async-io` 2, `driver.rs`, `block_on`, where it parks).
+    pub fn park<R: Wait>(&self, rt: &R, p: &mut Pass, parker: u32) -> u64
+        requires { Belongs self.now p.old × (parker < self.now.parkers) }
+        ensures words { p.new.words ≡ p.old.words }
+        ensures view { Parks parker result p.old.view p.new.view }
+    {
+        let wakes = &self.wakes[parker as usize];
+        for _ in rt.forever() {
+            let seen = wakes.load(Ordering::SeqCst);
+            let found = self.take(p, parker);
+            if found != 0 {
+                return found;
+            }
+            wakes.park(rt, (seen & 0xffff_ffff) as u32);
+        }
+        unreachable!()
+    }
+
+    /// Begins a round: raises the ticker by one and answers it. `RoundsSpent` exactly where the ticker
+    /// stands at 2^64 - 1; then nothing changes.
+    pub fn bump(&self, s: &mut RoundSeat) -> Result<u64, RoundsSpent>
+        requires { Belongs self.now s.old }
+        ensures words { s.new.words ≡ s.old.words }
+        ensures round { IfOk result (λ round. round ≡ s.old.view.seen + 1) }
+        ensures view { OnOk result
+            (s.new.view ≡ after (word_step.AddTicker s.old.view.seen) s.old.view) }
+        ensures spent { IsErr result ↔ (s.old.view.seen ≡ 2 ^ 64 - 1) }
+        ensures refused { OnErr result (s.new ≡ s.old) }
+    {
+        if s.rounds == u64::MAX {
+            return Err(RoundsSpent);
+        }
+        let found = add_ticker(&self.table.shared, &mut s.seat);
+        s.rounds = found + 1;
+        Ok(s.rounds)
+    }
+
+    /// The number of rounds begun, exactly, by one load.
+    pub fn rounds(&self, s: &mut RoundSeat) -> u64
+        requires { Belongs self.now s.old }
+        ensures words { s.new.words ≡ s.old.words }
+        ensures exact { result ≡ s.old.view.seen }
+        ensures view { s.new.view ≡ after (word_step.LoadTicker result) s.old.view }
+    {
+        load_ticker(&self.table.shared, &mut s.seat)
+    }
+
+    /// Says that a parker's thread is about to wait for events: sets the parker's blocked flag.
+    pub fn block(&self, s: &mut RoundSeat, parker: u32)
+        requires parker { Belongs self.now s.old × (parker < self.now.parkers) }
+        requires idle { s.old.view.mode ≡ mode.Idle }
+        ensures words { s.new.words ≡ s.old.words }
+        ensures view { s.new.view ≡ after (word_step.StoreBlocked parker 1 0) s.old.view }
+    {
+        store_blocked(&self.table.shared, &mut s.seat, parker, 1);
+        s.parker = parker;
+    }
+
+    /// Looks at the mask of the parker that the seat blocks, by one load that leaves it as it is. The
+    /// woken slots, where there are any: the seat then still blocks. `None` exactly where there are
+    /// none: the seat then waits, and whoever wakes a slot from now on ends its wait.
+    pub fn take_or_wait(&self, s: &mut RoundSeat) -> Option<u64>
+        requires { Belongs self.now s.old × Blocks s.old }
+        ensures words { s.new.words ≡ s.old.words }
+        ensures view { (parker : ℕ) → s.old.view.mode ≡ mode.Block parker
+            → s.new.view ≡ after (word_step.LoadMask parker (unwrap_or result 0)) s.old.view }
+        ensures some { IfSome result (λ mask. (mask ≢ 0) × (s.new.view.mode ≡ s.old.view.mode)) }
+        ensures none { IfNone result ((parker : ℕ) → s.old.view.mode ≡ mode.Block parker
+            → s.new.view.mode ≡ mode.Wait parker) }
+    {
+        let mask = load_mask(&self.table.shared, &mut s.seat, s.parker);
+        if mask == 0 { None } else { Some(mask) }
+    }
+
+    /// Clears `notified` after a wait for events (`polling` 3, `lib.rs`, `Poller::wait`). A seat that
+    /// waits blocks again, and an idle one stays idle.
+    pub fn waited(&self, s: &mut RoundSeat)
+        requires { Belongs self.now s.old × IsIdleOrWaits s.old }
+        ensures words { s.new.words ≡ s.old.words }
+        ensures view { (found : ℕ) × (s.new.view ≡ after (word_step.SwapNotified found) s.old.view) }
+    {
+        swap_notified(&self.table.shared, &mut s.seat);
+    }
+
+    /// Says that the thread of the parker that the seat blocks no longer waits for events: clears its
+    /// blocked flag. The seat is idle.
+    pub fn unblock(&self, s: &mut RoundSeat)
+        requires { Belongs self.now s.old × Blocks s.old }
+        ensures words { s.new.words ≡ s.old.words }
+        ensures view { (parker : ℕ) → s.old.view.mode ≡ mode.Block parker
+            → s.new.view ≡ after (word_step.StoreBlocked parker 0 1) s.old.view }
+    {
+        store_blocked(&self.table.shared, &mut s.seat, s.parker, 0);
+    }
+}
+
+// The words for so many parkers, all 0.
+fn zero_words(alloc: Global, parkers: u32) -> Result<Vec<u64>, OutOfMemory>
+    ensures { IfOk result (λ words. words.items ≡ replicate (word_count parkers) 0) }
+{
+    match vec![in alloc; 0u64; 2 + 2 * parkers as usize] {
+        Ok(words) => Ok(words),
+        Err(_) => Err(OutOfMemory),
+    }
+}
+
+// A count of wakes for each parker, all 0.
+fn no_wakes(alloc: Global, parkers: u32) -> Result<Vec<AtomicU64>, OutOfMemory>
+    ensures { IfOk result (λ wakes. vec_len wakes ≡ parkers) }
+{
+    let Ok(mut wakes) = Vec::with_capacity(alloc, parkers as usize) else {
+        return Err(OutOfMemory);
+    };
+    for _ in 0..parkers {
+        if wakes.push(AtomicU64::new(0)).is_err() {
+            return Err(OutOfMemory);
+        }
+    }
+    Ok(wakes)
+}
+
+// Calls the notifier, and tells its fault by the two counts.
+fn call<N: Notify>(n: &mut N) -> Result<(), CountFault>
+    ensures step { N.notify_step n.old (told result) n.new }
+    ensures calls { N.call_count n.new ≡ raised (N.call_count n.old) }
+    ensures faults { TellsFaults N.fault_count N.is_sure n.old n.new (IsErr result) }
+    ensures counts { IfErr result (TellsCounts (N.fault_count n.old) (N.fault_count n.new)) }
+{
+    let before = n.faults();
+    match n.notify() {
+        Ok(()) => Ok(()),
+        Err(_) => Err(CountFault {
+            before,
+            after: n.faults(),
+        }),
+    }
+}
+
+// Sets the bit of a slot. Where it is the first, tells the parked thread and looks at the blocked flag;
+// where that is set, sets `notified`. Whether it was this call that set `notified`.
+fn wake_slot(board: &Board, seat: &mut Place, wakes: &AtomicU64, parker: u32, slot: u32) -> bool
+    requires sits { Sits board.now.table_id board.now.key seat.old }
+    requires may { May board.now.key seat.old.me.0 (word_step.SetBit parker slot 0) }
+    ensures place { seat.new.table_id ≡ seat.old.table_id }
+    ensures woke { WakesSlot parker slot seat.old.me seat.new.me result }
+{
+    let mask = set_bit(board, seat, parker, slot);
+    if mask != 0 {
+        return false;
+    }
+    tell_parked(wakes);
+    if load_blocked(board, seat, parker) == 1 {
+        return exchange_notified(board, seat) == 0;
+    }
+    false
+}
+
+// Ends the sleep of each thread that is parked on this count, or is about to sleep.
+fn tell_parked(wakes: &AtomicU64) {
+    wakes.fetch_add(1, Ordering::SeqCst);
+    wakes.wake_all();
+}
