@@ -1,7 +1,7 @@
 //! The words, the seat of each thread, and the one seat that begins rounds and waits.
 
 ghost use Rattle.std.specs.Prelude.{◌≡◌, ◌≢◌, ◌↔◌, ℕ, ◌+◌, ◌-◌, ◌/◌, ◌^◌, ◌≤◌, ◌<◌, ◌*◌, replicate, vec_len, unwrap_or, IfSome, IfNone, IfOk, IsOk, IsErr, IfErr, OnErr, OnOk};
-ghost use Rattle.aio_base.specs.Devices.{HasCause, raised};
+ghost use Rattle.aio_base.specs.Devices.{TellsFaults, raised};
 ghost use Rattle.aio_base.specs.SharedWords.{May, after, first_view, joined, new_view, word_count};
 ghost use Rattle.aio_base.specs.WordCalls.{wake_steps};
 ghost use Rattle.aio_base.specs.declared.seats.Mode.TheVariants as mode;
@@ -157,9 +157,8 @@ impl Words {
             → (p.new ≡ p.old) × (n.new ≡ n.old) × IsOk result }
         ensures woke { Offers N.call_count N.notify_step (wake_steps w.0 self.now.parkers)
             p.old.view p.new.view n.old n.new result }
-        ensures cause { HasCause (N.fault_count n.old) (N.fault_count n.new) (N.is_sure n.old) result }
+        ensures faults { TellsFaults N.fault_count N.is_sure n.old n.new (IsErr result) }
         ensures counts { IfErr result (TellsCounts (N.fault_count n.old) (N.fault_count n.new)) }
-        ensures sure { N.is_sure n.new ≡ N.is_sure n.old }
     {
         let parker = w.0 / 64;
         if parker >= self.parkers {
@@ -180,9 +179,8 @@ impl Words {
         ensures words { p.new.words ≡ p.old.words }
         ensures told { Offers N.call_count N.notify_step notify_steps
             p.old.view p.new.view n.old n.new result }
-        ensures cause { HasCause (N.fault_count n.old) (N.fault_count n.new) (N.is_sure n.old) result }
+        ensures faults { TellsFaults N.fault_count N.is_sure n.old n.new (IsErr result) }
         ensures counts { IfErr result (TellsCounts (N.fault_count n.old) (N.fault_count n.new)) }
-        ensures sure { N.is_sure n.new ≡ N.is_sure n.old }
     {
         if exchange_notified(&self.table.shared, &mut p.seat) == 0 {
             return call(n);
@@ -325,9 +323,8 @@ fn no_wakes(alloc: Global, parkers: u32) -> Result<Vec<AtomicU64>, OutOfMemory>
 fn call<N: Notify>(n: &mut N) -> Result<(), CountFault>
     ensures step { N.notify_step n.old (told result) n.new }
     ensures calls { N.call_count n.new ≡ raised (N.call_count n.old) }
-    ensures cause { HasCause (N.fault_count n.old) (N.fault_count n.new) (N.is_sure n.old) result }
+    ensures faults { TellsFaults N.fault_count N.is_sure n.old n.new (IsErr result) }
     ensures counts { IfErr result (TellsCounts (N.fault_count n.old) (N.fault_count n.new)) }
-    ensures sure { N.is_sure n.new ≡ N.is_sure n.old }
 {
     let before = n.faults();
     match n.notify() {
