@@ -1,2 +1,3 @@
 pub mod WaiterLemmas
 pub mod Taking
+pub mod Noting

@@ -3,3 +3,4 @@ pub mod Rules
 pub mod Lent
 pub mod Lending
 pub mod Answers
+pub mod Noting

@@ -4,7 +4,8 @@
 //! It stands on `aio_base` and on `aio_listen`, of which it uses the list of tickets with their
 //! wakers alone. It promises for each call its answer and the source after it, by the rules of
 //! `specs/`, for whatever the poller that it is lent answers; which call it made on that poller; and
-//! of every source that each direction with a waiter was asked for, or that its last arm failed.
+//! of every source that each direction with a waiter was asked for, or that its last arm failed. A
+//! cell, the source beside what is armed for it, has a note for a lock that no call changes.
 #![tactic(auto)]
 
 mod answers;
@@ -12,6 +13,7 @@ mod arming;
 mod direction;
 mod directions;
 mod late;
+pub mod notes;
 mod source;
 #[cfg(test)]
 mod tests;
