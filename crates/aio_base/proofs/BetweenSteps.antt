@@ -11,6 +11,7 @@ use Rattle.aio_base.specs.Succession.{StoringsFollow}
 use Rattle.aio_base.specs.Timers.{after_pass}
 use Rattle.aio_base.specs.Between.{makes_pass, is_of_timer, registrations_after, StandsBetween, StandsAfter}
 use Rattle.aio_base.proofs.CoverRuns.{run_covers, run_waits_for_live}
+use Rattle.aio_base.proofs.FirstPolls.{run_polls_in_order}
 use Rattle.aio_base.proofs.Following.{run_follows}
 use Rattle.aio_base.proofs.OnceRuns.{run_once}
 use Rattle.aio_base.proofs.PassLemmas.{pass_leaves}
@@ -72,6 +73,7 @@ stands_between run = record {
       let w = world_of opening before in
       All-same (λ (r : Registration). w.now < r.deadline) _ _ (last_passes run before last is passes) (pass_leaves w.now w.registrations);
   others = λ before last is other. last_registers run before last is other;
+  polled = run_polls_in_order run;
 }
 
 pub stands_after : (steps : List Step) → StandsAfter steps

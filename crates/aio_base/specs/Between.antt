@@ -10,6 +10,7 @@ use Rattle.aio_base.specs.Storings.{Once, storings_of}
 use Rattle.aio_base.specs.Succession.{StoringsFollow}
 use Rattle.aio_base.specs.Covered.{Covered, WaitsForLive}
 use Rattle.aio_base.specs.Distinct.{IsOfTimer, NoDoubles}
+use Rattle.aio_base.specs.FirstPolls.{InPollOrder}
 use Rattle.aio_base.specs.Timers.{AllAbove, after_pass}
 
 -- whether a step makes a pass over the registered timers: where a round begins, where one ends with a second pass, and where a whole round is run
@@ -53,6 +54,8 @@ pub record StandsBetween (run : List PolledStep) : Type 0 where
   -- a last step that was not of a timer took out what was due, where it made a pass, and no other registration
   pub others : (before : List PolledStep) (last : PolledStep) → run ≡ before ++ last ∷ [] → is_of_timer last.step ≡ false
       → (world_of opening run).registrations ≡ registrations_after (world_of opening before) last.step
+  -- the listeners that were polled stand in the order of their first polls
+  pub polled : InPollOrder (world_of opening run)
 
 -- what stands after these steps of a trace over the poller in memory
 abbrev pub StandsAfter : List Step → Type 0
