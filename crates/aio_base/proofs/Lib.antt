@@ -10,6 +10,7 @@ pub mod CoverRuns
 pub mod CoverSources
 pub mod CoverSteps
 pub mod CoverWaiters
+pub mod FirstPolls
 pub mod FiringOrder
 mod FalseHistories
 pub mod Following

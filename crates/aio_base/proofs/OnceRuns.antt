@@ -67,7 +67,7 @@ case_leaves w woken l step.React answers x = react_leaves w woken l answers x
 -- ## A step ends
 
 -- what stands between two steps: the steps so far woke these storings
-abbrev Between : World → Storings → Type 0
+abbrev pub Between : World → Storings → Type 0
 Between w l = Stands (holding_of w) [] l.woken l
 
 ended_stands : (h : Holding) (wakes : List Waker) (woken : List (List Stored)) (l : Storings) → Stands h wakes woken l
@@ -88,10 +88,10 @@ ended_wakes h wakes woken l s =
     ∙ ap (λ (now : List Waker). map wakers woken ++ now ∷ []) s.waking_is
 
 -- the storings after one step of a run
-abbrev after_step : World → PolledStep → Storings → Storings
+abbrev pub after_step : World → PolledStep → Storings → Storings
 after_step w s l = step_ended (step_storings w s.step s.answers l)
 
-step_stands : (w : World) (s : PolledStep) (l : Storings) → Between w l → Between (outcome_of w s).world (after_step w s l)
+pub step_stands : (w : World) (s : PolledStep) (l : Storings) → Between w l → Between (outcome_of w s).world (after_step w s l)
 unfolding step_result
 step_stands w s l between =
     let o = case_of w s.step s.answers in
@@ -126,7 +126,7 @@ nothing_held (OfPoll serial dir) = refl
 nothing_held (OfListener number) = refl
 nothing_held (OfTimer id) = refl
 
-opening_stands : Between opening no_storings
+pub opening_stands : Between opening no_storings
 opening_stands = record {
   kept = record {
     each = λ n below. absurd (omega arith);

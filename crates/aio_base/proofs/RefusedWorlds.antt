@@ -1,5 +1,5 @@
 -- Worlds and answers that a wrong machine would leave, each refused by what stands between two steps.
-use Rattle.std.proofs.Common.{◌≡◌, ◌⊎◌, ℕ, ◌<◌, ◌≤◌, ◌==◌, true, false, List, [], ◌∷◌, map, None, Some, refl, ap, sym, subst, ⊎_elim, arith, ◌+◌, ◌∙◌}
+use Rattle.std.proofs.Common.{◌≡◌, ◌⊎◌, ℕ, ◌<◌, ◌≤◌, ◌==◌, true, false, List, [], ◌∷◌, map, Option, None, Some, refl, ap, sym, subst, ⊎_elim, arith, ◌+◌, ◌∙◌}
 use Rattle.std.specs.List.{Contains, list_any}
 use Rattle.std.proofs.lemmas.List.Elements.{All-head}
 use Rattle.aio_base.specs.declared.names.Waker.{Waker}
@@ -15,6 +15,7 @@ use Rattle.aio_base.specs.Timers.{AllAbove}
 use Rattle.aio_base.specs.Covered.{tells_at, Cover, IsArmed, InHand, IsTold, Covered, HasSource, WaitsForLive}
 use Rattle.aio_base.specs.Counts.{NoneAgain, CountsRise}
 use Rattle.aio_base.specs.Distinct.{IsOfTimer, NoDoubles}
+use Rattle.aio_base.specs.FirstPolls.{InPollOrder}
 use Rattle.aio_base.proofs.Membership.{none_is_in, first_is_in, among_cases}
 
 some_is : (m n : ℕ) → Some m ≡ Some n → m ≡ n
@@ -143,3 +144,23 @@ a_count_that_falls_is_refused w rise = let fell : 2 ≤ 1 = rise.serials in absu
 -- a `now` of an earlier moment that is obeyed
 pub a_clock_that_goes_back_is_refused : (w : World) (moment : ℕ) → moment < w.now → CountsRise w (record w { pos = w.pos + 1; now = moment }) → ⊥
 a_clock_that_goes_back_is_refused w moment earlier rise = let on : w.now ≤ moment = rise.now in absurd (omega arith)
+
+-- a listener of this number that reads from source 1, first polled at a position
+abbrev reader : ℕ → ℕ → ListenerEntry
+reader number position = record { number = number; serial = 1; dir = Read; position = Some position; waker = Some (record { 0 = number }) }
+
+-- a first poll that leaves its entry where it was: the older listener is polled after the younger one and stands before it still
+pub a_first_poll_that_does_not_move_its_entry_is_refused : InPollOrder (record opening { pos = 5; listeners = reader 1 4 ∷ reader 2 3 ∷ [] }) → ⊥
+a_first_poll_that_does_not_move_its_entry_is_refused order =
+    let rises : 4 < 3 = order.rising 0 1 (reader 1 4) (omega arith) (omega arith) 4 3 refl refl in absurd (omega arith)
+
+-- a first poll that remembers the position after its own
+pub a_first_poll_at_a_later_position_is_refused : InPollOrder (record opening { pos = 4; listeners = reader 1 4 ∷ [] }) → ⊥
+a_first_poll_at_a_later_position_is_refused order =
+    let past : 4 < 4 = All-head (λ (l : ListenerEntry). (p : ℕ) → l.position ≡ Some p → p < 4) (reader 1 4) [] order.past 4 refl in absurd (omega arith)
+
+-- a poll that stores its waker with a listener and remembers no position
+pub a_first_poll_that_remembers_no_position_is_refused : InPollOrder (record opening { pos = 4; listeners = record (reader 1 3) { position = None } ∷ [] }) → ⊥
+a_first_poll_that_remembers_no_position_is_refused order =
+    let silent : ◌≡◌ {A = Option Waker} (Some (record { 0 = 1 })) None =
+    All-head (λ (l : ListenerEntry). l.position ≡ None → l.waker ≡ None) (record (reader 1 3) { position = None }) [] order.unpolled refl in absurd cc

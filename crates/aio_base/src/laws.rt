@@ -6,6 +6,7 @@ ghost use Rattle.aio_base.specs.Between.{StandsAfter, StandsBetween};
 ghost use Rattle.aio_base.specs.Counts.{CountsRise};
 ghost use Rattle.aio_base.specs.Covered.{Covered, WaitsForLive};
 ghost use Rattle.aio_base.specs.Distinct.{IsOfTimer, NoDoubles};
+ghost use Rattle.aio_base.specs.FirstPolls.{InPollOrder};
 ghost use Rattle.aio_base.specs.Machine.{Outcome, begin_round, finish_round, makes_second_pass, react, step_result};
 ghost use Rattle.aio_base.specs.Refusals.{is_refusal, only_counted};
 ghost use Rattle.aio_base.specs.Runs.{PolledStep, answers_of, outcome_without_notes, scripted, wakes_of, without_notes, world_of};
@@ -186,4 +187,11 @@ pub fn a_script_is_a_run()
 pub fn a_run_stands_between_its_steps()
     ensures run { (run : List PolledStep) → StandsBetween run }
     ensures trace { (steps : List Step) → StandsAfter steps }
+{}
+
+/// After every run, whatever the poller answered in it, those of the world's listeners that were polled
+/// stand in the order of their first polls: by rising position, each that of a step that was run. A
+/// listener that was never polled holds no waker.
+pub fn polled_listeners_stand_in_the_order_of_their_first_poll()
+    ensures { (run : List PolledStep) → InPollOrder (world_of opening run) }
 {}
