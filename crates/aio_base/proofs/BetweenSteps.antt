@@ -8,8 +8,10 @@ use Rattle.aio_base.specs.World.{Registration, World, opening}
 use Rattle.aio_base.specs.Runs.{PolledStep, outcome_of, world_of, scripted}
 use Rattle.aio_base.specs.Storings.{storings_of}
 use Rattle.aio_base.specs.Succession.{StoringsFollow}
+use Rattle.aio_base.specs.Counts.{CountsRise}
 use Rattle.aio_base.specs.Timers.{after_pass}
 use Rattle.aio_base.specs.Between.{makes_pass, is_of_timer, registrations_after, StandsBetween, StandsAfter}
+use Rattle.aio_base.proofs.Counting.{counts_rise}
 use Rattle.aio_base.proofs.CoverRuns.{run_covers, run_waits_for_live}
 use Rattle.aio_base.proofs.Following.{run_follows}
 use Rattle.aio_base.proofs.OnceRuns.{run_once}
@@ -72,6 +74,9 @@ stands_between run = record {
       let w = world_of opening before in
       All-same (λ (r : Registration). w.now < r.deadline) _ _ (last_passes run before last is passes) (pass_leaves w.now w.registrations);
   others = λ before last is other. last_registers run before last is other;
+  counted = λ before last is.
+      subst (CountsRise (world_of opening before)) (sym (ap (world_of opening) is ∙ one_more opening before last))
+      (counts_rise (world_of opening before) last.step last.answers);
 }
 
 pub stands_after : (steps : List Step) → StandsAfter steps

@@ -3,6 +3,7 @@ pub mod BetweenSteps
 pub mod BookChanges
 pub mod BookLemmas
 pub mod Clearing
+pub mod Counting
 pub mod CoverReact
 pub mod CoverRounds
 pub mod CoverRuns

@@ -1,5 +1,5 @@
 -- Worlds and answers that a wrong machine would leave, each refused by what stands between two steps.
-use Rattle.std.proofs.Common.{◌≡◌, ℕ, ◌<◌, ◌==◌, true, false, List, [], ◌∷◌, None, Some, refl, ap, sym, subst, ⊎_elim, arith, ◌+◌, ◌∙◌}
+use Rattle.std.proofs.Common.{◌≡◌, ◌⊎◌, ℕ, ◌<◌, ◌≤◌, ◌==◌, true, false, List, [], ◌∷◌, map, None, Some, refl, ap, sym, subst, ⊎_elim, arith, ◌+◌, ◌∙◌}
 use Rattle.std.specs.List.{Contains, list_any}
 use Rattle.std.proofs.lemmas.List.Elements.{All-head}
 use Rattle.aio_base.specs.declared.names.Waker.{Waker}
@@ -9,10 +9,11 @@ use Rattle.aio_base.specs.declared.names.Event.{Event}
 use Rattle.aio_base.specs.declared.steps.Answer.{Answer}
 use Rattle.aio_base.specs.declared.steps.Answer.TheVariants as answer
 use Rattle.aio_base.specs.declared.outcomes.EndWord.TheVariants.{Clean}
-use Rattle.aio_base.specs.World.{World, BrokenSource, PollWaiter, Registration, RoundState, opening, is_armed, TimerEntry}
+use Rattle.aio_base.specs.World.{World, LiveSource, BrokenSource, ListenerEntry, PollWaiter, Registration, RoundState, opening, is_armed, TimerEntry}
 use Rattle.aio_base.specs.Machine.{hand_of}
 use Rattle.aio_base.specs.Timers.{AllAbove}
 use Rattle.aio_base.specs.Covered.{tells_at, Cover, IsArmed, InHand, IsTold, Covered, HasSource, WaitsForLive}
+use Rattle.aio_base.specs.Counts.{NoneAgain, CountsRise}
 use Rattle.aio_base.specs.Distinct.{IsOfTimer, NoDoubles}
 use Rattle.aio_base.proofs.Membership.{none_is_in, first_is_in, among_cases}
 
@@ -105,3 +106,40 @@ a_registration_that_its_timer_left_is_refused timer r later of =
     absurd (let one : r.id + 1 ≡ r.id = some_is (r.id + 1) r.id both in omega arith))
     (λ (none : Contains [] of.timer). none_is_in of.timer none)
     (among_cases timer [] of.timer of.among)
+
+-- a number that is not above its count, where none stood before
+unheard : {X : Type 0} (number : X → ℕ) (given : ℕ) (x : X) → number x ≤ given → NoneAgain number given [] (x ∷ []) → ⊥
+unheard number given x old again =
+    ⊎_elim
+    (λ (none : Contains [] (number x)). none_is_in (number x) none)
+    (λ (above : given < number x). absurd (omega arith))
+    (All-head (λ y. Contains (map number []) (number y) ⊎ (given < number y)) x [] again)
+
+-- a source that is added under the serial of one that was taken out
+pub a_serial_given_again_is_refused : (w : World) (key serials : ℕ)
+    → CountsRise (record w { live = []; serials = 1 })
+    (record w { pos = w.pos + 1; live = record { key = key; serial = 1 } ∷ []; serials = serials }) → ⊥
+a_serial_given_again_is_refused w key serials rise = unheard (λ (s : LiveSource). s.serial) 1 (record { key = key; serial = 1 }) (omega arith) rise.live
+
+-- a listener that is made under the number of one that was given up
+pub a_listener_number_given_again_is_refused : (w : World) (l : ListenerEntry) (drawn : ℕ) → l.number ≡ 1
+    → CountsRise (record w { listeners = []; listeners_drawn = 1 }) (record w { pos = w.pos + 1; listeners = l ∷ []; listeners_drawn = drawn }) → ⊥
+a_listener_number_given_again_is_refused w l drawn first rise = unheard (λ (l : ListenerEntry). l.number) 1 l (omega arith) rise.listeners
+
+-- a timer that is made under the number of one that ended
+pub a_timer_number_given_again_is_refused : (w : World) (t : TimerEntry) (made : ℕ) → t.number ≡ 1
+    → CountsRise (record w { timers = []; timers_made = 1 }) (record w { pos = w.pos + 1; timers = t ∷ []; timers_made = made }) → ⊥
+a_timer_number_given_again_is_refused w t made first rise = unheard (λ (t : TimerEntry). t.number) 1 t (omega arith) rise.timers
+
+-- a timer that is registered under the id of a registration that a pass took
+pub an_id_given_again_is_refused : (w : World) (r : Registration) (drawn : ℕ) → r.id ≡ 1
+    → CountsRise (record w { registrations = []; ids_drawn = 1 }) (record w { pos = w.pos + 1; registrations = r ∷ []; ids_drawn = drawn }) → ⊥
+an_id_given_again_is_refused w r drawn first rise = unheard (λ (r : Registration). r.id) 1 r (omega arith) rise.registrations
+
+-- a source that is taken out, and whose serial is free again
+pub a_count_that_falls_is_refused : (w : World) → CountsRise (record w { serials = 2 }) (record w { pos = w.pos + 1; serials = 1 }) → ⊥
+a_count_that_falls_is_refused w rise = let fell : 2 ≤ 1 = rise.serials in absurd (omega arith)
+
+-- a `now` of an earlier moment that is obeyed
+pub a_clock_that_goes_back_is_refused : (w : World) (moment : ℕ) → moment < w.now → CountsRise w (record w { pos = w.pos + 1; now = moment }) → ⊥
+a_clock_that_goes_back_is_refused w moment earlier rise = let on : w.now ≤ moment = rise.now in absurd (omega arith)

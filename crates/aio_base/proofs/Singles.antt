@@ -260,7 +260,7 @@ made_leaves w deadline period answers s =
           (λ r among. still_timed w.timers (w.timers ++ timer ∷ []) r (λ t here. Contains-append_left w.timers (timer ∷ []) t here) (s.timed r among));
     }
 
-number_stays : (entry t : TimerEntry) (here : Bool) → (t.number == entry.number) ≡ here → (cond here entry t).number ≡ t.number
+pub number_stays : (entry t : TimerEntry) (here : Bool) → (t.number == entry.number) ≡ here → (cond here entry t).number ≡ t.number
 number_stays entry t true same = sym (eqb-true t.number entry.number same)
 number_stays entry t false other = refl
 

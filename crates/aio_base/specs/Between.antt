@@ -9,6 +9,7 @@ use Rattle.aio_base.specs.Runs.{PolledStep, answers_of, scripted, wakes_of, worl
 use Rattle.aio_base.specs.Storings.{Once, storings_of}
 use Rattle.aio_base.specs.Succession.{StoringsFollow}
 use Rattle.aio_base.specs.Covered.{Covered, WaitsForLive}
+use Rattle.aio_base.specs.Counts.{CountsRise}
 use Rattle.aio_base.specs.Distinct.{IsOfTimer, NoDoubles}
 use Rattle.aio_base.specs.Timers.{AllAbove, after_pass}
 
@@ -53,6 +54,9 @@ pub record StandsBetween (run : List PolledStep) : Type 0 where
   -- a last step that was not of a timer took out what was due, where it made a pass, and no other registration
   pub others : (before : List PolledStep) (last : PolledStep) → run ≡ before ++ last ∷ [] → is_of_timer last.step ≡ false
       → (world_of opening run).registrations ≡ registrations_after (world_of opening before) last.step
+  -- the last step let no count fall and gave no number again
+  pub counted : (before : List PolledStep) (last : PolledStep) → run ≡ before ++ last ∷ []
+      → CountsRise (world_of opening before) (world_of opening run)
 
 -- what stands after these steps of a trace over the poller in memory
 abbrev pub StandsAfter : List Step → Type 0

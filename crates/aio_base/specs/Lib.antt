@@ -9,6 +9,7 @@ pub mod Script
 pub mod Runs
 pub mod Covered
 pub mod Distinct
+pub mod Counts
 pub mod Storings
 pub mod Succession
 pub mod Between

@@ -3,6 +3,7 @@
 ghost use Rattle.std.specs.Prelude.{◌≡◌, ◌≢◌, ◌⊎◌, ◌&&◌, ◌↔◌, ℕ, ◌<◌, ◌≤◌, nat_le, filter, true, not, List, [], ◌∷◌, ◌++◌, length, map, Option, Some, None};
 ghost use Rattle.std.specs.List.{All, Contains};
 ghost use Rattle.aio_base.specs.Between.{StandsAfter, StandsBetween};
+ghost use Rattle.aio_base.specs.Counts.{CountsRise};
 ghost use Rattle.aio_base.specs.Covered.{Covered, WaitsForLive};
 ghost use Rattle.aio_base.specs.Distinct.{IsOfTimer, NoDoubles};
 ghost use Rattle.aio_base.specs.Machine.{Outcome, begin_round, finish_round, makes_second_pass, react, step_result};
@@ -146,6 +147,16 @@ pub fn each_registration_is_of_a_timer()
         → All (IsOfTimer (world_of opening run).timers) (world_of opening run).registrations }
 {}
 
+/// A step lets no count fall and gives no number again: its position is one more, the clock never goes
+/// back, and as many serials, listeners' numbers, ids, timers' numbers and rounds were given after it as
+/// before, or more. Each serial, listener's number, id of a registration and timer's number that stands
+/// after it stood before it, or is above all that were given by then. So one that has left, or that was
+/// given and stands nowhere, is never used again.
+pub fn no_number_is_given_twice()
+    ensures { (w : World) (s : Step) (answers : List PollerAnswer)
+        → CountsRise w (step_result w s answers).world }
+{}
+
 /// The run of a list of steps over the script poller is a run of the machine: that in which the poller
 /// answers as the script says. It gives the same answers and the same wakes, step for step, and leaves
 /// the same world but for what is noted and due. The script's poller alone reads those: a step of the
@@ -166,7 +177,8 @@ pub fn a_script_is_a_run()
 
 /// After every run, whatever the poller answered in it, each waiter of each live source is covered and
 /// no other waits, no storing of a waker is lost or woken twice, nothing stands twice in the world's
-/// lists, each registration is that of a timer, and the last step moved storings as such a step may.
+/// lists, each registration is that of a timer, and the last step moved storings as such a step may, let
+/// no count fall and gave no number again.
 /// Right after a pass, where a round began, where one ended with a second pass or where a whole round
 /// was run, no timer is registered that was due at it; and a step that is not of a timer takes out what
 /// its pass does and no other registration. Since a run that is cut off at a step is a run, this holds
