@@ -11,6 +11,7 @@ use Rattle.aio_base.specs.Succession.{StoringsFollow}
 use Rattle.aio_base.specs.Counts.{CountsRise}
 use Rattle.aio_base.specs.Timers.{after_pass}
 use Rattle.aio_base.specs.Between.{makes_pass, is_of_timer, registrations_after, StandsBetween, StandsAfter}
+use Rattle.aio_base.proofs.Awaiting.{run_waits_for_timers}
 use Rattle.aio_base.proofs.Counting.{counts_rise}
 use Rattle.aio_base.proofs.CoverRuns.{run_covers, run_waits_for_live}
 use Rattle.aio_base.proofs.Following.{run_follows}
@@ -77,6 +78,7 @@ stands_between run = record {
   counted = λ before last is.
       subst (CountsRise (world_of opening before)) (sym (ap (world_of opening) is ∙ one_more opening before last))
       (counts_rise (world_of opening before) last.step last.answers);
+  registered = run_waits_for_timers run;
 }
 
 pub stands_after : (steps : List Step) → StandsAfter steps

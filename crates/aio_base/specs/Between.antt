@@ -11,6 +11,7 @@ use Rattle.aio_base.specs.Succession.{StoringsFollow}
 use Rattle.aio_base.specs.Covered.{Covered, WaitsForLive}
 use Rattle.aio_base.specs.Counts.{CountsRise}
 use Rattle.aio_base.specs.Distinct.{IsOfTimer, NoDoubles}
+use Rattle.aio_base.specs.Registered.{TimersAreRegistered}
 use Rattle.aio_base.specs.Timers.{AllAbove, after_pass}
 
 -- whether a step makes a pass over the registered timers: where a round begins, where one ends with a second pass, and where a whole round is run
@@ -57,6 +58,8 @@ pub record StandsBetween (run : List PolledStep) : Type 0 where
   -- the last step let no count fall and gave no number again
   pub counted : (before : List PolledStep) (last : PolledStep) → run ≡ before ++ last ∷ []
       → CountsRise (world_of opening before) (world_of opening run)
+  -- each timer that waits is registered, or a pass took its registration
+  pub registered : TimersAreRegistered (world_of opening run)
 
 -- what stands after these steps of a trace over the poller in memory
 abbrev pub StandsAfter : List Step → Type 0

@@ -10,6 +10,7 @@ pub mod Runs
 pub mod Covered
 pub mod Distinct
 pub mod Counts
+pub mod Registered
 pub mod Storings
 pub mod Succession
 pub mod Between
