@@ -11,6 +11,7 @@ use Rattle.aio_base.specs.Succession.{StoringsFollow}
 use Rattle.aio_base.specs.Counts.{CountsRise}
 use Rattle.aio_base.specs.Timers.{after_pass}
 use Rattle.aio_base.specs.Between.{makes_pass, is_of_timer, registrations_after, StandsBetween, StandsAfter}
+use Rattle.aio_base.proofs.Awaiting.{run_waits_for_timers}
 use Rattle.aio_base.proofs.Counting.{counts_rise}
 use Rattle.aio_base.proofs.CoverRuns.{run_covers, run_waits_for_live}
 use Rattle.aio_base.proofs.FirstPolls.{run_polls_in_order}
@@ -79,6 +80,7 @@ stands_between run = record {
       subst (CountsRise (world_of opening before)) (sym (ap (world_of opening) is ∙ one_more opening before last))
       (counts_rise (world_of opening before) last.step last.answers);
   polled = run_polls_in_order run;
+  registered = run_waits_for_timers run;
 }
 
 pub stands_after : (steps : List Step) → StandsAfter steps

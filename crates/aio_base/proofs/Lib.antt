@@ -1,4 +1,5 @@
 pub mod Apart
+pub mod Awaiting
 pub mod BetweenSteps
 pub mod BookChanges
 pub mod BookLemmas

@@ -9,7 +9,7 @@ use Rattle.aio_base.proofs.Searching.{refiltered}
 use Rattle.aio_base.specs.declared.names.Key.{Key}
 use Rattle.aio_base.specs.declared.names.Dir.{Dir}
 use Rattle.aio_base.specs.declared.names.Event.{Event}
-use Rattle.aio_base.specs.World.{PollerAnswer, Succeeds, Gives, IsInterrupted, Fails, Registration, RoundState, World, serial_of, directions_of, is_empty_list}
+use Rattle.aio_base.specs.World.{PollerAnswer, Succeeds, Gives, IsInterrupted, Fails, Registration, TimerEntry, RoundState, World, serial_of, directions_of, is_empty_list}
 use Rattle.aio_base.specs.Timers.{fires_before, placed, in_order, due_wakers, after_pass, AllAbove}
 use Rattle.aio_base.specs.Machine.{Outcome, fails, next_answer, broken_world, armed_world, after_arm, begin_round, wait_answered, wait_in, wait_round, world_taken, without_waiters, rearmed, handle_source, handle_first, handle_in, handle_round, gave_none, is_zero, finish_in, finish_round, hand_of, handle_each, react}
 
@@ -91,23 +91,25 @@ finish_leaves w round answers at none second =
     ap (λ r. (finish_in w r answers).world.registrations) at ∙ finish_passes w round answers (ap is_empty_list none) second in
     All-same (λ (r : Registration). w.now < r.deadline) _ _ left (pass_leaves w.now w.registrations)
 
--- the clock of a world and its registrations
+-- the clock of a world, its registrations and its timers, and how many ids were drawn
 pub record Timed : Type 0 where
   pub now : ℕ
   pub registrations : List Registration
+  pub ids : ℕ
+  pub timers : List TimerEntry
 
 abbrev pub timed : World → Timed
-timed w = record { now = w.now; registrations = w.registrations }
+timed w = record { now = w.now; registrations = w.registrations; ids = w.ids_drawn; timers = w.timers }
 
 -- the outcome has these
-abbrev Keeps : Timed → Outcome → Type 0
+abbrev pub Keeps : Timed → Outcome → Type 0
 Keeps t o = timed o.world ≡ t
 
-either_keeps : (t : Timed) (test : Bool) (x y : Outcome) → Keeps t x → Keeps t y → Keeps t (cond test x y)
+pub either_keeps : (t : Timed) (test : Bool) (x y : Outcome) → Keeps t x → Keeps t y → Keeps t (cond test x y)
 either_keeps t true x y first second = first
 either_keeps t false x y first second = second
 
-either_world : (t : Timed) (test : Bool) (x y : World) → timed x ≡ t → timed y ≡ t → timed (cond test x y) ≡ t
+pub either_world : (t : Timed) (test : Bool) (x y : World) → timed x ≡ t → timed y ≡ t → timed (cond test x y) ≡ t
 either_world t true x y first second = first
 either_world t false x y first second = second
 
@@ -117,7 +119,7 @@ wait_answered_keeps w round (Gives events) rest = refl
 wait_answered_keeps w round IsInterrupted rest = refl
 wait_answered_keeps w round Fails rest = refl
 
--- a wait changes neither
+-- a wait changes none of them
 pub wait_keeps : (w : World) (round : Option RoundState) (answers : List PollerAnswer) → Keeps (timed w) (wait_in w round answers)
 wait_keeps w None answers = refl
 wait_keeps w (Some round) answers = either_keeps (timed w) _ _ _ (wait_answered_keeps w round _ _) refl
@@ -150,7 +152,7 @@ pub handle_keeps : (w : World) (round : Option RoundState) (answers : List Polle
 handle_keeps w None answers = refl
 handle_keeps w (Some round) answers = handle_first_keeps w round round.in_hand answers
 
-handle_each_keeps : (events : List Event) (w : World) (answers : List PollerAnswer) → Keeps (timed w) (handle_each events w answers)
+pub handle_each_keeps : (events : List Event) (w : World) (answers : List PollerAnswer) → Keeps (timed w) (handle_each events w answers)
 handle_each_keeps [] w answers = refl
 handle_each_keeps (event ∷ events) w answers =
     handle_each_keeps events (handle_round w answers).world (handle_round w answers).left ∙ handle_keeps w w.round answers
@@ -186,7 +188,7 @@ react_passes w given answers none =
     let handled = handle_each (hand_of waited.world.round) waited.world waited.left in
     let kept : timed handled.world ≡ timed begun.world =
     handle_each_keeps (hand_of waited.world.round) waited.world waited.left ∙ wait_keeps begun.world begun.world.round begun.left in
-    let began : timed begun.world ≡ record { now = w.now; registrations = after_pass w.now w.registrations } =
+    let began : timed begun.world ≡ record (timed w) { registrations = after_pass w.now w.registrations } =
     ap (λ (o : Outcome). timed o.world) (cond-false (is_some w.round) _ _ (ap is_some none)) in
     let at = kept ∙ began in
     let same : after_pass handled.world.now handled.world.registrations ≡ handled.world.registrations =

@@ -1,5 +1,5 @@
 -- Worlds and answers that a wrong machine would leave, each refused by what stands between two steps.
-use Rattle.std.proofs.Common.{◌≡◌, ◌⊎◌, ℕ, ◌<◌, ◌≤◌, ◌==◌, true, false, List, [], ◌∷◌, map, Option, None, Some, refl, ap, sym, subst, ⊎_elim, arith, ◌+◌, ◌∙◌}
+use Rattle.std.proofs.Common.{◌≡◌, ◌⊎◌, ℕ, ◌<◌, ◌≤◌, ◌==◌, true, false, List, [], ◌∷◌, map, Option, None, Some, is_some, refl, ap, sym, subst, ⊎_elim, arith, ◌+◌, ◌∙◌}
 use Rattle.std.specs.List.{Contains, list_any}
 use Rattle.std.proofs.lemmas.List.Elements.{All-head}
 use Rattle.aio_base.specs.declared.names.Waker.{Waker}
@@ -11,12 +11,13 @@ use Rattle.aio_base.specs.declared.steps.Answer.TheVariants as answer
 use Rattle.aio_base.specs.declared.outcomes.EndWord.TheVariants.{Clean}
 use Rattle.aio_base.specs.World.{World, LiveSource, BrokenSource, ListenerEntry, PollWaiter, Registration, RoundState, opening, is_armed, TimerEntry}
 use Rattle.aio_base.specs.Machine.{hand_of}
+use Rattle.aio_base.specs.Registered.{IsRegistered, TimersAreRegistered}
 use Rattle.aio_base.specs.Timers.{AllAbove}
 use Rattle.aio_base.specs.Covered.{tells_at, Cover, IsArmed, InHand, IsTold, Covered, HasSource, WaitsForLive}
 use Rattle.aio_base.specs.Counts.{NoneAgain, CountsRise}
 use Rattle.aio_base.specs.Distinct.{IsOfTimer, NoDoubles}
 use Rattle.aio_base.specs.FirstPolls.{InPollOrder}
-use Rattle.aio_base.proofs.Membership.{none_is_in, first_is_in, among_cases}
+use Rattle.aio_base.proofs.Membership.{none_is_in, first_is_in, later_is_in, among_cases}
 
 some_is : (m n : ℕ) → Some m ≡ Some n → m ≡ n
 some_is m n same = cc
@@ -164,3 +165,69 @@ pub a_first_poll_that_remembers_no_position_is_refused : InPollOrder (record ope
 a_first_poll_that_remembers_no_position_is_refused order =
     let silent : ◌≡◌ {A = Option Waker} (Some (record { 0 = 1 })) None =
     All-head (λ (l : ListenerEntry). l.position ≡ None → l.waker ≡ None) (record (reader 1 3) { position = None }) [] order.unpolled refl in absurd cc
+
+-- the world at this moment with these timers and registrations, of whose ids two were drawn
+abbrev timers_at : ℕ → List TimerEntry → List Registration → World
+timers_at now timers registrations = record opening { now = now; timers = timers; timers_made = 2; registrations = registrations; ids_drawn = 2 }
+
+-- a timer that waits for a deadline with this id and waker 7
+abbrev waits_with : (number deadline id : ℕ) → TimerEntry
+waits_with number deadline id =
+    record { number = number; deadline = Some deadline; period = None; id = Some id; kept = Some (record { 0 = 7 }) }
+
+-- a timer whose deadline is to come and that is registered nowhere
+unregistered_timer : (now deadline : ℕ) → now < deadline → TimersAreRegistered (timers_at now (waits_with 1 deadline 1 ∷ []) []) → ⊥
+unregistered_timer now deadline ahead r =
+    let is = All-head (λ (t : TimerEntry). (id : ℕ) → t.id ≡ Some id → IsRegistered now [] t id) (waits_with 1 deadline 1) [] r.registered 1 refl in
+    ⊎_elim
+    (λ (none : Contains [] (record { id = 1; deadline = is.deadline; waker = is.waker })). none_is_in (record { id = 1; deadline = is.deadline; waker = is.waker }) none)
+    (λ (due : is.deadline ≤ now). let same : deadline ≡ is.deadline = some_is deadline is.deadline is.waits in absurd (omega arith))
+    is.stands
+
+-- a `tick` that keeps id and waker and registers nothing
+pub a_tick_that_registers_nothing_is_refused : TimersAreRegistered (timers_at 0 (waits_with 1 50 1 ∷ []) []) → ⊥
+a_tick_that_registers_nothing_is_refused r = unregistered_timer 0 50 (omega arith) r
+
+-- a `set` that takes out the earlier registration, keeps the waker and registers nothing
+pub a_set_that_registers_nothing_is_refused : (deadline : ℕ)
+    → TimersAreRegistered (timers_at 0 (record (waits_with 1 deadline 1) { id = None } ∷ []) []) → ⊥
+a_set_that_registers_nothing_is_refused deadline r =
+    let wrong : false ≡ true = All-head (λ (t : TimerEntry). is_some t.id ≡ is_some t.kept) (record (waits_with 1 deadline 1) { id = None }) [] r.together in cc
+
+-- a `set` that leaves the registration at its earlier deadline
+pub a_registration_at_an_earlier_deadline_is_refused :
+    TimersAreRegistered (timers_at 0 (waits_with 1 50 1 ∷ []) (record { id = 1; deadline = 20; waker = record { 0 = 7 } } ∷ [])) → ⊥
+a_registration_at_an_earlier_deadline_is_refused r =
+    let is = All-head (λ (t : TimerEntry). (id : ℕ) → t.id ≡ Some id → IsRegistered 0 (record { id = 1; deadline = 20; waker = record { 0 = 7 } } ∷ []) t id)
+    (waits_with 1 50 1) [] r.registered 1 refl in
+    let same : 50 ≡ is.deadline = some_is 50 is.deadline is.waits in
+    let own : Registration = record { id = 1; deadline = is.deadline; waker = is.waker } in
+    ⊎_elim
+    (λ (stood : Contains (record { id = 1; deadline = 20; waker = record { 0 = 7 } } ∷ []) own).
+    ⊎_elim
+    (λ (first : record { id = 1; deadline = 20; waker = record { 0 = 7 } } ≡ own).
+    let early : 20 ≡ is.deadline = ap (λ (x : Registration). x.deadline) first in absurd (omega arith))
+    (λ (none : Contains [] own). none_is_in own none)
+    (among_cases (record { id = 1; deadline = 20; waker = record { 0 = 7 } }) [] own stood))
+    (λ (due : is.deadline ≤ 0). absurd (omega arith))
+    is.stands
+
+-- a `begin` at one moment that takes the registration of the next
+pub a_registration_taken_before_its_deadline_is_refused : (now : ℕ) → TimersAreRegistered (timers_at now (waits_with 1 (now + 1) 1 ∷ []) []) → ⊥
+a_registration_taken_before_its_deadline_is_refused now r = unregistered_timer now (now + 1) (omega arith) r
+
+not_one_number : (m n : ℕ) → m < n → m ≡ n → ⊥
+not_one_number m n below same = absurd (omega arith)
+
+-- two timers that keep one id
+pub an_id_that_two_timers_keep_is_refused : (registrations : List Registration)
+    → TimersAreRegistered (timers_at 0 (waits_with 1 50 1 ∷ waits_with 2 50 1 ∷ []) registrations) → ⊥
+an_id_that_two_timers_keep_is_refused registrations r =
+    let first = waits_with 1 50 1 in
+    let second = waits_with 2 50 1 in
+    not_one_number 1 2 (omega arith) (r.one first second (first_is_in first (second ∷ [])) (later_is_in first (second ∷ []) second (first_is_in second [])) 1 refl refl)
+
+-- an id that is kept and was not drawn yet, so that the next timer draws it too
+pub an_id_kept_before_it_is_drawn_is_refused : (registrations : List Registration) → TimersAreRegistered (timers_at 0 (waits_with 1 50 3 ∷ []) registrations) → ⊥
+an_id_kept_before_it_is_drawn_is_refused registrations r =
+    let drawn : 3 ≤ 2 = All-head (λ (t : TimerEntry). (id : ℕ) → t.id ≡ Some id → id ≤ 2) (waits_with 1 50 3) [] r.drawn 3 refl in absurd (omega arith)

@@ -11,7 +11,7 @@ use Rattle.aio_base.specs.World.{PollerAnswer, ListenerEntry, Registration, Roun
 use Rattle.aio_base.specs.Machine.{Outcome, fails, next_answer, pending, source_limit, add, del_source, is_fresh_since, is_waker, with_waiter, poll_source, new_listener, is_listener, with_listening, step_listener, drop_listener, gave_none, is_zero, ends_with_pass, finish_in, react, step_result}
 use Rattle.aio_base.specs.Timers.{after_pass}
 use Rattle.aio_base.specs.Between.{is_of_timer, makes_pass}
-use Rattle.aio_base.proofs.PassLemmas.{Timed, arm_keeps, wait_keeps, handle_keeps, react_passes}
+use Rattle.aio_base.proofs.PassLemmas.{Timed, timed, Keeps, either_keeps, either_world, arm_keeps, wait_keeps, handle_keeps, react_passes}
 
 -- the outcome has these registrations
 abbrev Has : List Registration → Outcome → Type 0
@@ -26,48 +26,44 @@ refused_or : (fewer rs : List Registration) (test : Bool) (x y : Outcome) → Ha
 refused_or fewer rs true x y first second = first
 refused_or fewer rs false x y first second = second
 
-either_world : (rs : List Registration) (test : Bool) (x y : World) → x.registrations ≡ rs → y.registrations ≡ rs → (cond test x y).registrations ≡ rs
-either_world rs true x y first second = first
-either_world rs false x y first second = second
+-- ## Sources and listeners change neither clock nor timers
 
--- ## Sources and listeners
+pending_keeps : (arms : Bool) (w : World) (key serial : ℕ) (wakes : List Waker) (answers : List PollerAnswer)
+    → Keeps (timed w) (pending arms w key serial wakes answers)
+pending_keeps false w key serial wakes answers = refl
+pending_keeps true w key serial wakes answers = arm_keeps w key serial (next_answer answers)
 
-pending_has : (arms : Bool) (w : World) (key serial : ℕ) (wakes : List Waker) (answers : List PollerAnswer)
-    → Has w.registrations (pending arms w key serial wakes answers)
-pending_has false w key serial wakes answers = refl
-pending_has true w key serial wakes answers = ap (λ (t : Timed). t.registrations) (arm_keeps w key serial (next_answer answers))
+pub add_keeps : (w : World) (answers : List PollerAnswer) → Keeps (timed w) (add w answers)
+add_keeps w answers =
+    either_keeps (timed w) (nat_le source_limit (length w.live)) _ _ refl (either_world (timed w) (fails (next_answer answers)) _ _ refl refl)
 
-add_has : (w : World) (answers : List PollerAnswer) → Has w.registrations (add w answers)
-add_has w answers =
-    either w.registrations (nat_le source_limit (length w.live)) _ _ refl (either_world w.registrations (fails (next_answer answers)) _ _ refl refl)
+pub del_keeps : (w : World) (key : ℕ) (serial : Option ℕ) (answers : List PollerAnswer) → Keeps (timed w) (del_source w key serial answers)
+del_keeps w key None answers = refl
+del_keeps w key (Some serial) answers = either_keeps (timed w) (list_any (λ (l : ListenerEntry). l.serial == serial) w.listeners) _ _ refl refl
 
-del_has : (w : World) (key : ℕ) (serial : Option ℕ) (answers : List PollerAnswer) → Has w.registrations (del_source w key serial answers)
-del_has w key None answers = refl
-del_has w key (Some serial) answers = either w.registrations (list_any (λ (l : ListenerEntry). l.serial == serial) w.listeners) _ _ refl refl
-
-poll_has : (w : World) (key : ℕ) (dir : Dir) (waker : Waker) (serial : Option ℕ) (answers : List PollerAnswer)
-    → Has w.registrations (poll_source w key dir waker serial answers)
-poll_has w key dir waker None answers = refl
-poll_has w key dir waker (Some serial) answers =
+pub poll_keeps : (w : World) (key : ℕ) (dir : Dir) (waker : Waker) (serial : Option ℕ) (answers : List PollerAnswer)
+    → Keeps (timed w) (poll_source w key dir waker serial answers)
+poll_keeps w key dir waker None answers = refl
+poll_keeps w key dir waker (Some serial) answers =
     let waiter = poll_waiter w.poll_waiters serial dir in
-    either w.registrations (is_fresh_since w serial dir (mark_of w.marks serial dir)) _ _ refl
-    (either w.registrations (is_waker waker waiter) _ _ (pending_has (is_broken w serial) w key serial [] answers)
-    (pending_has (is_idle w serial dir || is_broken w serial) (with_waiter w serial dir waker) key serial (option_to_list waiter) answers))
+    either_keeps (timed w) (is_fresh_since w serial dir (mark_of w.marks serial dir)) _ _ refl
+    (either_keeps (timed w) (is_waker waker waiter) _ _ (pending_keeps (is_broken w serial) w key serial [] answers)
+    (pending_keeps (is_idle w serial dir || is_broken w serial) (with_waiter w serial dir waker) key serial (option_to_list waiter) answers))
 
-new_has : (w : World) (dir : Dir) (serial : Option ℕ) (answers : List PollerAnswer) → Has w.registrations (new_listener w dir serial answers)
-new_has w dir None answers = refl
-new_has w dir (Some serial) answers = refl
+pub new_keeps : (w : World) (dir : Dir) (serial : Option ℕ) (answers : List PollerAnswer) → Keeps (timed w) (new_listener w dir serial answers)
+new_keeps w dir None answers = refl
+new_keeps w dir (Some serial) answers = refl
 
-step_has : (w : World) (waker : Waker) (entry : Option ListenerEntry) (answers : List PollerAnswer) → Has w.registrations (step_listener w waker entry answers)
-step_has w waker None answers = refl
-step_has w waker (Some entry) answers =
-    either w.registrations (is_fresh_since w entry.serial entry.dir entry.position) _ _ refl
-    (pending_has (is_idle w entry.serial entry.dir || is_broken w entry.serial) (record w { listeners = with_listening w entry waker })
+pub step_keeps : (w : World) (waker : Waker) (entry : Option ListenerEntry) (answers : List PollerAnswer) → Keeps (timed w) (step_listener w waker entry answers)
+step_keeps w waker None answers = refl
+step_keeps w waker (Some entry) answers =
+    either_keeps (timed w) (is_fresh_since w entry.serial entry.dir entry.position) _ _ refl
+    (pending_keeps (is_idle w entry.serial entry.dir || is_broken w entry.serial) (record w { listeners = with_listening w entry waker })
     (unwrap_or (key_of w entry.serial) 0) entry.serial [] answers)
 
-drop_has : (w : World) (number : ℕ) (entry : Option ListenerEntry) (answers : List PollerAnswer) → Has w.registrations (drop_listener w number entry answers)
-drop_has w number None answers = refl
-drop_has w number (Some entry) answers = refl
+pub drop_keeps : (w : World) (number : ℕ) (entry : Option ListenerEntry) (answers : List PollerAnswer) → Keeps (timed w) (drop_listener w number entry answers)
+drop_keeps w number None answers = refl
+drop_keeps w number (Some entry) answers = refl
 
 -- ## Rounds
 
@@ -102,12 +98,12 @@ react_has w answers =
 pub step_registers : (w : World) (s : Step) (answers : List PollerAnswer) → is_of_timer s ≡ false
     → (step_result w s answers).world.registrations ≡ cond (makes_pass w s) (after_pass w.now w.registrations) w.registrations
 unfolding step_result
-step_registers w step.Add answers other = add_has w answers
-step_registers w (step.Del key) answers other = del_has w key.0 (serial_of w key.0) answers
-step_registers w (step.Poll key dir waker) answers other = poll_has w key.0 dir waker (serial_of w key.0) answers
-step_registers w (step.New key dir) answers other = new_has w dir (serial_of w key.0) answers
-step_registers w (step.StepEar number waker) answers other = step_has w waker (find (is_listener number) w.listeners) answers
-step_registers w (step.DropEar number) answers other = drop_has w number (find (is_listener number) w.listeners) answers
+step_registers w step.Add answers other = ap (λ (t : Timed). t.registrations) (add_keeps w answers)
+step_registers w (step.Del key) answers other = ap (λ (t : Timed). t.registrations) (del_keeps w key.0 (serial_of w key.0) answers)
+step_registers w (step.Poll key dir waker) answers other = ap (λ (t : Timed). t.registrations) (poll_keeps w key.0 dir waker (serial_of w key.0) answers)
+step_registers w (step.New key dir) answers other = ap (λ (t : Timed). t.registrations) (new_keeps w dir (serial_of w key.0) answers)
+step_registers w (step.StepEar number waker) answers other = ap (λ (t : Timed). t.registrations) (step_keeps w waker (find (is_listener number) w.listeners) answers)
+step_registers w (step.DropEar number) answers other = ap (λ (t : Timed). t.registrations) (drop_keeps w number (find (is_listener number) w.listeners) answers)
 step_registers w (step.TimerAt deadline) answers other = refl
 step_registers w (step.TimerEvery deadline period) answers other = refl
 step_registers w step.TimerNever answers other = refl

@@ -12,6 +12,7 @@ use Rattle.aio_base.specs.Covered.{Covered, WaitsForLive}
 use Rattle.aio_base.specs.Counts.{CountsRise}
 use Rattle.aio_base.specs.Distinct.{IsOfTimer, NoDoubles}
 use Rattle.aio_base.specs.FirstPolls.{InPollOrder}
+use Rattle.aio_base.specs.Registered.{TimersAreRegistered}
 use Rattle.aio_base.specs.Timers.{AllAbove, after_pass}
 
 -- whether a step makes a pass over the registered timers: where a round begins, where one ends with a second pass, and where a whole round is run
@@ -60,6 +61,8 @@ pub record StandsBetween (run : List PolledStep) : Type 0 where
       → CountsRise (world_of opening before) (world_of opening run)
   -- the listeners that were polled stand in the order of their first polls
   pub polled : InPollOrder (world_of opening run)
+  -- each timer that waits is registered, or a pass took its registration
+  pub registered : TimersAreRegistered (world_of opening run)
 
 -- what stands after these steps of a trace over the poller in memory
 abbrev pub StandsAfter : List Step → Type 0

@@ -11,6 +11,7 @@ pub mod Covered
 pub mod Distinct
 pub mod Counts
 pub mod FirstPolls
+pub mod Registered
 pub mod Storings
 pub mod Succession
 pub mod Between

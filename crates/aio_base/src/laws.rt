@@ -9,6 +9,7 @@ ghost use Rattle.aio_base.specs.Distinct.{IsOfTimer, NoDoubles};
 ghost use Rattle.aio_base.specs.FirstPolls.{InPollOrder};
 ghost use Rattle.aio_base.specs.Machine.{Outcome, begin_round, finish_round, makes_second_pass, react, step_result};
 ghost use Rattle.aio_base.specs.Refusals.{is_refusal, only_counted};
+ghost use Rattle.aio_base.specs.Registered.{TimersAreRegistered};
 ghost use Rattle.aio_base.specs.Runs.{PolledStep, answers_of, outcome_without_notes, scripted, wakes_of, without_notes, world_of};
 ghost use Rattle.aio_base.specs.Script.{outcomes_from, world_after};
 ghost use Rattle.aio_base.specs.Storings.{Once, Storings, step_ended, step_storings, storings_of};
@@ -148,6 +149,14 @@ pub fn each_registration_is_of_a_timer()
         → All (IsOfTimer (world_of opening run).timers) (world_of opening run).registrations }
 {}
 
+/// After every run, whatever the poller answered in it, each timer that waits is registered: one that
+/// keeps an id keeps a waker and waits for a deadline, and it is registered with all three, or a pass
+/// took its registration, and then its deadline has come. Who keeps no id keeps no waker. Each id that
+/// is kept was drawn, and no two timers keep one, so no registration is that of two.
+pub fn each_waiting_timer_is_registered()
+    ensures { (run : List PolledStep) → TimersAreRegistered (world_of opening run) }
+{}
+
 /// A step lets no count fall and gives no number again: its position is one more, the clock never goes
 /// back, and as many serials, listeners' numbers, ids, timers' numbers and rounds were given after it as
 /// before, or more. Each serial, listener's number, id of a registration and timer's number that stands
@@ -178,8 +187,8 @@ pub fn a_script_is_a_run()
 
 /// After every run, whatever the poller answered in it, each waiter of each live source is covered and
 /// no other waits, no storing of a waker is lost or woken twice, nothing stands twice in the world's
-/// lists, each registration is that of a timer, and the last step moved storings as such a step may, let
-/// no count fall and gave no number again.
+/// lists, each registration is that of a timer, each timer that waits is registered, and the last step
+/// moved storings as such a step may, let no count fall and gave no number again.
 /// Right after a pass, where a round began, where one ended with a second pass or where a whole round
 /// was run, no timer is registered that was due at it; and a step that is not of a timer takes out what
 /// its pass does and no other registration. Since a run that is cut off at a step is a run, this holds
