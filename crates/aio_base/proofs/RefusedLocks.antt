@@ -1,8 +1,7 @@
 -- What wrong locks would leave, which the rule of a lock refuses.
-use Rattle.std.proofs.Common.{◌≡◌, ◌≢◌, ℕ, true, List, [], ◌∷◌, ◌++◌, sym, ap, ◌∙◌, refl, Option, Some, None, arith}
+use Rattle.std.proofs.Common.{◌≡◌, ◌≢◌, ℕ, true, List, [], ◌∷◌, sym, ap, ◌∙◌, refl, Some, None, arith}
 use Rattle.std.proofs.lemmas.Option.{same_Some, none-some}
 use mathlib.Core.Option.{some, none, some-injective, some-ne-none}
-use lib.ListN.{get_elem?}
 use Rattle.aio_base.specs.declared.notes.LockView.{LockView}
 use Rattle.aio_base.specs.declared.notes.LockSeat.{LockSeat}
 use Rattle.aio_base.specs.SharedLock.{nobody, first_owner, second_owner, took_out, with_slot, without_slot}
