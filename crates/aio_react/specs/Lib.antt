@@ -1,2 +1,4 @@
 pub mod Rounds
+pub mod Numbers
+pub mod Numbering
 pub mod Hosts

@@ -8,6 +8,7 @@
 #![tactic(auto)]
 
 pub mod hosts;
+mod numbered;
 mod round;
 #[cfg(test)]
 mod round_tests;
@@ -15,4 +16,5 @@ mod round_tests;
 mod tests;
 
 pub use hosts::{Host, InsertRefusal, TimerHost};
+pub use numbered::Numbered;
 pub use round::{Round, RoundFault};
