@@ -1,2 +1,7 @@
 mod FirstDeadline
 mod FirstEvent
+mod Opening
+mod Living
+mod Clearing
+mod Later
+mod WaitMeets

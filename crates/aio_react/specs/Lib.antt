@@ -1,2 +1,11 @@
 pub mod Rounds
+pub mod Numbers
+pub mod Numbering
+pub mod Cores
+pub mod Facts
+pub mod Standing
+pub mod Meeting
+pub mod Replies
+pub mod Hosting
+pub mod Lending
 pub mod Hosts

@@ -1,13 +1,19 @@
-//! A round of a reactor in sections, and what a reactor is to those that it serves: a host of timers
-//! and a host of tasks.
+//! A reactor on one thread, its rounds in sections, and what a reactor is to those that it serves:
+//! a host of timers and a host of tasks.
 //!
-//! It stands on `aio_base`, on the sources of `aio_source` and on the book of `aio_timers`. A round
-//! promises of each section the whole round after it, and what became of what it was lent. The traits
-//! promise what `hosts` says; the definitions of `specs/` say what a section makes of a round, which
-//! ids a pass draws and what a fault of a host's notifier means.
+//! It stands on `aio_base`, on the sources of `aio_source` with the tickets of `aio_listen`, and on
+//! the book of `aio_timers`. A round promises of each section the whole round after it, and what
+//! became of what it was lent. A core promises that a call meets the step of the reactor machine,
+//! whatever its poller answers. The traits promise what `hosts` says.
 #![tactic(auto)]
 
+mod entries;
 pub mod hosts;
+mod numbered;
+mod reactor;
+#[cfg(test)]
+mod reactor_tests;
+mod refusals;
 mod round;
 #[cfg(test)]
 mod round_tests;
@@ -15,4 +21,7 @@ mod round_tests;
 mod tests;
 
 pub use hosts::{Host, InsertRefusal, TimerHost};
+pub use numbered::Numbered;
+pub use reactor::Core;
+pub use refusals::CoreRefusal;
 pub use round::{Round, RoundFault};

@@ -7,7 +7,7 @@ ghost use Rattle.aio_base.specs.Devices.{HasCause};
 use crate::{Round, RoundFault};
 use aio_base::{
     Arm, ArmFault, CountFault, Dir, Event, EventWait, Failed, Faults, Interest, Key, Moment,
-    OutOfMemory, Poll, TimerId, Waited, Waker,
+    OutOfMemory, Poll, Poller, TimerId, Waited, Waker,
 };
 use aio_source::SourceState;
 use aio_timers::{TimerBook, TimerOp};
@@ -19,7 +19,7 @@ const KEY: Key = Key(7);
 
 /// A poller that gives one event, where it has one. It is interrupted or fails where it is told to.
 #[derive(Drop)]
-struct OneEvent {
+pub(crate) struct OneEvent {
     event: Option<Event>,
     interrupts: bool,
     fails: bool,
@@ -60,11 +60,11 @@ impl Faults for OneEvent {
 }
 
 impl Arm for OneEvent {
-    ghost use Rattle.std.specs.Prelude.{[], None};
+    ghost use Rattle.std.specs.Prelude.{[], ◌∷◌, None};
 
     ghost interests = { λ p. None };
 
-    ghost rest = { λ p. [] };
+    ghost rest = { λ p. p.waits ∷ [] };
 
     ghost arm_step = { λ old call answer new. Unit {0} };
 
@@ -111,7 +111,16 @@ impl EventWait for OneEvent {
     }
 }
 
-fn quiet() -> OneEvent {
+impl Poller for OneEvent {
+    ghost use Rattle.std.specs.Prelude.{slice_index_or};
+    ghost use Rattle.std.proofs.Common.{ap};
+
+    ghost wait_clears = { λ old new call answer added did. tt };
+
+    ghost waits_in_rest = { λ a b same. ap (λ rest. slice_index_or rest 0 0) same };
+}
+
+pub(crate) fn quiet() -> OneEvent {
     OneEvent {
         event: None,
         interrupts: false,

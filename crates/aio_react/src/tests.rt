@@ -122,7 +122,7 @@ fn insert<H: TimerHost>(host: &mut H, at: Moment, waker: Waker) -> Option<TimerI
 }
 
 /// Registers a timer with each of two wakers, and takes the first out again.
-fn insert_two<H: TimerHost>(
+pub(crate) fn insert_two<H: TimerHost>(
     host: &mut H,
     at: Moment,
     first: Waker,
