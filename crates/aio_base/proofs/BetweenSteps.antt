@@ -9,7 +9,9 @@ use Rattle.aio_base.specs.Runs.{PolledStep, outcome_of, world_of, scripted}
 use Rattle.aio_base.specs.Storings.{storings_of}
 use Rattle.aio_base.specs.Succession.{StoringsFollow}
 use Rattle.aio_base.specs.Timers.{after_pass}
+use Rattle.aio_base.specs.Arming.{ArmsAsTold}
 use Rattle.aio_base.specs.Between.{makes_pass, is_of_timer, registrations_after, StandsBetween, StandsAfter}
+use Rattle.aio_base.proofs.Rearming.{step_arms_as_told}
 use Rattle.aio_base.proofs.CoverRuns.{run_covers, run_waits_for_live}
 use Rattle.aio_base.proofs.FirstPolls.{run_polls_in_order}
 use Rattle.aio_base.proofs.Following.{run_follows}
@@ -74,6 +76,9 @@ stands_between run = record {
       All-same (λ (r : Registration). w.now < r.deadline) _ _ (last_passes run before last is passes) (pass_leaves w.now w.registrations);
   others = λ before last is other. last_registers run before last is other;
   polled = run_polls_in_order run;
+  arms = λ before last is.
+      let w = world_of opening before in
+      subst (ArmsAsTold w last.step last.answers (outcome_of w last).answer) (sym (ap (world_of opening) is ∙ one_more opening before last)) (step_arms_as_told w last.step last.answers);
 }
 
 pub stands_after : (steps : List Step) → StandsAfter steps

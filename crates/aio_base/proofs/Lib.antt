@@ -1,4 +1,5 @@
 pub mod Apart
+pub mod Arming
 pub mod BetweenSteps
 pub mod BookChanges
 pub mod BookLemmas
@@ -30,6 +31,7 @@ pub mod NotesUnread
 pub mod OnceRuns
 pub mod PassLemmas
 pub mod Places
+pub mod Rearming
 pub mod RefusalLemmas
 mod RefusedWorlds
 pub mod Registering
