@@ -10,9 +10,11 @@ use Rattle.aio_base.specs.Storings.{storings_of}
 use Rattle.aio_base.specs.Succession.{StoringsFollow}
 use Rattle.aio_base.specs.Counts.{CountsRise}
 use Rattle.aio_base.specs.Timers.{after_pass}
+use Rattle.aio_base.specs.Arming.{ArmsAsTold}
 use Rattle.aio_base.specs.Between.{makes_pass, is_of_timer, registrations_after, StandsBetween, StandsAfter}
 use Rattle.aio_base.proofs.Awaiting.{run_waits_for_timers}
 use Rattle.aio_base.proofs.Counting.{counts_rise}
+use Rattle.aio_base.proofs.Rearming.{step_arms_as_told}
 use Rattle.aio_base.proofs.CoverRuns.{run_covers, run_waits_for_live}
 use Rattle.aio_base.proofs.FirstPolls.{run_polls_in_order}
 use Rattle.aio_base.proofs.Following.{run_follows}
@@ -81,6 +83,9 @@ stands_between run = record {
       (counts_rise (world_of opening before) last.step last.answers);
   polled = run_polls_in_order run;
   registered = run_waits_for_timers run;
+  arms = λ before last is.
+      let w = world_of opening before in
+      subst (ArmsAsTold w last.step last.answers (outcome_of w last).answer) (sym (ap (world_of opening) is ∙ one_more opening before last)) (step_arms_as_told w last.step last.answers);
 }
 
 pub stands_after : (steps : List Step) → StandsAfter steps

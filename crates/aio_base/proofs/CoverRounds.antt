@@ -138,7 +138,7 @@ wait_stands w told answers s =
 
 -- ## An event is handled
 
-abbrev nowhere : ℕ → Dir → Type 0
+abbrev pub nowhere : ℕ → Dir → Type 0
 nowhere n d = ⊥
 
 silent_comes : (before : List ListenerEntry) (x l : ListenerEntry) (here : Bool) → Contains before x → cond here (record x { waker = None }) x ≡ l
@@ -154,7 +154,7 @@ silent_comes before x l true among same = record {
 silent_comes before x l false among same = stays_listening before nowhere l (subst (Contains before) same among)
 
 -- taking the waiters of a direction brings none
-taken_rewaits : (p : Parts) (serial : ℕ) (dir : Dir)
+pub taken_rewaits : (p : Parts) (serial : ℕ) (dir : Dir)
     → Rewaits p (without_waiter p.polls serial dir) (map (λ (l : ListenerEntry). if is_of serial dir l.serial l.dir then record l { waker = None } else l) p.listeners) nowhere
 taken_rewaits p serial dir = record {
   stored_live = λ n d never. absurd never;

@@ -1,5 +1,6 @@
 pub mod Apart
 pub mod Awaiting
+pub mod Arming
 pub mod BetweenSteps
 pub mod BookChanges
 pub mod BookLemmas
@@ -34,6 +35,7 @@ pub mod NotesUnread
 pub mod OnceRuns
 pub mod PassLemmas
 pub mod Places
+pub mod Rearming
 pub mod RefusalLemmas
 mod RefusedLocks
 mod RefusedWorlds

@@ -6,13 +6,15 @@ use Rattle.aio_base.specs.declared.names.Waker.{Waker}
 use Rattle.aio_base.specs.declared.names.Dir.{Dir}
 use Rattle.aio_base.specs.declared.names.Dir.TheVariants.{Read, Write}
 use Rattle.aio_base.specs.declared.names.Event.{Event}
+use Rattle.aio_base.specs.declared.steps.Step.TheVariants as step
 use Rattle.aio_base.specs.declared.steps.Answer.{Answer}
 use Rattle.aio_base.specs.declared.steps.Answer.TheVariants as answer
 use Rattle.aio_base.specs.declared.outcomes.EndWord.TheVariants.{Clean}
-use Rattle.aio_base.specs.World.{World, LiveSource, BrokenSource, ListenerEntry, PollWaiter, Registration, RoundState, opening, is_armed, TimerEntry}
+use Rattle.aio_base.specs.World.{Gives, Fails, World, LiveSource, BrokenSource, ListenerEntry, PollWaiter, Registration, RoundState, opening, is_armed, TimerEntry}
 use Rattle.aio_base.specs.Machine.{hand_of}
 use Rattle.aio_base.specs.Registered.{IsRegistered, TimersAreRegistered}
 use Rattle.aio_base.specs.Timers.{AllAbove}
+use Rattle.aio_base.specs.Arming.{ArmsAsTold}
 use Rattle.aio_base.specs.Covered.{tells_at, Cover, IsArmed, InHand, IsTold, Covered, HasSource, WaitsForLive}
 use Rattle.aio_base.specs.Counts.{NoneAgain, CountsRise}
 use Rattle.aio_base.specs.Distinct.{IsOfTimer, NoDoubles}
@@ -231,3 +233,29 @@ an_id_that_two_timers_keep_is_refused registrations r =
 pub an_id_kept_before_it_is_drawn_is_refused : (registrations : List Registration) → TimersAreRegistered (timers_at 0 (waits_with 1 50 3 ∷ []) registrations) → ⊥
 an_id_kept_before_it_is_drawn_is_refused registrations r =
     let drawn : 3 ≤ 2 = All-head (λ (t : TimerEntry). (id : ℕ) → t.id ≡ Some id → id ≤ 2) (waits_with 1 50 3) [] r.drawn 3 refl in absurd (omega arith)
+
+-- a source whose arm failed at position 1, which told it; its waiter of a direction is covered by that
+abbrev broken : Dir → World
+broken dir = record (waiting dir) { pos = 3; broken = record { serial = 1; position = 1 } ∷ [] }
+
+-- a poll of a broken source whose arm fails again, that is told pending and leaves the source broken as it was told before
+pub a_poll_that_hides_behind_an_older_fault_is_refused : ArmsAsTold (broken Read) (step.Poll (record { 0 = 0 }) Read (record { 0 = 7 })) (Fails ∷ []) answer.Pending (broken Read) → ⊥
+a_poll_that_hides_behind_an_older_fault_is_refused arms =
+    let whole : true ≡ false = arms.polled 1 refl refl in cc
+
+-- an event that is readable, of key 0
+abbrev readable : Event
+readable = record { key = record { 0 = 0 }; on = record { read = true; write = false } }
+
+-- a handled event of a broken source whose arm for the waiter that is left fails again, told without a fault
+pub a_handling_that_hides_behind_an_older_fault_is_refused :
+    ArmsAsTold (record (broken Write) { round = Some (record (round_with []) { in_hand = readable ∷ [] }) }) step.Handle (Fails ∷ [])
+    (answer.Handled (record { 0 = 0 }) false) (broken Write) → ⊥
+a_handling_that_hides_behind_an_older_fault_is_refused arms =
+    let whole : true ≡ false = arms.handled readable 1 (first_is_in readable []) refl refl refl in cc
+
+-- so in a whole round that ends clean
+pub a_round_that_hides_behind_an_older_fault_is_refused :
+    ArmsAsTold (broken Write) step.React (Gives (readable ∷ []) ∷ Fails ∷ []) (answer.Round 1 1 Clean) (broken Write) → ⊥
+a_round_that_hides_behind_an_older_fault_is_refused arms =
+    let whole : true ≡ false = arms.handled readable 1 (first_is_in readable []) refl refl refl in cc

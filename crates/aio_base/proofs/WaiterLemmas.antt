@@ -129,7 +129,7 @@ filled : {X : Type 0} (xs : List X) (x : X) → Contains xs x → is_empty_list 
 filled [] x among = none_is_in x among
 filled (y ∷ xs) x among = refl
 
-some_of : {X : Type 0} (xs : List X) → is_empty_list xs ≡ false → (x : X) × Contains xs x
+pub some_of : {X : Type 0} (xs : List X) → is_empty_list xs ≡ false → (x : X) × Contains xs x
 some_of [] some = absurd cc
 some_of (x ∷ xs) some = (x, first_is_in x xs)
 

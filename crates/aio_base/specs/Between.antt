@@ -5,9 +5,10 @@ use Rattle.aio_base.specs.declared.steps.Step.{Step}
 use Rattle.aio_base.specs.declared.steps.Step.TheVariants as step
 use Rattle.aio_base.specs.World.{Registration, World, opening}
 use Rattle.aio_base.specs.Machine.{ends_with_pass}
-use Rattle.aio_base.specs.Runs.{PolledStep, answers_of, scripted, wakes_of, world_of}
+use Rattle.aio_base.specs.Runs.{PolledStep, answers_of, outcome_of, scripted, wakes_of, world_of}
 use Rattle.aio_base.specs.Storings.{Once, storings_of}
 use Rattle.aio_base.specs.Succession.{StoringsFollow}
+use Rattle.aio_base.specs.Arming.{ArmsAsTold}
 use Rattle.aio_base.specs.Covered.{Covered, WaitsForLive}
 use Rattle.aio_base.specs.Counts.{CountsRise}
 use Rattle.aio_base.specs.Distinct.{IsOfTimer, NoDoubles}
@@ -63,6 +64,9 @@ pub record StandsBetween (run : List PolledStep) : Type 0 where
   pub polled : InPollOrder (world_of opening run)
   -- each timer that waits is registered, or a pass took its registration
   pub registered : TimersAreRegistered (world_of opening run)
+  -- the last step left the source that it polled or handled armed, where its answer tells of no fault
+  pub arms : (before : List PolledStep) (last : PolledStep) → run ≡ before ++ last ∷ []
+      → ArmsAsTold (world_of opening before) last.step last.answers (outcome_of (world_of opening before) last).answer (world_of opening run)
 
 -- what stands after these steps of a trace over the poller in memory
 abbrev pub StandsAfter : List Step → Type 0

@@ -8,6 +8,7 @@ pub mod Refusals
 pub mod Script
 pub mod Runs
 pub mod Covered
+pub mod Arming
 pub mod Distinct
 pub mod Counts
 pub mod FirstPolls

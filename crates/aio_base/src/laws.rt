@@ -1,7 +1,8 @@
 //! Laws of the trace language and of the machine, as contracts of functions with no work to do.
 
-ghost use Rattle.std.specs.Prelude.{◌≡◌, ◌≢◌, ◌⊎◌, ◌&&◌, ◌↔◌, ℕ, ◌<◌, ◌≤◌, nat_le, filter, true, not, List, [], ◌∷◌, ◌++◌, length, map, Option, Some, None};
+ghost use Rattle.std.specs.Prelude.{◌≡◌, ◌≢◌, ◌⊎◌, ◌&&◌, ◌↔◌, ℕ, ◌<◌, ◌≤◌, nat_le, filter, true, false, not, List, [], ◌∷◌, ◌++◌, length, map, Option, Some, None};
 ghost use Rattle.std.specs.List.{All, Contains};
+ghost use Rattle.aio_base.specs.Arming.{ArmsAsTold, IsArmedOrInHand};
 ghost use Rattle.aio_base.specs.Between.{StandsAfter, StandsBetween};
 ghost use Rattle.aio_base.specs.Counts.{CountsRise};
 ghost use Rattle.aio_base.specs.Covered.{Covered, WaitsForLive};
@@ -17,7 +18,10 @@ ghost use Rattle.aio_base.specs.Succession.{StoringsFollow};
 ghost use Rattle.aio_base.specs.Text.{spelling};
 ghost use Rattle.aio_base.specs.Timers.{AllAbove, BookChange, IsBook, IsFiringOrder, after_pass, changed, due_wakers, fires_before, in_order, pair_of};
 ghost use Rattle.aio_base.specs.Trace.{IsBuilt, written_step};
-ghost use Rattle.aio_base.specs.World.{PollerAnswer, Registration, RoundState, World, opening};
+ghost use Rattle.aio_base.specs.World.{PollerAnswer, Registration, RoundState, World, is_broken, opening, serial_of, waiters_of};
+ghost use Rattle.aio_base.specs.declared.names.Dir.{Dir};
+ghost use Rattle.aio_base.specs.declared.names.Waker.{Waker};
+ghost use Rattle.aio_base.specs.declared.steps.Answer.{Answer};
 ghost use Rattle.aio_base.specs.declared.steps.Step.{Step};
 
 /// A line spells at most one step: it spells a step exactly where that is built and the line is its
@@ -203,4 +207,19 @@ pub fn a_run_stands_between_its_steps()
 /// listener that was never polled holds no waker.
 pub fn polled_listeners_stand_in_the_order_of_their_first_poll()
     ensures { (run : List PolledStep) → InPollOrder (world_of opening run) }
+{}
+
+/// A poll of a source or of a listener that is told pending leaves its source unbroken, in any world and
+/// whatever the poller answers: a broken source is armed again by every poll that stays pending, and
+/// where that arm fails the answer is `fault arm`. So does an event that is handled without a fault, by
+/// `handle` or in a whole round that ends clean, where its source has a waiter left. A covered waiter of a source that is not broken is armed
+/// for, or an event of its key is in hand: no earlier fault excuses it.
+pub fn a_poll_that_is_told_pending_has_armed_its_source()
+    ensures step { (w : World) (s : Step) (answers : List PollerAnswer)
+        → ArmsAsTold w s answers (step_result w s answers).answer (step_result w s answers).world }
+    ensures cover { (w : World) (answered : List Answer)
+        → Covered w answered
+        → (key serial : ℕ) (dir : Dir) (waiter : Waker)
+        → is_broken w serial ≡ false → serial_of w key ≡ Some serial
+        → Contains (waiters_of w serial dir) waiter → IsArmedOrInHand w key dir }
 {}
