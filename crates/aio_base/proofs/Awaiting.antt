@@ -15,6 +15,7 @@ use Rattle.aio_base.specs.Timers.{after_pass}
 use Rattle.aio_base.proofs.Membership.{none_is_in, each_in, filtered_is_in, filtered_passes, passing_is_kept, mapped_from, found_is_in}
 use Rattle.aio_base.proofs.PassLemmas.{Timed, timed, Keeps, wait_keeps, handle_keeps, handle_each_keeps}
 use Rattle.aio_base.proofs.Registering.{add_keeps, del_keeps, poll_keeps, new_keeps, step_keeps, drop_keeps}
+use Rattle.aio_base.proofs.Singles.{none_is_some, same_id}
 
 -- the timers wait for these registrations
 record Awaits (t : Timed) : Type 0 where
@@ -82,12 +83,6 @@ passed_awaits t a = record {
 
 -- ## A timer is made, changed or ended
 
-keeps_none : {X : Type 0} (id : Option ℕ) (n : ℕ) → id ≡ None → id ≡ Some n → X
-keeps_none id n none some = let wrong : None ≡ Some n = sym none ∙ some in absurd cc
-
-same_id : (id : Option ℕ) (m n : ℕ) → id ≡ Some m → id ≡ Some n → n ≡ m
-same_id id m n first second = let same : Some n ≡ Some m = sym second ∙ first in cc
-
 made_awaits : (t : Timed) (new : TimerEntry) → new.id ≡ None → new.kept ≡ None → Awaits t → Awaits (record t { timers = t.timers ++ new ∷ [] })
 made_awaits t new no_id no_waker a =
     let id_of : (x : TimerEntry) → new ≡ x → x.id ≡ None = λ x is. ap (λ (t : TimerEntry). t.id) (sym is) ∙ no_id in
@@ -100,21 +95,21 @@ made_awaits t new no_id no_waker a =
       registered = λ x among id keeps.
           ⊎_elim
           (λ (old : Contains t.timers x). a.registered x old id keeps)
-          (λ (is : new ≡ x). keeps_none x.id id (id_of x is) keeps)
+          (λ (is : new ≡ x). none_is_some x.id id (id_of x is) keeps)
           (Contains-push_cases t.timers new x among);
       drawn = λ x among id keeps.
           ⊎_elim
           (λ (old : Contains t.timers x). a.drawn x old id keeps)
-          (λ (is : new ≡ x). keeps_none x.id id (id_of x is) keeps)
+          (λ (is : new ≡ x). none_is_some x.id id (id_of x is) keeps)
           (Contains-push_cases t.timers new x among);
       one = λ x y first second id keeps also.
           ⊎_elim
           (λ (old : Contains t.timers x).
           ⊎_elim
           (λ (too : Contains t.timers y). a.one x y old too id keeps also)
-          (λ (is : new ≡ y). keeps_none y.id id (id_of y is) also)
+          (λ (is : new ≡ y). none_is_some y.id id (id_of y is) also)
           (Contains-push_cases t.timers new y second))
-          (λ (is : new ≡ x). keeps_none x.id id (id_of x is) keeps)
+          (λ (is : new ≡ x). none_is_some x.id id (id_of x is) keeps)
           (Contains-push_cases t.timers new x first);
     }
 
@@ -211,9 +206,9 @@ quiet_awaits w entry new f same no_id no_waker =
     changed_awaits (timed w) entry new w.ids_drawn w.registrations f same (omega arith) (λ r stood. stood)
     (record {
       together = ap is_some no_id ∙ sym (ap is_some no_waker);
-      registered = λ id keeps. keeps_none new.id id no_id keeps;
-      above = λ id keeps. keeps_none new.id id no_id keeps;
-      drawn = λ id keeps. keeps_none new.id id no_id keeps;
+      registered = λ id keeps. none_is_some new.id id no_id keeps;
+      above = λ id keeps. none_is_some new.id id no_id keeps;
+      drawn = λ id keeps. none_is_some new.id id no_id keeps;
     })
 
 registered_awaits : (w : World) (entry set : TimerEntry) (deadline : ℕ) (waker : Waker) → Released (timed w) entry → set.number ≡ entry.number

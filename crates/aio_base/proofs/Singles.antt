@@ -280,10 +280,10 @@ record Freed (w : World) (entry : TimerEntry) : Type 0 where
   here : Contains w.timers entry
   others : Others w.timers entry.number w.registrations
 
-none_is_some : (id : Option ℕ) (n : ℕ) → id ≡ None → id ≡ Some n → ⊥
-none_is_some id n none some = let wrong : None ≡ Some n = sym none ∙ some in cc
+pub none_is_some : {X : Type 0} (id : Option ℕ) (n : ℕ) → id ≡ None → id ≡ Some n → X
+none_is_some id n none some = let wrong : None ≡ Some n = sym none ∙ some in absurd cc
 
-same_id : (id : Option ℕ) (m n : ℕ) → id ≡ Some m → id ≡ Some n → n ≡ m
+pub same_id : (id : Option ℕ) (m n : ℕ) → id ≡ Some m → id ≡ Some n → n ≡ m
 same_id id m n first second = let same : Some n ≡ Some m = sym second ∙ first in cc
 
 freed : (w : World) (entry : TimerEntry) (id : Option ℕ) → entry.id ≡ id → Contains w.timers entry → Singles (lists_of w) → Freed (unregistered w id) entry
