@@ -1,9 +1,10 @@
 -- Histories of storings that no run has, each refused by the law on how storings follow from step to step: a table of what a machine may do wrong
--- in one step, by the kind of the step. A history is refused in every world with the parts that are written out for it.
+-- in one step, by the kind of the step. A history is refused in every world with the parts that are written out for it. The law reads the machine's own
+-- answer to the step, so a history with a wrong answer is no matter of it.
 use Rattle.std.proofs.Common.{◌≡◌, ℕ, Bool, true, false, ◌&&◌, List, [], ◌∷◌, ◌++◌, ◌+◌, length, None, Some, refl, ap, ◌∙◌, sym, subst, ⊎_elim}
 use Rattle.std.specs.Prelude.{◌==◌, if◌then◌else◌, take}
 use Rattle.std.specs.List.{Contains, list_any}
-use Rattle.std.proofs.lemmas.Bool.{and_parts, and_from, eqb-true, eq-eqb, cases_Bool}
+use Rattle.std.proofs.lemmas.Bool.{and_parts, and_from, eqb-true, eq-eqb, cases_Bool, cond_both}
 use Rattle.std.proofs.lemmas.List.{append_cancel_left}
 use Rattle.std.proofs.lemmas.List.Elements.{Contains-append_cases, Contains-append_left, Contains-append_right}
 use Rattle.aio_base.specs.declared.names.Key.{Key}
@@ -57,6 +58,15 @@ known stored x there = let at = any_gives (is_storing x) stored there in subst (
 unknown : (stored : List Stored) (x : Stored) → has stored x ≡ false → Contains stored x → ⊥
 unknown stored x none among = none_passes (is_storing x) stored x none among (is_storing-refl x)
 
+-- what was replaced stood before, where the step replaces
+stood_replaced : (w : World) (s : Step) (answers : List PollerAnswer) (before after : Storings) (f : StoringsFollow w s answers before after) (x : Stored)
+    → Contains f.replaced_now x → Contains before.standing x × Contains (replaced_places w s) x.place
+stood_replaced w s answers before after f x gone =
+    cond_both (stores w s answers) (standing_in (replaced_places w s) before.standing) []
+    (λ replaced. Contains replaced x → Contains before.standing x × Contains (replaced_places w s) x.place)
+    (λ does among. stood_in (replaced_places w s) before.standing x among) (λ never among. none_is_in x among)
+    (subst (λ replaced. Contains replaced x) f.replaced gone)
+
 elsewhere : (places : List Place) (p : Place) → has_place places p ≡ false → Contains places p → ⊥
 elsewhere places p none among = none_passes (same_place p) places p none among (same_place-refl p)
 
@@ -96,7 +106,7 @@ woken_from_nowhere w s answers before after x now is there untaken unstood f =
     (Contains-append_cases before.taken f.taken_now x (subst (λ xs. Contains xs x) all (known now x there))))
     (λ (on : ends_round w s answers ≡ false).
     let all = last_woken before.woken now f.replaced_now (sym is ∙ (f.goes_on on).0) in
-    unknown before.standing x unstood (f.replaced x (subst (λ xs. Contains xs x) all (known now x there))).0)
+    unknown before.standing x unstood (stood_replaced w s answers before after f x (subst (λ xs. Contains xs x) all (known now x there))).0)
     (cases_Bool (ends_round w s answers))
 
 -- a storing was woken that no poll replaced, and the step ends no round
@@ -105,7 +115,7 @@ woken_too_soon : (w : World) (s : Step) (answers : List PollerAnswer) (before af
     → Refused w s answers before after
 woken_too_soon w s answers before after x now is there on other f =
     let all = last_woken before.woken now f.replaced_now (sym is ∙ (f.goes_on on).0) in
-    elsewhere (replaced_places w s) x.place other (f.replaced x (subst (λ xs. Contains xs x) all (known now x there))).1
+    elsewhere (replaced_places w s) x.place other (stood_replaced w s answers before after f x (subst (λ xs. Contains xs x) all (known now x there))).1
 
 -- a storing stands that did not stand before, and is not the one that the step stores
 stands_from_nowhere : (w : World) (s : Step) (answers : List PollerAnswer) (before after : Storings) (x : Stored)
@@ -179,7 +189,7 @@ vanished w s answers before after x now replaces there unstood untaken ungiven i
     (λ (front : Contains (f.replaced_now ++ f.taken_now) x).
     ⊎_elim
     (λ (replaced : Contains f.replaced_now x).
-    ⊎_elim (λ (ends : ends_round w s answers ≡ true). none_is_in x.place (subst (λ ps. Contains ps x.place) (replaces ends) (f.replaced x replaced).1))
+    ⊎_elim (λ (ends : ends_round w s answers ≡ true). none_is_in x.place (subst (λ ps. Contains ps x.place) (replaces ends) (stood_replaced w s answers before after f x replaced).1))
     (λ (on : ends_round w s answers ≡ false).
     unknown now x unwoken (subst (λ xs. Contains xs x) (last_woken before.woken f.replaced_now now (sym (f.goes_on on).0 ∙ is)) replaced))
     (cases_Bool (ends_round w s answers)))
