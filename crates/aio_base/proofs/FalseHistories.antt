@@ -1,10 +1,10 @@
 -- Histories of storings that no run has, each refused by the law on how storings follow from step to step: a table of what a machine may do wrong
 -- in one step, by the kind of the step. A history is refused in every world with the parts that are written out for it. The law reads the machine's own
 -- answer to the step, so a history with a wrong answer is no matter of it.
-use Rattle.std.proofs.Common.{◌≡◌, ℕ, Bool, true, false, ◌&&◌, List, [], ◌∷◌, ◌++◌, ◌+◌, length, None, Some, refl, ap, ◌∙◌, sym, subst, ⊎_elim}
+use Rattle.std.proofs.Common.{◌≡◌, ℕ, Bool, true, false, ◌&&◌, List, [], ◌∷◌, ◌++◌, ◌+◌, ◌<◌, length, None, Some, refl, ap, arith, ◌∙◌, sym, subst, ⊎_elim}
 use Rattle.std.specs.Prelude.{◌==◌, if◌then◌else◌, take}
 use Rattle.std.specs.List.{Contains, list_any}
-use Rattle.std.proofs.lemmas.Bool.{and_parts, and_from, eqb-true, eq-eqb, cases_Bool, cond_both}
+use Rattle.std.proofs.lemmas.Bool.{and_parts, and_from, eqb-true, eq-eqb, cases_Bool, cond-true, cond-false, cond_both}
 use Rattle.std.proofs.lemmas.List.{append_cancel_left}
 use Rattle.std.proofs.lemmas.List.Elements.{Contains-append_cases, Contains-append_left, Contains-append_right}
 use Rattle.aio_base.specs.declared.names.Key.{Key}
@@ -21,7 +21,7 @@ use Rattle.aio_base.specs.Refusals.{is_refusal}
 use Rattle.aio_base.specs.Storings.{Place, OfPoll, OfListener, OfTimer, same_place, Stored, Storings, no_storings}
 use Rattle.aio_base.specs.Succession.{stored_as, stores, own_storing, replaced_places, taken_places, standing_in, may_give_up, gives_up, ends_round, StoringsFollow}
 use Rattle.aio_base.proofs.Leaving.{stood_in}
-use Rattle.aio_base.proofs.Membership.{none_is_in, any_gives, none_passes}
+use Rattle.aio_base.proofs.Membership.{none_is_in, first_is_in, any_gives, none_passes}
 use Rattle.aio_base.proofs.Places.{same_place-eq, same_place-refl}
 
 -- the law refuses these storings after a step, with those before it
@@ -116,6 +116,29 @@ woken_too_soon : (w : World) (s : Step) (answers : List PollerAnswer) (before af
 woken_too_soon w s answers before after x now is there on other f =
     let all = last_woken before.woken now f.replaced_now (sym is ∙ (f.goes_on on).0) in
     elsewhere (replaced_places w s) x.place other (stood_replaced w s answers before after f x (subst (λ xs. Contains xs x) all (known now x there))).1
+
+-- more storings were woken than stood where the step replaces, and the step ends no round
+more_woken : (w : World) (s : Step) (answers : List PollerAnswer) (before after : Storings) (now : List Stored)
+    → after.woken ≡ before.woken ++ now ∷ [] → ends_round w s answers ≡ false → length (standing_in (replaced_places w s) before.standing) < length now
+    → Refused w s answers before after
+more_woken w s answers before after now is on more f =
+    cond_both (stores w s answers) (standing_in (replaced_places w s) before.standing) [] (λ replaced. now ≡ replaced → ⊥)
+    (λ does all. let long : length now ≡ length (standing_in (replaced_places w s) before.standing) = ap length all in absurd (omega arith))
+    (λ never all. let none : length now ≡ 0 = ap length all in absurd (omega arith))
+    (last_woken before.woken now f.replaced_now (sym is ∙ (f.goes_on on).0) ∙ f.replaced)
+
+-- the storing that the step stores, by the numbers given, stands nowhere
+lost_storing : (w : World) (s : Step) (answers : List PollerAnswer) (before after : Storings) (x : Stored) → after.given ≡ before.given + 1
+    → own_storing w s before.given ≡ x ∷ [] → has after.standing x ≡ false → Refused w s answers before after
+lost_storing w s answers before after x more own gone f =
+    ⊎_elim
+    (λ (does : stores w s answers ≡ true).
+    let is : f.stored_now ≡ x ∷ [] = f.stored ∙ cond-true (stores w s answers) (own_storing w s before.given) [] does ∙ own in
+    unknown after.standing x gone (f.stores_it x (subst (λ xs. Contains xs x) (sym is) (first_is_in x []))))
+    (λ (never : stores w s answers ≡ false).
+    let none : f.stored_now ≡ [] = f.stored ∙ cond-false (stores w s answers) (own_storing w s before.given) [] never in
+    let as_many : after.given ≡ before.given + 0 = f.given ∙ ap (λ (xs : List Stored). before.given + length xs) none in absurd (omega arith))
+    (cases_Bool (stores w s answers))
 
 -- a storing stands that did not stand before, and is not the one that the step stores
 stands_from_nowhere : (w : World) (s : Step) (answers : List PollerAnswer) (before after : Storings) (x : Stored)
@@ -300,6 +323,18 @@ pub a_poll_stores_under_an_old_number : (answers : List PollerAnswer)
 a_poll_stores_under_an_old_number answers = stands_from_nowhere two_sources _ answers _ _ (storing 0 (OfPoll 1 Read) 2) refl refl refl
 
 -- ## Polls
+
+-- a poll wakes the waker that it replaces twice
+pub a_poll_wakes_what_it_replaces_twice : (answers : List PollerAnswer)
+    → Refused two_sources (step.Poll (key 0) Read (waker 2)) answers (before_step 1 (storing 0 (OfPoll 1 Read) 1 ∷ []) [])
+    (after_step 2 (storing 1 (OfPoll 1 Read) 2 ∷ []) [] (storing 0 (OfPoll 1 Read) 1 ∷ storing 0 (OfPoll 1 Read) 1 ∷ []) [])
+a_poll_wakes_what_it_replaces_twice answers =
+    more_woken two_sources _ answers _ _ (storing 0 (OfPoll 1 Read) 1 ∷ storing 0 (OfPoll 1 Read) 1 ∷ []) refl refl (let more : 1 < 2 = omega arith in more)
+
+-- a poll counts the waker that it stores, which stands nowhere
+pub a_poll_loses_the_waker_that_it_stores : (answers : List PollerAnswer)
+    → Refused two_sources (step.Poll (key 0) Read (waker 2)) answers (before_step 1 [] []) (after_step 2 [] [] [] [])
+a_poll_loses_the_waker_that_it_stores answers = lost_storing two_sources _ answers _ _ (storing 1 (OfPoll 1 Read) 2) refl refl refl
 
 -- a poll gives its source's earlier waker up
 pub a_poll_gives_up_what_it_replaces : (w : World) (answers : List PollerAnswer)
