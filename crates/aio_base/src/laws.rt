@@ -197,6 +197,9 @@ pub fn a_script_is_a_run()
 /// was run, no timer is registered that was due at it; and a step that is not of a timer takes out what
 /// its pass does and no other registration. Since a run that is cut off at a step is a run, this holds
 /// between any two steps; the steps of a trace over the poller in memory are such a run.
+///
+/// Listeners that were polled stand in the order of their first polls. A last step that was told pending,
+/// or that handled an event without a fault, left its source unbroken where a waiter is left.
 pub fn a_run_stands_between_its_steps()
     ensures run { (run : List PolledStep) → StandsBetween run }
     ensures trace { (steps : List Step) → StandsAfter steps }
