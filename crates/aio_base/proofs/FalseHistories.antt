@@ -1,9 +1,10 @@
 -- Histories of storings that no run has, each refused by the law on how storings follow from step to step: a table of what a machine may do wrong
--- in one step, by the kind of the step. A history is refused in every world with the parts that are written out for it.
-use Rattle.std.proofs.Common.{◌≡◌, ℕ, Bool, true, false, ◌&&◌, List, [], ◌∷◌, ◌++◌, ◌+◌, length, None, Some, refl, ap, ◌∙◌, sym, subst, ⊎_elim}
+-- in one step, by the kind of the step. A history is refused in every world with the parts that are written out for it. The law reads the machine's own
+-- answer to the step, so a history with a wrong answer is no matter of it.
+use Rattle.std.proofs.Common.{◌≡◌, ℕ, Bool, true, false, ◌&&◌, List, [], ◌∷◌, ◌++◌, ◌+◌, ◌<◌, length, None, Some, refl, ap, arith, ◌∙◌, sym, subst, ⊎_elim}
 use Rattle.std.specs.Prelude.{◌==◌, if◌then◌else◌, take}
 use Rattle.std.specs.List.{Contains, list_any}
-use Rattle.std.proofs.lemmas.Bool.{and_parts, and_from, eqb-true, eq-eqb, cases_Bool}
+use Rattle.std.proofs.lemmas.Bool.{and_parts, and_from, eqb-true, eq-eqb, cases_Bool, cond-true, cond-false, cond_both}
 use Rattle.std.proofs.lemmas.List.{append_cancel_left}
 use Rattle.std.proofs.lemmas.List.Elements.{Contains-append_cases, Contains-append_left, Contains-append_right}
 use Rattle.aio_base.specs.declared.names.Key.{Key}
@@ -20,7 +21,7 @@ use Rattle.aio_base.specs.Refusals.{is_refusal}
 use Rattle.aio_base.specs.Storings.{Place, OfPoll, OfListener, OfTimer, same_place, Stored, Storings, no_storings}
 use Rattle.aio_base.specs.Succession.{stored_as, stores, own_storing, replaced_places, taken_places, standing_in, may_give_up, gives_up, ends_round, StoringsFollow}
 use Rattle.aio_base.proofs.Leaving.{stood_in}
-use Rattle.aio_base.proofs.Membership.{none_is_in, any_gives, none_passes}
+use Rattle.aio_base.proofs.Membership.{none_is_in, first_is_in, any_gives, none_passes}
 use Rattle.aio_base.proofs.Places.{same_place-eq, same_place-refl}
 
 -- the law refuses these storings after a step, with those before it
@@ -56,6 +57,15 @@ known stored x there = let at = any_gives (is_storing x) stored there in subst (
 
 unknown : (stored : List Stored) (x : Stored) → has stored x ≡ false → Contains stored x → ⊥
 unknown stored x none among = none_passes (is_storing x) stored x none among (is_storing-refl x)
+
+-- what was replaced stood before, where the step replaces
+stood_replaced : (w : World) (s : Step) (answers : List PollerAnswer) (before after : Storings) (f : StoringsFollow w s answers before after) (x : Stored)
+    → Contains f.replaced_now x → Contains before.standing x × Contains (replaced_places w s) x.place
+stood_replaced w s answers before after f x gone =
+    cond_both (stores w s answers) (standing_in (replaced_places w s) before.standing) []
+    (λ replaced. Contains replaced x → Contains before.standing x × Contains (replaced_places w s) x.place)
+    (λ does among. stood_in (replaced_places w s) before.standing x among) (λ never among. none_is_in x among)
+    (subst (λ replaced. Contains replaced x) f.replaced gone)
 
 elsewhere : (places : List Place) (p : Place) → has_place places p ≡ false → Contains places p → ⊥
 elsewhere places p none among = none_passes (same_place p) places p none among (same_place-refl p)
@@ -96,7 +106,7 @@ woken_from_nowhere w s answers before after x now is there untaken unstood f =
     (Contains-append_cases before.taken f.taken_now x (subst (λ xs. Contains xs x) all (known now x there))))
     (λ (on : ends_round w s answers ≡ false).
     let all = last_woken before.woken now f.replaced_now (sym is ∙ (f.goes_on on).0) in
-    unknown before.standing x unstood (f.replaced x (subst (λ xs. Contains xs x) all (known now x there))).0)
+    unknown before.standing x unstood (stood_replaced w s answers before after f x (subst (λ xs. Contains xs x) all (known now x there))).0)
     (cases_Bool (ends_round w s answers))
 
 -- a storing was woken that no poll replaced, and the step ends no round
@@ -105,7 +115,30 @@ woken_too_soon : (w : World) (s : Step) (answers : List PollerAnswer) (before af
     → Refused w s answers before after
 woken_too_soon w s answers before after x now is there on other f =
     let all = last_woken before.woken now f.replaced_now (sym is ∙ (f.goes_on on).0) in
-    elsewhere (replaced_places w s) x.place other (f.replaced x (subst (λ xs. Contains xs x) all (known now x there))).1
+    elsewhere (replaced_places w s) x.place other (stood_replaced w s answers before after f x (subst (λ xs. Contains xs x) all (known now x there))).1
+
+-- more storings were woken than stood where the step replaces, and the step ends no round
+more_woken : (w : World) (s : Step) (answers : List PollerAnswer) (before after : Storings) (now : List Stored)
+    → after.woken ≡ before.woken ++ now ∷ [] → ends_round w s answers ≡ false → length (standing_in (replaced_places w s) before.standing) < length now
+    → Refused w s answers before after
+more_woken w s answers before after now is on more f =
+    cond_both (stores w s answers) (standing_in (replaced_places w s) before.standing) [] (λ replaced. now ≡ replaced → ⊥)
+    (λ does all. let long : length now ≡ length (standing_in (replaced_places w s) before.standing) = ap length all in absurd (omega arith))
+    (λ never all. let none : length now ≡ 0 = ap length all in absurd (omega arith))
+    (last_woken before.woken now f.replaced_now (sym is ∙ (f.goes_on on).0) ∙ f.replaced)
+
+-- the storing that the step stores, by the numbers given, stands nowhere
+lost_storing : (w : World) (s : Step) (answers : List PollerAnswer) (before after : Storings) (x : Stored) → after.given ≡ before.given + 1
+    → own_storing w s before.given ≡ x ∷ [] → has after.standing x ≡ false → Refused w s answers before after
+lost_storing w s answers before after x more own gone f =
+    ⊎_elim
+    (λ (does : stores w s answers ≡ true).
+    let is : f.stored_now ≡ x ∷ [] = f.stored ∙ cond-true (stores w s answers) (own_storing w s before.given) [] does ∙ own in
+    unknown after.standing x gone (f.stores_it x (subst (λ xs. Contains xs x) (sym is) (first_is_in x []))))
+    (λ (never : stores w s answers ≡ false).
+    let none : f.stored_now ≡ [] = f.stored ∙ cond-false (stores w s answers) (own_storing w s before.given) [] never in
+    let as_many : after.given ≡ before.given + 0 = f.given ∙ ap (λ (xs : List Stored). before.given + length xs) none in absurd (omega arith))
+    (cases_Bool (stores w s answers))
 
 -- a storing stands that did not stand before, and is not the one that the step stores
 stands_from_nowhere : (w : World) (s : Step) (answers : List PollerAnswer) (before after : Storings) (x : Stored)
@@ -179,7 +212,7 @@ vanished w s answers before after x now replaces there unstood untaken ungiven i
     (λ (front : Contains (f.replaced_now ++ f.taken_now) x).
     ⊎_elim
     (λ (replaced : Contains f.replaced_now x).
-    ⊎_elim (λ (ends : ends_round w s answers ≡ true). none_is_in x.place (subst (λ ps. Contains ps x.place) (replaces ends) (f.replaced x replaced).1))
+    ⊎_elim (λ (ends : ends_round w s answers ≡ true). none_is_in x.place (subst (λ ps. Contains ps x.place) (replaces ends) (stood_replaced w s answers before after f x replaced).1))
     (λ (on : ends_round w s answers ≡ false).
     unknown now x unwoken (subst (λ xs. Contains xs x) (last_woken before.woken f.replaced_now now (sym (f.goes_on on).0 ∙ is)) replaced))
     (cases_Bool (ends_round w s answers)))
@@ -290,6 +323,18 @@ pub a_poll_stores_under_an_old_number : (answers : List PollerAnswer)
 a_poll_stores_under_an_old_number answers = stands_from_nowhere two_sources _ answers _ _ (storing 0 (OfPoll 1 Read) 2) refl refl refl
 
 -- ## Polls
+
+-- a poll wakes the waker that it replaces twice
+pub a_poll_wakes_what_it_replaces_twice : (answers : List PollerAnswer)
+    → Refused two_sources (step.Poll (key 0) Read (waker 2)) answers (before_step 1 (storing 0 (OfPoll 1 Read) 1 ∷ []) [])
+    (after_step 2 (storing 1 (OfPoll 1 Read) 2 ∷ []) [] (storing 0 (OfPoll 1 Read) 1 ∷ storing 0 (OfPoll 1 Read) 1 ∷ []) [])
+a_poll_wakes_what_it_replaces_twice answers =
+    more_woken two_sources _ answers _ _ (storing 0 (OfPoll 1 Read) 1 ∷ storing 0 (OfPoll 1 Read) 1 ∷ []) refl refl (let more : 1 < 2 = omega arith in more)
+
+-- a poll counts the waker that it stores, which stands nowhere
+pub a_poll_loses_the_waker_that_it_stores : (answers : List PollerAnswer)
+    → Refused two_sources (step.Poll (key 0) Read (waker 2)) answers (before_step 1 [] []) (after_step 2 [] [] [] [])
+a_poll_loses_the_waker_that_it_stores answers = lost_storing two_sources _ answers _ _ (storing 1 (OfPoll 1 Read) 2) refl refl refl
 
 -- a poll gives its source's earlier waker up
 pub a_poll_gives_up_what_it_replaces : (w : World) (answers : List PollerAnswer)

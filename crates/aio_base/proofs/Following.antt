@@ -3,7 +3,7 @@ use Rattle.std.proofs.Common.{◌≡◌, ◌⊎◌, ℕ, ◌+◌, Bool, true, fa
 use Rattle.std.specs.Prelude.{nat_le, flat_map, take, option_map, option_to_list, option_and_then}
 use Rattle.std.specs.List.{Contains}
 use Rattle.std.proofs.lemmas.Bool.{cond_both, cond-true, cond-false, eqb-true}
-use Rattle.std.proofs.lemmas.List.Elements.{Contains-append_left, Contains-append_cases}
+use Rattle.std.proofs.lemmas.List.Elements.{Contains-append_left, Contains-append_right, Contains-append_cases}
 use Rattle.aio_base.specs.declared.names.Key.{Key}
 use Rattle.aio_base.specs.declared.names.Waker.{Waker}
 use Rattle.aio_base.specs.declared.names.Dir.{Dir}
@@ -17,7 +17,7 @@ use Rattle.aio_base.specs.Machine.{Outcome, next_answer, fails, pending, poll_so
 use Rattle.aio_base.specs.Refusals.{is_refusal}
 use Rattle.aio_base.specs.Runs.{PolledStep, outcome_of, world_of}
 use Rattle.aio_base.specs.Storings.{Place, OfPoll, OfListener, OfTimer, Stored, Storings, no_storings, standing_at, none_at, stored_at, given_up_at, woken_at, each_taken, each_given_up, round_woken, timer_place, places_of, due_places, poll_moves, listener_moves, registered_anew, tick_moves_at, tick_moves, set_moves, end_moves, drop_moves, del_moves, begin_moves, event_moves, handle_moves_first, handle_moves, finish_moves_in, finish_moves, handle_each_moves, react_moves, step_storings, step_ended, storings_from, storings_of}
-use Rattle.aio_base.specs.Succession.{poll_places, waker_kept, id_kept, stored_as, own_storing, has_to_wait, is_ahead, registers, stores, event_places, events_given, taken_places, standing_in, may_give_up, gives_up, ends_round, is_poll, StoringsFollow}
+use Rattle.aio_base.specs.Succession.{poll_places, waker_kept, id_kept, stored_as, own_storing, has_to_wait, is_ahead, registers, stores, event_places, events_given, taken_places, replaced_places, standing_in, may_give_up, gives_up, ends_round, is_poll, StoringsFollow}
 use Rattle.aio_base.proofs.Clearing.{Cleared, step_clears}
 use Rattle.aio_base.proofs.Membership.{none_is_in, first_is_in, found_is_in}
 use Rattle.aio_base.proofs.Leaving.{Leave, one_leaves, Taking, none_taken, both_taken, all_taken, GivingUp, none_given_up, one_given_up, all_given_up}
@@ -32,6 +32,7 @@ record Storing (P : Place → Type 0) (does : Bool) (may : List Stored) (l m : S
   pub is : stored ≡ cond does may []
   pub now : List Stored
   pub given : m.given ≡ l.given + length stored
+  pub stores_it : (x : Stored) → Contains stored x → Contains m.standing x
   pub stands : (x : Stored) → Contains m.standing x → Contains l.standing x ⊎ Contains stored x
   pub stood : (x : Stored) → Contains l.standing x → Contains m.standing x ⊎ Contains now x
   pub from : (x : Stored) → Contains now x → Contains l.standing x × P x.place
@@ -46,6 +47,7 @@ stored_none P does may l m none g = record {
   is = sym none;
   now = g.now;
   given = g.given ∙ omega arith;
+  stores_it = λ x none. none_is_in x none;
   stands = λ x here. inl (g.leave.stays x here);
   stood = g.leave.goes;
   from = g.leave.from;
@@ -70,6 +72,7 @@ then_stored P p waker l m g =
       is = ap (λ n. stored_as n p waker ∷ []) g.given;
       now = g.now;
       given = ap (λ n. n + 1) g.given;
+      stores_it = λ x now. Contains-append_right m.standing last x now;
       stands = λ x here.
           ⊎_elim (λ (before : Contains m.standing x). inl (g.leave.stays x before)) (λ (now : Contains last x). inr now) (Contains-append_cases m.standing last x here);
       stood = λ x here.
@@ -380,22 +383,31 @@ woken_with : (l m : Storings) (now : List Stored) → m.woken ≡ l.woken → m.
 woken_with l m now before waking =
     ap (λ (woken : List (List Stored)). woken ++ m.waking ∷ []) before ∙ ap (λ (last : List Stored). l.woken ++ last ∷ []) waking
 
+-- a step that replaces nothing
+none_replaced : (w : World) (s : Step) (answers : List PollerAnswer) (stored : List Stored) → replaced_places w s ≡ []
+    → [] ≡ cond (stores w s answers) (standing_in (replaced_places w s) stored) []
+none_replaced w s answers stored none =
+    cond_both (stores w s answers) (standing_in (replaced_places w s) stored) [] (λ replaced. [] ≡ replaced)
+    (λ does. sym (ap (λ places. standing_in places stored) none)) (λ never. refl)
+
 -- a step that may give storings up and then store one
 giving_follows : (w : World) (s : Step) (answers : List PollerAnswer) (l m : Storings) → l.waking ≡ [] → ends_round w s answers ≡ false
-    → taken_places w s answers ≡ [] → (x : Storing (Contains (may_give_up w s)) (stores w s answers) (own_storing w s l.given) l m)
+    → taken_places w s answers ≡ [] → [] ≡ cond (stores w s answers) (standing_in (replaced_places w s) l.standing) []
+    → (x : Storing (Contains (may_give_up w s)) (stores w s answers) (own_storing w s l.given) l m)
     → (gives_up w s answers ≡ true → Cleared (may_give_up w s) (cond (stores w s answers) (own_storing w s l.given) []) m)
     → (is_poll s ≡ true → x.stored ≡ [] → m ≡ l) → (is_refusal (step_result w s answers).answer ≡ true → m ≡ l)
     → StoringsFollow w s answers l (step_ended m)
-giving_follows w s answers l m rests runs takes_none x clears polls refused = record {
+giving_follows w s answers l m rests runs takes_none replaces_none x clears polls refused = record {
   stored_now = x.stored;
   replaced_now = [];
   taken_now = [];
   given_up_now = x.now;
   stored = x.is;
   given = x.given;
+  stores_it = x.stores_it;
   stands = x.stands;
   stood = x.stood;
-  replaced = λ y gone. none_is_in y gone;
+  replaced = replaces_none;
   taken = sym (ap (λ places. standing_in places l.standing) takes_none);
   given_up = x.from;
   emptied = λ y here nowhere. none_is_in y.place (subst (λ places. Contains places y.place) takes_none nowhere);
@@ -411,7 +423,7 @@ giving_follows w s answers l m rests runs takes_none x clears polls refused = re
 still_follows : (w : World) (s : Step) (answers : List PollerAnswer) (l : Storings) → l.waking ≡ [] → ends_round w s answers ≡ false
     → taken_places w s answers ≡ [] → may_give_up w s ≡ [] → stores w s answers ≡ false → StoringsFollow w s answers l (step_ended l)
 still_follows w s answers l rests runs takes_none gives_none stores_none =
-    giving_follows w s answers l l rests runs takes_none
+    giving_follows w s answers l l rests runs takes_none (sym (cond-false (stores w s answers) (standing_in (replaced_places w s) l.standing) [] stores_none))
     (subst (λ does. Storing (Contains (may_give_up w s)) does (own_storing w s l.given) l l) (sym stores_none) (nothing_moved _ _ l))
     (λ gives y here place. none_is_in y.place (subst (λ places. Contains places y.place) gives_none place))
     (λ poll none. refl) (λ refused. refl)
@@ -428,10 +440,11 @@ taking_follows w s answers l m rests no_poll gives_none stores_none x refused = 
   given_up_now = [];
   stored = sym (cond-false (stores w s answers) (own_storing w s l.given) [] stores_none);
   given = x.given ∙ omega arith;
+  stores_it = λ y none. none_is_in y none;
   stands = λ y here. inl (x.leave.stays y here);
   stood = λ y here.
       ⊎_elim (λ (stays : Contains m.standing y). inl stays) (λ (goes : Contains x.now y). inr (Contains-append_left x.now [] y goes)) (x.leave.goes y here);
-  replaced = λ y gone. none_is_in y gone;
+  replaced = sym (cond-false (stores w s answers) (standing_in (replaced_places w s) l.standing) [] stores_none);
   taken = x.order;
   given_up = λ y gone. none_is_in y gone;
   emptied = x.emptied;
@@ -464,12 +477,14 @@ replacing_follows w key dir waker answers serial l rests at does refused =
       stored = sym (cond-true (stores w (step.Poll key dir waker) answers) (own_storing w (step.Poll key dir waker) l.given) [] does
           ∙ ap (map (λ p. stored_as l.given p waker)) places);
       given = refl;
+      stores_it = λ x now. Contains-append_right left new x now;
       stands = λ x here.
           ⊎_elim (λ (before : Contains left x). inl (leave.stays x before)) (λ (now : Contains new x). inr now) (Contains-append_cases left new x here);
       stood = λ x here.
           ⊎_elim (λ (stays : Contains left x). inl (Contains-append_left left new x stays))
           (λ (goes : Contains old x). inr (Contains-append_left (old ++ []) [] x (Contains-append_left old [] x goes))) (leave.goes x here);
-      replaced = λ x gone. let from = leave.from x gone in (from.0, subst (λ ps. Contains ps x.place) (sym places) from.1);
+      replaced = sym (cond-true (stores w (step.Poll key dir waker) answers) (standing_in (replaced_places w (step.Poll key dir waker)) l.standing) [] does
+          ∙ ap (λ ps. standing_in ps l.standing) places ∙ append-nil old);
       taken = refl;
       given_up = λ x gone. none_is_in x gone;
       emptied = λ x here nowhere. none_is_in x.place nowhere;
@@ -518,28 +533,28 @@ moves_follow : (w : World) (s : Step) (answers : List PollerAnswer) (l : Storing
     → StoringsFollow w s answers l (step_ended (step_storings w s answers l))
 unfolding Listens step_result
 moves_follow w (step.Del key) answers l rests refused =
-    giving_follows w (step.Del key) answers l _ rests refl refl (del_stores w (serial_of w key.0) l) (step_clears w (step.Del key) answers l)
+    giving_follows w (step.Del key) answers l _ rests refl refl (none_replaced w (step.Del key) answers l.standing refl) (del_stores w (serial_of w key.0) l) (step_clears w (step.Del key) answers l)
     (λ poll. absurd cc) refused
 moves_follow w (step.Poll key dir waker) answers l rests refused = poll_follows w key dir waker answers (serial_of w key.0) l rests refl refused
 moves_follow w (step.StepEar number waker) answers l rests refused =
     let listens = listen_stores w number waker (find (is_listener number) w.listeners) answers l refl in
-    giving_follows w (step.StepEar number waker) answers l _ rests refl refl listens.0 (step_clears w (step.StepEar number waker) answers l)
+    giving_follows w (step.StepEar number waker) answers l _ rests refl refl (none_replaced w (step.StepEar number waker) answers l.standing refl) listens.0 (step_clears w (step.StepEar number waker) answers l)
     (λ poll. listens.1) refused
 moves_follow w (step.DropEar number) answers l rests refused =
-    giving_follows w (step.DropEar number) answers l _ rests refl refl
+    giving_follows w (step.DropEar number) answers l _ rests refl refl (none_replaced w (step.DropEar number) answers l.standing refl)
     (drop_stores number w.listeners (find (is_listener number) w.listeners) l refl) (step_clears w (step.DropEar number) answers l) (λ poll. absurd cc) refused
 moves_follow w (step.Tick number waker) answers l rests refused =
-    giving_follows w (step.Tick number waker) answers l _ rests refl refl
+    giving_follows w (step.Tick number waker) answers l _ rests refl refl (none_replaced w (step.Tick number waker) answers l.standing refl)
     (tick_stores w waker (find (is_timer number) w.timers) answers l) (step_clears w (step.Tick number waker) answers l) (λ poll. absurd cc) refused
 moves_follow w (step.SetAt number deadline) answers l rests refused =
-    giving_follows w (step.SetAt number deadline) answers l _ rests refl refl
+    giving_follows w (step.SetAt number deadline) answers l _ rests refl refl (none_replaced w (step.SetAt number deadline) answers l.standing refl)
     (set_stores w (find (is_timer number) w.timers) l) (step_clears w (step.SetAt number deadline) answers l) (λ poll. absurd cc) refused
 moves_follow w (step.SetEvery number deadline period) answers l rests refused =
-    giving_follows w (step.SetEvery number deadline period) answers l _ rests refl refl
+    giving_follows w (step.SetEvery number deadline period) answers l _ rests refl refl (none_replaced w (step.SetEvery number deadline period) answers l.standing refl)
     (set_stores w (find (is_timer number) w.timers) l) (step_clears w (step.SetEvery number deadline period) answers l)
     (λ poll. absurd cc) refused
 moves_follow w (step.End number) answers l rests refused =
-    giving_follows w (step.End number) answers l _ rests refl refl
+    giving_follows w (step.End number) answers l _ rests refl refl (none_replaced w (step.End number) answers l.standing refl)
     (end_stores (find (is_timer number) w.timers) l) (step_clears w (step.End number) answers l) (λ poll. absurd cc) refused
 moves_follow w (step.Begin limit) answers l rests refused =
     taking_follows w (step.Begin limit) answers l _ rests refl refl refl (going_on _ l _ (begin_taken w l)) refused

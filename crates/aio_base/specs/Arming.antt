@@ -25,6 +25,7 @@ handled_events w step.Handle answers = take 1 (hand_of w.round)
 handled_events w step.React answers = if is_some w.round then [] else events_given (next_answer answers)
 handled_events _ _ _ = []
 
+-- whether a round ended without a fault
 abbrev pub is_clean : EndWord → Bool
 is_clean Clean = true
 is_clean FaultWait = false
@@ -36,8 +37,8 @@ tells_no_fault (answer.Handled key fault) = not fault
 tells_no_fault (answer.Round number events fault) = is_clean fault
 tells_no_fault _ = false
 
--- How a step from a world, with its answer and the world after it, leaves the source that it polled or whose event it handled. A source that is not
--- broken has told of no fault, so its waiters are armed for or an event of its key is in hand.
+-- How a step from a world, with its answer and the world after it, leaves the source that it polled or whose event it handled. No earlier fault excuses
+-- a waiter of a source that is not broken: it is armed for, or an event of its key is in hand.
 pub record ArmsAsTold (w : World) (s : Step) (answers : List PollerAnswer) (told : Answer) (after : World) : Type 0 where
   -- a poll that is told pending leaves its source unbroken, also where an earlier arm of it had failed
   pub polled : (serial : ℕ) → polled_source w s ≡ Some serial → told ≡ answer.Pending → is_broken after serial ≡ false

@@ -163,12 +163,14 @@ pub record StoringsFollow (w : World) (s : Step) (answers : List PollerAnswer) (
   -- a step stores its one storing or nothing, and each storing gets the next number
   pub stored : stored_now ≡ (if stores w s answers then own_storing w s before.given else [])
   pub given : after.given ≡ before.given + length stored_now
+  pub stores_it : (x : Stored) → Contains stored_now x → Contains after.standing x
   -- what stands stood before, or was stored now; what stood before stands on, or was replaced, taken or given up
   pub stands : (x : Stored) → Contains after.standing x → Contains before.standing x ⊎ Contains stored_now x
   pub stood : (x : Stored) → Contains before.standing x
       → Contains after.standing x ⊎ Contains (replaced_now ++ taken_now ++ given_up_now) x
-  -- what was replaced or given up stood before, where this very step replaces or may give up
-  pub replaced : StoodAt (replaced_places w s) before.standing replaced_now
+  -- a poll that stores replaces all that stood where it stores, and no other step replaces
+  pub replaced : replaced_now ≡ (if stores w s answers then standing_in (replaced_places w s) before.standing else [])
+  -- what was given up stood before, where this very step may give up
   pub given_up : StoodAt (may_give_up w s) before.standing given_up_now
   -- a round takes all that stood where it takes, in the order of those places, and leaves nothing standing there
   pub taken : taken_now ≡ standing_in (taken_places w s answers) before.standing

@@ -197,6 +197,9 @@ pub fn a_script_is_a_run()
 /// was run, no timer is registered that was due at it; and a step that is not of a timer takes out what
 /// its pass does and no other registration. Since a run that is cut off at a step is a run, this holds
 /// between any two steps; the steps of a trace over the poller in memory are such a run.
+///
+/// Listeners that were polled stand in the order of their first polls. A last step that was told pending,
+/// or that handled an event without a fault, left its source unbroken where a waiter is left.
 pub fn a_run_stands_between_its_steps()
     ensures run { (run : List PolledStep) → StandsBetween run }
     ensures trace { (steps : List Step) → StandsAfter steps }
@@ -212,8 +215,9 @@ pub fn polled_listeners_stand_in_the_order_of_their_first_poll()
 /// A poll of a source or of a listener that is told pending leaves its source unbroken, in any world and
 /// whatever the poller answers: a broken source is armed again by every poll that stays pending, and
 /// where that arm fails the answer is `fault arm`. So does an event that is handled without a fault, by
-/// `handle` or in a whole round that ends clean, where its source has a waiter left. A covered waiter of a source that is not broken is armed
-/// for, or an event of its key is in hand: no earlier fault excuses it.
+/// `handle` or in a whole round that ends clean, where its source has a waiter left. A covered waiter of
+/// a source that is not broken is armed for, or an event of its key is in hand: no earlier fault excuses
+/// it.
 pub fn a_poll_that_is_told_pending_has_armed_its_source()
     ensures step { (w : World) (s : Step) (answers : List PollerAnswer)
         → ArmsAsTold w s answers (step_result w s answers).answer (step_result w s answers).world }
