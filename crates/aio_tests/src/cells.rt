@@ -1,0 +1,74 @@
+//! What no clause says: that a source in a lock stays its owner's, whatever a visit does to it.
+
+ghost use Rattle.std.specs.Prelude.{◌≡◌};
+ghost use Rattle.aio_source.specs.Noting.{cell_note};
+
+use aio_base::{Arm, ArmFault, Dir, Event, Interest, Key, Waker};
+use aio_lock::Lock;
+use aio_script::ScriptPoller;
+use aio_source::{Poll, SourceCell, SourceState};
+use std::process::Abort;
+use std::sync::Wait;
+use std::test::Fail;
+
+/// Handles an event of a cell by the cell's own poller, with room for eight wakers. Its note stays.
+fn handle<A: Arm>(
+    rt: &impl Abort,
+    cell: &mut SourceCell<A>,
+    on: Interest,
+    round: u64,
+    taken: &mut Vec<Waker>,
+) -> Result<(), ArmFault>
+    ensures { cell_note cell.new.state.key (A.rest cell.new.io)
+        ≡ cell_note cell.old.state.key (A.rest cell.old.io) }
+{
+    let waiting = cell
+        .state
+        .waiting(Dir::Write)
+        .saturating_add(cell.state.waiting(Dir::Read));
+    assert!(rt; waiting as usize <= taken.capacity() - taken.len());
+    let event = Event {
+        key: cell.state.key(),
+        on,
+    };
+    cell.state.handle(&mut cell.io, event, round, taken)
+}
+
+/// Visits the cell in a lock, and handles an event there.
+fn handle_in<A: Arm, R: Wait + Abort>(
+    rt: &R,
+    lock: &Lock<SourceCell<A>>,
+    on: Interest,
+    round: u64,
+    taken: &mut Vec<Waker>,
+) -> Result<(), ArmFault> {
+    let (mut cell, visit) = lock.visit(rt);
+    let handled = handle(rt, &mut cell, on, round, taken);
+    lock.leave(visit, cell);
+    handled
+}
+
+#[test]
+fn a_visit_leaves_the_cell_that_its_owner_gave(rt: HostRuntime) -> Result<(), Fail> {
+    let key = Key(7);
+    let mut cell = SourceCell {
+        state: SourceState::new(rt.alloc(), key),
+        io: ScriptPoller::new(rt.alloc())?,
+    };
+    let polled = cell.state.poll_dir(&mut cell.io, Dir::Read, Waker(11), 0);
+    assert_eq!(rt; polled.answer, Poll::Pending);
+    let (lock, mut owner, _other) = Lock::vacant(rt.alloc())?;
+    lock.give(&mut owner, cell);
+    let mut taken = Vec::with_capacity(rt.alloc(), 8)?;
+    assert_eq!(rt;
+        handle_in(&rt, &lock, Interest::READ, 1, &mut taken),
+        Ok(())
+    );
+    assert_eq!(rt; taken.as_slice(), [Waker(11)].as_slice());
+    let cell = lock.take(&rt, &mut owner);
+    assert_eq!(rt; cell.state.key(), key);
+    assert_eq!(rt; cell.state.tick(Dir::Read), 1);
+    assert_eq!(rt; cell.io.armed(key), Interest::READ);
+    lock.give(&mut owner, cell);
+    Ok(())
+}
