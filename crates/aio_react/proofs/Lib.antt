@@ -5,3 +5,7 @@ mod Living
 mod Clearing
 mod Later
 mod WaitMeets
+mod Places
+mod Arrivals
+mod Listed
+mod AddMeets
