@@ -54,7 +54,7 @@ same_key told core w stands =
     search_ends w.live n (λ key below. sym (live_stands told core w key stands) ∙ below_free core.sources key below)
     (sym (live_stands told core w n stands) ∙ ap is_some (free_is_none core.sources)) w.live 0 (omega arith) (omega (arith, free_few core.sources, count))
 
-no_serial : (listeners : List (Option Listener)) (place : Option SourceEntry) (serial : Option ℕ) (broken : ℕ → Bool) (facts : ℕ → Dir → Facts)
+pub no_serial : (listeners : List (Option Listener)) (place : Option SourceEntry) (serial : Option ℕ) (broken : ℕ → Bool) (facts : ℕ → Dir → Facts)
     → PlaceStands listeners place serial broken facts → place ≡ None → serial ≡ None
 no_serial listeners None None broken facts stands none = refl
 no_serial listeners None (Some serial) broken facts stands none = absurd stands
@@ -94,7 +94,7 @@ world_added w key = record w {
   armed = set_armed w.armed key [];
 }
 
-other_asked : (place : Option SourceEntry) (armed : List ArmedDirection) (key k : ℕ) (dir : Dir) (in_hand : Bool) → k ≢ key
+pub other_asked : (place : Option SourceEntry) (armed : List ArmedDirection) (key k : ℕ) (dir : Dir) (in_hand : Bool) → k ≢ key
     → IfSome place (λ (e : SourceEntry). IsTrue (has_dir e.source.asked dir) → IsTrue (is_armed armed k dir || in_hand))
     → IfSome place (λ (e : SourceEntry). IsTrue (has_dir e.source.asked dir) → IsTrue (is_armed (set_armed armed key []) k dir || in_hand))
 other_asked None armed key k dir in_hand apart asked = tt

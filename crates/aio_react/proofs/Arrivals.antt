@@ -8,7 +8,8 @@ use Rattle.std.proofs.lemmas.List.Folds.{find-append}
 use Rattle.aio_base.specs.World.{LiveSource}
 use Rattle.aio_react.specs.Standing.{serial_in}
 
-turned : (a b : ℕ) → a == b ≡ false → b == a ≡ false
+-- a number is no other as the other is not it
+pub turned : (a b : ℕ) → a == b ≡ false → b == a ≡ false
 turned a b apart = ne_eqb b a (λ (same : b ≡ a). absurd (let there = eq-eqb a b (sym same) in cc))
 
 differs_push : {X : Type 0} (number : X → ℕ) (n : ℕ) (xs : List X) (x : X) → AllByRecursion (λ m. nat_eq n m ≡ false) (map number xs) → n == number x ≡ false

@@ -9,3 +9,6 @@ mod Places
 mod Arrivals
 mod Listed
 mod AddMeets
+mod Departures
+mod Hearing
+mod DelMeets

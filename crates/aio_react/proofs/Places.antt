@@ -106,3 +106,38 @@ each_placed sources at e Is within own each key =
 pub keyed_placed : (sources : List (Option SourceEntry)) (at : ℕ) (e : SourceEntry) → AreKeyed sources → at ≤ length sources → e.source.key.0 ≡ at
     → AreKeyed (placed sources at e)
 keyed_placed sources at e keyed within own = each_placed sources at e (λ key e. e.source.key.0 ≡ key) within own keyed
+
+-- ## A place without its source
+
+pub cleared_here : (sources : List (Option SourceEntry)) (at : ℕ) → entry_at (set sources at None) at ≡ None
+cleared_here [] at = refl
+cleared_here (place ∷ sources) zero = refl
+cleared_here (place ∷ sources) (suc at) = cleared_here sources at
+
+pub cleared_elsewhere : (sources : List (Option SourceEntry)) (at key : ℕ) → key ≢ at → entry_at (set sources at None) key ≡ entry_at sources key
+cleared_elsewhere [] at key apart = refl
+cleared_elsewhere (place ∷ sources) zero zero apart = absurd (apart refl)
+cleared_elsewhere (place ∷ sources) zero (suc key) apart = refl
+cleared_elsewhere (place ∷ sources) (suc at) zero apart = refl
+cleared_elsewhere (place ∷ sources) (suc at) (suc key) apart = cleared_elsewhere sources at key (λ (same : key ≡ at). apart (ap suc same))
+
+pub cleared_count : (sources : List (Option SourceEntry)) (at : ℕ) (e : SourceEntry) → entry_at sources at ≡ Some e
+    → count_entries (set sources at None) + 1 ≡ count_entries sources
+cleared_count [] at e is = absurd (cc)
+cleared_count (None ∷ sources) zero e is = absurd (cc)
+cleared_count (Some d ∷ sources) zero e is = refl
+cleared_count (None ∷ sources) (suc at) e is = cleared_count sources at e is
+cleared_count (Some d ∷ sources) (suc at) e is = ap (λ (n : ℕ). n + 1) (cleared_count sources at e is)
+
+-- what is so of the source at each other place is so of each that is left
+pub each_left : (sources : List (Option SourceEntry)) (at : ℕ) (Is : ℕ → SourceEntry → Type 0) → ((key : ℕ) → key ≢ at → IfSome (entry_at sources key) (Is key))
+    → (key : ℕ) → IfSome (entry_at (set sources at None) key) (Is key)
+each_left sources at Is each key =
+    ⊎_elim
+    (λ (same : key ≡ at). subst (λ (k : ℕ). IfSome (entry_at (set sources at None) k) (Is k)) (sym same)
+    (subst (λ (place : Option SourceEntry). IfSome place (Is at)) (sym (cleared_here sources at)) tt))
+    (λ (apart : key ≢ at). subst (λ (place : Option SourceEntry). IfSome place (Is key)) (sym (cleared_elsewhere sources at key apart)) (each key apart))
+    (cases_eq key at)
+
+pub keyed_left : (sources : List (Option SourceEntry)) (at : ℕ) → AreKeyed sources → AreKeyed (set sources at None)
+keyed_left sources at keyed = each_left sources at (λ key e. e.source.key.0 ≡ key) (λ key apart. keyed key)

@@ -9,13 +9,21 @@ fn add<P: Poller>(core: &mut Core<P>) -> Result<Key, CoreRefusal> {
     core.add()
 }
 
+fn del<P: Poller>(core: &mut Core<P>, key: Key) -> Result<(), CoreRefusal> {
+    core.del(key)
+}
+
 #[test]
-fn each_new_source_has_the_least_free_key(rt: HostRuntime) -> Result<(), Fail> {
+fn the_key_of_a_source_that_left_is_the_next(rt: HostRuntime) -> Result<(), Fail> {
     let Ok(mut core) = Core::new(rt.alloc(), quiet()) else {
         return Err(Fail::from("there is no memory"));
     };
     assert_eq!(rt; add(&mut core), Ok(Key(0)));
     assert_eq!(rt; add(&mut core), Ok(Key(1)));
-    assert!(rt; core.live(Key(1)) && !core.live(Key(2)));
+    assert_eq!(rt; del(&mut core, Key(2)), Err(CoreRefusal::NoSource));
+    assert_eq!(rt; del(&mut core, Key(0)), Ok(()));
+    assert!(rt; !core.live(Key(0)) && core.live(Key(1)));
+    assert_eq!(rt; add(&mut core), Ok(Key(0)));
+    assert_eq!(rt; add(&mut core), Ok(Key(2)));
     Ok(())
 }
