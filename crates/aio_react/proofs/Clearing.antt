@@ -20,7 +20,7 @@ or_nothing true = refl
 or_nothing false = refl
 
 -- a key that was cleared is armed in no direction, and every other one as before
-unset_is : (armed : List ArmedDirection) (key k : ℕ) (dir : Dir) → is_armed (set_armed armed key []) k dir ≡ not (k == key) && is_armed armed k dir
+pub unset_is : (armed : List ArmedDirection) (key k : ℕ) (dir : Dir) → is_armed (set_armed armed key []) k dir ≡ not (k == key) && is_armed armed k dir
 unset_is armed key k dir =
     list_any-append (λ (a : ArmedDirection). (a.key == k) && same_dir a.dir dir) (filter (λ (a : ArmedDirection). not (a.key == key)) armed) []
     ∙ or_nothing _
@@ -34,7 +34,7 @@ either_interest : (hit : Bool) (on : Interest) → (if hit then NONE else on) �
 either_interest true on = refl
 either_interest false on = refl
 
-unset_tells : (interests : Interests) (armed : List ArmedDirection) (key : ℕ) → ((k : ℕ) → interests k ≡ interests_of armed k)
+pub unset_tells : (interests : Interests) (armed : List ArmedDirection) (key : ℕ) → ((k : ℕ) → interests k ≡ interests_of armed k)
     → (k : ℕ) → with_interest key NONE interests k ≡ interests_of (set_armed armed key []) k
 unset_tells interests armed key tells k =
     either_interest (k == key) (interests k)

@@ -5,3 +5,10 @@ mod Living
 mod Clearing
 mod Later
 mod WaitMeets
+mod Places
+mod Arrivals
+mod Listed
+mod AddMeets
+mod Departures
+mod Hearing
+mod DelMeets

@@ -18,6 +18,8 @@ mod round;
 #[cfg(test)]
 mod round_tests;
 #[cfg(test)]
+mod sources_tests;
+#[cfg(test)]
 mod tests;
 
 pub use hosts::{Host, InsertRefusal, TimerHost};

@@ -1,0 +1,18 @@
+use Rattle.std.proofs.Common.{◌≡◌, true, length, get_or, None, is_none, not, refl, sym, ap, ◌∙◌, arith}
+use Rattle.std.proofs.lemmas.List.Sums.{position_or_len_is}
+use Rattle.std.proofs.lemmas.Option.{slice_get_read, get_or_from_slice_get}
+use Rattle.aio_react.proofs.reactor.sources.first_free_place.Goals as goal
+
+pub returns-then-is_none : goal.returns-then-is_none
+returns-then-is_none c =
+    let sources = c.args.sources.now in
+    let k = c.loop-place.place in
+    let at : get_or sources k None ≡ c.index-sources-place.result =
+    get_or_from_slice_get sources k c.index-sources-place.result None
+    (slice_get_read sources (length sources) k c.index-sources-place.result refl (omega arith) c.index-sources-place.is) in
+    let none : is_none (get_or sources k None) ≡ true = ap is_none at ∙ ap not c.if-is_none.ensures in
+    sym (position_or_len_is is_none sources k None (omega arith) c.loop-place.invariant (λ within. none))
+
+pub returns : goal.returns
+returns c =
+    sym (position_or_len_is is_none c.args.sources.now (length c.args.sources.now) None (omega arith) (λ k below. c.loop-place.invariant k (omega arith)) (λ within. absurd (omega arith)))

@@ -1,0 +1,133 @@
+//! Sources join a core and leave it.
+
+ghost use Rattle.std.specs.Prelude.{◌≡◌, ◌<◌, ◌≤◌, [], None, Some, Err, IsSome, IfSome, option_map, vec_len, vec_capacity};
+ghost use Rattle.aio_base.specs.declared.steps.Step.TheVariants as step;
+ghost use Rattle.aio_base.specs.Devices.{PollerStep, TellsFaults};
+ghost use Rattle.aio_react.specs.declared.refusals.CoreRefusal.TheVariants as refusal;
+ghost use Rattle.aio_react.specs.declared.entries.SourceEntry.{SourceEntry as Entry};
+ghost use Rattle.aio_react.specs.Cores.{entry_at};
+ghost use Rattle.aio_react.specs.Meeting.{Meets};
+ghost use Rattle.aio_react.specs.Sources.{free_key, placed, AnswersAdd, after_add, add_failure, add_reply, AnswersDel, after_del, del_failure, del_reply};
+
+use super::{Core, SOURCE_LIMIT};
+use crate::entries::SourceEntry;
+use crate::refusals::CoreRefusal;
+use aio_base::{CountFault, Key, Poller};
+use aio_source::SourceState;
+
+impl<P: Poller> Core<P> {
+    /// Registers a source with the poller under the least key that is not live, and answers the key.
+    /// `Full` exactly where 4,096 sources live; it leaves all as it was. `AddFault` only where the
+    /// poller's count of faults rose; all but the poller is as before. It takes no memory.
+    pub fn add(&mut self) -> Result<Key, CoreRefusal>
+        ensures meets { Meets (PollerStep P.arm_step P.wait_step) P.interests step.Add None
+            (add_reply result) [] self.old.1.round.limit self.old self.new }
+        ensures answer { AnswersAdd self.old.1.sources result }
+        ensures after { self.new.1 ≡ after_add self.old.1 result }
+        ensures refused { result ≡ Err refusal.Full → self.new ≡ self.old }
+        ensures faults { TellsFaults P.fault_count P.is_sure self.old.0 self.new.0
+            (IsSome (add_failure result)) }
+        ensures fault { IfSome (add_failure result) (λ fault. fault ≡ record {
+          before = P.fault_count self.old.0;
+          after = P.fault_count self.new.0;
+        }) }
+    {
+        let at = first_free_place(self.sources.as_slice());
+        if at >= SOURCE_LIMIT {
+            return Err(CoreRefusal::Full);
+        }
+        let key = Key(at as u32);
+        let before = self.poller.faults();
+        match self.poller.add(key) {
+            Ok(()) => {}
+            Err(_) => {
+                return Err(CoreRefusal::AddFault(CountFault {
+                    before,
+                    after: self.poller.faults(),
+                }));
+            }
+        }
+        let entry = SourceEntry {
+            source: SourceState::new(self.alloc, key),
+            listeners: 0,
+        };
+        fill_place(&mut self.sources, at, entry);
+        Ok(key)
+    }
+
+    /// Takes a source out; its poll waiters are given up without a wake. `NoSource` exactly where the
+    /// key is not live, and then `InUse` exactly where a listener of it lives, polled or not: both
+    /// leave all as it was. `RemoveFault` only where the poller's count of faults rose; the source is
+    /// gone all the same. It takes no memory.
+    pub fn del(&mut self, key: Key) -> Result<(), CoreRefusal>
+        ensures meets { Meets (PollerStep P.arm_step P.wait_step) P.interests (step.Del key) None
+            (del_reply result) [] self.old.1.round.limit self.old self.new }
+        ensures answer { AnswersDel self.old.1.sources self.old.1.listeners key.0 result }
+        ensures after { self.new.1 ≡ after_del self.old.1 key.0 result }
+        ensures no_source { result ≡ Err refusal.NoSource → self.new ≡ self.old }
+        ensures in_use { result ≡ Err refusal.InUse → self.new ≡ self.old }
+        ensures faults { TellsFaults P.fault_count P.is_sure self.old.0 self.new.0
+            (IsSome (del_failure result)) }
+        ensures fault { IfSome (del_failure result) (λ fault. fault ≡ record {
+          before = P.fault_count self.old.0;
+          after = P.fault_count self.new.0;
+        }) }
+    {
+        let Some(listeners) = listeners_of(self.sources.as_slice(), key) else {
+            return Err(CoreRefusal::NoSource);
+        };
+        if listeners > 0 {
+            return Err(CoreRefusal::InUse);
+        }
+        let before = self.poller.faults();
+        let removed = self.poller.remove(key);
+        self.sources[key.0 as usize] = None;
+        match removed {
+            Ok(()) => Ok(()),
+            Err(_) => Err(CoreRefusal::RemoveFault(CountFault {
+                before,
+                after: self.poller.faults(),
+            })),
+        }
+    }
+}
+
+/// How many listeners the source of this key has, where it is there.
+fn listeners_of(sources: &[Option<SourceEntry>], key: Key) -> Option<u64>
+    ensures { result ≡ option_map (λ (e : Entry). e.listeners) (entry_at sources.now key.0) }
+{
+    let at = key.0 as usize;
+    if at >= sources.len() {
+        return None;
+    }
+    match &sources[at] {
+        Some(entry) => Some(entry.listeners),
+        None => None,
+    }
+}
+
+/// The first place with no source, or the end.
+fn first_free_place(sources: &[Option<SourceEntry>]) -> usize
+    ensures { result ≡ free_key sources.now }
+{
+    for place in 0..sources.len() {
+        if sources[place].is_none() {
+            return place;
+        }
+    }
+    sources.len()
+}
+
+/// Puts a source at a place, which may be the first past the end.
+fn fill_place(sources: &mut Vec<Option<SourceEntry>>, at: usize, entry: SourceEntry)
+    requires within { at ≤ vec_len sources.old }
+    requires room { at < vec_capacity sources.old }
+    ensures items { sources.new.items ≡ placed sources.old.items at entry }
+    ensures capacity { vec_capacity sources.old ≤ vec_capacity sources.new }
+{
+    if at < sources.len() {
+        sources[at] = Some(entry);
+    } else {
+        sources.push_reserved(Some(entry));
+    }
+}
