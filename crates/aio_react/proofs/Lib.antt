@@ -5,3 +5,10 @@ mod Living
 mod Clearing
 mod Later
 mod WaitMeets
+mod DirectionFacts
+mod Rearming
+mod SourceChanges
+mod Waiting
+mod ArmMeets
+mod PollMeets
+mod HeldSources
