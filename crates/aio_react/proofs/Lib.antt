@@ -12,3 +12,12 @@ mod AddMeets
 mod Departures
 mod Hearing
 mod DelMeets
+mod DirectionFacts
+mod Rearming
+mod SourceChanges
+mod Waiting
+mod ArmMeets
+mod PollMeets
+mod HeldSources
+mod NewListeners
+mod ListenMeets

@@ -10,3 +10,5 @@ pub mod Hosting
 pub mod Lending
 pub mod Hosts
 pub mod Sources
+pub mod Polls
+pub mod Listeners

@@ -9,6 +9,7 @@ ghost use Rattle.aio_react.specs.Replies.{empty_hand_refusal};
 ghost use Rattle.aio_react.specs.Standing.{Tells, Stands};
 
 mod sources;
+mod polls;
 
 use crate::entries::{Listener, SourceEntry};
 use crate::hosts::{InsertRefusal, TimerHost};

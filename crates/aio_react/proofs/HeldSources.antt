@@ -1,0 +1,112 @@
+-- What is read at a key, and that each source stays at its key with its listeners where one of them changes.
+use Rattle.std.proofs.Common.{◌≡◌, ◌≢◌, ℕ, zero, suc, ◌<◌, ◌≤◌, Bool, true, false, if◌then◌else◌, List, [], ◌∷◌, length, get_or, set, slice_set, slice_index_or, Option, None, Some, IfSome, Result, refl, sym, ap, ◌∙◌, subst, arith, ⊎_elim}
+use Rattle.std.proofs.lemmas.Bool.{cases_eq}
+use Rattle.std.proofs.lemmas.List.{set-get_or}
+use Rattle.aio_base.specs.declared.names.Dir.{Dir}
+use Rattle.aio_base.specs.declared.names.Key.{Key}
+use Rattle.aio_base.specs.declared.names.Waker.{Waker}
+use Rattle.aio_base.specs.declared.outcomes.Failed.{Failed}
+use Rattle.aio_base.specs.Machine.{is_waker}
+use Rattle.aio_listen.specs.declared.ticket.Ticket.{Ticket}
+use Rattle.aio_listen.specs.Listening.{Holds, Listening}
+use Rattle.aio_source.specs.Lent.{settled}
+use Rattle.aio_source.specs.Rules.{Polling, polling, is_ready, seen, stored, direction_of}
+use Rattle.aio_source.specs.Values.{SourceValue}
+use Rattle.aio_react.specs.declared.entries.Listener.{Listener}
+use Rattle.aio_react.specs.declared.entries.SourceEntry.{SourceEntry}
+use Rattle.aio_react.specs.Cores.{entry_at, AreKeyed, AreListed, IsListenedTo, ticket_of, count_of}
+use Rattle.aio_react.specs.Numbers.{value_of}
+use Rattle.aio_react.proofs.SourceChanges.{KeepsListeners, keeps_listeners, place_here, place_aside}
+
+-- ## Places that were read
+
+module _ {X : Type 0} where
+  pub read_at : (xs : List (Option X)) (k : ℕ) (place : Option X) → k < length xs → place ≡ get_or xs k place → slice_index_or xs k None ≡ place
+  read_at [] k place within is = absurd (omega arith)
+  read_at (x ∷ xs) zero place within is = sym is
+  read_at (x ∷ xs) (suc k) place within is = read_at xs k place (omega arith) is
+
+  pub read_past : (xs : List (Option X)) (k : ℕ) → length xs ≤ k → slice_index_or xs k None ≡ None
+  read_past [] k past = refl
+  read_past (x ∷ xs) zero past = absurd (omega arith)
+  read_past (x ∷ xs) (suc k) past = read_past xs k (omega arith)
+
+  -- what was read is put back
+  pub read_back : (xs : List (Option X)) (k : ℕ) (place : Option X) → place ≡ get_or xs k place → set xs k place ≡ xs
+  read_back xs k place is = ap (λ (p : Option X). set xs k p) is ∙ set-get_or xs k place
+
+pub key_is : (sources : List (Option SourceEntry)) (key : Key) (e : SourceEntry) → AreKeyed sources → entry_at sources key.0 ≡ Some e → key ≡ e.source.key
+key_is sources key e keyed is =
+    let own : e.source.key.0 ≡ key.0 = subst (λ (place : Option SourceEntry). IfSome place (λ (e : SourceEntry). e.source.key.0 ≡ key.0)) is (keyed key.0) in
+    λ i. record { 0 = sym own i }
+
+-- ## A source that keeps its key and its listeners
+
+pub record Keeps (s new : SourceValue) : Type 0 where
+  pub key_is : new.key ≡ s.key
+  pub listeners : KeepsListeners s new
+
+pub keyed_again : (sources : List (Option SourceEntry)) (key : ℕ) (e new : SourceEntry) → entry_at sources key ≡ Some e → Keeps e.source new.source → AreKeyed sources
+    → AreKeyed (slice_set sources key (Some new))
+keyed_again sources key e new is keeps keyed k =
+    let Keyed : Option SourceEntry → Type 0 = λ (place : Option SourceEntry). IfSome place (λ (e : SourceEntry). e.source.key.0 ≡ k) in
+    ⊎_elim
+    (λ (here : k ≡ key).
+    let own : e.source.key.0 ≡ k = subst Keyed (ap (λ n. entry_at sources n) here ∙ is) (keyed k) in
+    subst Keyed (sym (ap (λ n. entry_at (slice_set sources key (Some new)) n) here ∙ place_here sources key e (Some new) is)) (ap (λ (k : Key). k.0) keeps.key_is ∙ own))
+    (λ (apart : k ≢ key). subst Keyed (sym (place_aside sources key k (Some new) apart)) (keyed k))
+    (cases_eq k key)
+
+ticket_held : (e new : SourceEntry) (dir : Dir) (ticket : Option Ticket) → Keeps e.source new.source
+    → IfSome ticket (λ ticket. Holds (direction_of e.source.directions dir).listeners.entries ticket)
+    → IfSome ticket (λ ticket. Holds (direction_of new.source.directions dir).listeners.entries ticket)
+ticket_held e new dir None keeps held = tt
+ticket_held e new dir (Some ticket) keeps held = subst (λ (l : Listening Waker). Holds l.entries ticket) (sym (keeps.listeners dir)) held
+
+pub heard_again : (sources : List (Option SourceEntry)) (key : ℕ) (e new : SourceEntry) → entry_at sources key ≡ Some e → Keeps e.source new.source
+    → (listener : Option Listener) → IfSome listener (λ (l : Listener). IsListenedTo (entry_at sources l.key.0) l)
+    → IfSome listener (λ (l : Listener). IsListenedTo (entry_at (slice_set sources key (Some new)) l.key.0) l)
+heard_again sources key e new is keeps None heard = tt
+heard_again sources key e new is keeps (Some l) heard =
+    ⊎_elim
+    (λ (here : l.key.0 ≡ key).
+    let old : IsListenedTo (Some e) l = subst (λ (place : Option SourceEntry). IsListenedTo place l) (ap (λ n. entry_at sources n) here ∙ is) heard in
+    subst (λ (place : Option SourceEntry). IsListenedTo place l) (sym (ap (λ n. entry_at (slice_set sources key (Some new)) n) here ∙ place_here sources key e (Some new) is))
+    (ticket_held e new l.dir (ticket_of l) keeps old))
+    (λ (apart : l.key.0 ≢ key). subst (λ (place : Option SourceEntry). IsListenedTo place l) (sym (place_aside sources key l.key.0 (Some new) apart)) heard)
+    (cases_eq l.key.0 key)
+
+pub listed_again : (sources : List (Option SourceEntry)) (listeners : List (Option Listener)) (key : ℕ) (e new : SourceEntry) → entry_at sources key ≡ Some e → Keeps e.source new.source
+    → new.listeners ≡ e.listeners → AreListed sources listeners → AreListed (slice_set sources key (Some new)) listeners
+listed_again sources listeners key e new is keeps count listed =
+    let Counted : ℕ → Option SourceEntry → Type 0 = λ k place. IfSome place (λ (e : SourceEntry). e.listeners ≡ count_of k listeners) in
+    record {
+      heard = λ number. heard_again sources key e new is keeps (value_of listeners number) (listed.heard number);
+      counted = λ k. ⊎_elim
+          (λ (here : k ≡ key).
+          let own : e.listeners ≡ count_of k listeners = subst (Counted k) (ap (λ n. entry_at sources n) here ∙ is) (listed.counted k) in
+          subst (Counted k) (sym (ap (λ n. entry_at (slice_set sources key (Some new)) n) here ∙ place_here sources key e (Some new) is)) (count ∙ own))
+          (λ (apart : k ≢ key). subst (Counted k) (sym (place_aside sources key k (Some new) apart)) (listed.counted k))
+          (cases_eq k key);
+      apart = listed.apart;
+    }
+
+-- ## Polls
+
+either_keeps : (s : SourceValue) (test : Bool) (a b : Polling) → Keeps s a.source → Keeps s b.source → Keeps s (if test then a else b).source
+either_keeps s true a b first second = first
+either_keeps s false a b first second = second
+
+poll_keeps : (s : SourceValue) (dir : Dir) (waker : Waker) (ticker : ℕ) → Keeps s (polling s dir waker ticker).source
+poll_keeps s dir waker ticker =
+    let d = direction_of s.directions dir in
+    either_keeps s (is_ready d) _ _ (record { key_is = refl; listeners = keeps_listeners s dir (seen d) refl })
+    (either_keeps s (is_waker waker d.waiter) _ _ (record { key_is = refl; listeners = λ dir. refl })
+    (record { key_is = refl; listeners = keeps_listeners s dir (stored waker ticker d) refl }))
+
+-- a poll leaves a source its key and its listeners
+pub polled_keeps : (s new : SourceValue) (dir : Dir) (waker : Waker) (ticker : ℕ) (answer : Result (Unit {0}) Failed)
+    → (let p = polling s dir waker ticker in new ≡ settled p.arms answer p.source) → Keeps s new
+polled_keeps s new dir waker ticker answer is =
+    let kept = poll_keeps s dir waker ticker in
+    subst (Keeps s) (sym is) (record { key_is = kept.key_is; listeners = kept.listeners })

@@ -1,0 +1,81 @@
+//! The calls of a core by which tasks wait for its sources.
+
+ghost use Rattle.std.specs.Prelude.{◌≡◌, [], None, is_ok, is_some, ◌≢◌, Err, IfErr, IsErr, OnErr};
+ghost use Rattle.aio_base.specs.Devices.{PollerStep, TellsFaults};
+ghost use Rattle.aio_base.specs.declared.steps.Step.TheVariants as step;
+ghost use Rattle.aio_react.specs.declared.refusals.CoreRefusal.TheVariants.{NoSource, OutOfMemory};
+ghost use Rattle.aio_react.specs.Cores.{entry_at};
+ghost use Rattle.aio_react.specs.Listeners.{listen_reply, listen_refusal, listen_refused};
+ghost use Rattle.aio_react.specs.Meeting.{Meets};
+ghost use Rattle.aio_react.specs.Polls.{poll_reply, poll_wakes, poll_armed};
+
+use crate::entries::Listener;
+use crate::reactor::Core;
+use crate::refusals::CoreRefusal;
+use aio_base::{Arm, Dir, Key, Poller, Waker};
+use aio_source::Polled;
+
+impl<P: Poller> Core<P> {
+    /// Polls a direction of a source with a waker (`async-io` 2, `reactor.rs`,
+    /// `Source::poll_ready`), as `SourceState::poll_dir` does while as many rounds have begun as the
+    /// core counts. A poll waiter that it replaced is to be woken. `NoSource` exactly where no source
+    /// has this key; all is as it was then. `ArmFault`, inside the answer, only where the poller's
+    /// count of faults rose. It takes no memory.
+    pub fn poll(&mut self, key: Key, dir: Dir, w: Waker) -> Result<Polled, CoreRefusal>
+        ensures meets { Meets (PollerStep P.arm_step P.wait_step) P.interests (step.Poll key dir w)
+            None (poll_reply result) (poll_wakes result) None self.old self.new }
+        ensures live { is_ok result ≡ is_some (entry_at self.old.1.sources key.0) }
+        ensures refused { IfErr result (λ refusal. (refusal ≡ NoSource) × (self.new ≡ self.old)) }
+        ensures faults { TellsFaults P.fault_count P.is_sure self.old.0 self.new.0
+            (IsErr (poll_armed result)) }
+        ensures fault { IfErr (poll_armed result) (λ fault. fault ≡ record {
+          key = key;
+          before = P.fault_count self.old.0;
+          after = P.fault_count self.new.0;
+        }) }
+    {
+        let at = key.0 as usize;
+        if at >= self.sources.len() {
+            return Err(CoreRefusal::NoSource);
+        }
+        match &mut self.sources[at] {
+            Some(entry) => Ok(entry.source.poll_dir(&mut self.poller, dir, w, self.ticker)),
+            None => Err(CoreRefusal::NoSource),
+        }
+    }
+
+    /// A new listener of a direction of a source, which has not been polled: its number, from 1 on
+    /// in the order in which they came. `NoSource` exactly where no source has this key, and then
+    /// `TicketsSpent` exactly where 2^64 - 1 numbers were given. `OutOfMemory` where memory ran out.
+    /// A refusal leaves all as it was.
+    pub fn listen(&mut self, key: Key, dir: Dir) -> Result<u64, CoreRefusal>
+        ensures meets { result ≢ Err OutOfMemory → Meets (PollerStep P.arm_step P.wait_step)
+            P.interests (step.New key dir) None (listen_reply result) [] None self.old self.new }
+        ensures cause { result ≢ Err OutOfMemory
+            → listen_refused result ≡ listen_refusal self.old.1 key.0 }
+        ensures refused { OnErr result (self.new ≡ self.old) }
+        ensures poller { self.new.0 ≡ self.old.0 }
+    {
+        let at = key.0 as usize;
+        if at >= self.sources.len() {
+            return Err(CoreRefusal::NoSource);
+        }
+        let entry = match &mut self.sources[at] {
+            Some(entry) => entry,
+            None => return Err(CoreRefusal::NoSource),
+        };
+        if self.listeners.given() == u64::MAX {
+            return Err(CoreRefusal::TicketsSpent);
+        }
+        let listener = Listener {
+            key,
+            dir,
+            first: None,
+        };
+        let Ok(number) = self.listeners.add(listener) else {
+            return Err(CoreRefusal::OutOfMemory);
+        };
+        entry.listeners += 1;
+        Ok(number)
+    }
+}
