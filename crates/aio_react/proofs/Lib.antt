@@ -5,3 +5,6 @@ mod Living
 mod Clearing
 mod Later
 mod WaitMeets
+mod RoundPast
+mod BookPasses
+mod BeginMeets

@@ -9,3 +9,4 @@ pub mod Replies
 pub mod Hosting
 pub mod Lending
 pub mod Hosts
+pub mod Sections

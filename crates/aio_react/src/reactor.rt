@@ -8,6 +8,8 @@ ghost use Rattle.aio_react.specs.Cores.{new_core, entry_at};
 ghost use Rattle.aio_react.specs.Replies.{empty_hand_refusal};
 ghost use Rattle.aio_react.specs.Standing.{Tells, Stands};
 
+mod rounds;
+
 use crate::entries::{Listener, SourceEntry};
 use crate::hosts::{InsertRefusal, TimerHost};
 use crate::numbered::Numbered;

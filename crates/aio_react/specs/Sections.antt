@@ -1,0 +1,25 @@
+-- The sections of a core's round: why each is refused, and what its answers are to the machine.
+use Rattle.std.specs.Prelude.{◌≡◌, ℕ, ◌-◌, ◌^◌, ◌==◌, if◌then◌else◌, Option, None, Some, Result, Ok, Err, unwrap_or}
+use Rattle.aio_base.specs.declared.steps.Answer.{Answer}
+use Rattle.aio_base.specs.declared.steps.Answer.TheVariants as answer
+use Rattle.aio_react.specs.declared.refusals.CoreRefusal.{CoreRefusal}
+use Rattle.aio_react.specs.declared.refusals.CoreRefusal.TheVariants as refusal
+use Rattle.aio_react.specs.Cores.{CoreValue}
+
+-- A section that takes memory is done only where nothing refuses it. It is refused by this cause where there is one, and else only for want of memory.
+abbrev pub IsRefusedBy : {A : Type 0} → Option CoreRefusal → Result A CoreRefusal → Type 0
+IsRefusedBy why (Ok done) = why ≡ None
+IsRefusedBy why (Err refused) = refused ≡ unwrap_or why refusal.OutOfMemory
+
+-- ## A begin
+
+-- why no round begins: one runs, or else as many began as a number counts
+abbrev pub begin_refusal : CoreValue → Option CoreRefusal
+begin_refusal core =
+    if core.round.running then Some refusal.Locked else (if core.ticker == 2 ^ 64 - 1 then Some refusal.RoundsSpent else None)
+
+-- the answer of the machine, which counts rounds without end and never wants memory
+abbrev pub begin_reply : Result (ℕ × Option ℕ) CoreRefusal → Option Answer
+begin_reply (Ok begun) = Some (answer.Begin begun.0 begun.1)
+begin_reply (Err refusal.Locked) = Some answer.Locked
+begin_reply (Err refused) = None
