@@ -24,6 +24,7 @@ use Rattle.aio_react.specs.Rounds.{RoundValue, begun}
 use Rattle.aio_react.specs.Standing.{PlaceStands, DirectionStands, ListenerStands, Remembers, RoundStands, IsBefore, serial_in, numbers_in, AreAsked, Stands}
 use Rattle.aio_react.proofs.BookPasses.{due_of_book, limit_of_book, ids_filter}
 use Rattle.aio_react.proofs.Later.{tickets_later, past_later, quiet_comes}
+use Rattle.aio_react.proofs.WaitMeets.{none_runs}
 use Rattle.aio_react.proofs.RoundPast.{found_holds, rounds_last, last_has_begun, all_begun_longer, tick_longer, since_longer}
 
 -- ## The world
@@ -147,10 +148,6 @@ begun_stands told core w now given stands none at = record {
 
 -- ## The phase
 
-idle_world : (r : RoundValue) (round : Option RoundState) → RoundStands r round → r.running ≡ false → round ≡ None
-idle_world r None stands idle = refl
-idle_world r (Some s) stands idle = absurd (true≢false (sym stands.running ∙ idle))
-
 busy_world : (r : RoundValue) (round : Option RoundState) → RoundStands r round → r.running ≡ true → is_some round ≡ true
 busy_world r None stands running = absurd (true≢false (sym running ∙ stands))
 busy_world r (Some s) stands running = refl
@@ -176,7 +173,7 @@ begin_meets {P = P} poller_step tells poller core now given idle = record {
   run = refl;
   waits = tt;
   comes = λ w later stands at.
-      let none = idle_world core.round w.round stands.round idle in
+      let none = none_runs core.round w.round stands.round idle in
       let whole = begun_stands (tells poller) core w now given stands none at in
       subst (λ (o : Outcome). Comes (moved_on o) (replies.Begin (core.ticker + 1) (limit_of now core.book given)) [] [] later (tells poller) (core_begun core now given))
       (sym (begin_is_made w given later none))

@@ -8,3 +8,4 @@ mod WaitMeets
 mod RoundPast
 mod BookPasses
 mod BeginMeets
+mod FinishMeets
