@@ -21,3 +21,7 @@ mod PollMeets
 mod HeldSources
 mod NewListeners
 mod ListenMeets
+mod RoundPast
+mod BookPasses
+mod BeginMeets
+mod FinishMeets

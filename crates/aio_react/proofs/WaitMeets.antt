@@ -29,11 +29,11 @@ use Rattle.aio_react.proofs.Later.{tickets_later, past_later, quiet_comes}
 
 -- ## The phase
 
-none_runs : (r : RoundValue) (round : Option RoundState) → RoundStands r round → r.running ≡ false → round ≡ None
+pub none_runs : (r : RoundValue) (round : Option RoundState) → RoundStands r round → r.running ≡ false → round ≡ None
 none_runs r None stands idle = refl
 none_runs r (Some s) stands idle = absurd (true≢false (sym stands.running ∙ idle))
 
-one_runs : (r : RoundValue) (round : Option RoundState) → RoundStands r round → r.running ≡ true → (s : RoundState) × (round ≡ Some s) × Runs r s
+pub one_runs : (r : RoundValue) (round : Option RoundState) → RoundStands r round → r.running ≡ true → (s : RoundState) × (round ≡ Some s) × Runs r s
 one_runs r None stands running = absurd (true≢false (sym running ∙ stands))
 one_runs r (Some s) stands running = (s, refl, stands)
 

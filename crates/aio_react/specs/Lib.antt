@@ -12,3 +12,4 @@ pub mod Hosts
 pub mod Sources
 pub mod Polls
 pub mod Listeners
+pub mod Sections

@@ -8,8 +8,9 @@ ghost use Rattle.aio_react.specs.Cores.{new_core, entry_at};
 ghost use Rattle.aio_react.specs.Replies.{empty_hand_refusal};
 ghost use Rattle.aio_react.specs.Standing.{Tells, Stands};
 
-mod sources;
 mod polls;
+mod rounds;
+mod sources;
 
 use crate::entries::{Listener, SourceEntry};
 use crate::hosts::{InsertRefusal, TimerHost};

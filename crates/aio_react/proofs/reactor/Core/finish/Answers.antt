@@ -1,0 +1,26 @@
+use Rattle.std.proofs.Common.{Some}
+use Rattle.aio_base.specs.Devices.{PollerStep}
+use Rattle.aio_react.specs.Cores.{CoreValue}
+use Rattle.aio_react.proofs.FinishMeets.{finish_refused, finish_answered, finish_unanswered}
+use Rattle.aio_react.proofs.reactor.Core.finish.Goals as goal
+use Rattle.aio_react.proofs.reactor.Core.finish.Goals.{in-Ok-finish, in-Err-finish}
+
+pub returns-in-Err-clause-meets : goal.returns-in-Err-clause-meets
+returns-in-Err-clause-meets g c =
+    let i = c.self.inside in
+    let core : CoreValue = record { sources = i.sources.items; listeners = i.listeners; ticker = i.ticker; book = i.book.entries; ids_drawn = i.ids_drawn; round = i.round } in
+    rw (← c.self.view_is)
+    (finish_refused (PollerStep g.P.Arm.arm_step g.P.EventWait.wait_step) g.P.Arm.interests i.poller core (Some c.args.now) c.in-Err.refusal c.in-Err.ensures.refused)
+
+pub returns-clause-meets : goal.returns-clause-meets
+returns-clause-meets g c =
+    let i = c.self.inside in
+    let core : CoreValue = record { sources = i.sources.items; listeners = i.listeners; ticker = i.ticker; book = i.book.entries; ids_drawn = i.ids_drawn; round = i.round } in
+    rw (← c.self.view_is)
+    (elim c.match-finish.branch [
+      | in-Ok-finish w ↦ finish_answered (PollerStep g.P.Arm.arm_step g.P.EventWait.wait_step) g.P.Arm.interests i.poller core c.args.now
+          w.in-Ok-finish.fault c.finish.new.book.entries c.finish.new.self c.match-finish.result w.result-is c.in-Ok.ensures.phase.0 c.in-Ok.ensures.phase.1
+          w.in-Ok-finish.ensures.fault w.in-Ok-finish.ensures.book w.in-Ok-finish.ensures.round
+      | in-Err-finish w ↦ finish_unanswered (PollerStep g.P.Arm.arm_step g.P.EventWait.wait_step) g.P.Arm.interests i.poller core c.args.now
+          c.finish.new.book.entries c.finish.new.self c.match-finish.result w.result-is
+    ])

@@ -1,0 +1,43 @@
+-- The sections of a core's round: why each is refused, and what its answers are to the machine.
+use Rattle.std.specs.Prelude.{◌≡◌, ℕ, ◌-◌, ◌^◌, ◌==◌, if◌then◌else◌, List, [], Option, None, Some, Result, Ok, Err, unwrap_or}
+use Rattle.aio_base.specs.declared.names.Waker.{Waker}
+use Rattle.aio_base.specs.declared.steps.Answer.{Answer}
+use Rattle.aio_base.specs.declared.steps.Answer.TheVariants as answer
+use Rattle.aio_react.specs.declared.refusals.CoreRefusal.{CoreRefusal}
+use Rattle.aio_react.specs.declared.refusals.CoreRefusal.TheVariants as refusal
+use Rattle.aio_react.specs.declared.round.RoundFault.{RoundFault}
+use Rattle.aio_react.specs.Cores.{CoreValue}
+use Rattle.aio_react.specs.Rounds.{RoundValue}
+use Rattle.aio_react.specs.Standing.{end_word}
+
+-- A section that takes memory is done only where nothing refuses it. It is refused by this cause where there is one, and else only for want of memory.
+abbrev pub IsRefusedBy : {A : Type 0} → Option CoreRefusal → Result A CoreRefusal → Type 0
+IsRefusedBy why (Ok done) = why ≡ None
+IsRefusedBy why (Err refused) = refused ≡ unwrap_or why refusal.OutOfMemory
+
+-- ## A begin
+
+-- why no round begins: one runs, or else as many began as a number counts
+abbrev pub begin_refusal : CoreValue → Option CoreRefusal
+begin_refusal core =
+    if core.round.running then Some refusal.Locked else (if core.ticker == 2 ^ 64 - 1 then Some refusal.RoundsSpent else None)
+
+-- the answer of the machine, which counts rounds without end and never wants memory
+abbrev pub begin_reply : Result (ℕ × Option ℕ) CoreRefusal → Option Answer
+begin_reply (Ok begun) = Some (answer.Begin begun.0 begun.1)
+begin_reply (Err refusal.Locked) = Some answer.Locked
+begin_reply (Err refused) = None
+
+-- ## A finish
+
+-- the answer of the machine, which never wants memory
+abbrev pub finish_reply : Result (Option RoundFault) CoreRefusal → Option Answer
+finish_reply (Ok fault) = Some (answer.End (end_word fault))
+finish_reply (Err refusal.NoRound) = Some answer.NoRound
+finish_reply (Err (refusal.EventsLeft n)) = Some (answer.Events n)
+finish_reply (Err refused) = None
+
+-- whom a finish wakes: where it ended the round, all whose wakers the round took
+abbrev pub finish_wakes : Result (Option RoundFault) CoreRefusal → RoundValue → List Waker
+finish_wakes (Ok fault) ended = ended.taken
+finish_wakes (Err refused) running = []
