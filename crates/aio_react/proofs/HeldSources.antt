@@ -63,7 +63,7 @@ ticket_held : (e new : SourceEntry) (dir : Dir) (ticket : Option Ticket) → Kee
 ticket_held e new dir None keeps held = tt
 ticket_held e new dir (Some ticket) keeps held = subst (λ (l : Listening Waker). Holds l.entries ticket) (sym (keeps.listeners dir)) held
 
-heard_again : (sources : List (Option SourceEntry)) (key : ℕ) (e new : SourceEntry) → entry_at sources key ≡ Some e → Keeps e.source new.source
+pub heard_again : (sources : List (Option SourceEntry)) (key : ℕ) (e new : SourceEntry) → entry_at sources key ≡ Some e → Keeps e.source new.source
     → (listener : Option Listener) → IfSome listener (λ (l : Listener). IsListenedTo (entry_at sources l.key.0) l)
     → IfSome listener (λ (l : Listener). IsListenedTo (entry_at (slice_set sources key (Some new)) l.key.0) l)
 heard_again sources key e new is keeps None heard = tt

@@ -12,3 +12,5 @@ mod Waiting
 mod ArmMeets
 mod PollMeets
 mod HeldSources
+mod NewListeners
+mod ListenMeets

@@ -40,7 +40,7 @@ module _ {X : Type 0} where
   placed_again (p ∷ xs) zero x is = ap (λ (place : Option X). place ∷ xs) (sym is)
   placed_again (p ∷ xs) (suc key) x is = ap (λ (ys : List (Option X)). p ∷ ys) (placed_again xs key x is)
 
-count_again : (sources : List (Option SourceEntry)) (key : ℕ) (e new : SourceEntry) → entry_at sources key ≡ Some e → count_entries (slice_set sources key (Some new)) ≡ count_entries sources
+pub count_again : (sources : List (Option SourceEntry)) (key : ℕ) (e new : SourceEntry) → entry_at sources key ≡ Some e → count_entries (slice_set sources key (Some new)) ≡ count_entries sources
 count_again [] key e new is = refl
 count_again (None ∷ sources) zero e new is = absurd (cc)
 count_again (Some old ∷ sources) zero e new is = refl

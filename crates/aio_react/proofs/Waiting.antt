@@ -76,7 +76,7 @@ serial_apart serial other dir d apart = ap (λ (b : Bool). b && same_dir d dir) 
 pub dir_apart : (serial : ℕ) (dir d : Dir) → same_dir d dir ≡ false → is_of serial dir serial d ≡ false
 dir_apart serial dir d apart = ap (λ (b : Bool). b && same_dir d dir) (eq-eqb serial serial refl) ∙ apart
 
-facts_are : (a b : Facts) → a.waiter ≡ b.waiter → a.since ≡ b.since → a.tick ≡ b.tick → a.polled ≡ b.polled → a ≡ b
+pub facts_are : (a b : Facts) → a.waiter ≡ b.waiter → a.since ≡ b.since → a.tick ≡ b.tick → a.polled ≡ b.polled → a ≡ b
 facts_are a b e f g h = λ i. record { waiter = e i; since = f i; tick = g i; polled = h i }
 
 pub seen_aside : (w : World) (serial : ℕ) (dir : Dir) (n : ℕ) (d : Dir) → is_of serial dir n d ≡ false

@@ -10,3 +10,4 @@ pub mod Hosting
 pub mod Lending
 pub mod Hosts
 pub mod Polls
+pub mod Listeners
