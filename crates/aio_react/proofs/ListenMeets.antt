@@ -19,7 +19,7 @@ use Rattle.aio_react.specs.Standing.{serial_in}
 use Rattle.aio_react.proofs.ArmMeets.{Within, step_comes}
 use Rattle.aio_react.proofs.HeldSources.{Keeps, heard_again}
 use Rattle.aio_react.proofs.Later.{quiet_comes}
-use Rattle.aio_react.proofs.NewListeners.{counted, new_listener_of, with_new_listener, listen_stands, new_value, old_value}
+use Rattle.aio_react.proofs.NewListeners.{counted, new_listener_of, with_new_listener, listen_stands, pushed_length, new_value, old_value}
 use Rattle.aio_react.proofs.PollMeets.{serial_by, no_serial_by}
 use Rattle.aio_react.proofs.SourceChanges.{place_here, place_aside, stands_inside}
 
@@ -54,6 +54,9 @@ listen_misses {P = P} poller_step tells poller core key dir is = record {
       (ap (λ (n : Option ℕ). new_listener w dir n later)
       (no_serial_by core.listeners (entry_at core.sources key.0) (serial_in w.live key.0) (is_broken w) (facts_in w) is (stands.sources key.0))) stands;
 }
+
+pub next_number : (number : ℕ) (listeners after : List (Option Listener)) (l : Option Listener) → number ≡ length after → after ≡ listeners ++ l ∷ [] → number ≡ length listeners + 1
+next_number number listeners after l is pushed = is ∙ ap (λ (ls : List (Option Listener)). length ls) pushed ∙ pushed_length listeners l
 
 -- ## What sources and listeners are to one another
 

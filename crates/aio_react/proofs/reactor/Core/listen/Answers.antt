@@ -1,8 +1,8 @@
-use Rattle.std.proofs.Common.{◌≡◌, ◌∙◌, ◌+◌, length, refl, ap, arith}
+use Rattle.std.proofs.Common.{◌∙◌, refl, arith}
 use Rattle.aio_base.specs.Devices.{PollerStep}
 use Rattle.aio_react.proofs.HeldSources.{read_at, read_past, read_back, keyed_again}
-use Rattle.aio_react.proofs.ListenMeets.{listen_meets, listen_misses, listed_more, few_listeners}
-use Rattle.aio_react.proofs.NewListeners.{counted, pushed_length}
+use Rattle.aio_react.proofs.ListenMeets.{listen_meets, listen_misses, next_number, listed_more, few_listeners}
+use Rattle.aio_react.proofs.NewListeners.{counted}
 use Rattle.aio_react.proofs.reactor.Core.listen.Goals as goal
 
 pub returns-then-at-len-clause-meets : goal.returns-then-at-len-clause-meets
@@ -39,6 +39,6 @@ pub returns-clause-meets : goal.returns-clause-meets
 returns-clause-meets g c =
     let i = c.self.inside in
     let is = read_at i.sources.items c.args.key.0 c.index_mut.result.now (omega arith) c.index_mut.ensures.value ∙ c.in-Some.is in
-    let next : c.in-Ok.number ≡ length i.listeners + 1 = c.in-Ok.ensures.number ∙ ap length c.in-Ok.ensures.added ∙ pushed_length i.listeners _ in
+    let next = next_number c.in-Ok.number i.listeners c.add.new.self _ c.in-Ok.ensures.number c.in-Ok.ensures.added in
     λ ample. rw (c.in-Ok.ensures.added, ← c.self.view_is)
     (listen_meets (PollerStep g.P.Arm.arm_step g.P.EventWait.wait_step) g.P.Arm.interests i.poller _ c.args.key c.args.dir c.in-Some.entry c.in-Ok.number is next)
