@@ -1,5 +1,5 @@
 -- What an input says: its lines, the steps that they spell, and the line that is refused.
-use Rattle.std.specs.Prelude.{ℕ, ◌+◌, ◌-◌, ◌*◌, ◌^◌, ◌<◌, ◌≤◌, true, false, ◌&&◌, ◌==◌, nat_lt, if◌then◌else◌, List, [], ◌∷◌, Option, None, Some, option_and_then, codes, decimal, bytes_eq}
+use Rattle.std.specs.Prelude.{ℕ, ◌+◌, ◌-◌, ◌*◌, ◌^◌, ◌<◌, true, false, ◌&&◌, ◌==◌, nat_lt, if◌then◌else◌, List, [], ◌∷◌, Option, None, Some, option_and_then, codes, decimal, bytes_eq}
 use Rattle.std.specs.List.{slice_split}
 use Rattle.aio_base.specs.declared.names.Dir.{Dir}
 use Rattle.aio_base.specs.declared.names.Dir.TheVariants.{Read, Write}
@@ -10,6 +10,7 @@ use Rattle.aio_base.specs.declared.steps.Step.{Step}
 use Rattle.aio_base.specs.declared.steps.Step.TheVariants as step
 use Rattle.aio_base.specs.declared.steps.Reason.{Reason}
 use Rattle.aio_base.specs.declared.steps.Reason.TheVariants as reason
+pub use Rattle.aio_base.specs.Lines.{IsMoment, IsPeriod, IsInRange}
 
 infixl 10 ◌>>=◌
 abbrev pub ◌>>=◌ : {A B : Type 0} → Option A → (A → Option B) → Option B
@@ -210,14 +211,6 @@ step_of_words (command ∷ places) = step_named command places
 unfoldable pub written_step : List ℕ → Option Step
 written_step line = step_of_words (words_of line)
 
--- a moment is at most 10^18 nanoseconds
-abbrev pub IsMoment : ℕ → Type 0
-IsMoment moment = moment ≤ 10 ^ 18
-
--- a period is 1 to 10^18 nanoseconds
-abbrev pub IsPeriod : ℕ → Type 0
-IsPeriod period = (1 ≤ period) × (period ≤ 10 ^ 18)
-
 -- a limit, where there is one, is at most 10^18 nanoseconds
 abbrev pub IsLimit : Option ℕ → Type 0
 IsLimit None = Unit {0}
@@ -247,13 +240,6 @@ IsBuilt step.Wait = Unit {0}
 IsBuilt step.Handle = Unit {0}
 IsBuilt step.Finish = Unit {0}
 IsBuilt step.React = Unit {0}
-
--- a step in range: its period, if it has one, is a period, and its limit, if it has one, at most 10^18 nanoseconds
-abbrev pub IsInRange : Step → Type 0
-IsInRange (step.TimerEvery deadline period) = IsPeriod period
-IsInRange (step.SetEvery number deadline period) = IsPeriod period
-IsInRange (step.Begin limit) = IsLimit limit
-IsInRange _ = Unit {0}
 
 -- ## The steps of an input, and the line that is refused
 
