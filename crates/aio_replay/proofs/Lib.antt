@@ -1,0 +1,7 @@
+mod Leaving
+mod Asking
+mod Scripted
+mod Padding
+mod Calling
+mod Refusing
+mod Noting
