@@ -3,7 +3,7 @@ mod FirstEvent
 mod Opening
 mod Living
 mod Clearing
-mod Later
+pub mod Later
 mod WaitMeets
 mod Places
 mod Arrivals

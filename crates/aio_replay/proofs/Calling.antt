@@ -115,7 +115,7 @@ fits _ w kinds call asked = absurd call
 -- ## What the calls used up
 
 -- the world with other notes
-abbrev noting : List Event → DueFaults → World → World
+abbrev pub noting : List Event → DueFaults → World → World
 noting noted due w = record w { noted = noted; due = due }
 
 noted_either : (test : Bool) (u v w : World) → u ≡ noting u.noted u.due w → v ≡ noting v.noted v.due w
@@ -129,7 +129,7 @@ call_notes which.Arm w = refl
 call_notes which.Remove w = refl
 call_notes which.Wait w = noted_either w.due.wait _ _ w refl (noted_either w.due.interrupt _ _ w refl refl)
 
-calls_note : (kinds : List Which) (w : World) → after_calls kinds w ≡ noting (after_calls kinds w).noted (after_calls kinds w).due w
+pub calls_note : (kinds : List Which) (w : World) → after_calls kinds w ≡ noting (after_calls kinds w).noted (after_calls kinds w).due w
 calls_note [] w = refl
 calls_note (kind ∷ kinds) w =
     let after = after_calls kinds (after_call kind w) in

@@ -5,3 +5,5 @@ mod Padding
 mod Calling
 mod Refusing
 mod Noting
+pub mod Counting
+mod Starting

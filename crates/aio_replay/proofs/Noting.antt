@@ -94,11 +94,12 @@ told_stands r w script noted due stands same noted_is due_is = record {
   timers = timers_beside r.timers w w.now (w.pos + 1) noted due stands.timers;
 }
 
-pub event_noted : (r : Replayer) (event : Event) (script : Script) → script ≡ record r.core.0 { noted = r.core.0.noted ++ event ∷ [] }
+pub event_noted : (r : Replayer) (event : Event) (lent script : Script) → lent ≡ r.core.0 → script ≡ record lent { noted = lent.noted ++ event ∷ [] }
     → Replays (step.Note event) answer.Noted [] r (record r { core = (script, r.core.1) })
 unfolding script_step step_result
-event_noted r event script is w stands =
-    subst (λ (s : Script). Gives (script_step w (step.Note event)) answer.Noted [] (record r { core = (s, r.core.1) })) (sym is)
+event_noted r event lent script own is w stands =
+    subst (λ (s : Script). Gives (script_step w (step.Note event)) answer.Noted [] (record r { core = (s, r.core.1) }))
+    (sym (is ∙ ap (λ (s : Script). record s { noted = s.noted ++ event ∷ [] }) own))
     (record {
       answer_is = refl;
       wakes_are = refl;
@@ -112,11 +113,12 @@ due_with which.Arm due told is = ap (with_due which.Arm) is
 due_with which.Remove due told is = ap (with_due which.Remove) is
 due_with which.Wait due told is = ap (with_due which.Wait) is
 
-pub failure_told : (r : Replayer) (kind : Which) (script : Script) → script ≡ record r.core.0 { due = with_failure kind r.core.0.due }
+pub failure_told : (r : Replayer) (kind : Which) (lent script : Script) → lent ≡ r.core.0 → script ≡ record lent { due = with_failure kind lent.due }
     → Replays (step.Fault kind) answer.Noted [] r (record r { core = (script, r.core.1) })
 unfolding script_step step_result
-failure_told r kind script is w stands =
-    subst (λ (s : Script). Gives (script_step w (step.Fault kind)) answer.Noted [] (record r { core = (s, r.core.1) })) (sym is)
+failure_told r kind lent script own is w stands =
+    subst (λ (s : Script). Gives (script_step w (step.Fault kind)) answer.Noted [] (record r { core = (s, r.core.1) }))
+    (sym (is ∙ ap (λ (s : Script). record s { due = with_failure kind s.due }) own))
     (record {
       answer_is = refl;
       wakes_are = refl;
@@ -124,11 +126,12 @@ failure_told r kind script is w stands =
           stands.poller.noted_is (due_with kind r.core.0.due w.due stands.poller.due_is);
     })
 
-pub interrupt_told : (r : Replayer) (script : Script) → script ≡ record r.core.0 { due = record r.core.0.due { interrupt = true } }
+pub interrupt_told : (r : Replayer) (lent script : Script) → lent ≡ r.core.0 → script ≡ record lent { due = record lent.due { interrupt = true } }
     → Replays step.Interrupt answer.Noted [] r (record r { core = (script, r.core.1) })
 unfolding script_step step_result
-interrupt_told r script is w stands =
-    subst (λ (s : Script). Gives (script_step w step.Interrupt) answer.Noted [] (record r { core = (s, r.core.1) })) (sym is)
+interrupt_told r lent script own is w stands =
+    subst (λ (s : Script). Gives (script_step w step.Interrupt) answer.Noted [] (record r { core = (s, r.core.1) }))
+    (sym (is ∙ ap (λ (s : Script). record s { due = record s.due { interrupt = true } }) own))
     (record {
       answer_is = refl;
       wakes_are = refl;
