@@ -21,6 +21,14 @@ mod PollMeets
 mod HeldSources
 mod NewListeners
 mod ListenMeets
+mod PolledEntries
+mod ListenerChanges
+mod HeardAgain
+mod HeardListeners
+mod DropMeets
+mod StepEntries
+mod StepMeets
+mod StepKeeps
 mod RoundPast
 mod BookPasses
 mod BeginMeets
