@@ -33,3 +33,8 @@ mod RoundPast
 mod BookPasses
 mod BeginMeets
 mod FinishMeets
+mod TakenFacts
+mod Taking
+mod PartMeets
+mod RoundMoves
+mod HandleMeets

@@ -13,3 +13,4 @@ pub mod Sources
 pub mod Polls
 pub mod Listeners
 pub mod Sections
+pub mod Parts

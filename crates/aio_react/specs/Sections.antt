@@ -1,8 +1,11 @@
 -- The sections of a core's round: why each is refused, and what its answers are to the machine.
-use Rattle.std.specs.Prelude.{◌≡◌, ℕ, ◌-◌, ◌^◌, ◌==◌, if◌then◌else◌, List, [], Option, None, Some, Result, Ok, Err, unwrap_or}
+use Rattle.std.specs.Prelude.{◌≡◌, ℕ, ◌-◌, ◌^◌, ◌==◌, not, if◌then◌else◌, List, [], Option, None, Some, is_some, Result, Ok, Err, unwrap_or}
 use Rattle.aio_base.specs.declared.names.Waker.{Waker}
+use Rattle.aio_base.specs.declared.outcomes.ArmFault.{ArmFault}
 use Rattle.aio_base.specs.declared.steps.Answer.{Answer}
 use Rattle.aio_base.specs.declared.steps.Answer.TheVariants as answer
+use Rattle.aio_base.specs.World.{is_empty_list}
+use Rattle.aio_react.specs.declared.outcomes.Handled.{Handled}
 use Rattle.aio_react.specs.declared.refusals.CoreRefusal.{CoreRefusal}
 use Rattle.aio_react.specs.declared.refusals.CoreRefusal.TheVariants as refusal
 use Rattle.aio_react.specs.declared.round.RoundFault.{RoundFault}
@@ -41,3 +44,22 @@ finish_reply (Err refused) = None
 abbrev pub finish_wakes : Result (Option RoundFault) CoreRefusal → RoundValue → List Waker
 finish_wakes (Ok fault) ended = ended.taken
 finish_wakes (Err refused) running = []
+
+-- ## An event in hand
+
+-- why no event is handled: no round runs, or else none is in hand
+abbrev pub handle_refusal : RoundValue → Option CoreRefusal
+handle_refusal r =
+    if not r.running then Some refusal.NoRound else (if is_empty_list r.hand then Some refusal.NothingInHand else None)
+
+-- the answer of the machine, which never wants memory
+abbrev pub handle_reply : Result Handled CoreRefusal → Option Answer
+handle_reply (Ok handled) = Some (answer.Handled handled.key (is_some handled.fault))
+handle_reply (Err refusal.NoRound) = Some answer.NoRound
+handle_reply (Err refusal.NothingInHand) = Some answer.Empty
+handle_reply (Err refused) = None
+
+-- the fault of an arm that the handling of an event made
+abbrev pub handle_fault : Result Handled CoreRefusal → Option ArmFault
+handle_fault (Ok handled) = handled.fault
+handle_fault (Err refused) = None
