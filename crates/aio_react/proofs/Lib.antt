@@ -30,7 +30,7 @@ mod StepEntries
 mod StepMeets
 mod StepKeeps
 mod RoundPast
-mod BookPasses
+pub mod BookPasses
 mod BeginMeets
 mod FinishMeets
 mod TakenFacts

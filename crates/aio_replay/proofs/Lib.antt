@@ -7,3 +7,7 @@ mod Refusing
 mod Noting
 pub mod Counting
 mod Starting
+mod TimerNumbers
+mod TimerChanges
+mod TimerCalls
+mod TimerSteps
