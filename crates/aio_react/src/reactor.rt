@@ -9,6 +9,7 @@ ghost use Rattle.aio_react.specs.Replies.{empty_hand_refusal};
 ghost use Rattle.aio_react.specs.Standing.{Tells, Stands};
 
 mod polls;
+mod reacting;
 mod rounds;
 mod sources;
 
