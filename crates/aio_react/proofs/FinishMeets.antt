@@ -103,11 +103,11 @@ ended_comes bound told core w s second later stands is none runs = record {
 }
 
 -- with a running round and none in hand
-pub finish_meets : {P : Type 0} (poller_step : P → PollerMove → P → Type 0) (tells : P → Option Interests) (poller : P) (core : CoreValue) (now : ℕ)
+pub finish_meets : {P : Type 0} (poller_step : P → PollerMove → P → Type 0) (tells : P → Option Interests) (poller : P) (core : CoreValue) (limit : Option ℕ) (now : ℕ)
     → core.round.running ≡ true → core.round.hand ≡ []
-    → MeetsPart poller_step tells finish_round (Some now) (replies.End (end_word core.round.fault)) (core_ended core now (has_second_pass core.round)).round.taken None
+    → MeetsPart poller_step tells finish_round (Some now) (replies.End (end_word core.round.fault)) (core_ended core now (has_second_pass core.round)).round.taken limit
     (poller, core) (poller, core_ended core now (has_second_pass core.round))
-finish_meets {P = P} poller_step tells poller core now running none = record {
+finish_meets {P = P} poller_step tells poller core limit now running none = record {
   moves = [];
   run = refl;
   waits = tt;
@@ -122,17 +122,17 @@ finish_meets {P = P} poller_step tells poller core now running none = record {
 }
 
 -- the same, by what the call left and answered
-pub finish_done : {P : Type 0} (poller_step : P → PollerMove → P → Type 0) (tells : P → Option Interests) (poller : P) (core : CoreValue) (now : ℕ)
+pub finish_done : {P : Type 0} (poller_step : P → PollerMove → P → Type 0) (tells : P → Option Interests) (poller : P) (core : CoreValue) (limit : Option ℕ) (now : ℕ)
     (fault : Option RoundFault) (book : List Registration) (r : RoundValue) → core.round.running ≡ true → core.round.hand ≡ []
     → fault ≡ core.round.fault → book ≡ second_book core.round now core.book → r ≡ finished core.round (second_wakers core.round now core.book)
-    → MeetsPart poller_step tells finish_round (Some now) (replies.End (end_word fault)) r.taken None (poller, core) (poller, record core { book = book; round = r })
-finish_done {P = P} poller_step tells poller core now fault book r running none fault_is book_is round_is =
+    → MeetsPart poller_step tells finish_round (Some now) (replies.End (end_word fault)) r.taken limit (poller, core) (poller, record core { book = book; round = r })
+finish_done {P = P} poller_step tells poller core limit now fault book r running none fault_is book_is round_is =
     let met : Option RoundFault → List Registration → RoundValue → Type 0 = λ f b s.
-    MeetsPart poller_step tells finish_round (Some now) (replies.End (end_word f)) s.taken None (poller, core) (poller, record core { book = b; round = s }) in
+    MeetsPart poller_step tells finish_round (Some now) (replies.End (end_word f)) s.taken limit (poller, core) (poller, record core { book = b; round = s }) in
     subst (λ (s : RoundValue). met fault book s) (sym round_is)
     (subst (λ (b : List Registration). met fault b (finished core.round (second_wakers core.round now core.book))) (sym book_is)
     (subst (λ (f : Option RoundFault). met f (second_book core.round now core.book) (finished core.round (second_wakers core.round now core.book))) (sym fault_is)
-    (finish_meets poller_step tells poller core now running none)))
+    (finish_meets poller_step tells poller core limit now running none)))
 
 -- ## A refused finish
 
@@ -146,63 +146,63 @@ hand_is_left w s hand later some is =
     ap (λ (given : List Event). if is_empty_list given then ended w s (makes_second_pass s.last_wait s.limit) later else quiet (replies.Events (length given)) w later) is
     ∙ ap (λ (b : Bool). if b then ended w s (makes_second_pass s.last_wait s.limit) later else quiet (replies.Events (length hand)) w later) some
 
-idle_meets : {P : Type 0} (poller_step : P → PollerMove → P → Type 0) (tells : P → Option Interests) (poller : P) (core : CoreValue) (now : Option ℕ)
-    → core.round.running ≡ false → MeetsPart poller_step tells finish_round now replies.NoRound [] None (poller, core) (poller, core)
-idle_meets {P = P} poller_step tells poller core now idle =
-    quiet_part poller_step tells finish_round now replies.NoRound None poller core (λ bound w later stands. finish_of_none w core.round later stands.round idle)
+idle_meets : {P : Type 0} (poller_step : P → PollerMove → P → Type 0) (tells : P → Option Interests) (poller : P) (core : CoreValue) (limit : Option ℕ) (now : Option ℕ)
+    → core.round.running ≡ false → MeetsPart poller_step tells finish_round now replies.NoRound [] limit (poller, core) (poller, core)
+idle_meets {P = P} poller_step tells poller core limit now idle =
+    quiet_part poller_step tells finish_round now replies.NoRound limit poller core (λ bound w later stands. finish_of_none w core.round later stands.round idle)
 
-left_meets : {P : Type 0} (poller_step : P → PollerMove → P → Type 0) (tells : P → Option Interests) (poller : P) (core : CoreValue) (now : Option ℕ)
+left_meets : {P : Type 0} (poller_step : P → PollerMove → P → Type 0) (tells : P → Option Interests) (poller : P) (core : CoreValue) (limit : Option ℕ) (now : Option ℕ)
     → core.round.running ≡ true → is_empty_list core.round.hand ≡ false
-    → MeetsPart poller_step tells finish_round now (replies.Events (length core.round.hand)) [] None (poller, core) (poller, core)
-left_meets {P = P} poller_step tells poller core now running some =
-    quiet_part poller_step tells finish_round now (replies.Events (length core.round.hand)) None poller core
+    → MeetsPart poller_step tells finish_round now (replies.Events (length core.round.hand)) [] limit (poller, core) (poller, core)
+left_meets {P = P} poller_step tells poller core limit now running some =
+    quiet_part poller_step tells finish_round now (replies.Events (length core.round.hand)) limit poller core
     (λ bound w later stands.
     let one = one_runs core.round w.round stands.round running in
     ap (λ (round : Option RoundState). finish_in w round later) one.1 ∙ hand_is_left w one.0 core.round.hand later some one.2.hand_is)
 
-abbrev Answered : {P : Type 0} → (P → PollerMove → P → Type 0) → (P → Option Interests) → P → CoreValue → Option ℕ → CoreRefusal → Type 0
-Answered poller_step tells poller core now refused = IfSome (finish_reply (Err refused))
-    (λ reply. MeetsPart poller_step tells finish_round now reply [] None (poller, core) (poller, core))
+abbrev Answered : {P : Type 0} → (P → PollerMove → P → Type 0) → (P → Option Interests) → P → CoreValue → Option ℕ → Option ℕ → CoreRefusal → Type 0
+Answered poller_step tells poller core limit now refused = IfSome (finish_reply (Err refused))
+    (λ reply. MeetsPart poller_step tells finish_round now reply [] limit (poller, core) (poller, core))
 
-refused_by : {P : Type 0} (poller_step : P → PollerMove → P → Type 0) (tells : P → Option Interests) (poller : P) (core : CoreValue) (now : Option ℕ) (refused : CoreRefusal)
+refused_by : {P : Type 0} (poller_step : P → PollerMove → P → Type 0) (tells : P → Option Interests) (poller : P) (core : CoreValue) (limit : Option ℕ) (now : Option ℕ) (refused : CoreRefusal)
     (running empty : Bool) → core.round.running ≡ running → is_empty_list core.round.hand ≡ empty
     → Some refused ≡ (if not running then Some refusal.NoRound else (if empty then None else Some (refusal.EventsLeft (length core.round.hand))))
-    → Answered poller_step tells poller core now refused
-refused_by {P = P} poller_step tells poller core now refused false empty idle some is =
+    → Answered poller_step tells poller core limit now refused
+refused_by {P = P} poller_step tells poller core limit now refused false empty idle some is =
     let same : refused ≡ refusal.NoRound = cc in
-    subst (λ (r : CoreRefusal). Answered poller_step tells poller core now r) (sym same) (idle_meets poller_step tells poller core now idle)
-refused_by {P = P} poller_step tells poller core now refused true true running some is = absurd (cc)
-refused_by {P = P} poller_step tells poller core now refused true false running some is =
+    subst (λ (r : CoreRefusal). Answered poller_step tells poller core limit now r) (sym same) (idle_meets poller_step tells poller core limit now idle)
+refused_by {P = P} poller_step tells poller core limit now refused true true running some is = absurd (cc)
+refused_by {P = P} poller_step tells poller core limit now refused true false running some is =
     let same : refused ≡ refusal.EventsLeft (length core.round.hand) = cc in
-    subst (λ (r : CoreRefusal). Answered poller_step tells poller core now r) (sym same) (left_meets poller_step tells poller core now running some)
+    subst (λ (r : CoreRefusal). Answered poller_step tells poller core limit now r) (sym same) (left_meets poller_step tells poller core limit now running some)
 
 -- by the phase of the round
-pub finish_refused : {P : Type 0} (poller_step : P → PollerMove → P → Type 0) (tells : P → Option Interests) (poller : P) (core : CoreValue) (now : Option ℕ) (refused : CoreRefusal)
+pub finish_refused : {P : Type 0} (poller_step : P → PollerMove → P → Type 0) (tells : P → Option Interests) (poller : P) (core : CoreValue) (limit : Option ℕ) (now : Option ℕ) (refused : CoreRefusal)
     → Some refused ≡ empty_hand_refusal core.round
-    → IfSome (finish_reply (Err refused)) (λ reply. MeetsPart poller_step tells finish_round now reply [] None (poller, core) (poller, core))
-finish_refused {P = P} poller_step tells poller core now refused is =
-    refused_by poller_step tells poller core now refused core.round.running (is_empty_list core.round.hand) refl refl is
+    → IfSome (finish_reply (Err refused)) (λ reply. MeetsPart poller_step tells finish_round now reply [] limit (poller, core) (poller, core))
+finish_refused {P = P} poller_step tells poller core limit now refused is =
+    refused_by poller_step tells poller core limit now refused core.round.running (is_empty_list core.round.hand) refl refl is
 
 -- ## What it answered
 
-abbrev Replied : {P : Type 0} → (P → PollerMove → P → Type 0) → (P → Option Interests) → P → CoreValue → ℕ → List Registration → RoundValue
+abbrev Replied : {P : Type 0} → (P → PollerMove → P → Type 0) → (P → Option Interests) → P → CoreValue → Option ℕ → ℕ → List Registration → RoundValue
     → Result (Option RoundFault) CoreRefusal → Type 0
-Replied poller_step tells poller core now book r reply = IfSome (finish_reply reply)
-    (λ answer. MeetsPart poller_step tells finish_round (Some now) answer (finish_wakes reply r) None (poller, core) (poller, record core { book = book; round = r }))
+Replied poller_step tells poller core limit now book r reply = IfSome (finish_reply reply)
+    (λ answer. MeetsPart poller_step tells finish_round (Some now) answer (finish_wakes reply r) limit (poller, core) (poller, record core { book = book; round = r }))
 
 -- a round that ended
-pub finish_answered : {P : Type 0} (poller_step : P → PollerMove → P → Type 0) (tells : P → Option Interests) (poller : P) (core : CoreValue) (now : ℕ)
+pub finish_answered : {P : Type 0} (poller_step : P → PollerMove → P → Type 0) (tells : P → Option Interests) (poller : P) (core : CoreValue) (limit : Option ℕ) (now : ℕ)
     (fault : Option RoundFault) (book : List Registration) (r : RoundValue) (reply : Result (Option RoundFault) CoreRefusal) → reply ≡ Ok fault
     → core.round.running ≡ true → core.round.hand ≡ [] → fault ≡ core.round.fault → book ≡ second_book core.round now core.book
     → r ≡ finished core.round (second_wakers core.round now core.book)
-    → IfSome (finish_reply reply) (λ answer. MeetsPart poller_step tells finish_round (Some now) answer (finish_wakes reply r) None (poller, core) (poller, record core { book = book; round = r }))
-finish_answered {P = P} poller_step tells poller core now fault book r reply is running none fault_is book_is round_is =
-    subst (λ (said : Result (Option RoundFault) CoreRefusal). Replied poller_step tells poller core now book r said) (sym is)
-    (finish_done poller_step tells poller core now fault book r running none fault_is book_is round_is)
+    → IfSome (finish_reply reply) (λ answer. MeetsPart poller_step tells finish_round (Some now) answer (finish_wakes reply r) limit (poller, core) (poller, record core { book = book; round = r }))
+finish_answered {P = P} poller_step tells poller core limit now fault book r reply is running none fault_is book_is round_is =
+    subst (λ (said : Result (Option RoundFault) CoreRefusal). Replied poller_step tells poller core limit now book r said) (sym is)
+    (finish_done poller_step tells poller core limit now fault book r running none fault_is book_is round_is)
 
 -- one for which there was no memory
-pub finish_unanswered : {P : Type 0} (poller_step : P → PollerMove → P → Type 0) (tells : P → Option Interests) (poller : P) (core : CoreValue) (now : ℕ)
+pub finish_unanswered : {P : Type 0} (poller_step : P → PollerMove → P → Type 0) (tells : P → Option Interests) (poller : P) (core : CoreValue) (limit : Option ℕ) (now : ℕ)
     (book : List Registration) (r : RoundValue) (reply : Result (Option RoundFault) CoreRefusal) → reply ≡ Err refusal.OutOfMemory
-    → IfSome (finish_reply reply) (λ answer. MeetsPart poller_step tells finish_round (Some now) answer (finish_wakes reply r) None (poller, core) (poller, record core { book = book; round = r }))
-finish_unanswered {P = P} poller_step tells poller core now book r reply is =
-    subst (λ (said : Result (Option RoundFault) CoreRefusal). Replied poller_step tells poller core now book r said) (sym is) tt
+    → IfSome (finish_reply reply) (λ answer. MeetsPart poller_step tells finish_round (Some now) answer (finish_wakes reply r) limit (poller, core) (poller, record core { book = book; round = r }))
+finish_unanswered {P = P} poller_step tells poller core limit now book r reply is =
+    subst (λ (said : Result (Option RoundFault) CoreRefusal). Replied poller_step tells poller core limit now book r said) (sym is) tt

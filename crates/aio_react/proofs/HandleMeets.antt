@@ -48,17 +48,17 @@ use Rattle.aio_react.proofs.WaitMeets.{none_runs, one_runs, with_round, or_none}
 -- ## The phase
 
 -- with no round
-pub handle_idle : {P : Type 0} (poller_step : P → PollerMove → P → Type 0) (tells : P → Option Interests) (poller : P) (core : CoreValue) → core.round.running ≡ false
-    → MeetsPart poller_step tells handle_round None replies.NoRound [] None (poller, core) (poller, core)
-handle_idle {P = P} poller_step tells poller core idle =
-    quiet_part poller_step tells handle_round None replies.NoRound None poller core
+pub handle_idle : {P : Type 0} (poller_step : P → PollerMove → P → Type 0) (tells : P → Option Interests) (poller : P) (core : CoreValue) (limit : Option ℕ) → core.round.running ≡ false
+    → MeetsPart poller_step tells handle_round None replies.NoRound [] limit (poller, core) (poller, core)
+handle_idle {P = P} poller_step tells poller core limit idle =
+    quiet_part poller_step tells handle_round None replies.NoRound limit poller core
     (λ bound w later stands. ap (λ (round : Option RoundState). handle_in w round later) (none_runs core.round w.round stands.round idle))
 
 -- with none in hand
-pub handle_empty : {P : Type 0} (poller_step : P → PollerMove → P → Type 0) (tells : P → Option Interests) (poller : P) (core : CoreValue) → core.round.running ≡ true
-    → core.round.hand ≡ [] → MeetsPart poller_step tells handle_round None replies.Empty [] None (poller, core) (poller, core)
-handle_empty {P = P} poller_step tells poller core running none =
-    quiet_part poller_step tells handle_round None replies.Empty None poller core
+pub handle_empty : {P : Type 0} (poller_step : P → PollerMove → P → Type 0) (tells : P → Option Interests) (poller : P) (core : CoreValue) (limit : Option ℕ) → core.round.running ≡ true
+    → core.round.hand ≡ [] → MeetsPart poller_step tells handle_round None replies.Empty [] limit (poller, core) (poller, core)
+handle_empty {P = P} poller_step tells poller core limit running none =
+    quiet_part poller_step tells handle_round None replies.Empty limit poller core
     (λ bound w later stands.
     let one = one_runs core.round w.round stands.round running in
     ap (λ (round : Option RoundState). handle_in w round later) one.1 ∙ ap (λ (hand : List Event). handle_first w one.0 hand later) (one.2.hand_is ∙ none))
@@ -74,10 +74,10 @@ first_made w s event events on serial answers is hand on_is found =
 
 -- ## An event of no source
 
-pub handle_dropped : {P : Type 0} (poller_step : P → PollerMove → P → Type 0) (tells : P → Option Interests) (poller : P) (core : CoreValue) (event : Event) → core.round.running ≡ true
+pub handle_dropped : {P : Type 0} (poller_step : P → PollerMove → P → Type 0) (tells : P → Option Interests) (poller : P) (core : CoreValue) (event : Event) (limit : Option ℕ) → core.round.running ≡ true
     → core.round.hand ≡ event ∷ drop 1 core.round.hand → entry_at core.sources event.key.0 ≡ None
-    → MeetsPart poller_step tells handle_round None (replies.Handled event.key false) [] None (poller, core) (poller, with_round core (skipped core.round))
-handle_dropped {P = P} poller_step tells poller core event running hand none = record {
+    → MeetsPart poller_step tells handle_round None (replies.Handled event.key false) [] limit (poller, core) (poller, with_round core (skipped core.round))
+handle_dropped {P = P} poller_step tells poller core event limit running hand none = record {
   moves = [];
   run = refl;
   waits = tt;
@@ -328,45 +328,45 @@ handle_found bound old new core w e on fault later stands running hand is none t
 -- ## The call
 
 handle_meets : {P : Type 0} (arm_step : P → ArmCall → Result (Unit {0}) Failed → P → Type 0) (wait_step : P → WaitCall → Result Waited Failed → List Event → P → Type 0)
-    (tells : P → Option Interests) (old new : P) (core : CoreValue) (e : SourceEntry) (on : Interest) (fault : Option ArmFault)
+    (tells : P → Option Interests) (old new : P) (core : CoreValue) (e : SourceEntry) (on : Interest) (fault : Option ArmFault) (limit : Option ℕ)
     → (let p = handling_first core.round e.source in let answer = told (arm_told fault) in let first : Event = record { key = e.source.key; on = on } in
     core.round.running ≡ true → core.round.hand ≡ first ∷ drop 1 core.round.hand → entry_at core.sources e.source.key.0 ≡ Some e
     → ArmsOnce arm_step p.arms (arm_of p.source) old answer new → TellsArmed p.arms (arm_of p.source) (tells old) answer (tells new)
-    → MeetsPart (PollerStep arm_step wait_step) tells handle_round None (replies.Handled e.source.key (is_some fault)) [] None (old, core) (new, core_handled core e fault))
-handle_meets {P = P} arm_step wait_step tells old new core e on fault running hand is did arms =
+    → MeetsPart (PollerStep arm_step wait_step) tells handle_round None (replies.Handled e.source.key (is_some fault)) [] limit (old, core) (new, core_handled core e fault))
+handle_meets {P = P} arm_step wait_step tells old new core e on fault limit running hand is did arms =
     let p : Prepared = handling_first core.round e.source in
     let answer = told (arm_told fault) in
     record {
       moves = arm_moves p.arms (arm_of p.source) answer;
       run = arm_runs arm_step wait_step p.arms (arm_of p.source) old new answer did;
-      waits = arm_waits p.arms (arm_of p.source) answer None;
+      waits = arm_waits p.arms (arm_of p.source) answer limit;
       comes = λ bound w later stands now.
           handle_found bound (tells old) (tells new) core w e on fault later stands running hand is (unasked arm_step p.arms (arm_of p.source) old new answer did) arms;
     }
 
 -- by what the call left and answered
 pub handle_answered : {P : Type 0} (arm_step : P → ArmCall → Result (Unit {0}) Failed → P → Type 0) (wait_step : P → WaitCall → Result Waited Failed → List Event → P → Type 0)
-    (tells : P → Option Interests) (old new : P) (core : CoreValue) (event : Event) (e : SourceEntry) (s : SourceValue) (r : RoundValue) (fault : Option ArmFault) (result : Result Handled CoreRefusal)
+    (tells : P → Option Interests) (old new : P) (core : CoreValue) (event : Event) (e : SourceEntry) (s : SourceValue) (r : RoundValue) (fault : Option ArmFault) (limit : Option ℕ) (result : Result Handled CoreRefusal)
     → (let p = handling_first core.round e.source in let answer = told (arm_told fault) in
     core.round.running ≡ true → core.round.hand ≡ event ∷ drop 1 core.round.hand → event.key ≡ e.source.key → entry_at core.sources event.key.0 ≡ Some e
     → result ≡ Ok (record { key = event.key; fault = fault })
     → s ≡ settled p.arms answer p.source → r ≡ handled core.round (taken_first core.round e.source) fault
     → ArmsOnce arm_step p.arms (arm_of p.source) old answer new → TellsArmed p.arms (arm_of p.source) (tells old) answer (tells new)
-    → IfSome (handle_reply result) (λ reply. MeetsPart (PollerStep arm_step wait_step) tells handle_round None reply [] None (old, core)
+    → IfSome (handle_reply result) (λ reply. MeetsPart (PollerStep arm_step wait_step) tells handle_round None reply [] limit (old, core)
     (new, record core { sources = slice_set core.sources event.key.0 (Some (with_state e s)); round = r })))
-handle_answered {P = P} arm_step wait_step tells old new core event e s r fault result running hand own is said left rounds did arms =
+handle_answered {P = P} arm_step wait_step tells old new core event e s r fault limit result running hand own is said left rounds did arms =
     let met : Key → SourceValue → RoundValue → Type 0 = λ k s r.
-    MeetsPart (PollerStep arm_step wait_step) tells handle_round None (replies.Handled k (is_some fault)) [] None (old, core)
+    MeetsPart (PollerStep arm_step wait_step) tells handle_round None (replies.Handled k (is_some fault)) [] limit (old, core)
     (new, record core { sources = slice_set core.sources k.0 (Some (with_state e s)); round = r }) in
     let p : Prepared = handling_first core.round e.source in
     rw said
     (subst (λ (k : Key). met k s r) (sym own)
     (subst (λ (s : SourceValue). met e.source.key s r) (sym left)
     (subst (λ (r : RoundValue). met e.source.key (settled p.arms (told (arm_told fault)) p.source) r) (sym rounds)
-    (handle_meets arm_step wait_step tells old new core e event.on fault running
+    (handle_meets arm_step wait_step tells old new core e event.on fault limit running
     (hand ∙ ap (λ (k : Key). record { key = k; on = event.on } ∷ drop 1 core.round.hand) own) (ap (λ (k : Key). entry_at core.sources k.0) (sym own) ∙ is) did arms))))
 
 -- where memory ran out there is no reply
-pub handle_unanswered : {P : Type 0} (poller_step : P → PollerMove → P → Type 0) (tells : P → Option Interests) (old new : P × CoreValue) (result : Result Handled CoreRefusal)
-    → result ≡ Err refusal.OutOfMemory → IfSome (handle_reply result) (λ reply. MeetsPart poller_step tells handle_round None reply [] None old new)
-handle_unanswered {P = P} poller_step tells old new result said = rw said tt
+pub handle_unanswered : {P : Type 0} (poller_step : P → PollerMove → P → Type 0) (tells : P → Option Interests) (old new : P × CoreValue) (limit : Option ℕ) (result : Result Handled CoreRefusal)
+    → result ≡ Err refusal.OutOfMemory → IfSome (handle_reply result) (λ reply. MeetsPart poller_step tells handle_round None reply [] limit old new)
+handle_unanswered {P = P} poller_step tells old new limit result said = rw said tt

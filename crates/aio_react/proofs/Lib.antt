@@ -38,3 +38,7 @@ mod Taking
 mod PartMeets
 mod RoundMoves
 mod HandleMeets
+mod PartRows
+mod HandleRows
+mod RoundFaults
+mod ReactMeets

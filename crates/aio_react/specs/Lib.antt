@@ -14,3 +14,4 @@ pub mod Polls
 pub mod Listeners
 pub mod Sections
 pub mod Parts
+pub mod Reacting

@@ -25,7 +25,7 @@ mod tests;
 
 pub use hosts::{Host, InsertRefusal, TimerHost};
 pub use numbered::Numbered;
-pub use outcomes::Handled;
+pub use outcomes::{Handled, Reacted};
 pub use reactor::Core;
 pub use refusals::CoreRefusal;
 pub use round::{Round, RoundFault};

@@ -10,6 +10,7 @@ ghost use Rattle.aio_react.specs.Standing.{Tells, Stands};
 
 mod listeners;
 mod polls;
+mod reacting;
 mod rounds;
 mod sources;
 

@@ -1,18 +1,17 @@
 //! The sections of a core's round (`async-io` 2, `reactor.rs`, `ReactorLock::react`).
 
-ghost use Rattle.std.specs.Prelude.{◌≡◌, [], false, drop, None, Some, option_map, slice_get, IsSome, IfSome, IfOk, OnOk, OnErr};
+ghost use Rattle.std.specs.Prelude.{◌≡◌, ℕ, ◌+◌, [], false, drop, Option, None, Some, option_map, slice_get, IsSome, IfSome, IfOk, OnOk, OnErr};
 ghost use Rattle.std.specs.Option.{option_or};
 ghost use Rattle.aio_base.specs.declared.names.Event.{Event};
 ghost use Rattle.aio_base.specs.declared.steps.Step.TheVariants as step;
 ghost use Rattle.aio_base.specs.Devices.{PollerStep, TellsFaults};
 ghost use Rattle.aio_base.specs.Machine.{handle_round, finish_round};
-ghost use Rattle.aio_base.specs.Timers.{limit_of, due_wakers};
 ghost use Rattle.aio_react.specs.declared.round.RoundFault.TheVariants.{Arm};
 ghost use Rattle.aio_react.specs.Meeting.{Meets};
 ghost use Rattle.aio_react.specs.Parts.{MeetsPart};
 ghost use Rattle.aio_react.specs.Replies.{empty_hand_refusal};
-ghost use Rattle.aio_react.specs.Rounds.{HasRisen, begun};
-ghost use Rattle.aio_react.specs.Sections.{IsRefusedBy, begin_refusal, begin_reply, handle_refusal, handle_reply, handle_fault, finish_reply, finish_wakes};
+ghost use Rattle.aio_react.specs.Rounds.{HasRisen};
+ghost use Rattle.aio_react.specs.Sections.{IsRefusedBy, begin_refusal, core_begun, begin_reply, handle_refusal, handle_reply, handle_fault, finish_reply, finish_wakes};
 
 #[cfg(test)]
 mod tests;
@@ -41,9 +40,8 @@ impl<P: Poller> Core<P> {
         ensures cause { IsRefusedBy (begin_refusal self.old.1) result }
         ensures refused { OnErr result (self.new ≡ self.old) }
         ensures poller { self.new.0 ≡ self.old.0 }
-        ensures round { let book = self.old.1.book in
-            IfOk result (λ answer. self.new.1.round
-            ≡ begun answer.0 (limit_of now book given) (due_wakers now book)) }
+        ensures begun { OnOk result (self.new.1 ≡ core_begun self.old.1 now given) }
+        ensures number { IfOk result (λ answer. answer.0 ≡ self.old.1.ticker + 1) }
     {
         if !self.round.is_idle() {
             return Err(CoreRefusal::Locked);
@@ -71,9 +69,9 @@ impl<P: Poller> Core<P> {
         ensures meets { IfSome (handle_reply result) (λ reply. Meets
             (PollerStep P.arm_step P.wait_step) P.interests step.Handle None
             reply [] None self.old self.new) }
-        ensures part { IfSome (handle_reply result) (λ reply. MeetsPart
+        ensures part { (limit : Option ℕ) → IfSome (handle_reply result) (λ reply. MeetsPart
             (PollerStep P.arm_step P.wait_step) P.interests handle_round None
-            reply [] None self.old self.new) }
+            reply [] limit self.old self.new) }
         ensures cause { IsRefusedBy (handle_refusal self.old.1.round) result }
         ensures refused { OnErr result (self.new ≡ self.old) }
         ensures first { IfOk result (λ handled. option_map (λ (event : Event). event.key)
@@ -123,9 +121,9 @@ impl<P: Poller> Core<P> {
         ensures meets { IfSome (finish_reply result) (λ reply. Meets
             (PollerStep P.arm_step P.wait_step) P.interests step.Finish (Some now)
             reply (finish_wakes result self.new.1.round) None self.old self.new) }
-        ensures part { IfSome (finish_reply result) (λ reply. MeetsPart
+        ensures part { (limit : Option ℕ) → IfSome (finish_reply result) (λ reply. MeetsPart
             (PollerStep P.arm_step P.wait_step) P.interests finish_round (Some now)
-            reply (finish_wakes result self.new.1.round) None self.old self.new) }
+            reply (finish_wakes result self.new.1.round) limit self.old self.new) }
         ensures cause { IsRefusedBy (empty_hand_refusal self.old.1.round) result }
         ensures refused { OnErr result (self.new ≡ self.old) }
         ensures poller { self.new.0 ≡ self.old.0 }
