@@ -1,6 +1,6 @@
 //! The steps on rounds.
 
-ghost use Rattle.std.specs.Prelude.{◌≡◌, [], IfOk};
+ghost use Rattle.std.specs.Prelude.{◌≡◌, [], if◌then◌else◌, IfOk, OnOk};
 ghost use Rattle.aio_base.specs.declared.steps.Step.TheVariants as step;
 ghost use Rattle.aio_replay.specs.Replaying.{Replays, IsWithin};
 
@@ -35,9 +35,20 @@ impl Replayer {
             Replays step.Finish answer wakes.new.items self.old self.new) }
     {
         let finished = self.core.finish(self.clock.now());
-        if finished.is_ok() {
+        self.take_woken(finished.is_ok(), wakes)?;
+        told_finish(finished)
+    }
+
+    /// Where a round has ended, its wakers go into `wakes`, which is empty. `AllocError` where memory
+    /// ran out.
+    fn take_woken(&self, ended: bool, wakes: &mut Vec<Waker>) -> Result<(), AllocError>
+        requires { wakes.old.items ≡ [] }
+        ensures { OnOk result
+            (wakes.new.items ≡ (if ended then self.now.core.1.round.taken else [])) }
+    {
+        if ended {
             wakes.extend_from_slice(self.core.woken())?;
         }
-        told_finish(finished)
+        Ok(())
     }
 }
