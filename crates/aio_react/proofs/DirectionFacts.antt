@@ -24,7 +24,7 @@ use Rattle.aio_react.specs.Standing.{Remembers, DirectionStands, SourceStands, p
 
 -- ## Freshness
 
-remembered_fresh : (begun : List ℕ) (handled : List HandledDirection) (serial : ℕ) (dir : Dir) (tick : ℕ) (ticks : Option (ℕ × ℕ)) (position : Option ℕ) → AllBegun handled begun
+pub remembered_fresh : (begun : List ℕ) (handled : List HandledDirection) (serial : ℕ) (dir : Dir) (tick : ℕ) (ticks : Option (ℕ × ℕ)) (position : Option ℕ) → AllBegun handled begun
     → last_tick begun handled serial dir ≡ tick → Remembers ticks (option_map (rounds_at begun) position)
     → option_map_or (λ p. is_fresh handled serial dir p) position false ≡ is_above_both ticks tick
 remembered_fresh begun handled serial dir tick None None all is r = refl

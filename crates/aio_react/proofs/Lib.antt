@@ -3,7 +3,7 @@ mod FirstEvent
 mod Opening
 mod Living
 mod Clearing
-mod Later
+pub mod Later
 mod WaitMeets
 mod Places
 mod Arrivals
@@ -21,7 +21,24 @@ mod PollMeets
 mod HeldSources
 mod NewListeners
 mod ListenMeets
+mod PolledEntries
+mod ListenerChanges
+mod HeardAgain
+mod HeardListeners
+mod DropMeets
+mod StepEntries
+mod StepMeets
+mod StepKeeps
 mod RoundPast
-mod BookPasses
+pub mod BookPasses
 mod BeginMeets
 mod FinishMeets
+mod TakenFacts
+mod Taking
+mod PartMeets
+mod RoundMoves
+mod HandleMeets
+mod PartRows
+mod HandleRows
+mod RoundFaults
+mod ReactMeets

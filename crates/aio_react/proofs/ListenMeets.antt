@@ -74,7 +74,7 @@ count_pushed key [] l = omega arith
 count_pushed key (None ∷ listeners) l = count_pushed key listeners l
 count_pushed key (Some m ∷ listeners) l = omega (arith, count_pushed key listeners l)
 
-count_at : (sources : List (Option SourceEntry)) (listeners : List (Option Listener)) (key : ℕ) (e : SourceEntry) → entry_at sources key ≡ Some e → AreListed sources listeners
+pub count_at : (sources : List (Option SourceEntry)) (listeners : List (Option Listener)) (key : ℕ) (e : SourceEntry) → entry_at sources key ≡ Some e → AreListed sources listeners
     → e.listeners ≡ count_of key listeners
 count_at sources listeners key e is listed = subst (λ (place : Option SourceEntry). IfSome place (λ (e : SourceEntry). e.listeners ≡ count_of key listeners)) is (listed.counted key)
 

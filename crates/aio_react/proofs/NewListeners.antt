@@ -55,11 +55,11 @@ old_value listeners l number apart = other_place (None ∷ listeners) (Some l) n
 
 -- ## Facts
 
-pushed_out : {X : Type 0} (p : X → Bool) (xs : List X) (x : X) → p x ≡ false → filter p (xs ++ x ∷ []) ≡ filter p xs
+pub pushed_out : {X : Type 0} (p : X → Bool) (xs : List X) (x : X) → p x ≡ false → filter p (xs ++ x ∷ []) ≡ filter p xs
 pushed_out p [] x out = ap (λ (b : Bool). cond b (x ∷ []) []) out
 pushed_out p (y ∷ xs) x out = ap (λ (rest : List _). cond (p y) (y ∷ rest) rest) (pushed_out p xs x out)
 
-mapped_same : {X Y : Type 0} (f g : X → Y) (xs : List X) → ((x : X) → Contains xs x → f x ≡ g x) → map f xs ≡ map g xs
+pub mapped_same : {X Y : Type 0} (f g : X → Y) (xs : List X) → ((x : X) → Contains xs x → f x ≡ g x) → map f xs ≡ map g xs
 mapped_same f g [] same = refl
 mapped_same f g (x ∷ xs) same = ap (λ (y : _). y ∷ map f xs) (same x (first_is_in x xs)) ∙ ap (λ (ys : List _). g x ∷ ys) (mapped_same f g xs (λ y among. same y (later_is_in x xs y among)))
 
@@ -114,7 +114,7 @@ none_twice : IsDistinct nat_eq []
 unfolding IsDistinct
 none_twice = tt
 
-numbers_differ : (ls : List ListenerEntry) (x : ListenerEntry) → ((l : ListenerEntry) → Contains ls l → l.number ≢ x.number) → IsDistinct nat_eq (map (λ (l : ListenerEntry). l.number) ls)
+pub numbers_differ : (ls : List ListenerEntry) (x : ListenerEntry) → ((l : ListenerEntry) → Contains ls l → l.number ≢ x.number) → IsDistinct nat_eq (map (λ (l : ListenerEntry). l.number) ls)
     → IsDistinct nat_eq (map (λ (l : ListenerEntry). l.number) (ls ++ x ∷ []))
 numbers_differ [] x apart distinct = IsDistinct-cons nat_eq x.number [] tt none_twice
 numbers_differ (l ∷ ls) x apart distinct =
@@ -122,10 +122,10 @@ numbers_differ (l ∷ ls) x apart distinct =
     (number_apart l.number ls x (apart l (first_is_in l ls)) (IsDistinct-head nat_eq l.number (map (λ (l : ListenerEntry). l.number) ls) distinct))
     (numbers_differ ls x (λ k among. apart k (later_is_in l ls k among)) (IsDistinct-tail nat_eq l.number (map (λ (l : ListenerEntry). l.number) ls) distinct))
 
-pushed_all : {X : Type 0} (P : X → Type 0) (xs : List X) (x : X) → All P xs → P x → All P (xs ++ x ∷ [])
+pub pushed_all : {X : Type 0} (P : X → Type 0) (xs : List X) (x : X) → All P xs → P x → All P (xs ++ x ∷ [])
 pushed_all P xs x all one = All-append P xs (x ∷ []) all (All-cons P x [] one (All-nil P))
 
-listener_same : (live : List LiveSource) (begun : List ℕ) (value value' : Option Listener) (found found' : Option ListenerEntry) → value' ≡ value → found' ≡ found
+pub listener_same : (live : List LiveSource) (begun : List ℕ) (value value' : Option Listener) (found found' : Option ListenerEntry) → value' ≡ value → found' ≡ found
     → ListenerStands live begun value found → ListenerStands live begun value' found'
 listener_same live begun value value' found found' e f stands =
     subst (λ (v : Option Listener). ListenerStands live begun v found') (sym e) (subst (λ (l : Option ListenerEntry). ListenerStands live begun value l) (sym f) stands)

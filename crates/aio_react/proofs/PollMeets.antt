@@ -36,18 +36,18 @@ use Rattle.aio_react.proofs.Later.{quiet_comes}
 use Rattle.aio_react.proofs.SourceChanges.{IsAsked, with_state, with_source, source_found, source_changes, stands_inside, direction_changes, keeps_listeners, place_here, placed_twice}
 use Rattle.aio_react.proofs.Waiting.{waiter_here, mark_gone, mark_here, serial_apart, dir_apart, seen_aside, stored_aside, all_begun}
 
-abbrev poll_told : Bool → Result (Unit {0}) Failed → Answer
+abbrev pub poll_told : Bool → Result (Unit {0}) Failed → Answer
 poll_told true answer = replies.Ready
 poll_told false answer = arm_reply answer
 
 -- a poll that found this, over a case of the machine
-abbrev Finds : Option Interests → Option Interests → CoreValue → SourceEntry → Result (Unit {0}) Failed → (List PollerAnswer → Outcome) → Polling → Type 0
+abbrev pub Finds : Option Interests → Option Interests → CoreValue → SourceEntry → Result (Unit {0}) Failed → (List PollerAnswer → Outcome) → Polling → Type 0
 Finds told told' core e answer o p =
     (later : List PollerAnswer) → (p.arms ≡ false → IsOk answer) → TellsArmed p.arms (arm_of p.source) told answer told'
     → Within (o (map answer_of (arm_moves p.arms (arm_of p.source) answer) ++ later)) (poll_told p.ready answer) (option_to_list p.replaced) (arm_moves p.arms (arm_of p.source) answer) later told'
     (with_source core e.source.key.0 (with_state e (settled p.arms answer p.source)))
 
-finds_either : (told told' : Option Interests) (core : CoreValue) (e : SourceEntry) (answer : Result (Unit {0}) Failed) (test : Bool) (x y : List PollerAnswer → Outcome) (a b : Polling)
+pub finds_either : (told told' : Option Interests) (core : CoreValue) (e : SourceEntry) (answer : Result (Unit {0}) Failed) (test : Bool) (x y : List PollerAnswer → Outcome) (a b : Polling)
     → (test ≡ true → Finds told told' core e answer x a) → (test ≡ false → Finds told told' core e answer y b)
     → Finds told told' core e answer (λ answers. if test then x answers else y answers) (if test then a else b)
 finds_either told told' core e answer true x y a b first second = first refl
@@ -175,7 +175,7 @@ poll_finds told told' core w serial e dir waker answer stands is found =
 
 -- ## The call
 
-reply_is : (ready : Bool) (key : Key) (before after : ℕ) (answer : Result (Unit {0}) Failed) → waiting_reply (poll_answer ready (fault_of key before after answer)) ≡ poll_told ready answer
+pub reply_is : (ready : Bool) (key : Key) (before after : ℕ) (answer : Result (Unit {0}) Failed) → waiting_reply (poll_answer ready (fault_of key before after answer)) ≡ poll_told ready answer
 reply_is true key before after answer = refl
 reply_is false key before after (Ok done) = refl
 reply_is false key before after (Err failed) = refl

@@ -54,10 +54,10 @@ later_apart n m [] apart among = none_is_in m among
 later_apart n m (k ∷ serials) apart among =
     ⊎_elim (λ (here : k ≡ m). subst (λ k. nat_eq n k ≡ false) here apart.0) (λ (later : Contains serials m). later_apart n m serials apart.1 later) (among_cases k serials m among)
 
-differs : (serials : List ℕ) (n m : ℕ) → IsDistinct nat_eq (n ∷ serials) → Contains serials m → n ≢ m
+pub differs : (serials : List ℕ) (n m : ℕ) → IsDistinct nat_eq (n ∷ serials) → Contains serials m → n ≢ m
 differs serials n m distinct among same = false≢true (sym (later_apart n m serials (IsDistinct-head nat_eq n serials distinct) among) ∙ eq-eqb n m same)
 
-same_source : (live : List LiveSource) (a b : LiveSource) → IsDistinct nat_eq (map (λ (s : LiveSource). s.serial) live) → Contains live a → Contains live b → a.serial ≡ b.serial → a.key ≡ b.key
+pub same_source : (live : List LiveSource) (a b : LiveSource) → IsDistinct nat_eq (map (λ (s : LiveSource). s.serial) live) → Contains live a → Contains live b → a.serial ≡ b.serial → a.key ≡ b.key
 same_source [] a b distinct first second same = none_is_in a first
 same_source (s ∷ live) a b distinct first second same =
     let serial : LiveSource → ℕ = λ (s : LiveSource). s.serial in
@@ -116,7 +116,7 @@ stands_aside listeners s broken broken' facts facts' serial aside stands = recor
   broken_is = aside.broken_is ∙ stands.broken_is;
 }
 
-place_stands_aside : (listeners : List (Option Listener)) (place : Option SourceEntry) (serial : Option ℕ) (broken broken' : ℕ → Bool) (facts facts' : ℕ → Dir → Facts)
+pub place_stands_aside : (listeners : List (Option Listener)) (place : Option SourceEntry) (serial : Option ℕ) (broken broken' : ℕ → Bool) (facts facts' : ℕ → Dir → Facts)
     → ((n : ℕ) → serial ≡ Some n → IsAside broken broken' facts facts' n) → PlaceStands listeners place serial broken facts → PlaceStands listeners place serial broken' facts'
 place_stands_aside listeners None None broken broken' facts facts' aside stands = tt
 place_stands_aside listeners None (Some serial) broken broken' facts facts' aside stands = absurd stands
@@ -161,7 +161,7 @@ pub record Changes (bound : ℕ) (told' : Option Interests) (core : CoreValue) (
   pub tells : Tells told' w'.armed
   pub asked : IsAsked new key w'
 
-few_at : (bound : ℕ) (place : Option SourceEntry) (e : SourceEntry) (dir : Dir) → place ≡ Some e
+pub few_at : (bound : ℕ) (place : Option SourceEntry) (e : SourceEntry) (dir : Dir) → place ≡ Some e
     → IfSome place (λ (e : SourceEntry). (direction_of e.source.directions dir).listeners.drawn ≤ bound) → (direction_of e.source.directions dir).listeners.drawn ≤ bound
 few_at bound place e dir is few = subst (λ (p : Option SourceEntry). IfSome p (λ (e : SourceEntry). (direction_of e.source.directions dir).listeners.drawn ≤ bound)) is few
 
@@ -280,7 +280,7 @@ stands_moved told core w stands = record {
 
 -- ## One direction
 
-one_direction : (listeners : List (Option Listener)) (facts : Dir → Facts) (ds : DirectionValues) (dir : Dir) (new : DirectionValue) → DirectionStands listeners new (facts dir)
+pub one_direction : (listeners : List (Option Listener)) (facts : Dir → Facts) (ds : DirectionValues) (dir : Dir) (new : DirectionValue) → DirectionStands listeners new (facts dir)
     → ((d : Dir) → same_dir d dir ≡ false → DirectionStands listeners (direction_of ds d) (facts d)) → (d : Dir) → DirectionStands listeners (direction_of (with_direction ds dir new) d) (facts d)
 one_direction listeners facts ds Read new here apart Read = here
 one_direction listeners facts ds Read new here apart Write = apart Write refl

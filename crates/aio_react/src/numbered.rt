@@ -64,6 +64,31 @@ impl<T> Numbered<T> {
         self.places.len() as u64
     }
 
+    /// The value under a number. `None` where the number was not given, or its value was taken out.
+    pub fn get(&self, number: u64) -> Option<T>
+    where
+        T: Copy,
+        ensures { result ≡ value_of self.now number }
+    {
+        if number == 0 || number > self.places.len() as u64 {
+            return None;
+        }
+        self.places[number as usize - 1]
+    }
+
+    /// Puts a value under a number that was given, in place of its own. Under another number nothing
+    /// is put.
+    pub fn set(&mut self, number: u64, value: T)
+    where
+        T: Drop,
+        ensures { self.new ≡ with_value self.old number (Some value) }
+    {
+        if number == 0 || number > self.places.len() as u64 {
+            return;
+        }
+        self.places[number as usize - 1] = Some(value);
+    }
+
     /// The value under a number, to be changed. `None` where the number was not given, or its value
     /// was taken out.
     pub fn get_mut(&mut self, number: u64) -> Option<&mut T>

@@ -22,7 +22,7 @@ const KEY: Key = Key(7);
 pub(crate) struct OneEvent {
     event: Option<Event>,
     interrupts: bool,
-    fails: bool,
+    pub(crate) fails: bool,
     faults: u64,
     waits: u64,
 }

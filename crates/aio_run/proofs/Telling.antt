@@ -7,8 +7,8 @@ use Rattle.aio_base.specs.declared.steps.Reason.{Reason}
 use Rattle.aio_base.specs.Text.{ended_line, reason_text}
 use Rattle.aio_bytes.specs.declared.traits.SinkRefusal.{SinkRefusal}
 use Rattle.aio_bytes.specs.Sinks.{AppendsPart, Writes}
-use Rattle.aio_run.specs.Writing.{refusal_text}
-use Rattle.aio_run.proofs.StepLemmas.{written_behind}
+use Rattle.aio_run.specs.Commands.{refusal_text}
+use Rattle.aio_replay.proofs.StepLemmas.{written_behind}
 
 parted : (a b c d e : List ℕ) → (((a ++ b) ++ c) ++ d) ++ e ≡ a ++ (b ++ ((c ++ d) ++ e))
 parted a b c d e = ap (λ t. t ++ e) (append_assoc (a ++ b) c d) ∙ append_assoc (a ++ b) (c ++ d) e ∙ append_assoc a b ((c ++ d) ++ e)

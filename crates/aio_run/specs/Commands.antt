@@ -1,20 +1,25 @@
 -- What a status says: its number, its text, and what became of input and output.
-use Rattle.std.specs.Prelude.{◌≡◌, ℕ, ◌+◌, Bool, true, false, List, [], ◌∷◌, Option, None, Some, Result, IfErr, codes}
-use Rattle.std.specs.Io.KnownBytes.{Appends}
-use Rattle.aio_base.specs.Script.{output}
-use Rattle.aio_base.specs.Text.{ended_line}
-use Rattle.aio_base.specs.Trace.{trace_of}
+use Rattle.std.specs.Prelude.{◌≡◌, ℕ, Bool, false, List, [], ◌∷◌, ◌++◌, Option, None, Some, MatchOption, Result, IfErr, codes, decimal, ⊤}
+use Rattle.std.specs.Option.{option_map_or}
+use Rattle.aio_base.specs.declared.steps.Reason.{Reason}
+use Rattle.aio_base.specs.Text.{ended_line, reason_text}
 use Rattle.aio_base.specs.Devices.{TellsFaults}
-use Rattle.aio_bytes.specs.Sinks.{AppendsPart, HasFailed, RefusedBy, Writes}
+use Rattle.aio_bytes.specs.Sinks.{HasFailed, RefusedBy, Writes}
 use Rattle.aio_bytes.specs.declared.traits.SinkRefusal.{SinkRefusal}
 use Rattle.aio_run.specs.declared.status.Why.{Why}
 use Rattle.aio_run.specs.declared.status.Why.TheVariants as why
-use Rattle.aio_run.specs.Session.{bytes_before}
-use Rattle.aio_run.specs.Writing.{refusal_text}
+use Rattle.aio_replay.specs.declared.ends.ReplayEnd.{ReplayEnd}
+use Rattle.aio_replay.specs.declared.ends.ReplayEnd.TheVariants as ends
+use Rattle.aio_replay.specs.Ends as replay_ends
+use Rattle.aio_replay.specs.Ends.{Replayed, tells_read_fault, tells_write_fault}
 
 -- the words of the command that replays a trace
 abbrev pub IsReplay : List (List ℕ) → Type 0
 IsReplay words = words ≡ codes "replay" ∷ []
+
+-- the line that tells which line of a trace is refused, and why
+abbrev pub refusal_text : ℕ → Reason → List ℕ
+refusal_text line reason = ended_line (codes "line " ++ decimal line ++ codes ": " ++ reason_text reason)
 
 -- the exit status of the program
 abbrev pub exit_of : Why → ℕ
@@ -39,38 +44,44 @@ text_of (why.WriteFault fault) = ended_line (codes "write fault")
 text_of why.OutOfMemory = ended_line (codes "out of memory")
 text_of (why.DeviceFault which fault) = ended_line (codes "device fault")
 
--- What a replay of this input has done where it ended so. The input is read to its end, or a line of it is refused, exactly as its text says,
--- and the output grew by exactly the answers and wakes of the machine run over its steps; or the output grew by a front part of these.
+-- ## A replay
+
+-- why the program ends where a replay ended so
+abbrev pub why_of : ReplayEnd → Why
+why_of ends.Done = why.Done
+why_of (ends.Refused line reason) = why.Refused line reason
+why_of (ends.ReadFault fault) = why.ReadFault fault
+why_of (ends.WriteFault fault) = why.WriteFault fault
+why_of ends.OutOfMemory = why.OutOfMemory
+
+-- the end of the replay for which the program ends so; none of another cause
+abbrev pub end_of : Why → Option ReplayEnd
+end_of why.Done = Some ends.Done
+end_of why.Usage = None
+end_of (why.Refused line reason) = Some (ends.Refused line reason)
+end_of (why.ReadFault fault) = Some (ends.ReadFault fault)
+end_of (why.WriteFault fault) = Some (ends.WriteFault fault)
+end_of why.OutOfMemory = Some ends.OutOfMemory
+end_of (why.DeviceFault which fault) = None
+
+-- What a replay of this input has done where the program ended so; no other cause comes of a replay.
 abbrev pub Replays : Why → List ℕ → Option (List ℕ) → Option (List ℕ) → Option (List ℕ) → Type 0
-Replays why.Done input left out_old out_new =
-    (left ≡ Some []) × ((trace_of input).refusal ≡ None) × Appends out_old out_new (output (trace_of input).steps)
-Replays (why.Refused line reason) input left out_old out_new =
-    ((trace_of input).refusal ≡ Some (record { line = line; reason = reason })) × Appends out_old out_new (output (trace_of input).steps)
-Replays (why.ReadFault fault) input left out_old out_new = AppendsPart out_old out_new (output (trace_of input).steps)
-Replays (why.WriteFault fault) input left out_old out_new = AppendsPart out_old out_new (output (trace_of input).steps)
-Replays why.OutOfMemory input left out_old out_new = AppendsPart out_old out_new (output (trace_of input).steps)
--- no other end comes of a replay
-Replays why.Usage input left out_old out_new = ⊥
-Replays (why.DeviceFault which fault) input left out_old out_new = ⊥
+Replays w input left out_old out_new = MatchOption (end_of w) ⊥ (λ end. Replayed end input left out_old out_new)
 
 abbrev pub is_read_fault : Why → Bool
-is_read_fault (why.ReadFault fault) = true
-is_read_fault _ = false
+is_read_fault w = option_map_or tells_read_fault (end_of w) false
 
 abbrev pub is_write_fault : Why → Bool
-is_write_fault (why.WriteFault fault) = true
-is_write_fault _ = false
+is_write_fault w = option_map_or tells_write_fault (end_of w) false
 
 -- a fault is told by the counts before and after the call of the device that failed
 abbrev pub TellsCounts : Why → ℕ → ℕ → ℕ → ℕ → Type 0
-TellsCounts (why.ReadFault fault) reads_old reads_new writes_old writes_new = (fault.before ≡ reads_old) × (fault.after ≡ reads_new)
-TellsCounts (why.WriteFault fault) reads_old reads_new writes_old writes_new = (fault.before ≡ writes_old) × (fault.after ≡ writes_new)
-TellsCounts _ reads_old reads_new writes_old writes_new = Unit {0}
+TellsCounts w reads_old reads_new writes_old writes_new =
+    MatchOption (end_of w) ⊤ (λ end. replay_ends.TellsCounts end reads_old reads_new writes_old writes_new)
 
--- the bytes that a replay of this input takes of its source at most: of a refused line at most 257, behind the lines before it
+-- the bytes that are taken of a source at most
 abbrev pub bytes_taken : Why → List ℕ → ℕ
-bytes_taken (why.Refused line reason) input = bytes_before line input + 257
-bytes_taken _ input = 257000257
+bytes_taken w input = option_map_or (λ end. replay_ends.bytes_taken end input) (end_of w) 0
 
 -- The text for the user was written to a sink: whole, or a front part of it where a call of the sink was answered by a refusal; being sure stays.
 pub record IsTold {S : Type 0} (contents : S → Option (List ℕ)) (write_step : S → List ℕ → Result ℕ SinkRefusal → S → Type 0)

@@ -1,15 +1,1 @@
 pub mod Commands
-pub mod Hosting
-pub mod BookRules
-pub mod Kept
-pub mod Places
-pub mod Reactors
-pub mod Reading
-pub mod Session
-pub mod Steps
-pub mod Ties
-pub mod Times
-pub mod Timing
-pub mod Timings
-pub mod Within
-pub mod Writing

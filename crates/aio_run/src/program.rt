@@ -1,20 +1,20 @@
 //! The top call of the program.
 
-ghost use Rattle.std.specs.Prelude.{◌≡◌, ◌≢◌, ℕ, ◌<◌, ◌↔◌, List, Some, IfErr, true, false, string_bytes, map, take};
+ghost use Rattle.std.specs.Prelude.{◌≡◌, ◌≢◌, ℕ, ◌<◌, ◌↔◌, ◌++◌, List, Some, IfErr, true, false, codes, string_bytes, map, take};
 ghost use Rattle.aio_base.specs.Between.{StandsAfter};
 ghost use Rattle.aio_base.specs.Trace.{trace_of};
 ghost use Rattle.aio_base.specs.Devices.{TellsFaults};
 ghost use Rattle.aio_bytes.specs.Sinks.{HasFailed, RefusedBy, Writes};
-ghost use Rattle.aio_run.specs.Session.{Causes, LeavesAllBut};
-ghost use Rattle.aio_run.specs.Commands.{IsReplay, IsTold, exit_of, text_of, Replays, TellsCounts, bytes_taken, is_read_fault, is_write_fault};
-ghost use Rattle.aio_run.specs.Writing.{refusal_text};
+ghost use Rattle.aio_replay.specs.Driving.{Causes, LeavesAllBut};
+ghost use Rattle.aio_run.specs.Commands.{IsReplay, IsTold, exit_of, text_of, refusal_text};
+ghost use Rattle.aio_run.specs.Commands.{Replays, TellsCounts, bytes_taken, why_of};
+ghost use Rattle.aio_run.specs.Commands.{is_read_fault, is_write_fault};
+ghost use Rattle.aio_base.specs.Text.{ended_line, reason_text};
 
-use crate::ends::{End, Stop};
-use crate::session::Session;
 use crate::status::{Status, Why};
-use crate::writing::refusal_end;
-use aio_base::{CountFault, Reason};
+use aio_base::Reason;
 use aio_bytes::{Sink, SinkRefusal, Source, write_all};
+use aio_replay::{ReplayEnd, replay};
 use itoa::Buffer;
 use std::alloc::Global;
 use std::sync::Wait;
@@ -80,7 +80,7 @@ pub fn run<R: Wait + Threads + Sync + Send + Copy, S: Source, K: Sink, E: Sink>(
         (text_of result.why) }
 {
     let why = if is_replay(words) {
-        replay(alloc, input, out)
+        run_replay(alloc, input, out)
     } else {
         Why::Usage
     };
@@ -99,8 +99,8 @@ fn is_replay(words: &[String]) -> bool
     words.len() == 1 && words[0].as_str() == "replay"
 }
 
-/// Replays the trace of an input.
-fn replay<S: Source, K: Sink>(alloc: Global, input: &mut S, out: &mut K) -> Why
+/// Replays the trace of an input, and lets go of the core that ran it.
+fn run_replay<S: Source, K: Sink>(alloc: Global, input: &mut S, out: &mut K) -> Why
     ensures usage { result ≢ Why.Usage }
     ensures no_device { exit_of result < 6 }
     ensures replays { (bytes : List ℕ) → S.remaining input.old ≡ Some bytes
@@ -111,25 +111,20 @@ fn replay<S: Source, K: Sink>(alloc: Global, input: &mut S, out: &mut K) -> Why
     ensures read_cause { Causes S.fault_count S.is_sure input.old input.new (is_read_fault result) }
     ensures write_cause { Causes K.fault_count K.is_sure out.old out.new (is_write_fault result) }
 {
-    let reads = input.faults();
-    let writes = out.faults();
-    let mut session = match Session::new(alloc) {
-        Ok(session) => session,
-        Err(_) => return Why::OutOfMemory,
-    };
-    match session.replay(input, out) {
-        End::Done => Why::Done,
-        End::Refused { line, reason } => Why::Refused { line, reason },
-        End::Stopped(Stop::Read(_)) => Why::ReadFault(CountFault {
-            before: reads,
-            after: input.faults(),
-        }),
-        End::Stopped(Stop::Write(SinkRefusal::Failed)) => Why::WriteFault(CountFault {
-            before: writes,
-            after: out.faults(),
-        }),
-        End::Stopped(Stop::Write(SinkRefusal::OutOfMemory)) => Why::OutOfMemory,
-        End::Stopped(Stop::OutOfMemory(_)) => Why::OutOfMemory,
+    let (end, _) = replay(alloc, input, out);
+    cause_of(end)
+}
+
+/// Why the program ends, where a replay ended so.
+fn cause_of(end: ReplayEnd) -> Why
+    ensures { result ≡ why_of end }
+{
+    match end {
+        ReplayEnd::Done => Why::Done,
+        ReplayEnd::Refused { line, reason } => Why::Refused { line, reason },
+        ReplayEnd::ReadFault(fault) => Why::ReadFault(fault),
+        ReplayEnd::WriteFault(fault) => Why::WriteFault(fault),
+        ReplayEnd::OutOfMemory => Why::OutOfMemory,
     }
 }
 
@@ -183,4 +178,24 @@ fn tell_refusal<E: Sink>(err: &mut E, line: u64, reason: Reason) -> Result<(), S
         Err(refusal) => return Err(refusal),
     }
     write_all(err, refusal_end(reason))
+}
+
+/// How the line ends that tells why a line of a trace is refused.
+fn refusal_end(reason: Reason) -> &'static [u8]
+    ensures { result.now ≡ ended_line (codes ": " ++ reason_text reason) }
+{
+    match reason {
+        Reason::Long => b": long\n",
+        Reason::Byte => b": byte\n",
+        Reason::Empty => b": empty\n",
+        Reason::Command => b": command\n",
+        Reason::Count => b": count\n",
+        Reason::Number => b": number\n",
+        Reason::Direction => b": direction\n",
+        Reason::Flags => b": flags\n",
+        Reason::Choice => b": choice\n",
+        Reason::Header => b": header\n",
+        Reason::Lines => b": lines\n",
+        Reason::Stage => b": stage\n",
+    }
 }

@@ -69,7 +69,7 @@ fn run_over<R: Wait + Threads + Sync + Send + Copy + AllocGlobal>(
 }
 
 /// Traces, and what comes of each: its output, its exit status and the text for the user.
-const TRACES: [(&[u8], &[u8], u8, &[u8]); 30] = [
+const TRACES: [(&[u8], &[u8], u8, &[u8]); 29] = [
     (b"trace 1\n", b"", 0, b""),
     (b"trace 1", b"", 0, b""),
     (ORDINARY, ORDINARY_ANSWERS, 0, b""),
@@ -143,8 +143,6 @@ const TRACES: [(&[u8], &[u8], u8, &[u8]); 30] = [
         0,
         b"",
     ),
-    // A fault of a wait is not built yet.
-    (b"trace 1\nfault wait\n", b"", 2, b"line 2: stage\n"),
     (b"trace 1\nadd\nadd", b"key 0\nkey 1\n", 0, b""),
     (
         b"trace 1\npoll 4294967295 w 4294967295\n",
@@ -157,7 +155,7 @@ const TRACES: [(&[u8], &[u8], u8, &[u8]); 30] = [
     (b"trace 1\r\n", b"", 2, b"line 1: header\n"),
     (b"trace 2\nadd\n", b"", 2, b"line 1: header\n"),
     (
-        b"trace 1\nadd\ninterrupt\nadd\n",
+        b"trace 1\nadd\ninterrupts\nadd\n",
         b"key 0\n",
         2,
         b"line 3: stage\n",
@@ -261,6 +259,50 @@ const TIMER_TRACES: [(&[u8], &[u8], u8, &[u8]); 13] = [
     ),
 ];
 
+/// Traces with rounds in sections, and the answers to each; all lines of each are read.
+const SECTION_TRACES: [(&[u8], &[u8]); 8] = [
+    // An event of the running round is not fresh: a poll after it waits for another.
+    (
+        b"trace 1\nadd\nbegin none\npoll 0 r 7\nevent 0 r\nwait\nhandle\nfinish\npoll 0 r 7\n",
+        b"key 0\nbegin 1 wait none\npending\nnoted\ngiven 1\nhandled 0\nend ok\nwake 7\npending\n",
+    ),
+    // A stale event meets a new source under the key of the old one.
+    (
+        b"trace 1\nadd\npoll 0 r 1\nevent 0 r\nbegin none\nwait\ndel 0\nadd\npoll 0 r 2\nhandle\nfinish\npoll 0 r 2\n",
+        b"key 0\npending\nnoted\nbegin 1 wait none\ngiven 1\ngone\nkey 0\npending\nhandled 0\nend ok\nwake 2\npending\n",
+    ),
+    // A deadline that is reached while the round waits is found by its second pass.
+    (
+        b"trace 1\nnow 100\ntimer at 150\ntick 1 5\nbegin none\nnow 150\nwait\nfinish\ntick 1 5\ntick 1 5\n",
+        b"at 100\ntimer 1\npending\nbegin 1 wait 50\nat 150\ngiven 0\nend ok\nwake 5\nready 150\npending\n",
+    ),
+    // A wait that fails ends a round by its fault, which loses no waker that the first pass took.
+    (
+        b"trace 1\ntimer at 10\ntick 1 5\nnow 10\nfault wait\nbegin none\nwait\nfinish\n",
+        b"timer 1\npending\nat 10\nnoted\nbegin 1 wait 0\nfault wait\nend fault wait\nwake 5\n",
+    ),
+    // A wait that is interrupted asks for no second pass; the next round finds the timer.
+    (
+        b"trace 1\ntimer at 10\ntick 1 5\ninterrupt\nbegin none\nnow 10\nwait\nfinish\nreact\n",
+        b"timer 1\npending\nnoted\nbegin 1 wait 10\nat 10\ninterrupted\nend ok\nround 2 events 0 ok\nwake 5\n",
+    ),
+    // What comes in the wrong phase of a round, or asks for what is not there, is told.
+    (
+        b"trace 1\nadd\nhandle\nbegin 0\nreact\nevent 0 r\nwait\nfinish\nhandle\nhandle\nfinish\nnew 0 w\ndel 0\ndrop 1\ndel 0\npoll 0 r 1\n",
+        b"key 0\nno round\nbegin 1 wait 0\nlocked\nnoted\ngiven 1\nevents 1\nhandled 0\nempty\nend ok\nlistener 1\nin use\ndropped\ngone\nno source\n",
+    ),
+    // Sources, listeners and timers in rounds of both kinds.
+    (
+        b"trace 1\nadd\nadd\nnew 0 r\nstep 1 64\npoll 1 r 65\ntimer at 1000\ntick 1 65\nevent 0 r\nbegin none\nwait\nhandle\nfinish\nstep 1 64\ndrop 1\nnow 1000\nreact\ntick 1 65\npoll 1 r 65\ndel 1\n",
+        b"key 0\nkey 1\nlistener 1\npending\npending\ntimer 1\npending\nnoted\nbegin 1 wait 1000\ngiven 1\nhandled 0\nend ok\nwake 64\nready\ndropped\nat 1000\nround 2 events 0 ok\nwake 65\nready 1000\npending\ngone\n",
+    ),
+    // A second wait of a round gives what the first could not, and the round keeps its first fault.
+    (
+        b"trace 1\nadd\npoll 0 r 1\nevent 0 r\nbegin none\nfault wait\nwait\nwait\nhandle\nfinish\n",
+        b"key 0\npending\nnoted\nbegin 1 wait none\nnoted\nfault wait\ngiven 1\nhandled 0\nend fault wait\nwake 1\n",
+    ),
+];
+
 #[test]
 fn traces_are_answered_however_they_are_read(rt: HostRuntime) -> Result<(), Fail> {
     for piece in [1, 7, 4096] {
@@ -282,6 +324,19 @@ fn timers_fire_in_order_and_once(rt: HostRuntime) -> Result<(), Fail> {
             assert_eq!(rt; ran.out.bytes(), out, "output of {trace:?}");
             assert_eq!(rt; ran.err.bytes(), err, "text for {trace:?}");
             assert_eq!(rt; ran.status.exit, exit, "exit of {trace:?}");
+        }
+    }
+    Ok(())
+}
+
+#[test]
+fn rounds_are_answered_section_by_section(rt: HostRuntime) -> Result<(), Fail> {
+    for piece in [1, 4096] {
+        for (trace, out) in SECTION_TRACES {
+            let ran = run_over(&rt, &["replay"], trace, piece, NOTHING_FAILS)?;
+            assert_eq!(rt; ran.out.bytes(), out, "output of {trace:?}");
+            assert!(rt; ran.err.bytes().is_empty(), "text for {trace:?}");
+            assert_eq!(rt; ran.status.exit, 0, "exit of {trace:?}");
         }
     }
     Ok(())

@@ -1,15 +1,13 @@
 //! The calls of a core by which tasks wait for its sources.
 
-ghost use Rattle.std.specs.Prelude.{◌≡◌, [], None, is_ok, is_some, ◌≢◌, Err, IfErr, IsErr, OnErr};
+ghost use Rattle.std.specs.Prelude.{◌≡◌, [], None, is_ok, is_some, IfErr, IsErr};
 ghost use Rattle.aio_base.specs.Devices.{PollerStep, TellsFaults};
 ghost use Rattle.aio_base.specs.declared.steps.Step.TheVariants as step;
-ghost use Rattle.aio_react.specs.declared.refusals.CoreRefusal.TheVariants.{NoSource, OutOfMemory};
+ghost use Rattle.aio_react.specs.declared.refusals.CoreRefusal.TheVariants.{NoSource};
 ghost use Rattle.aio_react.specs.Cores.{entry_at};
-ghost use Rattle.aio_react.specs.Listeners.{listen_reply, listen_refusal, listen_refused};
 ghost use Rattle.aio_react.specs.Meeting.{Meets};
 ghost use Rattle.aio_react.specs.Polls.{poll_reply, poll_wakes, poll_armed};
 
-use crate::entries::Listener;
 use crate::reactor::Core;
 use crate::refusals::CoreRefusal;
 use aio_base::{Arm, Dir, Key, Poller, Waker};
@@ -42,40 +40,5 @@ impl<P: Poller> Core<P> {
             Some(entry) => Ok(entry.source.poll_dir(&mut self.poller, dir, w, self.ticker)),
             None => Err(CoreRefusal::NoSource),
         }
-    }
-
-    /// A new listener of a direction of a source, which has not been polled: its number, from 1 on
-    /// in the order in which they came. `NoSource` exactly where no source has this key, and then
-    /// `TicketsSpent` exactly where 2^64 - 1 numbers were given. `OutOfMemory` where memory ran out.
-    /// A refusal leaves all as it was.
-    pub fn listen(&mut self, key: Key, dir: Dir) -> Result<u64, CoreRefusal>
-        ensures meets { result ≢ Err OutOfMemory → Meets (PollerStep P.arm_step P.wait_step)
-            P.interests (step.New key dir) None (listen_reply result) [] None self.old self.new }
-        ensures cause { result ≢ Err OutOfMemory
-            → listen_refused result ≡ listen_refusal self.old.1 key.0 }
-        ensures refused { OnErr result (self.new ≡ self.old) }
-        ensures poller { self.new.0 ≡ self.old.0 }
-    {
-        let at = key.0 as usize;
-        if at >= self.sources.len() {
-            return Err(CoreRefusal::NoSource);
-        }
-        let entry = match &mut self.sources[at] {
-            Some(entry) => entry,
-            None => return Err(CoreRefusal::NoSource),
-        };
-        if self.listeners.given() == u64::MAX {
-            return Err(CoreRefusal::TicketsSpent);
-        }
-        let listener = Listener {
-            key,
-            dir,
-            first: None,
-        };
-        let Ok(number) = self.listeners.add(listener) else {
-            return Err(CoreRefusal::OutOfMemory);
-        };
-        entry.listeners += 1;
-        Ok(number)
     }
 }

@@ -1,0 +1,418 @@
+-- From what stands before a line to what stands after it, or to what an end says.
+use Rattle.std.proofs.Common.{◌≡◌, ℕ, ◌+◌, ◌-◌, ◌*◌, ◌≤◌, ◌<◌, Bool, true, false, List, [], ◌∷◌, ◌++◌, length, length-append, take, Option, None, Some, Result, Ok, Err, refl, sym, ap, ◌∙◌, subst, append_assoc, append-nil, arith, bytes_eq}
+use Rattle.std.proofs.lemmas.List.{take_at}
+use Rattle.std.specs.Io.KnownBytes.{Appends}
+use Rattle.std.proofs.KnownBytes.{Appends-trans, Appends-nil}
+use Rattle.aio_base.specs.declared.names.Waker.{Waker}
+use Rattle.aio_base.specs.declared.steps.Step.{Step}
+use Rattle.aio_base.specs.declared.steps.Answer.{Answer}
+use Rattle.aio_base.specs.declared.steps.Reason.{Reason}
+use Rattle.aio_base.specs.declared.steps.Reason.TheVariants as reason
+use Rattle.aio_base.specs.World.{World, opening}
+use Rattle.aio_base.specs.Script.{output, output_from, world_after, script_step, reply_text}
+use Rattle.aio_base.specs.Trace.{Trace, Refusal, lines_of, with_step, refused}
+use Rattle.aio_bytes.specs.declared.traits.SinkRefusal.{SinkRefusal}
+use Rattle.aio_bytes.specs.Sinks.{AppendsPart, Writes}
+use Rattle.aio_replay.specs.declared.ends.Stop.{Stop}
+use Rattle.aio_replay.specs.declared.ends.Stop.TheVariants as stop
+use Rattle.aio_replay.specs.declared.ends.End.{End}
+use Rattle.aio_replay.specs.declared.ends.End.TheVariants as ends
+use Rattle.aio_replay.specs.declared.replayer.Replayer.{Replayer}
+use Rattle.aio_replay.specs.Language.{Language, SaysByLines}
+use Rattle.aio_replay.specs.Replaying.{IsWithin, Replays, StandsFor}
+use Rattle.aio_replay.specs.Driving.{Sends, Unread, LeavesAllBut, BeginsLong, TakesLine, StoppedBehind, EndsSo, UnlessMemory, is_of_memory, sink_answer, length_of_lines, bytes_before, bytes_of_end, most_bytes}
+use Rattle.aio_replay.specs.Steps.{Opens, Answers, TakesLines, Standing, LineTaken, Closes, Closing, after_steps, refusal_of, IsRead}
+use Rattle.aio_replay.proofs.DrivingLemmas.{long_is_refused}
+
+-- ## Steps at the end of a run
+
+pub output-append : (w : World) (done more : List Step) → output_from w (done ++ more) ≡ output_from w done ++ output_from (world_after w done) more
+output-append w [] more = refl
+output-append w (s ∷ done) more =
+    ap (λ t. reply_text (script_step w s).answer (script_step w s).wakes ++ t) (output-append (script_step w s).world done more)
+    ∙ sym (append_assoc (reply_text (script_step w s).answer (script_step w s).wakes) (output_from (script_step w s).world done) (output_from (world_after (script_step w s).world done) more))
+
+pub output-push : (done : List Step) (s : Step)
+    → output (done ++ s ∷ []) ≡ output done ++ reply_text (script_step (world_after opening done) s).answer (script_step (world_after opening done) s).wakes
+output-push done s = output-append opening done (s ∷ [])
+    ∙ ap (λ t. output done ++ t) (append-nil (reply_text (script_step (world_after opening done) s).answer (script_step (world_after opening done) s).wakes))
+
+pub world_after-push : (w : World) (done : List Step) (s : Step) → world_after w (done ++ s ∷ []) ≡ (script_step (world_after w done) s).world
+world_after-push w [] s = refl
+world_after-push w (d ∷ done) s = world_after-push (script_step w d).world done s
+
+-- a step that was run and answered
+pub answered : (old new : Replayer) (s : Step) (a : Answer) (wakes : List Waker) (text_old text_new : List ℕ) → Replays s a wakes old new
+    → text_new ≡ text_old ++ reply_text a wakes → Answers s old new text_old text_new
+answered old new s a wakes text_old text_new replays text w stands =
+    let gives = replays w stands in (
+      text ∙ ap (λ t. text_old ++ reply_text t wakes) (sym gives.answer_is)
+          ∙ ap (λ t. text_old ++ reply_text (script_step w s).answer t) (sym gives.wakes_are),
+      gives.stands,
+    )
+
+-- what has run so many steps at most has run no more than this
+pub within_more : (few many : ℕ) (r : Replayer) → few ≤ many → IsWithin few r → IsWithin many r
+within_more few many r le within = record {
+  world = within.world;
+  stands = within.stands;
+  counted = record {
+    steps = omega (arith, le, within.counted.steps);
+    rounds = omega (arith, le, within.counted.rounds);
+    ids = omega (arith, le, within.counted.ids);
+    listeners = omega (arith, le, within.counted.listeners);
+  };
+}
+
+-- ## The trace of an input, line by line
+
+after_steps-push : (done : List Step) (s : Step) (t : Trace) → after_steps done (with_step s t) ≡ after_steps (done ++ s ∷ []) t
+after_steps-push done s t = ap (λ (steps : List Step). let r : Trace = record { steps = steps; refusal = t.refusal } in r) (sym (append_assoc done (s ∷ []) t.steps))
+
+after_steps-end : (done : List Step) (r : Option Refusal) → after_steps done (record { steps = []; refusal = r }) ≡ record { steps = done; refusal = r }
+after_steps-end done r = ap (λ (steps : List Step). let t : Trace = record { steps = steps; refusal = r } in t) (append-nil done)
+
+-- ## The bytes before a line
+
+length_of_lines-push : (lines : List (List ℕ)) (line : List ℕ) → length_of_lines (lines ++ line ∷ []) ≡ length_of_lines lines + (length line + 1)
+length_of_lines-push [] line = omega arith
+length_of_lines-push (first ∷ lines) line = omega (arith, length_of_lines-push lines line)
+
+-- nothing is taken before the first line
+takes_none : (input : List ℕ) → TakesLines input 1 input
+takes_none input = record { front = []; taken = []; whole = refl; lines = refl; count = refl; within = omega arith; most = omega arith }
+
+-- one more line
+takes_one : (input : List ℕ) (now : Option (List ℕ)) (line : ℕ) (bytes left rest : List ℕ) → TakesLines input line rest
+    → (t : TakesLine now bytes left rest) → TakesLines input (line + 1) t.rest
+takes_one input now line bytes left rest s t = record {
+  front = s.front ++ bytes ∷ [];
+  taken = s.taken ++ t.taken;
+  whole = s.whole ∙ ap (λ x. s.taken ++ x) t.whole ∙ sym (append_assoc s.taken t.taken t.rest);
+  lines = s.lines ∙ ap (λ x. s.front ++ x) t.lines ∙ sym (append_assoc s.front (bytes ∷ []) (lines_of t.rest));
+  count = omega (arith, length-append s.front (bytes ∷ []), s.count);
+  within = omega (arith, length-append s.taken t.taken, length_of_lines-push s.front bytes, s.within, t.within);
+  most = omega (arith, length-append s.taken t.taken, s.most, t.most);
+}
+
+before_is : (input : List ℕ) (line : ℕ) (rest : List ℕ) → (t : TakesLines input line rest) → bytes_before line input ≡ length_of_lines t.front
+before_is input line rest t =
+    let count : length t.front ≡ line - 1 = omega (arith, t.count) in
+    ap (λ lines. length_of_lines (take (line - 1) lines)) t.lines ∙ ap length_of_lines (take_at t.front (lines_of rest) (line - 1) count)
+
+-- what a source gave of the rest, it gave of the input behind the lines before
+held_behind : (input : List ℕ) (now : Option (List ℕ)) (line : ℕ) (rest : List ℕ) → TakesLines input line rest → LeavesAllBut 257 now rest
+    → LeavesAllBut (bytes_before line input + 257) now input
+held_behind input now line rest t l = record {
+  taken = t.taken ++ l.taken;
+  left = l.left;
+  is_left = l.is_left;
+  whole = t.whole ∙ ap (λ x. t.taken ++ x) l.whole ∙ sym (append_assoc t.taken l.taken l.left);
+  most = omega (arith, length-append t.taken l.taken, t.within, l.most, before_is input line rest t);
+}
+
+held_few : (input : List ℕ) (now : Option (List ℕ)) (line : ℕ) (rest : List ℕ) → TakesLines input line rest → LeavesAllBut 257 now rest
+    → LeavesAllBut (257 * line) now input
+held_few input now line rest t l = record {
+  taken = t.taken ++ l.taken;
+  left = l.left;
+  is_left = l.is_left;
+  whole = t.whole ∙ ap (λ x. t.taken ++ x) l.whole ∙ sym (append_assoc t.taken l.taken l.left);
+  most = omega (arith, length-append t.taken l.taken, t.most, l.most);
+}
+
+pub leaves_more : (a b : ℕ) (now : Option (List ℕ)) (input : List ℕ) → a ≤ b → LeavesAllBut a now input → LeavesAllBut b now input
+leaves_more a b now input le l = record { taken = l.taken; left = l.left; is_left = l.is_left; whole = l.whole; most = omega (arith, le, l.most) }
+
+-- at most the bytes of all lines and of one more
+held_at_last : (l : Language) (input : List ℕ) (now : Option (List ℕ)) (line : ℕ) (rest : List ℕ) → line ≤ l.limit + 1 → TakesLines input line rest → LeavesAllBut 257 now rest
+    → LeavesAllBut (most_bytes l) now input
+held_at_last l input now line rest le t h = leaves_more (257 * line) (257 * (l.limit + 1)) now input (omega (arith, le)) (held_few input now line rest t h)
+
+-- ## From a line that is found
+
+pub takes : (l : Language) (input : List ℕ) (told now first old new : Option (List ℕ)) (line : ℕ) (ahead bytes left text kept_text : List ℕ) (r : Replayer)
+    → (s : Standing l input told first old line ahead text r) → TakesLine now bytes left s.rest → Sends old new text kept_text
+    → LineTaken l input now first new line bytes left kept_text r
+takes l input told now first old new line ahead bytes left text kept_text r s t sends = record {
+  done = s.done;
+  rest = t.rest;
+  is_rest = t.is_rest;
+  says = s.says ∙ ap (λ lines. after_steps s.done (l.from line lines)) t.lines;
+  world = s.world;
+  sent = s.sent ++ sends.sent;
+  appended = Appends-trans first old new s.sent sends.sent s.appended sends.appended;
+  whole = append_assoc s.sent sends.sent kept_text ∙ ap (λ x. s.sent ++ x) (sym sends.whole) ∙ s.whole;
+  before = takes_one input now line bytes left s.rest s.before t;
+  held = held_behind input now line s.rest s.before t.held;
+  held_few = held_few input now line s.rest s.before t.held;
+}
+
+pub goes_on : (l : Language) (input : List ℕ) (told first out : Option (List ℕ)) (line : ℕ) (bytes ahead text new : List ℕ) (r after : Replayer) (s : Step)
+    → SaysByLines l → LineTaken l input told first out line bytes ahead text r → line ≤ l.limit → l.reads bytes ≡ Ok s → Answers s r after text new
+    → Standing l input told first out (line + 1) ahead new after
+goes_on l input told first out line bytes ahead text new r after s laws t le read answers =
+    let done = t.done ++ s ∷ [] in
+    let reply = answers (world_after opening t.done) t.world in
+    record {
+      done = done;
+      rest = t.rest;
+      is_rest = t.is_rest;
+      says = t.says ∙ ap (after_steps t.done) (laws.steps line bytes (lines_of t.rest) s le read) ∙ after_steps-push t.done s (l.from (line + 1) (lines_of t.rest));
+      world = subst (StandsFor after) (sym (world_after-push opening t.done s)) reply.1;
+      sent = t.sent;
+      appended = t.appended;
+      whole = ap (λ x. t.sent ++ x) reply.0
+          ∙ sym (append_assoc t.sent text (reply_text (script_step (world_after opening t.done) s).answer (script_step (world_after opening t.done) s).wakes))
+          ∙ ap (λ x. x ++ reply_text (script_step (world_after opening t.done) s).answer (script_step (world_after opening t.done) s).wakes) t.whole
+          ∙ sym (output-push t.done s);
+      before = t.before;
+    }
+
+-- the text is written between two lines
+pub flushed : (l : Language) (input : List ℕ) (told first old new : Option (List ℕ)) (line : ℕ) (ahead text kept_text : List ℕ) (r : Replayer)
+    → Standing l input told first old line ahead text r → Sends old new text kept_text → Standing l input told first new line ahead kept_text r
+flushed l input told first old new line ahead text kept_text r s sends = record {
+  done = s.done;
+  rest = s.rest;
+  is_rest = s.is_rest;
+  says = s.says;
+  world = s.world;
+  sent = s.sent ++ sends.sent;
+  appended = Appends-trans first old new s.sent sends.sent s.appended sends.appended;
+  whole = append_assoc s.sent sends.sent kept_text ∙ ap (λ x. s.sent ++ x) (sym sends.whole) ∙ s.whole;
+  before = s.before;
+}
+
+-- ## To an end
+
+-- what was written of a text, behind what was written before it
+pub written_behind : (r : Result (Unit {0}) SinkRefusal) (first old new : Option (List ℕ)) (sent text whole : List ℕ) → Appends first old sent → Writes r old new text
+    → sent ++ text ≡ whole → Writes r first new whole
+written_behind (Ok done) first old new sent text whole p q e = subst (Appends first new) e (Appends-trans first old new sent text p q)
+written_behind (Err refusal) first old new sent text whole p q e = record {
+  added = sent ++ q.added;
+  rest = q.rest;
+  whole = sym e ∙ ap (λ t. sent ++ t) q.whole ∙ sym (append_assoc sent q.added q.rest);
+  appended = Appends-trans first old new sent q.added p q.appended;
+}
+
+written_of_more : (r : Result (Unit {0}) SinkRefusal) (old new : Option (List ℕ)) (bytes more : List ℕ) → Writes r old new bytes → AppendsPart old new (bytes ++ more)
+written_of_more (Ok done) old new bytes more q = record { added = bytes; rest = more; whole = refl; appended = q }
+written_of_more (Err refusal) old new bytes more q = record {
+  added = q.added;
+  rest = q.rest ++ more;
+  whole = ap (λ t. t ++ more) q.whole ∙ append_assoc q.added q.rest more;
+  appended = q.appended;
+}
+
+-- where a replay was stopped, a front part of its output is written
+pub stopped_part : (l : Language) (s : Stop) (input : List ℕ) (old new : Option (List ℕ)) (r : Replayer) → StoppedBehind l s input old new r
+    → AppendsPart old new (output (l.trace input).steps)
+stopped_part l s input old new r b =
+    subst (AppendsPart old new) (sym (ap output b.steps ∙ output-append opening b.done b.more))
+    (written_of_more (sink_answer s) old new (output b.done) (output_from (world_after opening b.done) b.more) b.written)
+
+pub stops : (l : Language) (input : List ℕ) (now first old new : Option (List ℕ)) (sent text : List ℕ) (done : List Step) (t : Trace) (s : Stop) (r : Replayer)
+    → l.trace input ≡ after_steps done t → Appends first old sent → sent ++ text ≡ output done → Writes (sink_answer s) old new text
+    → UnlessMemory s (StandsFor r (world_after opening done)) → LeavesAllBut (most_bytes l) now input → EndsSo l (ends.Stopped s) input now first new r
+stops l input now first old new sent text done t s r says appended whole written world taken = record {
+  says = record {
+    done = done;
+    more = t.steps;
+    steps = ap (λ (x : Trace). x.steps) says;
+    written = written_behind (sink_answer s) first old new sent text (output done) appended written whole;
+    world = world;
+  };
+  taken = taken;
+}
+
+-- it was stopped while a line was looked for
+pub stops_before : (l : Language) (input : List ℕ) (told now first old new : Option (List ℕ)) (line : ℕ) (ahead text : List ℕ) (r : Replayer) (e : Stop)
+    → (s : Standing l input told first old line ahead text r) → line ≤ l.limit + 1 → LeavesAllBut 257 now s.rest → Writes (sink_answer e) old new text
+    → EndsSo l (ends.Stopped e) input now first new r
+stops_before l input told now first old new line ahead text r e s le h part =
+    stops l input now first old new s.sent text s.done _ e r s.says s.appended s.whole part (λ kept. s.world)
+    (held_at_last l input now line s.rest le s.before h)
+
+-- memory ran out for the step of a line, or for its reply
+pub stops_in_step : (l : Language) (input : List ℕ) (told first old new : Option (List ℕ)) (line : ℕ) (bytes ahead text : List ℕ) (r after : Replayer) (e : Stop)
+    → LineTaken l input told first old line bytes ahead text r → line ≤ l.limit → is_of_memory e ≡ true → Writes (sink_answer e) old new text
+    → EndsSo l (ends.Stopped e) input told first new after
+stops_in_step l input told first old new line bytes ahead text r after e t le memory part =
+    stops l input told first old new t.sent text t.done _ e after t.says t.appended t.whole part (λ kept. absurd (cc (memory, kept)))
+    (leaves_more (257 * line) (257 * (l.limit + 1)) told input (omega (arith, le)) t.held_few)
+
+-- it was stopped before the next line
+pub stops_between : (l : Language) (input : List ℕ) (told first old new : Option (List ℕ)) (line : ℕ) (ahead text : List ℕ) (r : Replayer) (e : Stop)
+    → Standing l input told first old line ahead text r → LeavesAllBut (most_bytes l) told input → Writes (sink_answer e) old new text
+    → EndsSo l (ends.Stopped e) input told first new r
+stops_between l input told first old new line ahead text r e s h part =
+    stops l input told first old new s.sent text s.done _ e r s.says s.appended s.whole part (λ kept. s.world) h
+
+stands_after : (r : Replayer) (done steps : List Step) → steps ≡ done → StandsFor r (world_after opening done) → StandsFor r (world_after opening steps)
+stands_after r done steps same stands = subst (λ (x : List Step). StandsFor r (world_after opening x)) (sym same) stands
+
+pub closes : (l : Language) (result wanted : End) (input : List ℕ) (told first old new : Option (List ℕ)) (text : List ℕ) (r : Replayer)
+    → Closing l wanted input told first old text r → Closes result wanted old new text → EndsSo l result input told first new r
+closes l ends.Done wanted input told first old new text r c e =
+    let same : wanted ≡ ends.Done = e.0 in
+    let steps : (l.trace input).steps ≡ c.done = ap (λ (t : Trace). t.steps) c.says in
+    record {
+      says = (
+        subst (λ (x : End). IsRead x told) same c.is_read,
+        ap (λ (t : Trace). t.refusal) c.says ∙ ap refusal_of same,
+        subst (Appends first new) (c.whole ∙ ap output (sym steps)) (Appends-trans first old new c.sent text c.appended e.1),
+        stands_after r c.done (l.trace input).steps steps c.world,
+      );
+      taken = subst (λ (x : End). LeavesAllBut (bytes_of_end l x input) told input) same c.taken;
+    }
+closes l (ends.Refused line why) wanted input told first old new text r c e =
+    let same : wanted ≡ ends.Refused line why = e.0 in
+    let steps : (l.trace input).steps ≡ c.done = ap (λ (t : Trace). t.steps) c.says in
+    record {
+      says = (
+        ap (λ (t : Trace). t.refusal) c.says ∙ ap refusal_of same,
+        subst (Appends first new) (c.whole ∙ ap output (sym steps)) (Appends-trans first old new c.sent text c.appended e.1),
+        stands_after r c.done (l.trace input).steps steps c.world,
+      );
+      taken = subst (λ (x : End). LeavesAllBut (bytes_of_end l x input) told input) same c.taken;
+    }
+closes l (ends.Stopped s) wanted input told first old new text r c e =
+    stops l input told first old new c.sent text c.done (record { steps = []; refusal = refusal_of wanted }) s r
+    (c.says ∙ sym (after_steps-end c.done (refusal_of wanted))) c.appended c.whole e (λ kept. c.world) c.taken_few
+
+-- a line that reads as no step is refused
+pub refuses_line : (l : Language) (input : List ℕ) (told first out : Option (List ℕ)) (line : ℕ) (bytes ahead text : List ℕ) (r : Replayer) (why : Reason)
+    → SaysByLines l → LineTaken l input told first out line bytes ahead text r → line ≤ l.limit → l.reads bytes ≡ Err why
+    → Closing l (ends.Refused line why) input told first out text r
+refuses_line l input told first out line bytes ahead text r why laws t le none = record {
+  done = t.done;
+  says = t.says ∙ ap (after_steps t.done) (laws.refuses line bytes (lines_of t.rest) why le none) ∙ after_steps-end t.done (refusal_of (ends.Refused line why));
+  world = t.world;
+  sent = t.sent;
+  appended = t.appended;
+  whole = t.whole;
+  is_read = tt;
+  taken = t.held;
+  taken_few = leaves_more (257 * line) (257 * (l.limit + 1)) told input (omega (arith, le)) t.held_few;
+}
+
+-- what is written of the text before an end stays to be written of it
+closing_sends : (l : Language) (wanted : End) (input : List ℕ) (now first old new : Option (List ℕ)) (text kept_text sent : List ℕ) (done : List Step) (r : Replayer)
+    → l.trace input ≡ record { steps = done; refusal = refusal_of wanted } → StandsFor r (world_after opening done) → Appends first old sent
+    → sent ++ text ≡ output done → Sends old new text kept_text
+    → IsRead wanted now → LeavesAllBut (bytes_of_end l wanted input) now input → LeavesAllBut (most_bytes l) now input
+    → Closing l wanted input now first new kept_text r
+closing_sends l wanted input now first old new text kept_text sent done r says world appended whole sends is_read taken few = record {
+  done = done;
+  says = says;
+  world = world;
+  sent = sent ++ sends.sent;
+  appended = Appends-trans first old new sent sends.sent appended sends.appended;
+  whole = append_assoc sent sends.sent kept_text ∙ ap (λ x. sent ++ x) (sym sends.whole) ∙ whole;
+  is_read = is_read;
+  taken = taken;
+  taken_few = few;
+}
+
+-- nothing is left of the input
+pub ends_here : (l : Language) (input : List ℕ) (told now first old new : Option (List ℕ)) (line : ℕ) (ahead text kept_text : List ℕ) (r : Replayer)
+    → SaysByLines l → (s : Standing l input told first old line ahead text r) → line ≤ l.limit + 1 → (s.rest ≡ []) × (now ≡ Some []) → Sends old new text kept_text
+    → Closing l ends.Done input now first new kept_text r
+ends_here l input told now first old new line ahead text kept_text r laws s le nothing sends =
+    let taken : LeavesAllBut (most_bytes l) now input = record {
+      taken = s.before.taken;
+      left = [];
+      is_left = nothing.1;
+      whole = s.before.whole ∙ ap (λ x. s.before.taken ++ x) nothing.0;
+      most = omega (arith, s.before.most, le);
+    } in
+    closing_sends l ends.Done input now first old new text kept_text s.sent s.done r
+    (s.says ∙ ap (λ x. after_steps s.done (l.from line (lines_of x))) nothing.0 ∙ ap (after_steps s.done) (laws.ends line) ∙ after_steps-end s.done None)
+    s.world s.appended s.whole sends nothing.1 taken taken
+
+-- a line that is too long is refused
+pub refuses_long : (l : Language) (input : List ℕ) (told now first old new : Option (List ℕ)) (line : ℕ) (ahead text kept_text : List ℕ) (r : Replayer)
+    → SaysByLines l → (s : Standing l input told first old line ahead text r) → line ≤ l.limit → BeginsLong s.rest → LeavesAllBut 257 now s.rest → Sends old new text kept_text
+    → Closing l (ends.Refused line l.long) input now first new kept_text r
+refuses_long l input told now first old new line ahead text kept_text r laws s le long h sends =
+    let b = long_is_refused l s.rest laws long in
+    closing_sends l (ends.Refused line l.long) input now first old new text kept_text s.sent s.done r
+    (s.says ∙ ap (λ lines. after_steps s.done (l.from line lines)) b.lines
+    ∙ ap (after_steps s.done) (laws.refuses line b.first b.others l.long le b.no_step) ∙ after_steps-end s.done (refusal_of (ends.Refused line l.long)))
+    s.world s.appended s.whole sends tt (held_behind input now line s.rest s.before h) (held_at_last l input now line s.rest (omega (arith, le)) s.before h)
+
+-- a line past the last that a trace may have is refused, whatever it says
+pub refuses_past : (l : Language) (input : List ℕ) (told now first old new : Option (List ℕ)) (line : ℕ) (ahead text kept_text first_line : List ℕ) (others : List (List ℕ)) (r : Replayer)
+    → SaysByLines l → (s : Standing l input told first old line ahead text r) → line ≡ l.limit + 1 → lines_of s.rest ≡ first_line ∷ others → LeavesAllBut 257 now s.rest
+    → Sends old new text kept_text → Closing l (ends.Refused line reason.Lines) input now first new kept_text r
+refuses_past l input told now first old new line ahead text kept_text first_line others r laws s last lines h sends =
+    closing_sends l (ends.Refused line reason.Lines) input now first old new text kept_text s.sent s.done r
+    (s.says ∙ ap (λ x. after_steps s.done (l.from line x)) lines
+    ∙ ap (after_steps s.done) (laws.past line first_line others (omega (arith, last))) ∙ after_steps-end s.done (refusal_of (ends.Refused line reason.Lines)))
+    s.world s.appended s.whole sends tt (held_behind input now line s.rest s.before h) (held_at_last l input now line s.rest (omega (arith, last)) s.before h)
+
+-- ## The header
+
+pub opens_unread : (input ahead text : List ℕ) (told : Option (List ℕ)) (r : Replayer) → Opens ahead text r → told ≡ Some input → Unread told ahead input
+opens_unread input ahead text told r o is = record { left = input; is_left = is; whole = ap (λ t. t ++ input) (sym o.nothing_ahead) }
+
+-- the first line is the header
+pub header_read : (l : Language) (input ahead text kept_text bytes left : List ℕ) (now first new : Option (List ℕ)) (r : Replayer) → SaysByLines l → Opens ahead text r
+    → TakesLine now bytes left input → bytes_eq bytes l.header ≡ true → Sends first new text kept_text
+    → Standing l input now first new 2 left kept_text r
+header_read l input ahead text kept_text bytes left now first new r laws o t is sends = record {
+  done = [];
+  rest = t.rest;
+  is_rest = t.is_rest;
+  says = laws.headed input bytes (lines_of t.rest) t.lines is;
+  world = o.stands;
+  sent = sends.sent;
+  appended = sends.appended;
+  whole = sym sends.whole ∙ o.no_text;
+  before = takes_one input now 1 bytes left input (takes_none input) t;
+}
+
+header_closing : (l : Language) (input ahead text kept_text : List ℕ) (now first new : Option (List ℕ)) (r : Replayer) → SaysByLines l → Opens ahead text r
+    → l.trace input ≡ refused 1 reason.Header → LeavesAllBut 257 now input → Sends first new text kept_text
+    → Closing l (ends.Refused 1 reason.Header) input now first new kept_text r
+header_closing l input ahead text kept_text now first new r laws o says h sends = record {
+  done = [];
+  says = says;
+  world = o.stands;
+  sent = sends.sent;
+  appended = sends.appended;
+  whole = sym sends.whole ∙ o.no_text;
+  is_read = tt;
+  taken = held_behind input now 1 input (takes_none input) h;
+  taken_few = held_at_last l input now 1 input (omega (arith, laws.some)) (takes_none input) h;
+}
+
+-- the first line is no header
+pub header_refused : (l : Language) (input ahead text kept_text bytes left : List ℕ) (now first new : Option (List ℕ)) (r : Replayer) → SaysByLines l → Opens ahead text r
+    → TakesLine now bytes left input → bytes_eq bytes l.header ≡ false → Sends first new text kept_text
+    → Closing l (ends.Refused 1 reason.Header) input now first new kept_text r
+header_refused l input ahead text kept_text bytes left now first new r laws o t other sends =
+    header_closing l input ahead text kept_text now first new r laws o (laws.headless input bytes (lines_of t.rest) t.lines other) t.held sends
+
+pub header_long : (l : Language) (input ahead text kept_text : List ℕ) (now first new : Option (List ℕ)) (r : Replayer) → SaysByLines l → Opens ahead text r
+    → BeginsLong input × LeavesAllBut 257 now input → Sends first new text kept_text
+    → Closing l (ends.Refused 1 reason.Header) input now first new kept_text r
+header_long l input ahead text kept_text now first new r laws o b sends =
+    let u = long_is_refused l input laws b.0 in
+    header_closing l input ahead text kept_text now first new r laws o (laws.headless input u.first u.others u.lines u.no_header) b.1 sends
+
+pub header_missing : (l : Language) (input ahead text kept_text : List ℕ) (now first new : Option (List ℕ)) (r : Replayer) → SaysByLines l → Opens ahead text r
+    → (input ≡ []) × (now ≡ Some []) → Sends first new text kept_text
+    → Closing l (ends.Refused 1 reason.Header) input now first new kept_text r
+header_missing l input ahead text kept_text now first new r laws o e sends =
+    header_closing l input ahead text kept_text now first new r laws o (laws.empty input (ap lines_of e.0))
+    (record { taken = []; left = []; is_left = e.1; whole = e.0; most = omega arith }) sends
+
+-- it was stopped before the header was read
+pub header_stopped : (l : Language) (input ahead text : List ℕ) (now first new : Option (List ℕ)) (r : Replayer) (s : Stop) → SaysByLines l → Opens ahead text r
+    → LeavesAllBut 257 now input → Writes (sink_answer s) first new text → EndsSo l (ends.Stopped s) input now first new r
+header_stopped l input ahead text now first new r s laws o h part =
+    stops l input now first first new [] text [] (l.trace input) s r refl (Appends-nil first) o.no_text part (λ kept. o.stands)
+    (leaves_more 257 (257 * (l.limit + 1)) now input (omega (arith, laws.some)) h)

@@ -1,0 +1,185 @@
+-- What stands while a trace is replayed, and what its end says.
+use Rattle.std.specs.Prelude.{◌≡◌, ℕ, ◌+◌, ◌-◌, ◌*◌, ◌≤◌, Bool, true, false, IsTrue, List, [], ◌∷◌, ◌++◌, length, take, Option, None, Some, Result, Ok, Err, IfErr, ⊤}
+use Rattle.std.specs.Io.KnownBytes.{Appends, Keeps}
+use Rattle.aio_base.specs.Devices.{TellsFaults}
+use Rattle.aio_base.specs.Script.{output, world_after}
+use Rattle.aio_base.specs.Trace.{lines_of}
+use Rattle.aio_base.specs.World.{opening}
+use Rattle.aio_base.specs.declared.steps.Step.{Step}
+use Rattle.aio_bytes.specs.declared.traits.SinkRefusal.{SinkRefusal}
+use Rattle.aio_bytes.specs.declared.traits.SinkRefusal.TheVariants as refused
+use Rattle.aio_bytes.specs.Sinks.{RefusedBy, Writes, is_failed}
+use Rattle.aio_bytes.specs.Held.{HasNoLineFeed, PutsAhead}
+use Rattle.aio_replay.specs.declared.ends.Stop.{Stop}
+use Rattle.aio_replay.specs.declared.ends.Stop.TheVariants as stop
+use Rattle.aio_replay.specs.declared.ends.End.{End}
+use Rattle.aio_replay.specs.declared.ends.End.TheVariants as ends
+use Rattle.aio_replay.specs.declared.ends.Next.{Next}
+use Rattle.aio_replay.specs.declared.ends.Next.TheVariants as next
+use Rattle.aio_replay.specs.declared.replayer.Replayer.{Replayer}
+use Rattle.aio_replay.specs.Language.{Language}
+use Rattle.aio_replay.specs.Replaying.{StandsFor}
+
+-- what the sink answered to the last answers that were written before a stop
+abbrev pub sink_answer : Stop → Result (Unit {0}) SinkRefusal
+sink_answer stop.Read = Ok tt
+sink_answer stop.ReadThenWrite = Err refused.Failed
+sink_answer stop.ReadThenOutOfMemory = Err refused.OutOfMemory
+sink_answer stop.Write = Err refused.Failed
+sink_answer stop.WriteOutOfMemory = Err refused.OutOfMemory
+sink_answer stop.OutOfMemory = Ok tt
+sink_answer stop.OutOfMemoryThenWrite = Err refused.Failed
+sink_answer stop.OutOfMemoryTwice = Err refused.OutOfMemory
+
+-- the stop of an output that refused answers
+abbrev pub write_stop : SinkRefusal → Stop
+write_stop refused.Failed = stop.Write
+write_stop refused.OutOfMemory = stop.WriteOutOfMemory
+
+-- whether memory ran out for a step or for its answer
+abbrev pub is_of_memory : Stop → Bool
+is_of_memory stop.OutOfMemory = true
+is_of_memory stop.OutOfMemoryThenWrite = true
+is_of_memory stop.OutOfMemoryTwice = true
+is_of_memory _ = false
+
+-- where the sink refused answers, one of its calls was answered so and was the last
+abbrev pub StopsBy : {S : Type 0} → (S → List ℕ → Result ℕ SinkRefusal → S → Type 0) → S → Stop → Type 0
+StopsBy write_step new s = IfErr (sink_answer s) (RefusedBy write_step new)
+
+-- what a call that uses a device tells of its faults, where the device may have failed
+abbrev pub Causes : {S : Type 0} → (S → ℕ) → (S → Bool) → (old new : S) → Bool → Type 0
+Causes count is_sure old new did_fail = TellsFaults count is_sure old new (IsTrue did_fail)
+
+abbrev pub is_read_fault : Stop → Bool
+is_read_fault stop.Read = true
+is_read_fault stop.ReadThenWrite = true
+is_read_fault stop.ReadThenOutOfMemory = true
+is_read_fault _ = false
+
+-- whether the output failed, also where it is not what stopped the replay
+abbrev pub is_write_fault : Stop → Bool
+is_write_fault s = is_failed (sink_answer s)
+
+-- whether a result stopped with such a fault
+abbrev pub stops_with : {T : Type 0} → (Stop → Bool) → Result T Stop → Bool
+stops_with is_fault (Ok x) = false
+stops_with is_fault (Err s) = is_fault s
+
+-- what a source has left, with the bytes that were read ahead of it
+pub record Unread (told : Option (List ℕ)) (ahead unread : List ℕ) : Type 0 where
+  pub left : List ℕ
+  pub is_left : told ≡ Some left
+  pub whole : unread ≡ ahead ++ left
+
+-- a source has the end of these bytes left, and gave at most so many
+pub record LeavesAllBut (count : ℕ) (told : Option (List ℕ)) (unread : List ℕ) : Type 0 where
+  pub taken : List ℕ
+  pub left : List ℕ
+  pub is_left : told ≡ Some left
+  pub whole : unread ≡ taken ++ left
+  pub most : length taken ≤ count
+
+-- these bytes begin with a line that is too long: 257 of them without a line feed
+pub record BeginsLong (unread : List ℕ) : Type 0 where
+  pub front : List ℕ
+  pub more : List ℕ
+  pub whole : unread ≡ front ++ more
+  pub long : length front ≡ 257
+  pub no_line_feed : HasNoLineFeed front
+
+-- a line was taken of the bytes that were unread, with its line feed where it has one
+pub record TakesLine (told : Option (List ℕ)) (line ahead unread : List ℕ) : Type 0 where
+  pub taken : List ℕ
+  pub rest : List ℕ
+  pub is_rest : Unread told ahead rest
+  pub whole : unread ≡ taken ++ rest
+  pub lines : lines_of unread ≡ line ∷ lines_of rest
+  pub within : length taken ≤ length line + 1
+  pub most : length taken ≤ 257
+  pub held : LeavesAllBut 257 told unread
+
+-- what was found next of the bytes that were unread: a line, the first bytes of a line that is too long, or nothing; in any case at most 257
+-- bytes of them are out of the source
+abbrev pub FindsNext : Result Next Stop → Option (List ℕ) → List ℕ → List ℕ → List ℕ → Type 0
+FindsNext (Ok next.Line) told line ahead unread = TakesLine told line ahead unread
+FindsNext (Ok next.Long) told line ahead unread = BeginsLong unread × LeavesAllBut 257 told unread
+FindsNext (Ok next.End) told line ahead unread = (unread ≡ []) × (told ≡ Some [])
+FindsNext (Err s) told line ahead unread = LeavesAllBut 257 told unread
+
+-- a front part of the text, perhaps none, went out, and the rest is kept
+pub record Sends (out_old out_new : Option (List ℕ)) (text_old text_new : List ℕ) : Type 0 where
+  pub sent : List ℕ
+  pub appended : Appends out_old out_new sent
+  pub whole : text_old ≡ sent ++ text_new
+
+-- the same where it did not stop; else the text went out as far as the sink took it, and nothing is said of the rest
+abbrev pub SendsOrStops : {T : Type 0} → Result T Stop → Option (List ℕ) → Option (List ℕ) → List ℕ → List ℕ → Type 0
+SendsOrStops (Ok x) out_old out_new text_old text_new = Sends out_old out_new text_old text_new
+SendsOrStops (Err s) out_old out_new text_old text_new = Writes (sink_answer s) out_old out_new text_old
+
+-- the bytes of some lines, each with its line feed
+abbrev pub length_of_lines : List (List ℕ) → ℕ
+length_of_lines [] = 0
+length_of_lines (line ∷ lines) = length line + 1 + length_of_lines lines
+
+-- the bytes of an input that stand before the line of this number, counted from 1
+abbrev pub bytes_before : ℕ → List ℕ → ℕ
+bytes_before line input = length_of_lines (take (line - 1) (lines_of input))
+
+-- the bytes of all lines that a trace may have, and of one more, each of at most 256 bytes and its line feed
+abbrev pub most_bytes : Language → ℕ
+most_bytes l = 257 * (l.limit + 1)
+
+-- how many bytes of a source an end has taken at most
+abbrev pub bytes_of_end : Language → End → List ℕ → ℕ
+bytes_of_end l ends.Done input = most_bytes l
+bytes_of_end l (ends.Refused line reason) input = bytes_before line input + 257
+bytes_of_end l (ends.Stopped s) input = most_bytes l
+
+-- where memory did not run out in a step
+abbrev pub UnlessMemory : Stop → Type 0 → Type 0
+UnlessMemory s P = is_of_memory s ≡ false → P
+
+-- a replay was stopped after some steps of its trace, whose answers were written as far as the sink took them
+pub record StoppedBehind (l : Language) (s : Stop) (input : List ℕ) (out_old out_new : Option (List ℕ)) (r : Replayer) : Type 0 where
+  pub done : List Step
+  pub more : List Step
+  pub steps : (l.trace input).steps ≡ done ++ more
+  pub written : Writes (sink_answer s) out_old out_new (output done)
+  pub world : UnlessMemory s (StandsFor r (world_after opening done))
+
+-- what an end says of the input: whether it is whole, which line is refused, what was written, and which world the replayer stands for
+abbrev pub Says : Language → End → List ℕ → Option (List ℕ) → Option (List ℕ) → Option (List ℕ) → Replayer → Type 0
+Says l ends.Done input told out_old out_new r =
+    (told ≡ Some []) × ((l.trace input).refusal ≡ None) × Appends out_old out_new (output (l.trace input).steps) × StandsFor r (world_after opening (l.trace input).steps)
+Says l (ends.Refused line reason) input told out_old out_new r =
+    ((l.trace input).refusal ≡ Some (record { line = line; reason = reason })) × Appends out_old out_new (output (l.trace input).steps)
+    × StandsFor r (world_after opening (l.trace input).steps)
+Says l (ends.Stopped s) input told out_old out_new r = StoppedBehind l s input out_old out_new r
+
+pub record EndsSo (l : Language) (result : End) (input : List ℕ) (told out_old out_new : Option (List ℕ)) (r : Replayer) : Type 0 where
+  pub says : Says l result input told out_old out_new r
+  pub taken : LeavesAllBut (bytes_of_end l result input) told input
+
+-- where an end is a stop, this holds of it
+abbrev pub IfStopped : End → (Stop → Type 0) → Type 0
+IfStopped ends.Done P = ⊤
+IfStopped (ends.Refused line reason) P = ⊤
+IfStopped (ends.Stopped s) P = P s
+
+-- whether an end is a fault of a kind
+abbrev pub ends_with : (Stop → Bool) → End → Bool
+ends_with is_fault ends.Done = false
+ends_with is_fault (ends.Refused line reason) = false
+ends_with is_fault (ends.Stopped s) = is_fault s
+
+-- a call that goes on, or ends the replay
+abbrev pub goes_on_with : (Stop → Bool) → Option End → Bool
+goes_on_with is_fault None = false
+goes_on_with is_fault (Some e) = ends_with is_fault e
+
+-- bytes were read of what was unread, and stand ahead of it behind those that stood there; none only at the end of the source
+abbrev pub ReadsMore : Result ℕ Stop → Option (List ℕ) → Option (List ℕ) → List ℕ → List ℕ → Type 0
+ReadsMore (Ok count) told_old told_new ahead_old ahead_new = PutsAhead told_old told_new ahead_old ahead_new count
+ReadsMore (Err s) told_old told_new ahead_old ahead_new = Keeps told_old told_new × (ahead_new ≡ ahead_old)

@@ -1,0 +1,9 @@
+pub mod Driving
+pub mod Ends
+pub mod Language
+pub mod Reading
+pub mod Replaying
+pub mod Replies
+pub mod Steps
+pub mod Timers
+pub mod Writing

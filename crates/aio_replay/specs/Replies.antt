@@ -1,0 +1,34 @@
+-- What the calls of a timer over a core answer in the trace language, and what can't come of a call.
+use Rattle.std.specs.Prelude.{◌≢◌, ℕ, Option, None, Some, IsSome, Result, Ok, Err, ⊤}
+use Rattle.aio_base.specs.declared.outcomes.Poll.{Poll}
+use Rattle.aio_base.specs.declared.outcomes.Poll.TheVariants.{Ready, Pending}
+use Rattle.aio_base.specs.declared.steps.Answer.{Answer}
+use Rattle.aio_base.specs.declared.steps.Answer.TheVariants as answer
+use Rattle.aio_future.specs.declared.answers.TimerFault.{TimerFault}
+use Rattle.aio_future.specs.declared.answers.TimerFault.TheVariants.{IdsSpent, OutOfMemory, Notify}
+use Rattle.aio_react.specs.declared.refusals.CoreRefusal.{CoreRefusal}
+use Rattle.aio_react.specs.declared.refusals.CoreRefusal.TheVariants as refusal
+
+-- a call that the machine answers, unless memory ran out
+abbrev pub IsTold : {A : Type 0} → (Result A CoreRefusal → Option Answer) → Result A CoreRefusal → Type 0
+IsTold reply called = called ≢ Err refusal.OutOfMemory → IsSome (reply called)
+
+-- a new listener, or why there is none, while numbers are left
+abbrev pub IsListened : Result ℕ CoreRefusal → Type 0
+IsListened (Ok number) = ⊤
+IsListened (Err refusal.NoSource) = ⊤
+IsListened (Err refusal.OutOfMemory) = ⊤
+IsListened (Err refused) = ⊥
+
+-- the faults that a timer can tell over a core with an id left: want of memory alone
+abbrev pub IsHosted : Option TimerFault → Type 0
+IsHosted None = ⊤
+IsHosted (Some IdsSpent) = ⊥
+IsHosted (Some OutOfMemory) = ⊤
+IsHosted (Some (Notify fired fault)) = ⊥
+
+-- the answer to a poll of a timer that told no fault
+abbrev pub tick_reply : Poll (Result ℕ TimerFault) → Option Answer
+tick_reply Pending = Some answer.Pending
+tick_reply (Ready (Ok deadline)) = Some (answer.ReadyAt deadline)
+tick_reply (Ready (Err fault)) = None

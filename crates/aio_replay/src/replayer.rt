@@ -1,0 +1,99 @@
+//! What runs the steps of a trace: a core over the poller in memory, a clock, and the timers by
+//! their numbers.
+
+ghost use Rattle.std.specs.Prelude.{◌≡◌, ◌+◌, ℕ, [], IfOk, OnOk};
+ghost use Rattle.aio_base.specs.Trace.{IsInRange};
+ghost use Rattle.aio_base.specs.World.{opening};
+ghost use Rattle.aio_replay.specs.Replaying.{StandsFor, Replays, IsWithin};
+
+mod calls;
+mod clock;
+mod rounds;
+mod timers;
+
+use aio_base::{Answer, OutOfMemory, Step, Waker};
+use aio_future::Timer;
+use aio_react::{Core, Numbered};
+use aio_script::{ScriptClock, ScriptPoller};
+use std::alloc::{AllocError, Global};
+
+/// A core over the poller in memory, the clock of a trace, and its timers by their numbers from 1.
+#[derive(Drop)]
+pub(crate) struct Replayer {
+    core: Core<ScriptPoller>,
+    clock: ScriptClock,
+    timers: Numbered<Timer>,
+}
+
+impl Replayer {
+    /// A replayer before the first step of a trace. `AllocError` where memory ran out.
+    pub(crate) fn new(alloc: Global) -> Result<Replayer, AllocError>
+        ensures stands { IfOk result (λ replayer. StandsFor replayer opening) }
+        ensures within { IfOk result (λ replayer. IsWithin 0 replayer) }
+    {
+        let Ok(poller) = ScriptPoller::new(alloc) else {
+            return Err(AllocError);
+        };
+        let Ok(core) = Core::new(alloc, poller) else {
+            return Err(AllocError);
+        };
+        Ok(Replayer {
+            core,
+            clock: ScriptClock::new(),
+            timers: Numbered::new(alloc),
+        })
+    }
+
+    /// Runs a step of a trace: its answer, and its wakes in order in place of what `wakes` held.
+    /// `AllocError` where memory ran out. A trace of 1,000,000 steps spends no rounds, tickets or
+    /// ids.
+    pub(crate) fn step(&mut self, step: &Step, wakes: &mut Vec<Waker>) -> Result<Answer, AllocError>
+        requires range { IsInRange step.now }
+        requires within { IsWithin 1000000 self.old }
+        ensures replays { IfOk result (λ answer.
+            Replays step.now answer wakes.new.items self.old self.new) }
+        ensures within { OnOk result ((bound : ℕ) → IsWithin bound self.old
+            → IsWithin (bound + 1) self.new) }
+    {
+        wakes.clear();
+        self.run(step, wakes)
+    }
+
+    /// The core that ran the steps.
+    pub(crate) fn into_core(self) -> Core<ScriptPoller>
+        ensures { result ≡ self.core }
+    {
+        self.core
+    }
+
+    /// Runs a step; its wakes go into `wakes`, which is empty.
+    fn run(&mut self, step: &Step, wakes: &mut Vec<Waker>) -> Result<Answer, AllocError>
+        requires range { IsInRange step.now }
+        requires within { IsWithin 1000000 self.old }
+        requires none { wakes.old.items ≡ [] }
+        ensures { IfOk result (λ answer.
+            Replays step.now answer wakes.new.items self.old self.new) }
+    {
+        match *step {
+            Step::Add => Ok(self.add()),
+            Step::Del(key) => Ok(self.del(key)),
+            Step::Poll(key, dir, waker) => self.poll(key, dir, waker, wakes),
+            Step::New(key, dir) => self.new_listener(key, dir),
+            Step::TimerAt(deadline) => self.add_timer(Timer::at(deadline)),
+            Step::TimerEvery(first, period) => self.add_timer(Timer::every(first, period)),
+            Step::TimerNever => self.add_timer(Timer::never()),
+            Step::Tick(number, waker) => self.tick(number, waker),
+            Step::SetAt(number, deadline) => self.set_at(number, deadline),
+            Step::SetEvery(number, first, period) => self.set_every(number, first, period),
+            Step::End(number) => Ok(self.end(number)),
+            Step::Now(moment) => Ok(self.set_clock(moment)),
+            Step::Note(event) => self.note(event),
+            Step::Fault(which) => Ok(self.fail_next(which)),
+            Step::Interrupt => Ok(self.interrupt_next()),
+            Step::Begin(given) => self.begin(given),
+            Step::Wait => Ok(self.wait()),
+            Step::Finish => self.finish(wakes),
+            _ => unreachable!(),
+        }
+    }
+}

@@ -1,0 +1,51 @@
+//! The steps on sources and listeners.
+
+ghost use Rattle.std.specs.Prelude.{◌≡◌, [], IfOk};
+ghost use Rattle.aio_base.specs.declared.steps.Step.TheVariants as step;
+ghost use Rattle.aio_replay.specs.Replaying.{Replays, IsWithin};
+
+use super::Replayer;
+use crate::replies::{told_add, told_del, told_listen, told_poll};
+use aio_base::{Answer, Dir, Key, Waker};
+use std::alloc::AllocError;
+
+impl Replayer {
+    /// Adds a source.
+    pub fn add(&mut self) -> Answer
+        ensures { Replays step.Add result [] self.old self.new }
+    {
+        told_add(self.core.add())
+    }
+
+    /// Takes a source out.
+    pub fn del(&mut self, key: Key) -> Answer
+        ensures { Replays (step.Del key) result [] self.old self.new }
+    {
+        told_del(self.core.del(key))
+    }
+
+    /// Polls a direction of a source; the waker that lost its place goes into `wakes`, which is
+    /// empty. `AllocError` where there is no memory for it.
+    pub fn poll(
+        &mut self,
+        key: Key,
+        dir: Dir,
+        waker: Waker,
+        wakes: &mut Vec<Waker>,
+    ) -> Result<Answer, AllocError>
+        requires { wakes.old.items ≡ [] }
+        ensures { IfOk result (λ answer.
+            Replays (step.Poll key dir waker) answer wakes.new.items self.old self.new) }
+    {
+        told_poll(self.core.poll(key, dir, waker), wakes)
+    }
+
+    /// Makes a listener of a direction of a source. `AllocError` where memory ran out.
+    pub fn new_listener(&mut self, key: Key, dir: Dir) -> Result<Answer, AllocError>
+        requires { IsWithin 1000000 self.old }
+        ensures { IfOk result (λ answer.
+            Replays (step.New key dir) answer [] self.old self.new) }
+    {
+        told_listen(self.core.listen(key, dir))
+    }
+}

@@ -1,0 +1,147 @@
+//! What the calls of a core and of a timer answered, as answers of the trace language.
+
+ghost use Rattle.std.specs.Prelude.{◌≡◌, ◌≢◌, [], Some, Ok, Err, IfOk};
+ghost use Rattle.aio_future.specs.Timers.{poll_fault, set_fault};
+ghost use Rattle.aio_react.specs.declared.refusals.CoreRefusal.TheVariants as refusal;
+ghost use Rattle.aio_react.specs.Listeners.{listen_reply};
+ghost use Rattle.aio_react.specs.Polls.{poll_reply, poll_wakes};
+ghost use Rattle.aio_react.specs.Replies.{wait_reply};
+ghost use Rattle.aio_react.specs.Sections.{begin_reply, finish_reply};
+ghost use Rattle.aio_react.specs.Sources.{add_reply, del_reply};
+ghost use Rattle.aio_replay.specs.Replies.{IsTold, IsListened, IsHosted, tick_reply};
+
+use aio_base::{Answer, EndWord, Key, Moment, Poll, Waited, Waker};
+use aio_future::TimerFault;
+use aio_react::{CoreRefusal, RoundFault};
+use aio_source::Polled;
+use std::alloc::AllocError;
+
+pub(crate) fn told_add(added: Result<Key, CoreRefusal>) -> Answer
+    ensures { result ≡ add_reply added }
+{
+    match added {
+        Ok(key) => Answer::KeyIs(key),
+        Err(CoreRefusal::AddFault(_)) => Answer::FaultAdd,
+        Err(_) => Answer::Full,
+    }
+}
+
+pub(crate) fn told_del(removed: Result<(), CoreRefusal>) -> Answer
+    ensures { result ≡ del_reply removed }
+{
+    match removed {
+        Ok(()) => Answer::Gone,
+        Err(CoreRefusal::InUse) => Answer::InUse,
+        Err(CoreRefusal::RemoveFault(_)) => Answer::FaultRemove,
+        Err(_) => Answer::NoSource,
+    }
+}
+
+/// Of a poll; the waker that lost its place goes into `wakes`, which is empty. `AllocError` where
+/// there is no memory for it.
+pub(crate) fn told_poll(
+    called: Result<Polled, CoreRefusal>,
+    wakes: &mut Vec<Waker>,
+) -> Result<Answer, AllocError>
+    requires { wakes.old.items ≡ [] }
+    ensures answer { IfOk result (λ answer. answer ≡ poll_reply called) }
+    ensures wakes { IfOk result (λ answer. wakes.new.items ≡ poll_wakes called) }
+{
+    let Ok(polled) = called else {
+        return Ok(Answer::NoSource);
+    };
+    if let Some(replaced) = polled.replaced {
+        wakes.push(replaced)?;
+    }
+    match polled.answer {
+        Poll::Ready(Ok(())) => Ok(Answer::Ready),
+        Poll::Ready(Err(_)) => Ok(Answer::FaultArm),
+        Poll::Pending => Ok(Answer::Pending),
+    }
+}
+
+/// Of a new listener. `AllocError` where memory ran out.
+pub(crate) fn told_listen(listened: Result<u64, CoreRefusal>) -> Result<Answer, AllocError>
+    requires { IsListened listened }
+    ensures memory { IfOk result (λ answer. listened ≢ Err refusal.OutOfMemory) }
+    ensures answer { IfOk result (λ answer. answer ≡ listen_reply listened) }
+{
+    match listened {
+        Ok(number) => Ok(Answer::Listener(number)),
+        Err(CoreRefusal::NoSource) => Ok(Answer::NoSource),
+        Err(CoreRefusal::OutOfMemory) => Err(AllocError),
+        Err(_) => unreachable!(),
+    }
+}
+
+/// Of a round's begin. `AllocError` where memory ran out.
+pub(crate) fn told_begin(
+    begun: Result<(u64, Option<u64>), CoreRefusal>,
+) -> Result<Answer, AllocError>
+    requires { IsTold begin_reply begun }
+    ensures { IfOk result (λ answer. begin_reply begun ≡ Some answer) }
+{
+    match begun {
+        Ok((number, limit)) => Ok(Answer::Begin { number, limit }),
+        Err(CoreRefusal::Locked) => Ok(Answer::Locked),
+        Err(CoreRefusal::OutOfMemory) => Err(AllocError),
+        Err(_) => unreachable!(),
+    }
+}
+
+pub(crate) fn told_wait(waited: Result<Waited, CoreRefusal>) -> Answer
+    ensures { result ≡ wait_reply waited }
+{
+    match waited {
+        Ok(Waited::Given(events)) => Answer::Given(events),
+        Ok(Waited::Interrupted) => Answer::Interrupted,
+        Err(CoreRefusal::WaitFault(_)) => Answer::FaultWait,
+        Err(CoreRefusal::EventsLeft(events)) => Answer::Events(events),
+        Err(_) => Answer::NoRound,
+    }
+}
+
+/// Of a round's end. `AllocError` where memory ran out.
+pub(crate) fn told_finish(
+    finished: Result<Option<RoundFault>, CoreRefusal>,
+) -> Result<Answer, AllocError>
+    requires { IsTold finish_reply finished }
+    ensures { IfOk result (λ answer. finish_reply finished ≡ Some answer) }
+{
+    match finished {
+        Ok(None) => Ok(Answer::End(EndWord::Clean)),
+        Ok(Some(RoundFault::Wait(_))) => Ok(Answer::End(EndWord::FaultWait)),
+        Ok(Some(RoundFault::Arm(_))) => Ok(Answer::End(EndWord::FaultArm)),
+        Err(CoreRefusal::NoRound) => Ok(Answer::NoRound),
+        Err(CoreRefusal::EventsLeft(events)) => Ok(Answer::Events(events)),
+        Err(CoreRefusal::OutOfMemory) => Err(AllocError),
+        Err(_) => unreachable!(),
+    }
+}
+
+/// Of a poll of a timer that had an id left and no notifier that can fail. `AllocError` where memory
+/// ran out.
+pub(crate) fn told_tick(polled: Poll<Result<Moment, TimerFault>>) -> Result<Answer, AllocError>
+    requires { IsHosted (poll_fault polled) }
+    ensures { IfOk result (λ answer. tick_reply polled ≡ Some answer) }
+{
+    match polled {
+        Poll::Ready(Ok(deadline)) => Ok(Answer::ReadyAt(deadline)),
+        Poll::Ready(Err(TimerFault::OutOfMemory)) => Err(AllocError),
+        Poll::Ready(Err(_)) => unreachable!(),
+        Poll::Pending => Ok(Answer::Pending),
+    }
+}
+
+/// Of a timer that was set, with an id left and no notifier that can fail. `AllocError` where memory
+/// ran out.
+pub(crate) fn told_set(set: Result<(), TimerFault>) -> Result<Answer, AllocError>
+    requires { IsHosted (set_fault set) }
+    ensures { IfOk result (λ answer. (answer ≡ Answer.Set) × (set ≡ Ok tt)) }
+{
+    match set {
+        Ok(()) => Ok(Answer::Set),
+        Err(TimerFault::OutOfMemory) => Err(AllocError),
+        Err(_) => unreachable!(),
+    }
+}

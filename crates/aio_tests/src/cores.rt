@@ -1,0 +1,36 @@
+//! What no clause says: that the replay of a trace, called through its bounds, ends and hands back the
+//! core that ran it, where memory is left.
+
+use aio_base::Key;
+use aio_bytes::{MemSink, MemSource, Sink, Source};
+use aio_replay::{ReplayEnd, replay};
+use std::alloc::Global;
+use std::test::Fail;
+
+/// How a replay ended, and what its core says: how many rounds have begun, and whether a source of this
+/// key lives.
+fn ended_with<S: Source, K: Sink>(
+    alloc: Global,
+    input: &mut S,
+    out: &mut K,
+    key: Key,
+) -> (ReplayEnd, Option<(u64, bool)>) {
+    let (end, core) = replay(alloc, input, out);
+    match core {
+        Some(core) => (end, Some((core.ticker(), core.live(key)))),
+        None => (end, None),
+    }
+}
+
+#[test]
+fn a_replay_hands_back_the_core_that_ran_it(rt: HostRuntime) -> Result<(), Fail> {
+    let alloc = rt.alloc();
+    let trace = b"trace 1\nadd\npoll 0 r 7\nevent 0 r\nreact\npoll 0 r 7\n".to_vec(alloc)?;
+    let mut input = MemSource::new(trace, 7, Vec::new(alloc));
+    let mut out = MemSink::new(alloc, Vec::new(alloc));
+    let ended = ended_with(alloc, &mut input, &mut out, Key(0));
+    assert_eq!(rt; ended, (ReplayEnd::Done, Some((1, true))));
+    let answers = b"key 0\npending\nnoted\nround 1 events 1 ok\nwake 7\nready\n".as_slice();
+    assert_eq!(rt; out.bytes(), answers);
+    Ok(())
+}
