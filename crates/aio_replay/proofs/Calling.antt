@@ -20,6 +20,8 @@ use Rattle.aio_react.specs.Meeting.{kind_of, WaitsWithin, Comes, IsAt, Meets}
 use Rattle.aio_react.specs.Numbers.{value_of}
 use Rattle.aio_react.specs.declared.refusals.CoreRefusal.{CoreRefusal}
 use Rattle.aio_react.specs.declared.round.RoundFault.{RoundFault}
+use Rattle.aio_react.specs.declared.outcomes.Reacted.{Reacted}
+use Rattle.aio_react.specs.Reacting.{react_wakes, MeetsRound}
 use Rattle.aio_react.specs.Rounds.{RoundValue}
 use Rattle.aio_react.specs.Sections.{finish_wakes}
 use Rattle.aio_react.specs.Standing.{Stands}
@@ -301,3 +303,26 @@ pub finished_wakes : (finished : Result (Option RoundFault) CoreRefusal) (r : Ro
     → wakes ≡ (if ended then r.taken else []) → wakes ≡ finish_wakes finished r
 finished_wakes (Ok fault) r ended wakes is are = rw is at are
 finished_wakes (Err refused) r ended wakes is are = rw is at are
+
+-- ## A whole round
+
+abbrev MeetsReact : ℕ → List Waker → Script × CoreValue → Script × CoreValue → Answer → Type 0
+MeetsReact now wakes old new reply = MeetsRound (PollerStep ScriptArms ScriptWaits) (λ (p : Script). Some (interests_of p)) None now reply wakes old new
+
+react_replayed : (now : ℕ) (answer : Answer) (wakes : List Waker) (r : Replayer) (new : Script × CoreValue) → now ≡ r.clock → MeetsReact now wakes r.core new answer
+    → Replays step.React answer wakes r (record r { core = new })
+unfolding step_result
+react_replayed now answer wakes r new clock met =
+    called step.React (Some now) _ answer wakes r new met.moves tt clock met.run met.waits met.comes
+
+pub told_round : {E : Type 0} (told : Result Answer E) (reply : Option Answer) (now : ℕ) (wakes : List Waker) (r : Replayer) (new : Script × CoreValue) → now ≡ r.clock
+    → IfOk told (λ a. reply ≡ Some a) → IfSome reply (MeetsReact now wakes r.core new) → IfOk told (λ a. Replays step.React a wakes r (record r { core = new }))
+told_round (Ok a) reply now wakes r new clock is met =
+    react_replayed now a wakes r new clock (subst (λ (o : Option Answer). IfSome o (MeetsReact now wakes r.core new)) is met)
+told_round (Err e) reply now wakes r new clock is met = tt
+
+-- the wakes of a whole round
+pub reacted_wakes : (reacted : Result Reacted CoreRefusal) (r : RoundValue) (ended : Bool) (wakes : List Waker) → ended ≡ is_ok reacted
+    → wakes ≡ (if ended then r.taken else []) → wakes ≡ react_wakes reacted r
+reacted_wakes (Ok round) r ended wakes is are = rw is at are
+reacted_wakes (Err refused) r ended wakes is are = rw is at are
