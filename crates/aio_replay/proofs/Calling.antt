@@ -1,5 +1,5 @@
 -- A call of the core over the poller in memory is the machine's step over the script: the one lemma for all calls.
-use Rattle.std.proofs.Common.{◌≡◌, ◌⊎◌, ℕ, zero, suc, ◌+◌, ◌≤◌, Bool, true, false, if◌then◌else◌, List, [], ◌∷◌, ◌++◌, map, drop, find, length, Option, None, Some, IfSome, Result, Ok, Err, IfOk, is_ok, refl, sym, ap, ◌∙◌, subst, arith, ⊎_elim}
+use Rattle.std.proofs.Common.{◌≡◌, ℕ, zero, suc, ◌+◌, Bool, true, false, if◌then◌else◌, List, [], ◌∷◌, ◌++◌, map, drop, find, Option, None, Some, IfSome, Result, Ok, Err, IfOk, is_ok, refl, sym, ap, ◌∙◌, subst, ⊎_elim}
 use Rattle.std.specs.Prelude.{replicate, ⊤}
 use Rattle.aio_base.specs.declared.names.Event.{Event}
 use Rattle.aio_base.specs.declared.names.TimerId.{TimerId}
@@ -12,8 +12,8 @@ use Rattle.aio_base.specs.declared.steps.Step.TheVariants as step
 use Rattle.aio_base.specs.Devices.{Interests, PollerMove, PollerStep, RunOf}
 use Rattle.aio_base.specs.Machine.{Outcome, is_timer, moved_on, react, case_of, step_result}
 use Rattle.aio_base.specs.Moves.{answer_of}
-use Rattle.aio_base.specs.Script.{fails_where, wait_room, wait_answer, script_answers, after_wait, after_call, after_calls, script_step}
-use Rattle.aio_base.specs.World.{PollerAnswer, Succeeds, World, DueFaults, Registration, TimerEntry}
+use Rattle.aio_base.specs.Script.{fails_where, wait_room, script_answers, after_wait, after_call, after_calls, script_step}
+use Rattle.aio_base.specs.World.{PollerAnswer, World, DueFaults, Registration, TimerEntry}
 use Rattle.aio_future.specs.Timers.{TimerValue}
 use Rattle.aio_react.specs.Cores.{CoreValue}
 use Rattle.aio_react.specs.Meeting.{kind_of, WaitsWithin, Comes, IsAt, Meets}
@@ -26,10 +26,10 @@ use Rattle.aio_react.specs.Rounds.{RoundValue}
 use Rattle.aio_react.specs.Sections.{finish_wakes}
 use Rattle.aio_react.specs.Standing.{Stands}
 use Rattle.aio_replay.specs.declared.replayer.Replayer.{Replayer}
-use Rattle.aio_replay.specs.Replaying.{PollerStands, StandsFor, Gives, Replays}
+use Rattle.aio_replay.specs.Replaying.{PollerStands, StandsFor, Replays}
 use Rattle.aio_replay.specs.Timers.{TimerStands, OnlyAt, OwnsAt, Owns, TimersStand}
 use Rattle.aio_replay.proofs.Asking.{IsCall, Asked, case_does}
-use Rattle.aio_replay.proofs.Leaving.{Leaves, AsksNothing, OnceAtMost, OfARound}
+use Rattle.aio_replay.proofs.Leaving.{Leaves, OnceAtMost}
 use Rattle.aio_replay.proofs.Padding.{AreSuccesses, Pads, Alike, react_alike}
 use Rattle.aio_replay.proofs.Scripted.{told, told_for, run_scripts}
 use Rattle.aio_script.specs.Script.{Script, interests_of, ScriptArms, ScriptWaits}
