@@ -1,5 +1,5 @@
-//! Tests that cross crates: whole traces through the top call, a source over the poller in memory, and
-//! a source in a lock.
+//! Tests that cross crates: whole traces through the top call, a source and a core over the poller in
+//! memory, and a source in a lock.
 //!
 //! They stand above every crate that they use, so that none of those is proved a second time for its
 //! tests. There is no other code here.
@@ -7,6 +7,8 @@
 
 #[cfg(test)]
 mod cells;
+#[cfg(test)]
+mod rounds;
 #[cfg(test)]
 mod sources;
 #[cfg(test)]
