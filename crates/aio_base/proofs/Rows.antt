@@ -313,11 +313,11 @@ unfolding trace_of written_step digits
 an_input_with_a_listener_says_its_steps_in_order = refl
 
 -- no line after it counts
-pub a_line_that_is_not_built_is_refused_after_the_steps_before_it :
-    trace_of (lines (codes "trace 1" ∷ codes "add" ∷ codes "interrupt" ∷ codes "react" ∷ []))
+pub a_line_that_spells_no_step_is_refused_after_the_steps_before_it :
+    trace_of (lines (codes "trace 1" ∷ codes "add" ∷ codes "intermit" ∷ codes "react" ∷ []))
     ≡ record { steps = add ∷ []; refusal = Some (record { line = 3; reason = reason.Stage }) }
 unfolding trace_of written_step digits
-a_line_that_is_not_built_is_refused_after_the_steps_before_it = refl
+a_line_that_spells_no_step_is_refused_after_the_steps_before_it = refl
 
 -- one space between words and no other
 pub a_space_before_a_word_is_no_written_spelling :
@@ -554,10 +554,56 @@ pub a_fault_may_be_of_a_remove : written_step (codes "fault remove") ≡ Some (s
 unfolding written_step digits
 a_fault_may_be_of_a_remove = refl
 
--- it is not built
-pub a_fault_of_a_wait_is_none : written_step (codes "fault wait") ≡ None
+-- one of the calls of the poller
+pub a_fault_may_be_of_a_wait : written_step (codes "fault wait") ≡ Some (step.Fault which.Wait)
 unfolding written_step digits
-a_fault_of_a_wait_is_none = refl
+a_fault_may_be_of_a_wait = refl
+
+-- ## Lines of a round in sections
+
+pub a_begin_line_may_have_no_limit : written_step (codes "begin none") ≡ Some (step.Begin None)
+unfolding written_step digits
+a_begin_line_may_have_no_limit = refl
+
+pub a_begin_line_may_have_the_limit_0 : written_step (codes "begin 0") ≡ Some (step.Begin (Some 0))
+unfolding written_step digits
+a_begin_line_may_have_the_limit_0 = refl
+
+pub the_greatest_limit_is_read : written_step (codes "begin 1000000000000000000") ≡ Some (step.Begin (Some 1000000000000000000))
+unfolding written_step digits
+the_greatest_limit_is_read = refl
+
+pub a_limit_past_the_greatest_is_none : written_step (codes "begin 1000000000000000001") ≡ None
+unfolding written_step digits
+a_limit_past_the_greatest_is_none = refl
+
+pub a_begin_line_has_a_limit : written_step (codes "begin") ≡ None
+unfolding written_step digits
+a_begin_line_has_a_limit = refl
+
+pub a_begin_line_has_one_limit : written_step (codes "begin none 0") ≡ None
+unfolding written_step digits
+a_begin_line_has_one_limit = refl
+
+pub a_wait_line_spells_a_wait : written_step (codes "wait") ≡ Some step.Wait
+unfolding written_step digits
+a_wait_line_spells_a_wait = refl
+
+pub a_wait_line_has_one_word : written_step (codes "wait 0") ≡ None
+unfolding written_step digits
+a_wait_line_has_one_word = refl
+
+pub a_handle_line_spells_the_handling_of_an_event : written_step (codes "handle") ≡ Some step.Handle
+unfolding written_step digits
+a_handle_line_spells_the_handling_of_an_event = refl
+
+pub a_finish_line_spells_the_end_of_a_round : written_step (codes "finish") ≡ Some step.Finish
+unfolding written_step digits
+a_finish_line_spells_the_end_of_a_round = refl
+
+pub an_interrupt_line_spells_an_interrupt : written_step (codes "interrupt") ≡ Some step.Interrupt
+unfolding written_step digits
+an_interrupt_line_spells_an_interrupt = refl
 
 -- only the calls of the poller
 pub a_fault_of_another_call_is_none : written_step (codes "fault del") ≡ None

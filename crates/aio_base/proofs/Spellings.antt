@@ -16,8 +16,8 @@ use Rattle.aio_base.specs.declared.outcomes.Which.{Which}
 use Rattle.aio_base.specs.declared.outcomes.Which.TheVariants as which
 use Rattle.aio_base.specs.declared.steps.Step.{Step}
 use Rattle.aio_base.specs.declared.steps.Step.TheVariants as step
-use Rattle.aio_base.specs.Text.{dir_text, flags_of, flags_text, which_text, spelling}
-use Rattle.aio_base.specs.Trace.{words_of, number_of, moment_of, period_of, dir_of, flags_named, fault_named, alone, del_named, del_of, poll_named, poll_of, new_named, new_of, listener_poll_named, listener_poll_of, drop_named, drop_of, event_named, event_of, fault_of, timer_at_named, timer_every_named, timer_of, tick_named, tick_of, set_at_named, set_every_named, set_of, end_named, end_of, now_named, now_of, step_named, step_of_words, written_step, IsMoment, IsPeriod, IsBuiltFault, IsBuilt, header_text}
+use Rattle.aio_base.specs.Text.{dir_text, flags_of, flags_text, which_text, limit_text, spelling}
+use Rattle.aio_base.specs.Trace.{words_of, number_of, moment_of, period_of, dir_of, flags_named, fault_named, alone, del_named, del_of, poll_named, poll_of, new_named, new_of, listener_poll_named, listener_poll_of, drop_named, drop_of, event_named, event_of, fault_of, timer_at_named, timer_every_named, timer_of, tick_named, tick_of, set_at_named, set_every_named, set_of, end_named, end_of, now_named, now_of, step_named, step_of_words, written_step, IsMoment, IsPeriod, IsLimit, IsBuilt, limit_named, begin_named, begin_of, header_text}
 use Rattle.aio_base.proofs.Words.{words_of_one, numerals, number_of_decimal, number_of_spells, moment_of_decimal, moment_of_spells, period_of_decimal, period_of_spells}
 
 -- ## The words of a step
@@ -40,8 +40,12 @@ words_for (step.End number) = codes "end" ∷ decimal number ∷ []
 words_for (step.Now moment) = codes "now" ∷ decimal moment ∷ []
 words_for (step.Note event) = codes "event" ∷ decimal event.key.0 ∷ flags_text event.on ∷ []
 words_for (step.Fault kind) = codes "fault" ∷ which_text kind ∷ []
+words_for step.Interrupt = codes "interrupt" ∷ []
+words_for (step.Begin limit) = codes "begin" ∷ limit_text limit ∷ []
+words_for step.Wait = codes "wait" ∷ []
+words_for step.Handle = codes "handle" ∷ []
+words_for step.Finish = codes "finish" ∷ []
 words_for step.React = codes "react" ∷ []
-words_for _ = []
 
 -- these are the words of a step that is built
 record Names (words : List (List ℕ)) (s : Step) : Type 0 where
@@ -95,18 +99,22 @@ flags_spell word on e =
           ]
     ]
 
--- a word that names a fault that is built
-fault_spells : (word : List ℕ) (kind : Which) → fault_named word ≡ Some kind → IsBuiltFault kind × (word ≡ which_text kind)
+-- a word that names a call of the poller
+fault_spells : (word : List ℕ) (kind : Which) → fault_named word ≡ Some kind → word ≡ which_text kind
 fault_spells word kind e =
     elim (if_some (bytes_eq word (codes "add")) which.Add kind _ e) [
-      | inl p ↦ (subst IsBuiltFault p.1 tt, same_bytes word (codes "add") p.0 ∙ ap which_text p.1)
+      | inl p ↦ same_bytes word (codes "add") p.0 ∙ ap which_text p.1
       | inr q ↦
           elim (if_some (bytes_eq word (codes "arm")) which.Arm kind _ q.1) [
-            | inl p ↦ (subst IsBuiltFault p.1 tt, same_bytes word (codes "arm") p.0 ∙ ap which_text p.1)
+            | inl p ↦ same_bytes word (codes "arm") p.0 ∙ ap which_text p.1
             | inr q ↦
                 elim (if_some (bytes_eq word (codes "remove")) which.Remove kind _ q.1) [
-                  | inl p ↦ (subst IsBuiltFault p.1 tt, same_bytes word (codes "remove") p.0 ∙ ap which_text p.1)
-                  | inr none ↦ absurd (let f = none.1 in cc)
+                  | inl p ↦ same_bytes word (codes "remove") p.0 ∙ ap which_text p.1
+                  | inr q ↦
+                      elim (if_some (bytes_eq word (codes "wait")) which.Wait kind _ q.1) [
+                        | inl p ↦ same_bytes word (codes "wait") p.0 ∙ ap which_text p.1
+                        | inr none ↦ absurd (let f = none.1 in cc)
+                      ]
                 ]
           ]
     ]
@@ -188,7 +196,7 @@ fault_line_spells : (kind : List ℕ) (s : Step) → fault_of (kind ∷ []) ≡ 
 fault_line_spells kind s e =
     let f = bind_some _ (fault_named kind) s e in
     let by_kind = fault_spells kind f.0 f.1 in
-    let named : Names (codes "fault" ∷ kind ∷ []) (step.Fault f.0) = record { built = by_kind.0; words_are = one_same (codes "fault") by_kind.1 } in
+    let named : Names (codes "fault" ∷ kind ∷ []) (step.Fault f.0) = record { built = tt; words_are = one_same (codes "fault") by_kind } in
     subst (Names (codes "fault" ∷ kind ∷ [])) (same_some _ s f.2) named
 
 timer_at_spells : (moment : List ℕ) (s : Step) → timer_at_named moment ≡ Some s → Names (codes "timer" ∷ codes "at" ∷ moment ∷ []) s
@@ -269,6 +277,32 @@ now_spells moment s e =
     let by_moment = moment_of_spells moment t.0 t.1 in
     let named : Names (codes "now" ∷ moment ∷ []) (step.Now t.0) = record { built = by_moment.1; words_are = one_same (codes "now") by_moment.0 } in
     subst (Names (codes "now" ∷ moment ∷ [])) (same_some _ s t.2) named
+
+same_limit : (x y : Option ℕ) → Some x ≡ Some y → x ≡ y
+same_limit x y e = cc
+
+limit_spells : (word : List ℕ) (limit : Option ℕ) → limit_named word ≡ Some limit → IsLimit limit × (word ≡ limit_text limit)
+limit_spells word limit e =
+    elim (if_some (bytes_eq word (codes "none")) None limit _ e) [
+      | inl p ↦ (subst IsLimit p.1 tt, same_bytes word (codes "none") p.0 ∙ ap limit_text p.1)
+      | inr q ↦
+          let n = bind_some _ (moment_of word) limit q.1 in
+          let by_number = moment_of_spells word n.0 n.1 in
+          let is : Some n.0 ≡ limit = same_limit _ limit n.2 in
+          (subst IsLimit is by_number.1, by_number.0 ∙ ap limit_text is)
+    ]
+
+begin_spells : (limit : List ℕ) (s : Step) → begin_named limit ≡ Some s → Names (codes "begin" ∷ limit ∷ []) s
+begin_spells limit s e =
+    let l = bind_some _ (limit_named limit) s e in
+    let by_limit = limit_spells limit l.0 l.1 in
+    let named : Names (codes "begin" ∷ limit ∷ []) (step.Begin l.0) = record { built = by_limit.0; words_are = one_same (codes "begin") by_limit.1 } in
+    subst (Names (codes "begin" ∷ limit ∷ [])) (same_some _ s l.2) named
+
+places_begin : (places : List (List ℕ)) (s : Step) → begin_of places ≡ Some s → Names (codes "begin" ∷ places) s
+places_begin [] s e = absurd cc
+places_begin (limit ∷ []) s e = begin_spells limit s e
+places_begin (limit ∷ more ∷ words) s e = absurd cc
 
 places_del : (places : List (List ℕ)) (s : Step) → del_of places ≡ Some s → Names (codes "del" ∷ places) s
 places_del [] s e = absurd cc
@@ -359,13 +393,10 @@ places_now [] s e = absurd cc
 places_now (moment ∷ []) s e = now_spells moment s e
 places_now (moment ∷ more ∷ words) s e = absurd cc
 
-places_react : (places : List (List ℕ)) (s : Step) → alone step.React places ≡ Some s → Names (codes "react" ∷ places) s
-places_react [] s e = subst (Names (codes "react" ∷ [])) (same_some step.React s e) (record { built = tt; words_are = refl })
-places_react (word ∷ words) s e = absurd cc
-
-places_add : (places : List (List ℕ)) (s : Step) → alone step.Add places ≡ Some s → Names (codes "add" ∷ places) s
-places_add [] s e = subst (Names (codes "add" ∷ [])) (same_some step.Add s e) (record { built = tt; words_are = refl })
-places_add (word ∷ words) s e = absurd cc
+-- a command with no further word
+places_none : (text : List ℕ) (only : Step) (places : List (List ℕ)) (s : Step) → Names (text ∷ []) only → alone only places ≡ Some s → Names (text ∷ places) s
+places_none text only [] s named e = subst (Names (text ∷ [])) (same_some only s e) named
+places_none text only (word ∷ words) s named e = absurd cc
 
 names_from : (command text : List ℕ) (places : List (List ℕ)) (s : Step) → bytes_eq command text ≡ true → Names (text ∷ places) s → Names (command ∷ places) s
 names_from command text places s same named = subst (λ word. Names (word ∷ places) s) (sym (same_bytes command text same)) named
@@ -384,8 +415,8 @@ command_names : (command : List ℕ) (places : List (List ℕ)) (s : Step) → s
 command_names command places s =
     by_command (codes "poll") command places s (places_poll places s) (
     by_command (codes "event") command places s (places_event places s) (
-    by_command (codes "react") command places s (places_react places s) (
-    by_command (codes "add") command places s (places_add places s) (
+    by_command (codes "react") command places s (places_none (codes "react") step.React places s (record { built = tt; words_are = refl })) (
+    by_command (codes "add") command places s (places_none (codes "add") step.Add places s (record { built = tt; words_are = refl })) (
     by_command (codes "del") command places s (places_del places s) (
     by_command (codes "new") command places s (places_new places s) (
     by_command (codes "step") command places s (places_step places s) (
@@ -395,14 +426,36 @@ command_names command places s =
     by_command (codes "set") command places s (places_set places s) (
     by_command (codes "end") command places s (places_end places s) (
     by_command (codes "now") command places s (places_now places s) (
-    by_command (codes "fault") command places s (places_fault places s) (λ none. absurd cc)
-    )))))))))))))
+    by_command (codes "wait") command places s (places_none (codes "wait") step.Wait places s (record { built = tt; words_are = refl })) (
+    by_command (codes "handle") command places s (places_none (codes "handle") step.Handle places s (record { built = tt; words_are = refl })) (
+    by_command (codes "begin") command places s (places_begin places s) (
+    by_command (codes "finish") command places s (places_none (codes "finish") step.Finish places s (record { built = tt; words_are = refl })) (
+    by_command (codes "fault") command places s (places_fault places s) (
+    by_command (codes "interrupt") command places s (places_none (codes "interrupt") step.Interrupt places s (record { built = tt; words_are = refl })) (λ none. absurd cc)
+    ))))))))))))))))))
 
 words_name : (words : List (List ℕ)) (s : Step) → step_of_words words ≡ Some s → Names words s
 words_name [] s e = absurd cc
 words_name (command ∷ places) s e = command_names command places s e
 
 -- ## From a step to its words and back
+
+false_where_never : (test : Bool) → (test ≡ true → ⊥) → test ≡ false
+false_where_never false never = refl
+false_where_never true never = absurd (never refl)
+
+abbrev first_of : List ℕ → ℕ
+first_of [] = 0
+first_of (b ∷ bytes) = b
+
+-- a list of digits is not the word `none`
+no_digits_spell_none : (digits : List ℕ) → AllDigits 10 digits → bytes_eq digits (codes "none") ≡ false
+no_digits_spell_none [] all = refl
+no_digits_spell_none (d ∷ digits) all =
+    let range = digit_at (d ∷ digits) 0 all (omega arith) in
+    false_where_never (bytes_eq (d ∷ digits) (codes "none")) (λ same.
+        let met : d ≡ 110 = ap first_of (same_bytes (d ∷ digits) (codes "none") same) in
+        omega (arith, range, met))
 
 read_dir : (dir : Dir) → dir_of (dir_text dir) ≡ Some dir
 read_dir Read = refl
@@ -414,11 +467,21 @@ read_flags true false = refl
 read_flags false true = refl
 read_flags true true = refl
 
-read_fault : (kind : Which) → IsBuiltFault kind → fault_named (which_text kind) ≡ Some kind
-read_fault which.Add built = refl
-read_fault which.Arm built = refl
-read_fault which.Remove built = refl
-read_fault which.Wait built = absurd built
+read_fault : (kind : Which) → fault_named (which_text kind) ≡ Some kind
+read_fault which.Add = refl
+read_fault which.Arm = refl
+read_fault which.Remove = refl
+read_fault which.Wait = refl
+
+-- digits do not spell `none`, whose first byte is no digit
+not_none : (n : ℕ) → IsMoment n → bytes_eq (decimal n) (codes "none") ≡ false
+not_none n small = no_digits_spell_none (decimal n) (digits_decimal numerals n (omega arith))
+
+read_limit : (limit : Option ℕ) → IsLimit limit → limit_named (limit_text limit) ≡ Some limit
+read_limit None built = refl
+read_limit (Some n) built =
+    ap (λ (test : Bool). cond test (Some None) (option_and_then (λ n. Some (Some n)) (moment_of (decimal n)))) (not_none n built)
+    ∙ ap (option_and_then (λ n. Some (Some n))) (moment_of_decimal n built)
 
 -- what is read from a built step's words
 read_words : (s : Step) → IsBuilt s → step_of_words (words_for s) ≡ Some s
@@ -455,9 +518,13 @@ read_words (step.Now moment) built = ap (option_and_then (λ t. Some (step.Now t
 read_words (step.Note event) built =
     ap (option_and_then (λ k. option_and_then (λ on. Some (step.Note (record { key = record { 0 = k }; on = on }))) (flags_named (flags_text event.on)))) (number_of_decimal event.key.0 built)
     ∙ ap (option_and_then (λ on. Some (step.Note (record { key = event.key; on = on })))) (read_flags event.on.read event.on.write)
-read_words (step.Fault kind) built = ap (option_and_then (λ failing. Some (step.Fault failing))) (read_fault kind built)
+read_words (step.Fault kind) built = ap (option_and_then (λ failing. Some (step.Fault failing))) (read_fault kind)
+read_words step.Interrupt built = refl
+read_words (step.Begin limit) built = ap (option_and_then (λ l. Some (step.Begin l))) (read_limit limit built)
+read_words step.Wait built = refl
+read_words step.Handle built = refl
+read_words step.Finish built = refl
 read_words step.React built = refl
-read_words _ built = absurd built
 
 -- ## From words to a line and back
 
@@ -480,8 +547,12 @@ joined (step.End number) built = refl
 joined (step.Now moment) built = refl
 joined (step.Note event) built = simp append_assoc
 joined (step.Fault kind) built = refl
+joined step.Interrupt built = refl
+joined (step.Begin limit) built = refl
+joined step.Wait built = refl
+joined step.Handle built = refl
+joined step.Finish built = refl
 joined step.React built = refl
-joined _ built = absurd built
 
 -- digits hold no space
 no_space : (digits : List ℕ) → AllDigits 10 digits → All (λ b. eqb b 32 ≡ false) digits
@@ -522,6 +593,10 @@ fault_last which.Add = refl
 fault_last which.Arm = refl
 fault_last which.Remove = refl
 fault_last which.Wait = refl
+
+limit_last : (limit : Option ℕ) → IsLimit limit → words_of (limit_text limit) ≡ limit_text limit ∷ []
+limit_last None built = refl
+limit_last (Some n) built = moment_last n built
 
 flags_last : (r w : Bool) → words_of (flags_of r w) ≡ flags_of r w ∷ []
 flags_last false false = refl
@@ -570,8 +645,12 @@ parted (step.Note event) built =
     number_then event.key.0 (flags_text event.on) built ∙ ap (λ words. decimal event.key.0 ∷ words) (flags_last event.on.read event.on.write)
     )
 parted (step.Fault kind) built = ap (λ words. codes "fault" ∷ words) (fault_last kind)
+parted step.Interrupt built = refl
+parted (step.Begin limit) built = ap (λ words. codes "begin" ∷ words) (limit_last limit built)
+parted step.Wait built = refl
+parted step.Handle built = refl
+parted step.Finish built = refl
 parted step.React built = refl
-parted _ built = absurd built
 
 -- ## The law
 
@@ -606,6 +685,10 @@ fault_short which.Arm = lit≤ tt
 fault_short which.Remove = lit≤ tt
 fault_short which.Wait = lit≤ tt
 
+limit_short : (limit : Option ℕ) → IsLimit limit → length (limit_text limit) ≤ 19
+limit_short None built = lit≤ tt
+limit_short (Some n) built = length-decimal-le 19 n (omega arith) (omega arith) (omega arith)
+
 number_short : (n : ℕ) → n < 2 ^ 32 → length (decimal n) ≤ 10
 number_short n small = length-decimal-le 10 n (omega arith) (omega arith) (omega arith)
 
@@ -632,16 +715,16 @@ spelling_short (step.End number) built = simp length-append (omega (arith, numbe
 spelling_short (step.Now moment) built = simp length-append (omega (arith, moment_short moment built))
 spelling_short (step.Note event) built = simp length-append (omega (arith, number_short event.key.0 built, flags_short event.on.read event.on.write))
 spelling_short (step.Fault kind) built = simp length-append (omega (arith, fault_short kind))
+spelling_short step.Interrupt built = lit≤ tt
+spelling_short (step.Begin limit) built = simp length-append (omega (arith, limit_short limit built))
+spelling_short step.Wait built = lit≤ tt
+spelling_short step.Handle built = lit≤ tt
+spelling_short step.Finish built = lit≤ tt
 spelling_short step.React built = lit≤ tt
-spelling_short _ built = absurd built
 
 none_where_never : {A : Type 0} (o : Option A) → ((x : A) → o ≡ Some x → ⊥) → o ≡ None
 none_where_never None never = refl
 none_where_never (Some x) never = absurd (never x refl)
-
-false_where_never : (test : Bool) → (test ≡ true → ⊥) → test ≡ false
-false_where_never false never = refl
-false_where_never true never = absurd (never refl)
 
 -- a line of more than 256 bytes spells no step
 pub long_line_spells_none : (line : List ℕ) → 257 ≤ length line → written_step line ≡ None

@@ -17,6 +17,8 @@ pub mod Storings
 pub mod Succession
 pub mod Between
 pub mod Text
+pub mod Lines
+pub mod Generated
 pub mod Trace
 pub mod Moves
 pub mod SharedWords

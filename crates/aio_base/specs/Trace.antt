@@ -1,5 +1,5 @@
 -- What an input says: its lines, the steps that they spell, and the line that is refused.
-use Rattle.std.specs.Prelude.{ℕ, ◌+◌, ◌-◌, ◌*◌, ◌^◌, ◌<◌, ◌≤◌, true, false, ◌&&◌, ◌==◌, nat_lt, if◌then◌else◌, List, [], ◌∷◌, Option, None, Some, option_and_then, codes, decimal, bytes_eq}
+use Rattle.std.specs.Prelude.{ℕ, ◌+◌, ◌-◌, ◌*◌, ◌^◌, ◌<◌, true, false, ◌&&◌, ◌==◌, nat_lt, if◌then◌else◌, List, [], ◌∷◌, Option, None, Some, option_and_then, codes, decimal, bytes_eq}
 use Rattle.std.specs.List.{slice_split}
 use Rattle.aio_base.specs.declared.names.Dir.{Dir}
 use Rattle.aio_base.specs.declared.names.Dir.TheVariants.{Read, Write}
@@ -10,6 +10,7 @@ use Rattle.aio_base.specs.declared.steps.Step.{Step}
 use Rattle.aio_base.specs.declared.steps.Step.TheVariants as step
 use Rattle.aio_base.specs.declared.steps.Reason.{Reason}
 use Rattle.aio_base.specs.declared.steps.Reason.TheVariants as reason
+pub use Rattle.aio_base.specs.Lines.{IsMoment, IsPeriod, IsInRange}
 
 infixl 10 ◌>>=◌
 abbrev pub ◌>>=◌ : {A B : Type 0} → Option A → (A → Option B) → Option B
@@ -64,12 +65,17 @@ flags_named word =
     else (if bytes_eq word (codes "w") then Some (record { read = false; write = true })
     else (if bytes_eq word (codes "rw") then Some (record { read = true; write = true }) else None)))
 
--- a call of the poller whose failing is built
+-- a call of the poller
 abbrev pub fault_named : List ℕ → Option Which
 fault_named word =
     if bytes_eq word (codes "add") then Some which.Add
     else (if bytes_eq word (codes "arm") then Some which.Arm
-    else (if bytes_eq word (codes "remove") then Some which.Remove else None))
+    else (if bytes_eq word (codes "remove") then Some which.Remove
+    else (if bytes_eq word (codes "wait") then Some which.Wait else None)))
+
+-- the limit of a round's waits: `none`, or a number of nanoseconds of at most 10^18
+abbrev pub limit_named : List ℕ → Option (Option ℕ)
+limit_named word = if bytes_eq word (codes "none") then Some None else (moment_of word >>= λ n. Some (Some n))
 
 -- a step whose line has no further word
 abbrev pub alone : Step → List (List ℕ) → Option Step
@@ -168,6 +174,13 @@ abbrev pub now_of : List (List ℕ) → Option Step
 now_of (moment ∷ []) = now_named moment
 now_of _ = None
 
+abbrev pub begin_named : List ℕ → Option Step
+begin_named limit = limit_named limit >>= λ l. Some (step.Begin l)
+
+abbrev pub begin_of : List (List ℕ) → Option Step
+begin_of (limit ∷ []) = begin_named limit
+begin_of _ = None
+
 abbrev pub step_named : List ℕ → List (List ℕ) → Option Step
 step_named command places =
     if bytes_eq command (codes "poll") then poll_of places
@@ -183,31 +196,27 @@ step_named command places =
     else (if bytes_eq command (codes "set") then set_of places
     else (if bytes_eq command (codes "end") then end_of places
     else (if bytes_eq command (codes "now") then now_of places
-    else (if bytes_eq command (codes "fault") then fault_of places else None)))))))))))))
+    else (if bytes_eq command (codes "wait") then alone step.Wait places
+    else (if bytes_eq command (codes "handle") then alone step.Handle places
+    else (if bytes_eq command (codes "begin") then begin_of places
+    else (if bytes_eq command (codes "finish") then alone step.Finish places
+    else (if bytes_eq command (codes "fault") then fault_of places
+    else (if bytes_eq command (codes "interrupt") then alone step.Interrupt places else None))))))))))))))))))
 
 abbrev pub step_of_words : List (List ℕ) → Option Step
 step_of_words [] = None
 step_of_words (command ∷ places) = step_named command places
 
--- The step whose written spelling this line is, among the lines that are built: `add`, `del`, `poll`, `new`, `step`, `drop`, `timer` in its
--- three forms, `tick`, `set` in its two forms, `end`, `now`, `event`, `fault` of another call than `wait`, and `react`.
+-- The step whose written spelling this line is.
 unfoldable pub written_step : List ℕ → Option Step
 written_step line = step_of_words (words_of line)
 
--- a moment is at most 10^18 nanoseconds
-abbrev pub IsMoment : ℕ → Type 0
-IsMoment moment = moment ≤ 10 ^ 18
+-- a limit, where there is one, is at most 10^18 nanoseconds
+abbrev pub IsLimit : Option ℕ → Type 0
+IsLimit None = Unit {0}
+IsLimit (Some limit) = IsMoment limit
 
--- a period is 1 to 10^18 nanoseconds
-abbrev pub IsPeriod : ℕ → Type 0
-IsPeriod period = (1 ≤ period) × (period ≤ 10 ^ 18)
-
--- a fault of a call of the poller, among the faults that are built: those of every call but a wait
-abbrev pub IsBuiltFault : Which → Type 0
-IsBuiltFault which.Wait = ⊥
-IsBuiltFault _ = Unit {0}
-
--- a step of the lines that are built, with numbers that a line can hold
+-- a step with numbers that a line can hold
 abbrev pub IsBuilt : Step → Type 0
 IsBuilt step.Add = Unit {0}
 IsBuilt (step.Del key) = key.0 < 2 ^ 32
@@ -224,16 +233,13 @@ IsBuilt (step.SetEvery number deadline period) = (number < 2 ^ 32) × IsMoment d
 IsBuilt (step.End number) = number < 2 ^ 32
 IsBuilt (step.Now moment) = IsMoment moment
 IsBuilt (step.Note event) = event.key.0 < 2 ^ 32
-IsBuilt (step.Fault kind) = IsBuiltFault kind
+IsBuilt (step.Fault kind) = Unit {0}
+IsBuilt step.Interrupt = Unit {0}
+IsBuilt (step.Begin limit) = IsLimit limit
+IsBuilt step.Wait = Unit {0}
+IsBuilt step.Handle = Unit {0}
+IsBuilt step.Finish = Unit {0}
 IsBuilt step.React = Unit {0}
-IsBuilt _ = ⊥
-
--- a step in range: its period, if it has one, is a period, and its limit, if it has one, at most 10^18 nanoseconds
-abbrev pub IsInRange : Step → Type 0
-IsInRange (step.TimerEvery deadline period) = IsPeriod period
-IsInRange (step.SetEvery number deadline period) = IsPeriod period
-IsInRange (step.Begin (Some limit)) = limit ≤ 10 ^ 18
-IsInRange _ = Unit {0}
 
 -- ## The steps of an input, and the line that is refused
 
@@ -259,7 +265,7 @@ with_step s trace = record trace { steps = s ∷ trace.steps }
 abbrev pub line_limit : ℕ
 line_limit = 1000000
 
--- a line that spells no step that is built is refused, and nothing after it counts
+-- a line that spells no step is refused, and nothing after it counts
 abbrev pub trace_after : ℕ → Option Step → Trace → Trace
 trace_after line None rest = refused line reason.Stage
 trace_after line (Some s) rest = with_step s rest

@@ -24,8 +24,8 @@ ghost use Rattle.aio_base.specs.declared.names.Waker.{Waker};
 ghost use Rattle.aio_base.specs.declared.steps.Answer.{Answer};
 ghost use Rattle.aio_base.specs.declared.steps.Step.{Step};
 
-/// A line spells at most one step: it spells a step exactly where that is built and the line is its
-/// written spelling.
+/// A line spells at most one step: it spells a step exactly where it is the step's written spelling,
+/// with numbers that a line can hold.
 pub fn a_line_spells_one_step()
     ensures reads { (line : List ℕ) (s : Step)
         → written_step line ≡ Some s → IsBuilt s × (spelling s ≡ line) }

@@ -8,6 +8,7 @@
 #![tactic(auto)]
 
 pub mod devices;
+pub mod draws;
 pub mod freshness;
 pub mod later;
 pub mod laws;
@@ -24,6 +25,7 @@ mod tests;
 pub mod word_laws;
 
 pub use devices::{Arm, EventWait, Faults, Poller};
+pub use draws::Draws;
 pub use later::Later;
 pub use names::{DIRS, Dir, Event, Interest, Key, Moment, TimerId, Waker};
 pub use notes::{LockSeat, LockView, Noted};

@@ -7,6 +7,7 @@ ghost use Rattle.aio_base.specs.Devices.{ArmCall, ArmOf, Armed, Awaited, Arms, B
 ghost use Rattle.aio_base.specs.Waits.{IsCountOf};
 
 use crate::devices::{Arm, EventWait, Faults, Poller};
+use crate::draws::Draws;
 use crate::names::{Event, Interest, Key, Moment};
 use crate::outcomes::{Failed, Waited};
 use std::test::Fail;
@@ -180,5 +181,13 @@ fn a_moment_is_at_most_the_last(rt: HostRuntime) {
             moment,
             "at {nanoseconds}"
         );
+    }
+}
+
+#[test]
+fn numbers_are_drawn_from_their_seed(rt: HostRuntime) {
+    let mut draws = Draws::new(0);
+    for number in [0, 4_232_237, 178_803_790, 758_674_372, 1_565_954_732] {
+        assert_eq!(rt; draws.draw(), number);
     }
 }

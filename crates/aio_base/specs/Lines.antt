@@ -1,0 +1,298 @@
+-- The language of a line, in words: which step a line reads as, in any of its spellings; the one spelling in which a step is written; and what
+-- is wrong with a line that reads as none.
+use Rattle.std.specs.Prelude.{◌≡◌, ℕ, ◌^◌, ◌≤◌, Bool, true, false, ◌&&◌, ◌||◌, ◌==◌, nat_le, nat_lt, if◌then◌else◌, List, [], ◌∷◌, length, filter, find, Option, None, Some, codes, decimal, bytes_eq}
+use Rattle.std.specs.List.{list_all, list_any, slice_split, join_with_byte}
+use Rattle.std.specs.Option.{option_map_or}
+use Rattle.std.specs.Str.{all_ascii_digits}
+use Rattle.std.specs.Str.Parse.{digits_value}
+use Rattle.aio_base.specs.declared.steps.LineFault.{LineFault}
+use Rattle.aio_base.specs.declared.steps.LineFault.TheVariants as fault
+use Rattle.aio_base.specs.declared.steps.Step.{Step}
+use Rattle.aio_base.specs.declared.steps.Step.TheVariants as step
+use Rattle.aio_base.specs.Text.{dir_text, flags_text, which_text}
+
+-- ## The words of a line
+
+-- words are parted by spaces and tabs
+abbrev pub is_blank : ℕ → Bool
+is_blank b = (b == 32) || (b == 9)
+
+-- the bytes that a line may hold: those that are printed and no space, and blanks
+abbrev pub is_allowed : ℕ → Bool
+is_allowed b = is_blank b || (nat_le 33 b && nat_le b 126)
+
+-- a line without the one carriage return that may stand at its end, and counts as a space there
+abbrev pub body_of : List ℕ → List ℕ
+body_of [] = []
+body_of (b ∷ []) = if b == 13 then [] else b ∷ []
+body_of (b ∷ c ∷ bytes) = b ∷ body_of (c ∷ bytes)
+
+-- a word has a byte
+abbrev pub is_word : List ℕ → Bool
+is_word [] = false
+is_word (b ∷ bytes) = true
+
+-- the words of a text: what stands between its blanks, before the first and behind the last
+abbrev pub words_in : List ℕ → List (List ℕ)
+words_in text = filter is_word (slice_split is_blank text)
+
+-- the most bytes of a line, its carriage return counted
+abbrev pub line_bytes : ℕ
+line_bytes = 256
+
+-- ## Numbers
+
+-- the number that a word of one decimal digit or more stands for, with leading zeros or without; another word stands for none
+abbrev pub numeral : List ℕ → Option ℕ
+numeral word = if is_word word && all_ascii_digits word then Some (digits_value 10 word) else None
+
+-- the greatest key, waker, and number of a listener or a timer
+abbrev pub last_number : ℕ
+last_number = 4294967295
+
+-- the greatest moment, period and limit, in nanoseconds
+abbrev pub last_moment : ℕ
+last_moment = 10 ^ 18
+
+-- a number in a range, its ends among it
+abbrev pub is_from_to : ℕ → ℕ → ℕ → Bool
+is_from_to low high n = nat_le low n && nat_le n high
+
+-- ## Steps with a spelling
+
+-- a moment is at most 10^18 nanoseconds
+abbrev pub IsMoment : ℕ → Type 0
+IsMoment moment = moment ≤ 10 ^ 18
+
+-- a period is 1 to 10^18 nanoseconds
+abbrev pub IsPeriod : ℕ → Type 0
+IsPeriod period = (1 ≤ period) × (period ≤ 10 ^ 18)
+
+-- a step in range: its period, if it has one, is a period, and its limit, if it has one, at most 10^18 nanoseconds
+abbrev pub IsInRange : Step → Type 0
+IsInRange (step.TimerEvery deadline period) = IsPeriod period
+IsInRange (step.SetEvery number deadline period) = IsPeriod period
+IsInRange (step.Begin (Some limit)) = limit ≤ 10 ^ 18
+IsInRange _ = Unit {0}
+
+-- a step that a line can spell: each number is in the range of its place. What this asks beside `IsInRange` each value of the type `Step` meets.
+abbrev pub HasSpelling : Step → Type 0
+HasSpelling (step.Del key) = key.0 ≤ last_number
+HasSpelling (step.Poll key dir waker) = (key.0 ≤ last_number) × (waker.0 ≤ last_number)
+HasSpelling (step.New key dir) = key.0 ≤ last_number
+HasSpelling (step.StepEar number waker) = (number ≤ last_number) × (waker.0 ≤ last_number)
+HasSpelling (step.DropEar number) = number ≤ last_number
+HasSpelling (step.TimerAt deadline) = IsMoment deadline
+HasSpelling (step.TimerEvery deadline period) = IsMoment deadline × IsPeriod period
+HasSpelling (step.Tick number waker) = (number ≤ last_number) × (waker.0 ≤ last_number)
+HasSpelling (step.SetAt number deadline) = (number ≤ last_number) × IsMoment deadline
+HasSpelling (step.SetEvery number deadline period) = (number ≤ last_number) × IsMoment deadline × IsPeriod period
+HasSpelling (step.End number) = number ≤ last_number
+HasSpelling (step.Now moment) = IsMoment moment
+HasSpelling (step.Note event) = event.key.0 ≤ last_number
+HasSpelling (step.Begin (Some limit)) = limit ≤ 10 ^ 18
+HasSpelling _ = Unit {0}
+
+-- ## The words of a step
+
+-- a word of a step: these bytes, or any spelling of this number
+pub data StepWord : Type 0 where
+  Text : List ℕ → StepWord
+  Number : ℕ → StepWord
+
+abbrev pub limit_word : Option ℕ → StepWord
+limit_word None = Text (codes "none")
+limit_word (Some limit) = Number limit
+
+abbrev pub step_words : Step → List StepWord
+step_words step.Add = Text (codes "add") ∷ []
+step_words (step.Del key) = Text (codes "del") ∷ Number key.0 ∷ []
+step_words (step.Poll key dir waker) = Text (codes "poll") ∷ Number key.0 ∷ Text (dir_text dir) ∷ Number waker.0 ∷ []
+step_words (step.New key dir) = Text (codes "new") ∷ Number key.0 ∷ Text (dir_text dir) ∷ []
+step_words (step.StepEar number waker) = Text (codes "step") ∷ Number number ∷ Number waker.0 ∷ []
+step_words (step.DropEar number) = Text (codes "drop") ∷ Number number ∷ []
+step_words (step.TimerAt deadline) = Text (codes "timer") ∷ Text (codes "at") ∷ Number deadline ∷ []
+step_words (step.TimerEvery deadline period) = Text (codes "timer") ∷ Text (codes "every") ∷ Number deadline ∷ Number period ∷ []
+step_words step.TimerNever = Text (codes "timer") ∷ Text (codes "never") ∷ []
+step_words (step.Tick number waker) = Text (codes "tick") ∷ Number number ∷ Number waker.0 ∷ []
+step_words (step.SetAt number deadline) = Text (codes "set") ∷ Number number ∷ Text (codes "at") ∷ Number deadline ∷ []
+step_words (step.SetEvery number deadline period) = Text (codes "set") ∷ Number number ∷ Text (codes "every") ∷ Number deadline ∷ Number period ∷ []
+step_words (step.End number) = Text (codes "end") ∷ Number number ∷ []
+step_words (step.Now moment) = Text (codes "now") ∷ Number moment ∷ []
+step_words (step.Note event) = Text (codes "event") ∷ Number event.key.0 ∷ Text (flags_text event.on) ∷ []
+step_words (step.Fault kind) = Text (codes "fault") ∷ Text (which_text kind) ∷ []
+step_words step.Interrupt = Text (codes "interrupt") ∷ []
+step_words (step.Begin limit) = Text (codes "begin") ∷ limit_word limit ∷ []
+step_words step.Wait = Text (codes "wait") ∷ []
+step_words step.Handle = Text (codes "handle") ∷ []
+step_words step.Finish = Text (codes "finish") ∷ []
+step_words step.React = Text (codes "react") ∷ []
+
+-- ## Reading and writing
+
+-- whether a word of a line is this word of a step
+abbrev pub Spells : List ℕ → StepWord → Type 0
+Spells word (Text text) = word ≡ text
+Spells word (Number n) = numeral word ≡ Some n
+
+-- the words of a line are these words of a step, one by one
+abbrev pub SpellAll : List (List ℕ) → List StepWord → Type 0
+SpellAll [] [] = Unit {0}
+SpellAll (word ∷ words) (w ∷ ws) = Spells word w × SpellAll words ws
+SpellAll _ _ = ⊥
+
+-- A line, without its line feed, reads as a step: it is not too long and holds allowed bytes, and its words are those of the step, each number
+-- in any of its spellings and in the range of its place.
+pub record Reads (s : Step) (line : List ℕ) : Type 0 where
+  pub in_range : HasSpelling s
+  pub short : length line ≤ line_bytes
+  pub allowed : list_all is_allowed (body_of line) ≡ true
+  pub spelled : SpellAll (words_in (body_of line)) (step_words s)
+
+-- a word as it is written: a number without leading zeros
+abbrev pub written_word : StepWord → List ℕ
+written_word (Text text) = text
+written_word (Number n) = decimal n
+
+abbrev pub written_words : List StepWord → List (List ℕ)
+written_words [] = []
+written_words (w ∷ ws) = written_word w ∷ written_words ws
+
+-- the one written spelling of a step, without its line feed: its words with one space between them
+unfoldable pub written_line : Step → List ℕ
+written_line s = join_with_byte 32 (written_words (step_words s))
+
+-- the line, without its line feed, is the written spelling of the step
+abbrev pub Written : Step → List ℕ → Type 0
+Written s line = HasSpelling s × (line ≡ written_line s)
+
+-- ## Faults
+
+-- what a place of a line asks of its word
+pub data Asked : Type 0 where
+  ANumber : Asked
+  AMoment : Asked
+  APeriod : Asked
+  ALimit : Asked
+  ADirection : Asked
+  SomeFlags : Asked
+
+abbrev pub is_one_of : List (List ℕ) → List ℕ → Bool
+is_one_of texts word = list_any (λ text. bytes_eq word text) texts
+
+-- a word that spells a number in this range
+abbrev pub is_numeral_of : ℕ → ℕ → List ℕ → Bool
+is_numeral_of low high word = option_map_or (is_from_to low high) (numeral word) false
+
+-- whether a word is what the place asks
+abbrev pub suits : Asked → List ℕ → Bool
+suits ANumber word = is_numeral_of 0 last_number word
+suits AMoment word = is_numeral_of 0 last_moment word
+suits APeriod word = is_numeral_of 1 last_moment word
+suits ALimit word = bytes_eq word (codes "none") || is_numeral_of 0 last_moment word
+suits ADirection word = is_one_of (codes "r" ∷ codes "w" ∷ []) word
+suits SomeFlags word = is_one_of (codes "-" ∷ codes "r" ∷ codes "w" ∷ codes "rw" ∷ []) word
+
+-- the fault of a word that is not what the place asks
+abbrev pub fault_at : Asked → LineFault
+fault_at ADirection = fault.Direction
+fault_at SomeFlags = fault.Flags
+fault_at _ = fault.Number
+
+-- a word that may be chosen, and the places behind it
+pub record Choice : Type 0 where
+  pub word : List ℕ
+  pub places : List Asked
+
+-- a form of lines: its command, the places behind that, and then one choice where any is listed
+pub record Form : Type 0 where
+  pub command : List ℕ
+  pub places : List Asked
+  pub choices : List Choice
+
+-- a form without a choice
+abbrev pub plain : List ℕ → List Asked → Form
+plain command places = record { command = command; places = places; choices = [] }
+
+abbrev pub choose : List ℕ → List Asked → Choice
+choose word places = record { word = word; places = places }
+
+-- the forms of the language
+abbrev pub forms : List Form
+forms =
+    plain (codes "add") []
+    ∷ plain (codes "del") (ANumber ∷ [])
+    ∷ plain (codes "poll") (ANumber ∷ ADirection ∷ ANumber ∷ [])
+    ∷ plain (codes "new") (ANumber ∷ ADirection ∷ [])
+    ∷ plain (codes "step") (ANumber ∷ ANumber ∷ [])
+    ∷ plain (codes "drop") (ANumber ∷ [])
+    ∷ record {
+      command = codes "timer";
+      places = [];
+      choices = choose (codes "at") (AMoment ∷ []) ∷ choose (codes "every") (AMoment ∷ APeriod ∷ []) ∷ choose (codes "never") [] ∷ [];
+    }
+    ∷ plain (codes "tick") (ANumber ∷ ANumber ∷ [])
+    ∷ record {
+      command = codes "set";
+      places = ANumber ∷ [];
+      choices = choose (codes "at") (AMoment ∷ []) ∷ choose (codes "every") (AMoment ∷ APeriod ∷ []) ∷ [];
+    }
+    ∷ plain (codes "end") (ANumber ∷ [])
+    ∷ plain (codes "now") (AMoment ∷ [])
+    ∷ plain (codes "event") (ANumber ∷ SomeFlags ∷ [])
+    ∷ record {
+      command = codes "fault";
+      places = [];
+      choices = choose (codes "add") [] ∷ choose (codes "arm") [] ∷ choose (codes "remove") [] ∷ choose (codes "wait") [] ∷ [];
+    }
+    ∷ plain (codes "interrupt") []
+    ∷ plain (codes "begin") (ALimit ∷ [])
+    ∷ plain (codes "wait") []
+    ∷ plain (codes "handle") []
+    ∷ plain (codes "finish") []
+    ∷ plain (codes "react") []
+    ∷ []
+
+abbrev pub form_named : List ℕ → Option Form
+form_named word = find (λ (form : Form). bytes_eq word form.command) forms
+
+abbrev pub choice_named : List Choice → List ℕ → Option Choice
+choice_named choices word = find (λ (choice : Choice). bytes_eq word choice.word) choices
+
+-- no word may follow
+abbrev pub no_more : List (List ℕ) → Option LineFault
+no_more [] = None
+no_more (word ∷ words) = Some fault.Count
+
+-- The first fault of these words, the first of which stand in these places: a word that is not what its place asks, or a place without a word;
+-- else that of the words behind the places.
+abbrev pub fault_in : List Asked → (List (List ℕ) → Option LineFault) → List (List ℕ) → Option LineFault
+fault_in [] behind words = behind words
+fault_in (place ∷ places) behind [] = Some fault.Count
+fault_in (place ∷ places) behind (word ∷ words) = if suits place word then fault_in places behind words else Some (fault_at place)
+
+abbrev pub fault_of_chosen : Option Choice → List (List ℕ) → Option LineFault
+fault_of_chosen None words = Some fault.Choice
+fault_of_chosen (Some choice) words = fault_in choice.places no_more words
+
+-- the first fault of words that begin with one of these choices; where there is nothing to choose no word may follow
+abbrev pub fault_of_choice : List Choice → List (List ℕ) → Option LineFault
+fault_of_choice [] words = no_more words
+fault_of_choice (choice ∷ choices) [] = Some fault.Count
+fault_of_choice (choice ∷ choices) (word ∷ words) = fault_of_chosen (choice_named (choice ∷ choices) word) words
+
+abbrev pub fault_in_form : Option Form → List (List ℕ) → Option LineFault
+fault_in_form None words = Some fault.Command
+fault_in_form (Some form) words = fault_in form.places (fault_of_choice form.choices) words
+
+-- the first fault of a line's words, read from left to right
+abbrev pub fault_of_words : List (List ℕ) → Option LineFault
+fault_of_words [] = Some fault.Empty
+fault_of_words (command ∷ words) = fault_in_form (form_named command) words
+
+-- The fault of a line without its line feed, or none: that it is too long, then a byte that is not allowed, wherever it stands, then the first
+-- fault of its words.
+unfoldable pub fault_of : List ℕ → Option LineFault
+fault_of line =
+    if nat_lt line_bytes (length line) then Some fault.Long
+    else (if list_all is_allowed (body_of line) then fault_of_words (words_in (body_of line)) else Some fault.Byte)
