@@ -15,7 +15,7 @@ use Rattle.aio_base.specs.declared.steps.Answer.{Answer}
 use Rattle.aio_base.specs.declared.steps.Answer.TheVariants as replies
 use Rattle.aio_base.specs.declared.steps.Step.{Step}
 use Rattle.aio_base.specs.Devices.{Interests, ArmCall, Arms, WaitCall, PollerMove, PollerStep, Armed, RunOf}
-use Rattle.aio_base.specs.Machine.{Outcome, case_of, step_result, hand_of, pending}
+use Rattle.aio_base.specs.Machine.{Outcome, armed_world, broken_world, case_of, step_result, hand_of, pending}
 use Rattle.aio_base.specs.Moves.{answer_of}
 use Rattle.aio_base.specs.World.{PollerAnswer, World, BrokenSource, without_broken, set_armed, is_broken, is_armed, has_dir}
 use Rattle.aio_base.specs.World as machine
@@ -109,63 +109,77 @@ broken_here broken b =
 
 -- ## The arm
 
-none_asked : (dir : Dir) → IsTrue (has_dir NONE dir) → (b : Bool) → IsTrue b
+pub none_asked : (dir : Dir) → IsTrue (has_dir NONE dir) → (b : Bool) → IsTrue b
 none_asked Read wants b = absurd (false≢true wants)
 none_asked Write wants b = absurd (false≢true wants)
+
+-- the source armed, within any bound of the past
+pub armed_stands : (bound : ℕ) (told told' : Option Interests) (core : CoreValue) (w : World) (serial : ℕ) (e : SourceEntry)
+    → StandsWithin bound told core w → entry_at core.sources e.source.key.0 ≡ Some e → serial_in w.live e.source.key.0 ≡ Some serial
+    → Arms told (arm_of e.source) (Ok tt) told'
+    → StandsWithin bound told' (with_source core e.source.key.0 (with_state e (settled true (Ok tt) e.source))) (armed_world w e.source.key.0 serial)
+armed_stands bound told told' core w serial e stands is found arms =
+    let key = e.source.key.0 in
+    let before = source_found core w key serial e stands.sources is found in
+    let wants = wanted_stands core.listeners e.source w serial (is_broken w serial) stands.sound.listeners.only_polled_hold before in
+    source_changes bound told told' core w key serial e (settled true (Ok tt) e.source) w.poll_waiters w.marks (without_broken w.broken serial) (set_armed w.armed key (machine.wanted w serial))
+    stands is found
+    (record {
+      now = record { each = before.each; broken_is = without_unbroken w.broken serial };
+      listeners = λ dir. refl;
+      aside = λ other apart. record { broken_is = unbroken_aside w.broken serial other apart; facts_are = λ dir. refl };
+      armed_aside = λ k dir apart. armed_aside w.armed key (machine.wanted w serial) k dir apart;
+      marks_before = stands.sound.past.marks_before;
+      tells = tells_armed told told' w.armed e.source.key (wanted e.source.directions) (machine.wanted w serial) wants stands.tells arms;
+      asked = λ dir asks. ap (λ (b : Bool). b || is_in_hand (hand_of w.round) key) (armed_here w.armed key (machine.wanted w serial) dir ∙ wants dir ∙ asks);
+    })
+
+-- and one whose arm failed
+pub failed_stands : (bound : ℕ) (told told' : Option Interests) (core : CoreValue) (w : World) (serial : ℕ) (e : SourceEntry)
+    → StandsWithin bound told core w → entry_at core.sources e.source.key.0 ≡ Some e → serial_in w.live e.source.key.0 ≡ Some serial
+    → Arms told (arm_of e.source) (Err (record {})) told'
+    → StandsWithin bound told' (with_source core e.source.key.0 (with_state e (settled true (Err (record {})) e.source))) (broken_world w serial)
+failed_stands bound told told' core w serial e stands is found arms =
+    let key = e.source.key.0 in
+    let b : BrokenSource = record { serial = serial; position = w.pos } in
+    let before = source_found core w key serial e stands.sources is found in
+    source_changes bound told told' core w key serial e (settled true (Err (record {})) e.source) w.poll_waiters w.marks (without_broken w.broken serial ++ b ∷ []) w.armed
+    stands is found
+    (record {
+      now = record { each = before.each; broken_is = broken_here w.broken b };
+      listeners = λ dir. refl;
+      aside = λ other apart. record { broken_is = broken_aside w.broken b other apart; facts_are = λ dir. refl };
+      armed_aside = λ k dir apart. refl;
+      marks_before = stands.sound.past.marks_before;
+      tells = tells_unarmed told told' w.armed (arm_of e.source) stands.tells arms;
+      asked = λ dir asks. none_asked dir asks (is_armed w.armed key dir || is_in_hand (hand_of w.round) key);
+    })
 
 armed_within : (told told' : Option Interests) (core : CoreValue) (w : World) (serial : ℕ) (e : SourceEntry) (wakes : List Waker) (later : List PollerAnswer)
     → StandsWithin (w.pos + 1) told core w → entry_at core.sources e.source.key.0 ≡ Some e → serial_in w.live e.source.key.0 ≡ Some serial
     → Arms told (arm_of e.source) (Ok tt) told'
     → Within (pending true w e.source.key.0 serial wakes (answer_of (Armed (arm_of e.source) (Ok tt)) ∷ later)) replies.Pending wakes (Armed (arm_of e.source) (Ok tt) ∷ []) later told'
     (with_source core e.source.key.0 (with_state e (settled true (Ok tt) e.source)))
-armed_within told told' core w serial e wakes later stands is found arms =
-    let key = e.source.key.0 in
-    let before = source_found core w key serial e stands.sources is found in
-    let wants = wanted_stands core.listeners e.source w serial (is_broken w serial) stands.sound.listeners.only_polled_hold before in
-    record {
-      answer_is = refl;
-      wakes_are = refl;
-      calls_are = refl;
-      left_are = refl;
-      stands = source_changes (w.pos + 1) told told' core w key serial e (settled true (Ok tt) e.source) w.poll_waiters w.marks (without_broken w.broken serial) (set_armed w.armed key (machine.wanted w serial))
-          stands is found
-          (record {
-            now = record { each = before.each; broken_is = without_unbroken w.broken serial };
-            listeners = λ dir. refl;
-            aside = λ other apart. record { broken_is = unbroken_aside w.broken serial other apart; facts_are = λ dir. refl };
-            armed_aside = λ k dir apart. armed_aside w.armed key (machine.wanted w serial) k dir apart;
-            marks_before = stands.sound.past.marks_before;
-            tells = tells_armed told told' w.armed e.source.key (wanted e.source.directions) (machine.wanted w serial) wants stands.tells arms;
-            asked = λ dir asks. ap (λ (b : Bool). b || is_in_hand (hand_of w.round) key) (armed_here w.armed key (machine.wanted w serial) dir ∙ wants dir ∙ asks);
-          });
-    }
+armed_within told told' core w serial e wakes later stands is found arms = record {
+  answer_is = refl;
+  wakes_are = refl;
+  calls_are = refl;
+  left_are = refl;
+  stands = armed_stands (w.pos + 1) told told' core w serial e stands is found arms;
+}
 
 failed_within : (told told' : Option Interests) (core : CoreValue) (w : World) (serial : ℕ) (e : SourceEntry) (wakes : List Waker) (later : List PollerAnswer)
     → StandsWithin (w.pos + 1) told core w → entry_at core.sources e.source.key.0 ≡ Some e → serial_in w.live e.source.key.0 ≡ Some serial
     → Arms told (arm_of e.source) (Err (record {})) told'
     → Within (pending true w e.source.key.0 serial wakes (answer_of (Armed (arm_of e.source) (Err (record {}))) ∷ later)) replies.FaultArm wakes (Armed (arm_of e.source) (Err (record {})) ∷ []) later told'
     (with_source core e.source.key.0 (with_state e (settled true (Err (record {})) e.source)))
-failed_within told told' core w serial e wakes later stands is found arms =
-    let key = e.source.key.0 in
-    let b : BrokenSource = record { serial = serial; position = w.pos } in
-    let before = source_found core w key serial e stands.sources is found in
-    record {
-      answer_is = refl;
-      wakes_are = refl;
-      calls_are = refl;
-      left_are = refl;
-      stands = source_changes (w.pos + 1) told told' core w key serial e (settled true (Err (record {})) e.source) w.poll_waiters w.marks (without_broken w.broken serial ++ b ∷ []) w.armed
-          stands is found
-          (record {
-            now = record { each = before.each; broken_is = broken_here w.broken b };
-            listeners = λ dir. refl;
-            aside = λ other apart. record { broken_is = broken_aside w.broken b other apart; facts_are = λ dir. refl };
-            armed_aside = λ k dir apart. refl;
-            marks_before = stands.sound.past.marks_before;
-            tells = tells_unarmed told told' w.armed (arm_of e.source) stands.tells arms;
-            asked = λ dir asks. none_asked dir asks (is_armed w.armed key dir || is_in_hand (hand_of w.round) key);
-          });
-    }
+failed_within told told' core w serial e wakes later stands is found arms = record {
+  answer_is = refl;
+  wakes_are = refl;
+  calls_are = refl;
+  left_are = refl;
+  stands = failed_stands (w.pos + 1) told told' core w serial e stands is found arms;
+}
 
 -- an arm, or none, of the source as it stands
 pub arm_within : (arms : Bool) (told told' : Option Interests) (core : CoreValue) (w : World) (serial : ℕ) (e : SourceEntry) (answer : Result (Unit {0}) Failed) (wakes : List Waker) (later : List PollerAnswer)

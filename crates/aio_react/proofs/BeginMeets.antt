@@ -21,15 +21,17 @@ use Rattle.aio_react.specs.Facts.{Facts, facts_in}
 use Rattle.aio_react.specs.Meeting.{Comes, Meets}
 use Rattle.aio_react.specs.Numbers.{value_of}
 use Rattle.aio_react.specs.Rounds.{RoundValue, begun}
-use Rattle.aio_react.specs.Standing.{PlaceStands, DirectionStands, ListenerStands, Remembers, RoundStands, IsBefore, serial_in, numbers_in, AreAsked, Stands}
+use Rattle.aio_react.specs.Sections.{core_begun}
+use Rattle.aio_react.specs.Standing.{PlaceStands, DirectionStands, ListenerStands, Remembers, RoundStands, IsBefore, serial_in, numbers_in, AreAsked, Stands, StandsWithin}
 use Rattle.aio_react.proofs.BookPasses.{due_of_book, limit_of_book, ids_filter}
 use Rattle.aio_react.proofs.Later.{tickets_later, past_later, quiet_comes}
+use Rattle.aio_react.proofs.SourceChanges.{stands_moved}
 use Rattle.aio_react.proofs.WaitMeets.{none_runs}
 use Rattle.aio_react.proofs.RoundPast.{found_holds, rounds_last, last_has_begun, all_begun_longer, tick_longer, since_longer}
 
 -- ## The world
 
-abbrev round_begun : World → Option ℕ → RoundState
+abbrev pub round_begun : World → Option ℕ → RoundState
 round_begun w given = record {
   number = w.rounds + 1;
   begin = w.pos;
@@ -40,21 +42,13 @@ round_begun w given = record {
   fault = Clean;
 }
 
--- once a round began, one position later
-abbrev world_begun : World → Option ℕ → World
+-- once a round began
+abbrev pub world_begun : World → Option ℕ → World
 world_begun w given = record w {
   registrations = after_pass w.now w.registrations;
   rounds = w.rounds + 1;
   begun = w.begun ++ w.pos ∷ [];
   round = Some (round_begun w given);
-  pos = w.pos + 1;
-}
-
-abbrev core_begun : CoreValue → ℕ → Option ℕ → CoreValue
-core_begun core now given = record core {
-  ticker = core.ticker + 1;
-  book = after_pass now core.book;
-  round = begun (core.ticker + 1) (limit_of now core.book given) (due_wakers now core.book);
 }
 
 -- ## What is known of the directions
@@ -94,8 +88,9 @@ listener_same live begun pos (Some l) (Some entry) before stands =
 
 -- ## The whole
 
-begun_stands : (told : Option Interests) (core : CoreValue) (w : World) (now : ℕ) (given : Option ℕ) → Stands told core w → w.round ≡ None → w.now ≡ now
-    → Stands told (core_begun core now given) (world_begun w given)
+-- one position later, at which the round began
+pub begun_stands : (told : Option Interests) (core : CoreValue) (w : World) (now : ℕ) (given : Option ℕ) → Stands told core w → w.round ≡ None → w.now ≡ now
+    → StandsWithin (w.pos + 1) told (core_begun core now given) (world_begun w given)
 begun_stands told core w now given stands none at = record {
   sources = λ key. place_same core.listeners (entry_at core.sources key) (serial_in w.live key) (is_broken w) (facts_in w) (facts_in (world_begun w given))
       (facts_same told core w given stands) (stands.sources key);
@@ -148,43 +143,47 @@ begun_stands told core w now given stands none at = record {
 
 -- ## The phase
 
-busy_world : (r : RoundValue) (round : Option RoundState) → RoundStands r round → r.running ≡ true → is_some round ≡ true
+pub busy_world : (r : RoundValue) (round : Option RoundState) → RoundStands r round → r.running ≡ true → is_some round ≡ true
 busy_world r None stands running = absurd (true≢false (sym running ∙ stands))
 busy_world r (Some s) stands running = refl
 
-begin_is_made : (w : World) (given : Option ℕ) (later : List PollerAnswer) → w.round ≡ None
-    → begin_round w given later ≡ quiet (replies.Begin (w.rounds + 1) (limit_of w.now w.registrations given)) (record (world_begun w given) { pos = w.pos }) later
+pub begin_is_made : (w : World) (given : Option ℕ) (later : List PollerAnswer) → w.round ≡ None
+    → begin_round w given later ≡ quiet (replies.Begin (w.rounds + 1) (limit_of w.now w.registrations given)) (world_begun w given) later
 begin_is_made w given later none =
     ap (λ (busy : Bool). cond busy (quiet replies.Locked w later)
-    (quiet (replies.Begin (w.rounds + 1) (limit_of w.now w.registrations given)) (record (world_begun w given) { pos = w.pos }) later)) (ap is_some none)
+    (quiet (replies.Begin (w.rounds + 1) (limit_of w.now w.registrations given)) (world_begun w given) later)) (ap is_some none)
 
 begin_is_refused : (w : World) (given : Option ℕ) (later : List PollerAnswer) → is_some w.round ≡ true → begin_round w given later ≡ quiet replies.Locked w later
 begin_is_refused w given later busy =
     ap (λ (busy : Bool). cond busy (quiet replies.Locked w later)
-    (quiet (replies.Begin (w.rounds + 1) (limit_of w.now w.registrations given)) (record (world_begun w given) { pos = w.pos }) later)) busy
+    (quiet (replies.Begin (w.rounds + 1) (limit_of w.now w.registrations given)) (world_begun w given) later)) busy
+
+pub begun_comes : (told : Option Interests) (core : CoreValue) (now : ℕ) (given : Option ℕ) (w : World) (later : List PollerAnswer) → core.round.running ≡ false → Stands told core w → w.now ≡ now
+    → Comes (step_result w (step.Begin given) later) (replies.Begin (core.ticker + 1) (limit_of now core.book given)) [] [] later told (core_begun core now given)
+unfolding step_result
+begun_comes told core now given w later idle stands at =
+    let none = none_runs core.round w.round stands.round idle in
+    let whole = begun_stands told core w now given stands none at in
+    subst (λ (o : Outcome). Comes (moved_on o) (replies.Begin (core.ticker + 1) (limit_of now core.book given)) [] [] later told (core_begun core now given))
+    (sym (begin_is_made w given later none))
+    (record {
+      answer_is = ap (λ (number : ℕ). replies.Begin number (limit_of w.now w.registrations given)) whole.round.number_is
+          ∙ ap (λ (limit : Option ℕ). replies.Begin (core.ticker + 1) limit) whole.round.limit_is;
+      wakes_are = refl;
+      calls_are = refl;
+      left_are = refl;
+      stands = stands_moved told (core_begun core now given) (world_begun w given) whole;
+    })
 
 -- with no round
-pub begin_meets : {P : Type 0} (poller_step : P → PollerMove → P → Type 0) (tells : P → Option Interests) (poller : P) (core : CoreValue) (now : ℕ) (given : Option ℕ)
+abbrev pub begin_meets : {P : Type 0} (poller_step : P → PollerMove → P → Type 0) (tells : P → Option Interests) (poller : P) (core : CoreValue) (now : ℕ) (given : Option ℕ)
     → core.round.running ≡ false
     → Meets poller_step tells (step.Begin given) (Some now) (replies.Begin (core.ticker + 1) (limit_of now core.book given)) [] None (poller, core) (poller, core_begun core now given)
-unfolding step_result
 begin_meets {P = P} poller_step tells poller core now given idle = record {
   moves = [];
   run = refl;
   waits = tt;
-  comes = λ w later stands at.
-      let none = none_runs core.round w.round stands.round idle in
-      let whole = begun_stands (tells poller) core w now given stands none at in
-      subst (λ (o : Outcome). Comes (moved_on o) (replies.Begin (core.ticker + 1) (limit_of now core.book given)) [] [] later (tells poller) (core_begun core now given))
-      (sym (begin_is_made w given later none))
-      (record {
-        answer_is = ap (λ (number : ℕ). replies.Begin number (limit_of w.now w.registrations given)) whole.round.number_is
-            ∙ ap (λ (limit : Option ℕ). replies.Begin (core.ticker + 1) limit) whole.round.limit_is;
-        wakes_are = refl;
-        calls_are = refl;
-        left_are = refl;
-        stands = whole;
-      });
+  comes = λ w later stands at. begun_comes (tells poller) core now given w later idle stands at;
 }
 
 -- with a round

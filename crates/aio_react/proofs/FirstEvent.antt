@@ -11,3 +11,7 @@ first_on [] zero e key some is = absurd (cc)
 first_on [] (suc k) e key some is = absurd (cc)
 first_on (event ∷ events) zero e key some is = ap (λ (x : Event). x.on) (sym is)
 first_on (event ∷ events) (suc k) e key some is = first_on events k e key some is
+
+pub first_of : (hand : List Event) (event : Event) → slice_get hand 0 ≡ Some event → hand ≡ event ∷ drop 1 hand
+first_of [] event is = absurd (cc)
+first_of (first ∷ hand) event is = ap (λ (x : Event). x ∷ hand) (cc)

@@ -33,3 +33,12 @@ mod RoundPast
 mod BookPasses
 mod BeginMeets
 mod FinishMeets
+mod TakenFacts
+mod Taking
+mod PartMeets
+mod RoundMoves
+mod HandleMeets
+mod PartRows
+mod HandleRows
+mod RoundFaults
+mod ReactMeets

@@ -116,7 +116,7 @@ stands_aside listeners s broken broken' facts facts' serial aside stands = recor
   broken_is = aside.broken_is ∙ stands.broken_is;
 }
 
-place_stands_aside : (listeners : List (Option Listener)) (place : Option SourceEntry) (serial : Option ℕ) (broken broken' : ℕ → Bool) (facts facts' : ℕ → Dir → Facts)
+pub place_stands_aside : (listeners : List (Option Listener)) (place : Option SourceEntry) (serial : Option ℕ) (broken broken' : ℕ → Bool) (facts facts' : ℕ → Dir → Facts)
     → ((n : ℕ) → serial ≡ Some n → IsAside broken broken' facts facts' n) → PlaceStands listeners place serial broken facts → PlaceStands listeners place serial broken' facts'
 place_stands_aside listeners None None broken broken' facts facts' aside stands = tt
 place_stands_aside listeners None (Some serial) broken broken' facts facts' aside stands = absurd stands
@@ -161,7 +161,7 @@ pub record Changes (bound : ℕ) (told' : Option Interests) (core : CoreValue) (
   pub tells : Tells told' w'.armed
   pub asked : IsAsked new key w'
 
-few_at : (bound : ℕ) (place : Option SourceEntry) (e : SourceEntry) (dir : Dir) → place ≡ Some e
+pub few_at : (bound : ℕ) (place : Option SourceEntry) (e : SourceEntry) (dir : Dir) → place ≡ Some e
     → IfSome place (λ (e : SourceEntry). (direction_of e.source.directions dir).listeners.drawn ≤ bound) → (direction_of e.source.directions dir).listeners.drawn ≤ bound
 few_at bound place e dir is few = subst (λ (p : Option SourceEntry). IfSome p (λ (e : SourceEntry). (direction_of e.source.directions dir).listeners.drawn ≤ bound)) is few
 

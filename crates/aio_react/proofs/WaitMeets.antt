@@ -1,5 +1,5 @@
 -- A wait of a core meets the machine's, whatever the poller answered.
-use Rattle.std.proofs.Common.{◌≡◌, ℕ, ◌+◌, Bool, true, false, not, if◌then◌else◌, List, [], ◌∷◌, length, Option, None, Some, Result, Ok, Err, refl, sym, ap, ◌∙◌, subst, arith}
+use Rattle.std.proofs.Common.{◌≡◌, ℕ, Bool, true, false, not, if◌then◌else◌, List, [], ◌∷◌, length, Option, None, Some, Result, Ok, Err, refl, sym, ap, ◌∙◌, subst}
 use Rattle.std.specs.Option.{option_or}
 use Rattle.std.proofs.lemmas.Bool.{true≢false}
 use Rattle.aio_base.specs.declared.names.Event.{Event}
@@ -10,22 +10,21 @@ use Rattle.aio_base.specs.declared.outcomes.Failed.{Failed}
 use Rattle.aio_base.specs.declared.outcomes.Waited.{Waited}
 use Rattle.aio_base.specs.declared.outcomes.Waited.TheVariants.{Given, Interrupted}
 use Rattle.aio_base.specs.declared.steps.Answer.TheVariants as replies
-use Rattle.aio_base.specs.declared.steps.Step.TheVariants as step
 use Rattle.aio_base.specs.Devices.{Interests, PollerMove, Awaited, ArmCall, WaitCall, PollerStep, Becomes, clear_interests}
-use Rattle.aio_base.specs.Machine.{Outcome, quiet, moved_on, first_fault, wait_in, wait_answered, next_answer, later_answers, step_result, hand_of}
+use Rattle.aio_base.specs.Machine.{Outcome, quiet, first_fault, wait_in, wait_round, wait_answered, next_answer, later_answers, hand_of}
 use Rattle.aio_base.specs.Waits.{IsCountOf}
 use Rattle.aio_base.specs.World.{PollerAnswer, World, RoundState, Gives, IsInterrupted, Fails, clear_armed, is_empty_list}
 use Rattle.aio_react.specs.declared.round.RoundFault.{RoundFault}
 use Rattle.aio_react.specs.declared.round.RoundFault.TheVariants.{Wait, Arm}
 use Rattle.aio_react.specs.Cores.{CoreValue}
-use Rattle.aio_react.specs.Meeting.{Comes, Meets}
+use Rattle.aio_react.specs.Parts.{ComesWithin, MeetsPart}
 use Rattle.aio_react.specs.declared.refusals.CoreRefusal.{CoreRefusal}
 use Rattle.aio_react.specs.declared.refusals.CoreRefusal.TheVariants as refusal
 use Rattle.aio_react.specs.Replies.{empty_hand_refusal, wait_reply, core_wait}
 use Rattle.aio_react.specs.Rounds.{RoundValue, wait_of, poller_told, wait_answer, waited}
-use Rattle.aio_react.specs.Standing.{AreAsked, RoundStands, Runs, RunningSound, Stands, end_word}
+use Rattle.aio_react.specs.Standing.{AreAsked, RoundStands, Runs, RunningSound, StandsWithin, end_word}
 use Rattle.aio_react.proofs.Clearing.{tells_cleared, asked_cleared}
-use Rattle.aio_react.proofs.Later.{tickets_later, past_later, quiet_comes}
+use Rattle.aio_react.proofs.PartMeets.{quiet_part}
 
 -- ## The phase
 
@@ -39,15 +38,10 @@ one_runs r (Some s) stands running = (s, refl, stands)
 
 -- with no round
 pub idle_meets : {P : Type 0} (poller_step : P → PollerMove → P → Type 0) (tells : P → Option Interests) (poller : P) (core : CoreValue) → core.round.running ≡ false
-    → Meets poller_step tells step.Wait None replies.NoRound [] core.round.limit (poller, core) (poller, core)
-idle_meets {P = P} poller_step tells poller core idle = record {
-  moves = [];
-  run = refl;
-  waits = tt;
-  comes = λ w later stands now.
-      quiet_comes (tells poller) core w step.Wait replies.NoRound later
-      (ap (λ (round : Option RoundState). wait_in w round later) (none_runs core.round w.round stands.round idle)) stands;
-}
+    → MeetsPart poller_step tells wait_round None replies.NoRound [] core.round.limit (poller, core) (poller, core)
+idle_meets {P = P} poller_step tells poller core idle =
+    quiet_part poller_step tells wait_round None replies.NoRound core.round.limit poller core
+    (λ bound w later stands. ap (λ (round : Option RoundState). wait_in w round later) (none_runs core.round w.round stands.round idle))
 
 hand_refused : (w : World) (s : RoundState) (hand : List Event) (answers : List PollerAnswer) → is_empty_list hand ≡ false → s.in_hand ≡ hand
     → wait_in w (Some s) answers ≡ quiet (replies.Events (length hand)) w answers
@@ -57,16 +51,12 @@ hand_refused w s hand answers some is =
 
 -- with events in hand
 pub left_meets : {P : Type 0} (poller_step : P → PollerMove → P → Type 0) (tells : P → Option Interests) (poller : P) (core : CoreValue) → core.round.running ≡ true
-    → is_empty_list core.round.hand ≡ false → Meets poller_step tells step.Wait None (replies.Events (length core.round.hand)) [] core.round.limit (poller, core) (poller, core)
-left_meets {P = P} poller_step tells poller core running some = record {
-  moves = [];
-  run = refl;
-  waits = tt;
-  comes = λ w later stands now.
-      let one = one_runs core.round w.round stands.round running in
-      quiet_comes (tells poller) core w step.Wait (replies.Events (length core.round.hand)) later
-      (ap (λ (round : Option RoundState). wait_in w round later) one.1 ∙ hand_refused w one.0 core.round.hand later some one.2.hand_is) stands;
-}
+    → is_empty_list core.round.hand ≡ false → MeetsPart poller_step tells wait_round None (replies.Events (length core.round.hand)) [] core.round.limit (poller, core) (poller, core)
+left_meets {P = P} poller_step tells poller core running some =
+    quiet_part poller_step tells wait_round None (replies.Events (length core.round.hand)) core.round.limit poller core
+    (λ bound w later stands.
+    let one = one_runs core.round w.round stands.round running in
+    ap (λ (round : Option RoundState). wait_in w round later) one.1 ∙ hand_refused w one.0 core.round.hand later some one.2.hand_is)
 
 -- ## The wait
 
@@ -75,18 +65,18 @@ with_round core r = record core { round = r }
 
 -- the world once a wait gave these events
 abbrev world_waited : World → RoundState → List Event → World
-world_waited w s events = record w { round = Some s; armed = clear_armed w.armed events; pos = w.pos + 1 }
+world_waited w s events = record w { round = Some s; armed = clear_armed w.armed events }
 
-running_same : (begun : List ℕ) (s s' : RoundState) → s'.number ≡ s.number → s'.begin ≡ s.begin → RunningSound begun (Some s) → RunningSound begun (Some s')
+pub running_same : (begun : List ℕ) (s s' : RoundState) → s'.number ≡ s.number → s'.begin ≡ s.begin → RunningSound begun (Some s) → RunningSound begun (Some s')
 running_same begun s s' number begin sound = rw (number, begin) sound
 
-waited_stands : (told told' : Option Interests) (core : CoreValue) (w : World) (s s' : RoundState) (r : RoundValue) (events : List Event) → Stands told core w
+waited_stands : (bound : ℕ) (told told' : Option Interests) (core : CoreValue) (w : World) (s s' : RoundState) (r : RoundValue) (events : List Event) → StandsWithin bound told core w
     → w.round ≡ Some s → s.in_hand ≡ [] → Runs r s' → s'.in_hand ≡ events → s'.number ≡ s.number → s'.begin ≡ s.begin → Becomes told told' (clear_interests events)
-    → Stands told' (with_round core r) (world_waited w s' events)
-waited_stands told told' core w s s' r events stands is none runs given number begin becomes = record {
+    → StandsWithin bound told' (with_round core r) (world_waited w s' events)
+waited_stands bound told told' core w s s' r events stands is none runs given number begin becomes = record {
   sources = stands.sources;
   count = stands.count;
-  tickets = tickets_later core.sources w.pos (w.pos + 1) (omega arith) stands.tickets;
+  tickets = stands.tickets;
   listeners = stands.listeners;
   ticker_is = stands.ticker_is;
   book = stands.book;
@@ -98,7 +88,7 @@ waited_stands told told' core w s s' r events stands is none runs given number b
     live = stands.sound.live;
     unused = stands.sound.unused;
     listeners = stands.sound.listeners;
-    past = past_later w.pos (w.pos + 1) w (omega arith) stands.sound.past;
+    past = stands.sound.past;
     running = running_same w.begun s s' number begin (subst (RunningSound w.begun) is stands.sound.running);
     timers = stands.sound.timers;
   };
@@ -109,23 +99,25 @@ fault_is None fault = refl
 fault_is (Some (Wait kept)) fault = refl
 fault_is (Some (Arm kept)) fault = refl
 
-or_none : (kept : Option RoundFault) → end_word kept ≡ end_word (option_or kept None)
+pub or_none : (kept : Option RoundFault) → end_word kept ≡ end_word (option_or kept None)
 or_none None = refl
 or_none (Some kept) = refl
 
 -- the machine's wait, over the running round of a core
-waits_on : (told told' : Option Interests) (core : CoreValue) (w : World) (s : RoundState) (answer : Result Waited CountFault) (events : List Event) (later : List PollerAnswer)
-    → Stands told core w → w.round ≡ Some s → s.in_hand ≡ [] → Runs core.round s → IsCountOf (poller_told answer) 1024 events → Becomes told told' (clear_interests events)
-    → Comes (moved_on (wait_answered w s (wait_answer core.round.limit events (poller_told answer)) later)) (wait_reply (core_wait answer)) []
+waits_on : (bound : ℕ) (told told' : Option Interests) (core : CoreValue) (w : World) (s : RoundState) (answer : Result Waited CountFault) (events : List Event) (later : List PollerAnswer)
+    → StandsWithin bound told core w → w.round ≡ Some s → s.in_hand ≡ [] → Runs core.round s → IsCountOf (poller_told answer) 1024 events → Becomes told told' (clear_interests events)
+    → ComesWithin bound w (wait_answered w s (wait_answer core.round.limit events (poller_told answer)) later) (wait_reply (core_wait answer)) []
     (Awaited (wait_of core.round.limit) (poller_told answer) events ∷ []) later told' (with_round core (waited core.round answer events))
-waits_on told told' core w s (Ok (Given n)) events later stands is none runs count becomes =
+waits_on bound told told' core w s (Ok (Given n)) events later stands is none runs count becomes =
     let s' : RoundState = record s { in_hand = events; last_wait = Some (Gives events) } in
     record {
       answer_is = ap replies.Given count.0;
       wakes_are = refl;
       calls_are = refl;
       left_are = refl;
-      stands = waited_stands told told' core w s s' (waited core.round (Ok (Given n)) events) events stands is none
+      moment_is = refl;
+      position_is = refl;
+      stands = waited_stands bound told told' core w s s' (waited core.round (Ok (Given n)) events) events stands is none
           (record {
             running = runs.running;
             number_is = runs.number_is;
@@ -137,16 +129,18 @@ waits_on told told' core w s (Ok (Given n)) events later stands is none runs cou
           })
           refl refl refl becomes;
     }
-waits_on told told' core w s (Ok Interrupted) events later stands is none runs count becomes =
+waits_on bound told told' core w s (Ok Interrupted) events later stands is none runs count becomes =
     let s' : RoundState = record s { last_wait = Some IsInterrupted } in
-    subst (λ (given : List Event). Comes (moved_on (wait_answered w s IsInterrupted later)) replies.Interrupted []
+    subst (λ (given : List Event). ComesWithin bound w (wait_answered w s IsInterrupted later) replies.Interrupted []
     (Awaited (wait_of core.round.limit) (Ok Interrupted) given ∷ []) later told' (with_round core (waited core.round (Ok Interrupted) given))) (sym count)
     (record {
       answer_is = refl;
       wakes_are = refl;
       calls_are = refl;
       left_are = refl;
-      stands = waited_stands told told' core w s s' (waited core.round (Ok Interrupted) []) [] stands is none
+      moment_is = refl;
+      position_is = refl;
+      stands = waited_stands bound told told' core w s s' (waited core.round (Ok Interrupted) []) [] stands is none
           (record {
             running = runs.running;
             number_is = runs.number_is;
@@ -158,16 +152,18 @@ waits_on told told' core w s (Ok Interrupted) events later stands is none runs c
           })
           none refl refl (subst (λ (given : List Event). Becomes told told' (clear_interests given)) count becomes);
     })
-waits_on told told' core w s (Err fault) events later stands is none runs count becomes =
+waits_on bound told told' core w s (Err fault) events later stands is none runs count becomes =
     let s' : RoundState = record s { last_wait = Some Fails; fault = first_fault s.fault FaultWait } in
-    subst (λ (given : List Event). Comes (moved_on (wait_answered w s Fails later)) replies.FaultWait []
+    subst (λ (given : List Event). ComesWithin bound w (wait_answered w s Fails later) replies.FaultWait []
     (Awaited (wait_of core.round.limit) (Err (record {})) given ∷ []) later told' (with_round core (waited core.round (Err fault) given))) (sym count)
     (record {
       answer_is = refl;
       wakes_are = refl;
       calls_are = refl;
       left_are = refl;
-      stands = waited_stands told told' core w s s' (waited core.round (Err fault) []) [] stands is none
+      moment_is = refl;
+      position_is = refl;
+      stands = waited_stands bound told told' core w s s' (waited core.round (Err fault) []) [] stands is none
           (record {
             running = runs.running;
             number_is = runs.number_is;
@@ -194,18 +190,17 @@ pub wait_meets : {P : Type 0} (arm_step : P → ArmCall → Result (Unit {0}) Fa
     (tells : P → Option Interests) (old new : P) (core : CoreValue) (answer : Result Waited CountFault) (events : List Event)
     → core.round.running ≡ true → core.round.hand ≡ [] → wait_step old (wait_of core.round.limit) (poller_told answer) events new
     → IsCountOf (poller_told answer) 1024 events → Becomes (tells old) (tells new) (clear_interests events)
-    → Meets (PollerStep arm_step wait_step) tells step.Wait None (wait_reply (core_wait answer)) [] core.round.limit (old, core) (new, with_round core (waited core.round answer events))
-unfolding step_result
+    → MeetsPart (PollerStep arm_step wait_step) tells wait_round None (wait_reply (core_wait answer)) [] core.round.limit (old, core) (new, with_round core (waited core.round answer events))
 wait_meets {P = P} arm_step wait_step tells old new core answer events running none did count becomes = record {
   moves = Awaited (wait_of core.round.limit) (poller_told answer) events ∷ [];
   run = (new, did, refl);
   waits = (refl, tt);
-  comes = λ w later stands now.
+  comes = λ bound w later stands now.
       let one = one_runs core.round w.round stands.round running in
       let empty = one.2.hand_is ∙ none in
-      subst (λ (o : Outcome). Comes (moved_on o) (wait_reply (core_wait answer)) [] (Awaited (wait_of core.round.limit) (poller_told answer) events ∷ []) later (tells new) (with_round core (waited core.round answer events)))
+      subst (λ (o : Outcome). ComesWithin bound w o (wait_reply (core_wait answer)) [] (Awaited (wait_of core.round.limit) (poller_told answer) events ∷ []) later (tells new) (with_round core (waited core.round answer events)))
       (sym (wait_is_made w one.0 (wait_answer core.round.limit events (poller_told answer)) later one.1 empty))
-      (waits_on (tells old) (tells new) core w one.0 answer events later stands one.1 empty one.2 count becomes);
+      (waits_on bound (tells old) (tells new) core w one.0 answer events later stands one.1 empty one.2 count becomes);
 }
 
 -- the same, by what the call left and answered
@@ -214,10 +209,10 @@ pub wait_done : {P : Type 0} (arm_step : P → ArmCall → Result (Unit {0}) Fai
     → core.round.running ≡ true → core.round.hand ≡ [] → wait_step old (wait_of core.round.limit) (poller_told answer) r.hand new
     → IsCountOf (poller_told answer) 1024 r.hand → Becomes (tells old) (tells new) (clear_interests r.hand)
     → r ≡ waited core.round answer r.hand → reply ≡ core_wait answer
-    → Meets (PollerStep arm_step wait_step) tells step.Wait None (wait_reply reply) [] core.round.limit (old, core) (new, with_round core r)
+    → MeetsPart (PollerStep arm_step wait_step) tells wait_round None (wait_reply reply) [] core.round.limit (old, core) (new, with_round core r)
 wait_done {P = P} arm_step wait_step tells old new core answer r reply running none did count becomes left said =
-    subst (λ (said : Result Waited CoreRefusal). Meets (PollerStep arm_step wait_step) tells step.Wait None (wait_reply said) [] core.round.limit (old, core) (new, with_round core r)) (sym said)
-    (subst (λ (left : RoundValue). Meets (PollerStep arm_step wait_step) tells step.Wait None (wait_reply (core_wait answer)) [] core.round.limit (old, core) (new, with_round core left)) (sym left)
+    subst (λ (said : Result Waited CoreRefusal). MeetsPart (PollerStep arm_step wait_step) tells wait_round None (wait_reply said) [] core.round.limit (old, core) (new, with_round core r)) (sym said)
+    (subst (λ (left : RoundValue). MeetsPart (PollerStep arm_step wait_step) tells wait_round None (wait_reply (core_wait answer)) [] core.round.limit (old, core) (new, with_round core left)) (sym left)
     (wait_meets arm_step wait_step tells old new core answer r.hand running none did count becomes))
 
 -- ## A refused wait
@@ -225,19 +220,19 @@ wait_done {P = P} arm_step wait_step tells old new core answer r reply running n
 refused_by : {P : Type 0} (poller_step : P → PollerMove → P → Type 0) (tells : P → Option Interests) (poller : P) (core : CoreValue) (refused : CoreRefusal) (running empty : Bool)
     → core.round.running ≡ running → is_empty_list core.round.hand ≡ empty
     → Some refused ≡ (if not running then Some refusal.NoRound else (if empty then None else Some (refusal.EventsLeft (length core.round.hand))))
-    → Meets poller_step tells step.Wait None (wait_reply (Err refused)) [] core.round.limit (poller, core) (poller, core)
+    → MeetsPart poller_step tells wait_round None (wait_reply (Err refused)) [] core.round.limit (poller, core) (poller, core)
 refused_by {P = P} poller_step tells poller core refused false empty idle some is =
     let same : refused ≡ refusal.NoRound = cc in
-    subst (λ (r : CoreRefusal). Meets poller_step tells step.Wait None (wait_reply (Err r)) [] core.round.limit (poller, core) (poller, core)) (sym same)
+    subst (λ (r : CoreRefusal). MeetsPart poller_step tells wait_round None (wait_reply (Err r)) [] core.round.limit (poller, core) (poller, core)) (sym same)
     (idle_meets poller_step tells poller core idle)
 refused_by {P = P} poller_step tells poller core refused true true running some is = absurd (cc)
 refused_by {P = P} poller_step tells poller core refused true false running some is =
     let same : refused ≡ refusal.EventsLeft (length core.round.hand) = cc in
-    subst (λ (r : CoreRefusal). Meets poller_step tells step.Wait None (wait_reply (Err r)) [] core.round.limit (poller, core) (poller, core)) (sym same)
+    subst (λ (r : CoreRefusal). MeetsPart poller_step tells wait_round None (wait_reply (Err r)) [] core.round.limit (poller, core) (poller, core)) (sym same)
     (left_meets poller_step tells poller core running some)
 
 -- by the phase of the round
 pub refused_meets : {P : Type 0} (poller_step : P → PollerMove → P → Type 0) (tells : P → Option Interests) (poller : P) (core : CoreValue) (refused : CoreRefusal)
-    → Some refused ≡ empty_hand_refusal core.round → Meets poller_step tells step.Wait None (wait_reply (Err refused)) [] core.round.limit (poller, core) (poller, core)
+    → Some refused ≡ empty_hand_refusal core.round → MeetsPart poller_step tells wait_round None (wait_reply (Err refused)) [] core.round.limit (poller, core) (poller, core)
 refused_meets {P = P} poller_step tells poller core refused is =
     refused_by poller_step tells poller core refused core.round.running (is_empty_list core.round.hand) refl refl is

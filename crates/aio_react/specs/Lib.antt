@@ -13,3 +13,5 @@ pub mod Sources
 pub mod Polls
 pub mod Listeners
 pub mod Sections
+pub mod Parts
+pub mod Reacting

@@ -39,11 +39,17 @@ IsAt None w = ⊤
 IsAt (Some now) w = w.now ≡ now
 
 -- A call at a moment led a core and its poller from the one state to the other by these moves. For every world that the core stood for at this
--- moment, and whatever the poller would answer later, the step gives the same.
-pub record Meets {P : Type 0} (poller_step : P → PollerMove → P → Type 0) (tells : P → Option Interests) (s : Step) (now : Option ℕ)
-    (answer : Answer) (wakes : List Waker) (limit : Option ℕ) (old new : P × CoreValue) : Type 0 where
+-- moment, and whatever the poller would answer later, what is done of the machine gives the same.
+pub record MeetsBy {P : Type 0} (poller_step : P → PollerMove → P → Type 0) (tells : P → Option Interests) (done : World → List PollerAnswer → Outcome)
+    (now : Option ℕ) (answer : Answer) (wakes : List Waker) (limit : Option ℕ) (old new : P × CoreValue) : Type 0 where
   pub moves : List PollerMove
   pub run : RunOf poller_step old.0 moves new.0
   pub waits : WaitsWithin limit moves
   pub comes : (w : World) (later : List PollerAnswer) → Stands (tells old.0) old.1 w → IsAt now w
-      → Comes (step_result w s (map answer_of moves ++ later)) answer wakes moves later (tells new.0) new.1
+      → Comes (done w (map answer_of moves ++ later)) answer wakes moves later (tells new.0) new.1
+
+-- a step is done
+abbrev pub Meets : {P : Type 0} → (P → PollerMove → P → Type 0) → (P → Option Interests) → Step → Option ℕ → Answer → List Waker → Option ℕ
+    → P × CoreValue → P × CoreValue → Type 0
+Meets poller_step tells s now answer wakes limit old new =
+    MeetsBy poller_step tells (λ w answers. step_result w s answers) now answer wakes limit old new

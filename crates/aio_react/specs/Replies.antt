@@ -1,5 +1,5 @@
 -- What the answers of a core are to the machine, and by which phase of the round a call is refused.
-use Rattle.std.specs.Prelude.{not, if◌then◌else◌, length, Option, None, Some, Result, Ok, Err}
+use Rattle.std.specs.Prelude.{ℕ, not, if◌then◌else◌, length, Option, None, Some, Result, Ok, Err}
 use Rattle.aio_base.specs.declared.outcomes.CountFault.{CountFault}
 use Rattle.aio_base.specs.declared.outcomes.Waited.{Waited}
 use Rattle.aio_base.specs.declared.outcomes.Waited.TheVariants.{Given, Interrupted}
@@ -25,6 +25,12 @@ wait_phase answered = None
 abbrev pub wait_failure : Result Waited CoreRefusal → Option CountFault
 wait_failure (Err (refusal.WaitFault fault)) = Some fault
 wait_failure answered = None
+
+-- how many events a wait gave
+abbrev pub wait_given : Result Waited CoreRefusal → ℕ
+wait_given (Ok (Given n)) = n
+wait_given (Ok Interrupted) = 0
+wait_given (Err refused) = 0
 
 -- the answer of the machine to a wait
 abbrev pub wait_reply : Result Waited CoreRefusal → Answer

@@ -10,6 +10,7 @@
 mod entries;
 pub mod hosts;
 mod numbered;
+mod outcomes;
 mod reactor;
 #[cfg(test)]
 mod reactor_tests;
@@ -24,6 +25,7 @@ mod tests;
 
 pub use hosts::{Host, InsertRefusal, TimerHost};
 pub use numbered::Numbered;
+pub use outcomes::{Handled, Reacted};
 pub use reactor::Core;
 pub use refusals::CoreRefusal;
 pub use round::{Round, RoundFault};

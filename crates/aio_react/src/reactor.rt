@@ -10,6 +10,7 @@ ghost use Rattle.aio_react.specs.Standing.{Tells, Stands};
 
 mod listeners;
 mod polls;
+mod reacting;
 mod rounds;
 mod sources;
 
@@ -70,12 +71,16 @@ impl<P> Model for Core<P> {
 }
 
 impl<P: Poller> Core<P> {
-    ghost use Rattle.std.specs.Prelude.{None, IsSome, IfSome};
+    ghost use Rattle.std.specs.Prelude.{None, option_map, IsSome, IfSome, length};
+    ghost use Rattle.std.specs.Option.{option_or};
     ghost use Rattle.aio_base.specs.declared.steps.Step.TheVariants as step;
+    ghost use Rattle.aio_base.specs.Machine.{wait_round};
     ghost use Rattle.aio_base.specs.Devices.{PollerStep, TellsFaults};
     ghost use Rattle.aio_react.specs.Lending.{LendsPoller};
     ghost use Rattle.aio_react.specs.Meeting.{Meets};
-    ghost use Rattle.aio_react.specs.Replies.{wait_phase, wait_failure, wait_reply};
+    ghost use Rattle.aio_react.specs.Parts.{MeetsPart};
+    ghost use Rattle.aio_react.specs.Replies.{wait_phase, wait_failure, wait_given, wait_reply};
+    ghost use Rattle.aio_react.specs.declared.round.RoundFault.TheVariants.{Wait};
 
     /// A reactor with no source, no listener, no timer and no round, and with room for 4,096
     /// sources. It stands for the opening world with the interests that the poller tells. Where
@@ -133,7 +138,14 @@ impl<P: Poller> Core<P> {
         ensures meets { Meets (PollerStep P.arm_step P.wait_step) P.interests step.Wait None
             (wait_reply result) [] self.old.1.round.limit self.old self.new }
         ensures phase { wait_phase result ≡ empty_hand_refusal self.old.1.round }
+        ensures part { MeetsPart (PollerStep P.arm_step P.wait_step) P.interests wait_round None
+            (wait_reply result) [] self.old.1.round.limit self.old self.new }
         ensures refused { IsSome (wait_phase result) → self.new ≡ self.old }
+        ensures given { wait_phase result ≡ None
+            → length self.new.1.round.hand ≡ wait_given result }
+        ensures runs { self.new.1.round.running ≡ self.old.1.round.running }
+        ensures kept { self.new.1.round.fault
+            ≡ option_or self.old.1.round.fault (option_map Wait (wait_failure result)) }
         ensures faults { TellsFaults P.fault_count P.is_sure self.old.0 self.new.0
             (IsSome (wait_failure result)) }
         ensures fault { IfSome (wait_failure result) (λ fault. fault ≡ record {

@@ -1,17 +1,23 @@
 //! The sections of a core's round (`async-io` 2, `reactor.rs`, `ReactorLock::react`).
 
-ghost use Rattle.std.specs.Prelude.{◌≡◌, [], false, None, Some, IfSome, IfOk, OnOk, OnErr};
+ghost use Rattle.std.specs.Prelude.{◌≡◌, ℕ, ◌+◌, [], false, drop, Option, None, Some, option_map, slice_get, IsSome, IfSome, IfOk, OnOk, OnErr};
+ghost use Rattle.std.specs.Option.{option_or};
+ghost use Rattle.aio_base.specs.declared.names.Event.{Event};
 ghost use Rattle.aio_base.specs.declared.steps.Step.TheVariants as step;
-ghost use Rattle.aio_base.specs.Devices.{PollerStep};
+ghost use Rattle.aio_base.specs.Devices.{PollerStep, TellsFaults};
+ghost use Rattle.aio_base.specs.Machine.{handle_round, finish_round};
+ghost use Rattle.aio_react.specs.declared.round.RoundFault.TheVariants.{Arm};
 ghost use Rattle.aio_react.specs.Meeting.{Meets};
+ghost use Rattle.aio_react.specs.Parts.{MeetsPart};
 ghost use Rattle.aio_react.specs.Replies.{empty_hand_refusal};
 ghost use Rattle.aio_react.specs.Rounds.{HasRisen};
-ghost use Rattle.aio_react.specs.Sections.{IsRefusedBy, begin_refusal, begin_reply, finish_reply, finish_wakes};
+ghost use Rattle.aio_react.specs.Sections.{IsRefusedBy, begin_refusal, core_begun, begin_reply, handle_refusal, handle_reply, handle_fault, finish_reply, finish_wakes};
 
 #[cfg(test)]
 mod tests;
 
 use super::{Core, require_empty_hand};
+use crate::outcomes::Handled;
 use crate::refusals::CoreRefusal;
 use crate::round::RoundFault;
 use aio_base::{Moment, Poller};
@@ -34,7 +40,8 @@ impl<P: Poller> Core<P> {
         ensures cause { IsRefusedBy (begin_refusal self.old.1) result }
         ensures refused { OnErr result (self.new ≡ self.old) }
         ensures poller { self.new.0 ≡ self.old.0 }
-        ensures fault { OnOk result (self.new.1.round.fault ≡ None) }
+        ensures begun { OnOk result (self.new.1 ≡ core_begun self.old.1 now given) }
+        ensures number { IfOk result (λ answer. answer.0 ≡ self.old.1.ticker + 1) }
     {
         if !self.round.is_idle() {
             return Err(CoreRefusal::Locked);
@@ -51,6 +58,60 @@ impl<P: Poller> Core<P> {
         }
     }
 
+    /// Handles the first event in hand: the waiters of its directions are taken, to be woken when
+    /// the round ends, and the poller is armed again where a waiter of the source is left. An event
+    /// whose key no source has is dropped. Answers the event's key, and the fault of an arm that
+    /// failed, which the round keeps where it kept none; the event is handled all the same.
+    /// `NoRound` exactly where no round runs, and then `NothingInHand` exactly where no event is in
+    /// hand; `OutOfMemory` where there is no memory for the waiters, and the event stays in hand.
+    /// All is as before then.
+    pub fn handle(&mut self) -> Result<Handled, CoreRefusal>
+        ensures meets { IfSome (handle_reply result) (λ reply. Meets
+            (PollerStep P.arm_step P.wait_step) P.interests step.Handle None
+            reply [] None self.old self.new) }
+        ensures part { (limit : Option ℕ) → IfSome (handle_reply result) (λ reply. MeetsPart
+            (PollerStep P.arm_step P.wait_step) P.interests handle_round None
+            reply [] limit self.old self.new) }
+        ensures cause { IsRefusedBy (handle_refusal self.old.1.round) result }
+        ensures refused { OnErr result (self.new ≡ self.old) }
+        ensures first { IfOk result (λ handled. option_map (λ (event : Event). event.key)
+            (slice_get self.old.1.round.hand 0) ≡ Some handled.key) }
+        ensures hand { OnOk result (self.new.1.round.hand ≡ drop 1 self.old.1.round.hand) }
+        ensures runs { self.new.1.round.running ≡ self.old.1.round.running }
+        ensures kept { self.new.1.round.fault
+            ≡ option_or self.old.1.round.fault (option_map Arm (handle_fault result)) }
+        ensures faults { TellsFaults P.fault_count P.is_sure self.old.0 self.new.0
+            (IsSome (handle_fault result)) }
+        ensures fault { IfOk result (λ handled. IfSome handled.fault (λ fault. fault ≡ record {
+          key = handled.key;
+          before = P.fault_count self.old.0;
+          after = P.fault_count self.new.0;
+        })) }
+    {
+        if self.round.is_idle() {
+            return Err(CoreRefusal::NoRound);
+        }
+        let Some(event) = self.round.peek() else {
+            return Err(CoreRefusal::NothingInHand);
+        };
+        let key = event.key;
+        let at = key.0 as usize;
+        if at >= self.sources.len() {
+            self.round.skip();
+            return Ok(Handled { key, fault: None });
+        }
+        match &mut self.sources[at] {
+            Some(entry) => match self.round.handle(&mut entry.source, &mut self.poller) {
+                Ok(fault) => Ok(Handled { key, fault }),
+                Err(_) => Err(CoreRefusal::OutOfMemory),
+            },
+            None => {
+                self.round.skip();
+                Ok(Handled { key, fault: None })
+            }
+        }
+    }
+
     /// Ends the running round, where no event is in hand, with a second pass over the timers at the
     /// moment `now` where its last wait gave no event and had time to wait. Answers its first fault;
     /// `woken` has the wakers that are to be woken then. `NoRound` exactly where no round runs, and
@@ -60,6 +121,9 @@ impl<P: Poller> Core<P> {
         ensures meets { IfSome (finish_reply result) (λ reply. Meets
             (PollerStep P.arm_step P.wait_step) P.interests step.Finish (Some now)
             reply (finish_wakes result self.new.1.round) None self.old self.new) }
+        ensures part { (limit : Option ℕ) → IfSome (finish_reply result) (λ reply. MeetsPart
+            (PollerStep P.arm_step P.wait_step) P.interests finish_round (Some now)
+            reply (finish_wakes result self.new.1.round) limit self.old self.new) }
         ensures cause { IsRefusedBy (empty_hand_refusal self.old.1.round) result }
         ensures refused { OnErr result (self.new ≡ self.old) }
         ensures poller { self.new.0 ≡ self.old.0 }
