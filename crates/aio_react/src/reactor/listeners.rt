@@ -30,6 +30,7 @@ impl<P: Poller> Core<P> {
         ensures cause { result ≢ Err OutOfMemory
             → listen_refused result ≡ listen_refusal self.old.1 key.0 }
         ensures refused { OnErr result (self.new ≡ self.old) }
+        ensures round { self.new.1.round ≡ self.old.1.round }
         ensures poller { self.new.0 ≡ self.old.0 }
     {
         let at = key.0 as usize;
@@ -72,6 +73,7 @@ impl<P: Poller> Core<P> {
         ensures cause { IsRefusedBy (step_refusal self.old.1 listener) result }
         ensures memory { result ≡ Err OutOfMemory → IsFirstPoll self.old.1.listeners listener }
         ensures refused { OnErr result (self.new ≡ self.old) }
+        ensures round { self.new.1.round ≡ self.old.1.round }
         ensures faults { TellsFaults P.fault_count P.is_sure self.old.0 self.new.0
             (IsErr (step_armed result)) }
         ensures fault { IfErr (step_armed result) (λ fault.
@@ -119,6 +121,7 @@ impl<P: Poller> Core<P> {
         ensures known { is_ok result ≡ is_some (value_of self.old.1.listeners listener) }
         ensures refused { IfErr result (λ refusal.
             (refusal ≡ NoListener) × (self.new ≡ self.old)) }
+        ensures round { self.new.1.round ≡ self.old.1.round }
         ensures poller { self.new.0 ≡ self.old.0 }
     {
         let Some(heard) = self.listeners.take(listener) else {
