@@ -208,7 +208,7 @@ has_room told core w stands few = let count = stands.count in grind (arith, nat_
 
 -- with 4,096 sources
 pub full_meets : {P : Type 0} (poller_step : P → PollerMove → P → Type 0) (tells : P → Option Interests) (poller : P) (core : CoreValue) → 4096 ≤ free_key core.sources
-    → Meets poller_step tells step.Add None replies.Full [] core.round.limit (poller, core) (poller, core)
+    → Meets poller_step tells step.Add None replies.Full [] None (poller, core) (poller, core)
 full_meets {P = P} poller_step tells poller core full = record {
   moves = [];
   run = refl;
@@ -221,7 +221,7 @@ full_meets {P = P} poller_step tells poller core full = record {
 pub added_meets : {P : Type 0} (arm_step : P → ArmCall → Result (Unit {0}) Failed → P → Type 0) (wait_step : P → WaitCall → Result Waited Failed → List Event → P → Type 0)
     (tells : P → Option Interests) (old new : P) (core : CoreValue) (key : Key) → key.0 ≡ free_key core.sources → count_entries core.sources < 4096
     → arm_step old (AddOf key) (Ok tt) new → Arms (tells old) (AddOf key) (Ok tt) (tells new)
-    → Meets (PollerStep arm_step wait_step) tells step.Add None (replies.KeyIs key) [] core.round.limit (old, core) (new, with_sources core (placed core.sources key.0 (new_entry key)))
+    → Meets (PollerStep arm_step wait_step) tells step.Add None (replies.KeyIs key) [] None (old, core) (new, with_sources core (placed core.sources key.0 (new_entry key)))
 unfolding step_result
 added_meets {P = P} arm_step wait_step tells old new core key is few did arms = record {
   moves = Armed (AddOf key) (Ok tt) ∷ [];
@@ -244,7 +244,7 @@ added_meets {P = P} arm_step wait_step tells old new core key is few did arms = 
 pub unadded_meets : {P : Type 0} (arm_step : P → ArmCall → Result (Unit {0}) Failed → P → Type 0) (wait_step : P → WaitCall → Result Waited Failed → List Event → P → Type 0)
     (tells : P → Option Interests) (old new : P) (core : CoreValue) (key : Key) → count_entries core.sources < 4096
     → arm_step old (AddOf key) (Err (record {})) new → Arms (tells old) (AddOf key) (Err (record {})) (tells new)
-    → Meets (PollerStep arm_step wait_step) tells step.Add None replies.FaultAdd [] core.round.limit (old, core) (new, core)
+    → Meets (PollerStep arm_step wait_step) tells step.Add None replies.FaultAdd [] None (old, core) (new, core)
 unfolding step_result
 unadded_meets {P = P} arm_step wait_step tells old new core key few did arms = record {
   moves = Armed (AddOf key) (Err (record {})) ∷ [];

@@ -161,7 +161,7 @@ tells_removed (Some old) (Some new) armed key tells arms = λ k. arms k ∙ unse
 
 -- where the key is not live
 pub missing_meets : {P : Type 0} (poller_step : P → PollerMove → P → Type 0) (tells : P → Option Interests) (poller : P) (core : CoreValue) (key : Key) → entry_at core.sources key.0 ≡ None
-    → Meets poller_step tells (step.Del key) None replies.NoSource [] core.round.limit (poller, core) (poller, core)
+    → Meets poller_step tells (step.Del key) None replies.NoSource [] None (poller, core) (poller, core)
 missing_meets {P = P} poller_step tells poller core key free = record {
   moves = [];
   run = refl;
@@ -174,7 +174,7 @@ missing_meets {P = P} poller_step tells poller core key free = record {
 -- where it has a listener
 pub used_meets : {P : Type 0} (poller_step : P → PollerMove → P → Type 0) (tells : P → Option Interests) (poller : P) (core : CoreValue) (key : Key) (e : SourceEntry)
     → entry_at core.sources key.0 ≡ Some e → 0 < count_of key.0 core.listeners
-    → Meets poller_step tells (step.Del key) None replies.InUse [] core.round.limit (poller, core) (poller, core)
+    → Meets poller_step tells (step.Del key) None replies.InUse [] None (poller, core) (poller, core)
 used_meets {P = P} poller_step tells poller core key e is some = record {
   moves = [];
   run = refl;
@@ -219,7 +219,7 @@ pub removed_meets : {P : Type 0} (arm_step : P → ArmCall → Result (Unit {0})
     (tells : P → Option Interests) (old new : P) (core : CoreValue) (key : Key) (e : SourceEntry) (answer : Result (Unit {0}) Failed)
     → entry_at core.sources key.0 ≡ Some e → count_of key.0 core.listeners ≡ 0
     → arm_step old (RemoveOf key) answer new → Arms (tells old) (RemoveOf key) answer (tells new)
-    → Meets (PollerStep arm_step wait_step) tells (step.Del key) None (gone_reply answer) [] core.round.limit (old, core) (new, without_source core key.0)
+    → Meets (PollerStep arm_step wait_step) tells (step.Del key) None (gone_reply answer) [] None (old, core) (new, without_source core key.0)
 unfolding step_result
 removed_meets {P = P} arm_step wait_step tells old new core key e answer is none did arms = record {
   moves = Armed (RemoveOf key) answer ∷ [];

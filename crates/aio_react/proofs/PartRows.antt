@@ -12,7 +12,7 @@ runs_both step (x ∷ xs) ys a b c first second = (first.0, first.1, runs_both s
 pub waits_both : (limit : Option ℕ) (xs ys : List PollerMove) → WaitsWithin limit xs → WaitsWithin limit ys → WaitsWithin limit (xs ++ ys)
 waits_both limit [] ys first second = second
 waits_both limit (Armed call answer ∷ xs) ys first second = waits_both limit xs ys first second
-waits_both limit (Awaited call answer events ∷ xs) ys first second = (first.0, waits_both limit xs ys first.1 second)
+waits_both limit (Awaited call answer events ∷ xs) ys first second = (first.0, first.1, waits_both limit xs ys first.2 second)
 
 pub mapped_both : {X Y : Type 0} (f : X → Y) (xs ys : List X) → map f (xs ++ ys) ≡ map f xs ++ map f ys
 mapped_both f [] ys = refl

@@ -20,11 +20,16 @@ use Rattle.aio_react.specs.Cores.{CoreValue}
 use Rattle.aio_react.specs.Parts.{ComesWithin, MeetsPart}
 use Rattle.aio_react.specs.declared.refusals.CoreRefusal.{CoreRefusal}
 use Rattle.aio_react.specs.declared.refusals.CoreRefusal.TheVariants as refusal
-use Rattle.aio_react.specs.Replies.{empty_hand_refusal, wait_reply, core_wait}
+use Rattle.aio_react.specs.Replies.{empty_hand_refusal, wait_reply}
 use Rattle.aio_react.specs.Rounds.{RoundValue, wait_of, poller_told, wait_answer, waited}
 use Rattle.aio_react.specs.Standing.{AreAsked, RoundStands, Runs, RunningSound, StandsWithin, end_word}
 use Rattle.aio_react.proofs.Clearing.{tells_cleared, asked_cleared}
 use Rattle.aio_react.proofs.PartMeets.{quiet_part}
+
+-- the answer of a core whose round answered so
+abbrev pub core_wait : Result Waited CountFault → Result Waited CoreRefusal
+core_wait (Ok waited) = Ok waited
+core_wait (Err fault) = Err (refusal.WaitFault fault)
 
 -- ## The phase
 
@@ -194,7 +199,7 @@ pub wait_meets : {P : Type 0} (arm_step : P → ArmCall → Result (Unit {0}) Fa
 wait_meets {P = P} arm_step wait_step tells old new core answer events running none did count becomes = record {
   moves = Awaited (wait_of core.round.limit) (poller_told answer) events ∷ [];
   run = (new, did, refl);
-  waits = (refl, tt);
+  waits = (refl, count, tt);
   comes = λ bound w later stands now.
       let one = one_runs core.round w.round stands.round running in
       let empty = one.2.hand_is ∙ none in

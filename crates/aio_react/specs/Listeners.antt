@@ -22,21 +22,17 @@ use Rattle.aio_react.specs.Polls.{waiting_reply}
 
 -- ## A new listener
 
-abbrev pub listen_reply : Result ℕ CoreRefusal → Answer
-listen_reply (Ok number) = answer.Listener number
-listen_reply (Err refused) = answer.NoSource
+-- the answer of the machine, which gives numbers without end and never wants memory
+abbrev pub listen_reply : Result ℕ CoreRefusal → Option Answer
+listen_reply (Ok number) = Some (answer.Listener number)
+listen_reply (Err refusal.NoSource) = Some answer.NoSource
+listen_reply (Err refused) = None
 
 -- why a core has no new listener of a key
 abbrev pub listen_refusal : CoreValue → ℕ → Option CoreRefusal
 listen_refusal core key =
     if not (is_some (entry_at core.sources key)) then Some refusal.NoSource
     else (if nat_eq (length core.listeners) (2 ^ 64 - 1) then Some refusal.TicketsSpent else None)
-
--- the refusal that was answered, where it is not for want of memory
-abbrev pub listen_refused : Result ℕ CoreRefusal → Option CoreRefusal
-listen_refused (Ok number) = None
-listen_refused (Err refusal.OutOfMemory) = None
-listen_refused (Err refused) = Some refused
 
 -- ## A poll of a listener
 

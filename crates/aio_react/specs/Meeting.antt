@@ -8,6 +8,7 @@ use Rattle.aio_base.specs.declared.steps.Step.{Step}
 use Rattle.aio_base.specs.Devices.{PollerMove, Armed, Awaited, AddOf, ArmOf, RemoveOf, Interests, RunOf}
 use Rattle.aio_base.specs.Machine.{Outcome, step_result}
 use Rattle.aio_base.specs.Moves.{answer_of}
+use Rattle.aio_base.specs.Waits.{IsCountOf}
 use Rattle.aio_base.specs.World.{PollerAnswer, World}
 use Rattle.aio_react.specs.Cores.{CoreValue}
 use Rattle.aio_react.specs.Rounds.{wait_of}
@@ -19,11 +20,11 @@ kind_of (Armed (ArmOf key on) answer) = which.Arm
 kind_of (Armed (RemoveOf key) answer) = which.Remove
 kind_of (Awaited call answer events) = which.Wait
 
--- each wait is the one that a round with this limit makes
+-- each wait is the one that a round with this limit makes, and gave what a poller may give: no more events than it was asked for
 abbrev pub WaitsWithin : Option ℕ → List PollerMove → Type 0
 WaitsWithin limit [] = ⊤
 WaitsWithin limit (Armed call answer ∷ moves) = WaitsWithin limit moves
-WaitsWithin limit (Awaited call answer events ∷ moves) = (call ≡ wait_of limit) × WaitsWithin limit moves
+WaitsWithin limit (Awaited call answer events ∷ moves) = (call ≡ wait_of limit) × IsCountOf answer call.room events × WaitsWithin limit moves
 
 -- what a step gives is what a call answered and woke, asked of its poller in this order, and left
 pub record Comes (o : Outcome) (answer : Answer) (wakes : List Waker) (moves : List PollerMove) (left : List PollerAnswer) (told : Option Interests) (core : CoreValue) : Type 0 where

@@ -15,11 +15,11 @@ abbrev pub empty_hand_refusal : RoundValue → Option CoreRefusal
 empty_hand_refusal r =
     if not r.running then Some refusal.NoRound else (if is_empty_list r.hand then None else Some (refusal.EventsLeft (length r.hand)))
 
--- the refusal by the phase of the round that a wait answered
+-- the refusal that a wait answered, which the phase of the round decides: each but a fault of the poller
 abbrev pub wait_phase : Result Waited CoreRefusal → Option CoreRefusal
-wait_phase (Err refusal.NoRound) = Some refusal.NoRound
-wait_phase (Err (refusal.EventsLeft n)) = Some (refusal.EventsLeft n)
-wait_phase answered = None
+wait_phase (Ok waited) = None
+wait_phase (Err (refusal.WaitFault fault)) = None
+wait_phase (Err refused) = Some refused
 
 -- the fault of the poller that a wait answered
 abbrev pub wait_failure : Result Waited CoreRefusal → Option CountFault
@@ -39,8 +39,3 @@ wait_reply (Ok Interrupted) = answer.Interrupted
 wait_reply (Err (refusal.WaitFault fault)) = answer.FaultWait
 wait_reply (Err (refusal.EventsLeft n)) = answer.Events n
 wait_reply (Err refused) = answer.NoRound
-
--- the answer of a core whose round answered so
-abbrev pub core_wait : Result Waited CountFault → Result Waited CoreRefusal
-core_wait (Ok waited) = Ok waited
-core_wait (Err fault) = Err (refusal.WaitFault fault)

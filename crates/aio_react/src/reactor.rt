@@ -71,7 +71,7 @@ impl<P> Model for Core<P> {
 }
 
 impl<P: Poller> Core<P> {
-    ghost use Rattle.std.specs.Prelude.{None, option_map, IsSome, IfSome, length};
+    ghost use Rattle.std.specs.Prelude.{◌≤◌, None, option_map, IsSome, IfSome, length};
     ghost use Rattle.std.specs.Option.{option_or};
     ghost use Rattle.aio_base.specs.declared.steps.Step.TheVariants as step;
     ghost use Rattle.aio_base.specs.Machine.{wait_round};
@@ -143,6 +143,7 @@ impl<P: Poller> Core<P> {
         ensures refused { IsSome (wait_phase result) → self.new ≡ self.old }
         ensures given { wait_phase result ≡ None
             → length self.new.1.round.hand ≡ wait_given result }
+        ensures bound { wait_given result ≤ 1024 }
         ensures runs { self.new.1.round.running ≡ self.old.1.round.running }
         ensures kept { self.new.1.round.fault
             ≡ option_or self.old.1.round.fault (option_map Wait (wait_failure result)) }

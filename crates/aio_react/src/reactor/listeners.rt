@@ -1,11 +1,11 @@
 //! The calls of a core on its listeners: tasks that wait for its sources beside the poll waiters.
 
-ghost use Rattle.std.specs.Prelude.{◌≡◌, ◌≢◌, ◌<◌, [], None, Some, Err, is_ok, is_some, IfSome, IfErr, IsErr, OnErr};
+ghost use Rattle.std.specs.Prelude.{◌≡◌, ◌<◌, [], None, Some, Err, is_ok, is_some, IfSome, IfErr, IsErr, OnErr};
 ghost use Rattle.aio_base.specs.Devices.{PollerStep, TellsFaults};
 ghost use Rattle.aio_base.specs.declared.steps.Step.TheVariants as step;
 ghost use Rattle.aio_react.specs.declared.refusals.CoreRefusal.TheVariants.{NoListener, OutOfMemory};
 ghost use Rattle.aio_react.specs.Cores.{IsListenedTo};
-ghost use Rattle.aio_react.specs.Listeners.{listen_reply, listen_refusal, listen_refused, step_reply, step_refusal, step_armed, first_step, IsFirstPoll, drop_reply, given_up};
+ghost use Rattle.aio_react.specs.Listeners.{listen_reply, listen_refusal, step_reply, step_refusal, step_armed, first_step, IsFirstPoll, drop_reply, given_up};
 ghost use Rattle.aio_react.specs.Meeting.{Meets};
 ghost use Rattle.aio_react.specs.Numbers.{value_of};
 ghost use Rattle.aio_react.specs.Sections.{IsRefusedBy};
@@ -25,11 +25,12 @@ impl<P: Poller> Core<P> {
     /// `TicketsSpent` exactly where 2^64 - 1 numbers were given. `OutOfMemory` where memory ran out.
     /// A refusal leaves all as it was.
     pub fn listen(&mut self, key: Key, dir: Dir) -> Result<u64, CoreRefusal>
-        ensures meets { result ≢ Err OutOfMemory → Meets (PollerStep P.arm_step P.wait_step)
-            P.interests (step.New key dir) None (listen_reply result) [] None self.old self.new }
-        ensures cause { result ≢ Err OutOfMemory
-            → listen_refused result ≡ listen_refusal self.old.1 key.0 }
+        ensures meets { IfSome (listen_reply result) (λ reply. Meets
+            (PollerStep P.arm_step P.wait_step) P.interests (step.New key dir) None
+            reply [] None self.old self.new) }
+        ensures cause { IsRefusedBy (listen_refusal self.old.1 key.0) result }
         ensures refused { OnErr result (self.new ≡ self.old) }
+        ensures round { self.new.1.round ≡ self.old.1.round }
         ensures poller { self.new.0 ≡ self.old.0 }
     {
         let at = key.0 as usize;
@@ -72,6 +73,7 @@ impl<P: Poller> Core<P> {
         ensures cause { IsRefusedBy (step_refusal self.old.1 listener) result }
         ensures memory { result ≡ Err OutOfMemory → IsFirstPoll self.old.1.listeners listener }
         ensures refused { OnErr result (self.new ≡ self.old) }
+        ensures round { self.new.1.round ≡ self.old.1.round }
         ensures faults { TellsFaults P.fault_count P.is_sure self.old.0 self.new.0
             (IsErr (step_armed result)) }
         ensures fault { IfErr (step_armed result) (λ fault.
@@ -119,6 +121,7 @@ impl<P: Poller> Core<P> {
         ensures known { is_ok result ≡ is_some (value_of self.old.1.listeners listener) }
         ensures refused { IfErr result (λ refusal.
             (refusal ≡ NoListener) × (self.new ≡ self.old)) }
+        ensures round { self.new.1.round ≡ self.old.1.round }
         ensures poller { self.new.0 ≡ self.old.0 }
     {
         let Some(heard) = self.listeners.take(listener) else {

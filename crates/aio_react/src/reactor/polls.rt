@@ -24,6 +24,7 @@ impl<P: Poller> Core<P> {
             None (poll_reply result) (poll_wakes result) None self.old self.new }
         ensures live { is_ok result ≡ is_some (entry_at self.old.1.sources key.0) }
         ensures refused { IfErr result (λ refusal. (refusal ≡ NoSource) × (self.new ≡ self.old)) }
+        ensures round { self.new.1.round ≡ self.old.1.round }
         ensures faults { TellsFaults P.fault_count P.is_sure self.old.0 self.new.0
             (IsErr (poll_armed result)) }
         ensures fault { IfErr (poll_armed result) (λ fault. fault ≡ record {

@@ -21,7 +21,7 @@ impl<P: Poller> Core<P> {
     /// poller's count of faults rose; all but the poller is as before. It takes no memory.
     pub fn add(&mut self) -> Result<Key, CoreRefusal>
         ensures meets { Meets (PollerStep P.arm_step P.wait_step) P.interests step.Add None
-            (add_reply result) [] self.old.1.round.limit self.old self.new }
+            (add_reply result) [] None self.old self.new }
         ensures answer { AnswersAdd self.old.1.sources result }
         ensures after { self.new.1 ≡ after_add self.old.1 result }
         ensures refused { result ≡ Err refusal.Full → self.new ≡ self.old }
@@ -61,7 +61,7 @@ impl<P: Poller> Core<P> {
     /// gone all the same. It takes no memory.
     pub fn del(&mut self, key: Key) -> Result<(), CoreRefusal>
         ensures meets { Meets (PollerStep P.arm_step P.wait_step) P.interests (step.Del key) None
-            (del_reply result) [] self.old.1.round.limit self.old self.new }
+            (del_reply result) [] None self.old self.new }
         ensures answer { AnswersDel self.old.1.sources self.old.1.listeners key.0 result }
         ensures after { self.new.1 ≡ after_del self.old.1 key.0 result }
         ensures no_source { result ≡ Err refusal.NoSource → self.new ≡ self.old }

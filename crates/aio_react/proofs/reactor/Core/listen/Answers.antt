@@ -8,13 +8,13 @@ use Rattle.aio_react.proofs.reactor.Core.listen.Goals as goal
 pub returns-then-at-len-clause-meets : goal.returns-then-at-len-clause-meets
 returns-then-at-len-clause-meets g c =
     let past = read_past c.self.inside.sources.items c.args.key.0 (omega arith) in
-    λ ample. rw (← c.self.view_is) (listen_misses (PollerStep g.P.Arm.arm_step g.P.EventWait.wait_step) g.P.Arm.interests c.self.inside.poller _ c.args.key c.args.dir past)
+    rw (← c.self.view_is) (listen_misses (PollerStep g.P.Arm.arm_step g.P.EventWait.wait_step) g.P.Arm.interests c.self.inside.poller _ c.args.key c.args.dir past)
 
 pub returns-in-None-clause-meets : goal.returns-in-None-clause-meets
 returns-in-None-clause-meets g c =
     let i = c.self.inside in
     let is = read_at i.sources.items c.args.key.0 c.index_mut.result.now (omega arith) c.index_mut.ensures.value ∙ c.in-None.is in
-    λ ample. rw (read_back i.sources.items c.args.key.0 c.index_mut.result.now c.index_mut.ensures.value, ← c.self.view_is)
+    rw (read_back i.sources.items c.args.key.0 c.index_mut.result.now c.index_mut.ensures.value, ← c.self.view_is)
     (listen_misses (PollerStep g.P.Arm.arm_step g.P.EventWait.wait_step) g.P.Arm.interests i.poller _ c.args.key c.args.dir is)
 
 pub overflow_add-entry : goal.overflow_add-entry
@@ -40,5 +40,5 @@ returns-clause-meets g c =
     let i = c.self.inside in
     let is = read_at i.sources.items c.args.key.0 c.index_mut.result.now (omega arith) c.index_mut.ensures.value ∙ c.in-Some.is in
     let next = next_number c.in-Ok.number i.listeners c.add.new.self _ c.in-Ok.ensures.number c.in-Ok.ensures.added in
-    λ ample. rw (c.in-Ok.ensures.added, ← c.self.view_is)
+    rw (c.in-Ok.ensures.added, ← c.self.view_is)
     (listen_meets (PollerStep g.P.Arm.arm_step g.P.EventWait.wait_step) g.P.Arm.interests i.poller _ c.args.key c.args.dir c.in-Some.entry c.in-Ok.number is next)
