@@ -42,3 +42,4 @@ mod PartRows
 mod HandleRows
 mod RoundFaults
 mod ReactMeets
+mod Asked

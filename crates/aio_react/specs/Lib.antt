@@ -8,6 +8,7 @@ pub mod Meeting
 pub mod Replies
 pub mod Hosting
 pub mod Lending
+pub mod Asking
 pub mod Hosts
 pub mod Sources
 pub mod Polls

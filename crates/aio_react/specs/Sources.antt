@@ -3,6 +3,7 @@ use Rattle.std.specs.Prelude.{◌≡◌, ℕ, zero, suc, ◌<◌, ◌≤◌, Lis
 use Rattle.std.specs.List.{position_or_len}
 use Rattle.aio_base.specs.declared.names.Key.{Key}
 use Rattle.aio_base.specs.declared.outcomes.CountFault.{CountFault}
+use Rattle.aio_base.specs.declared.outcomes.Failed.{Failed}
 use Rattle.aio_base.specs.declared.steps.Answer.{Answer}
 use Rattle.aio_base.specs.declared.steps.Answer.TheVariants as answer
 use Rattle.aio_source.specs.Rules.{new_source}
@@ -44,6 +45,12 @@ abbrev pub after_add : CoreValue → Result Key CoreRefusal → CoreValue
 after_add core (Ok key) = with_sources core (placed core.sources key.0 (new_entry key))
 after_add core (Err refused) = core
 
+-- what the poller answered to an `add`, where it was asked
+abbrev pub add_told : Result Key CoreRefusal → Option (Result (Unit {0}) Failed)
+add_told (Ok key) = Some (Ok tt)
+add_told (Err (refusal.AddFault fault)) = Some (Err (record {}))
+add_told (Err refused) = None
+
 -- the fault of the poller that an `add` answered
 abbrev pub add_failure : Result Key CoreRefusal → Option CountFault
 add_failure (Err (refusal.AddFault fault)) = Some fault
@@ -77,6 +84,12 @@ abbrev pub after_del : CoreValue → ℕ → Result (Unit {0}) CoreRefusal → C
 after_del core key (Ok done) = without_source core key
 after_del core key (Err (refusal.RemoveFault fault)) = without_source core key
 after_del core key (Err refused) = core
+
+-- what the poller answered to a `del`, where it was asked
+abbrev pub del_told : Result (Unit {0}) CoreRefusal → Option (Result (Unit {0}) Failed)
+del_told (Ok done) = Some (Ok tt)
+del_told (Err (refusal.RemoveFault fault)) = Some (Err (record {}))
+del_told (Err refused) = None
 
 -- the fault of the poller that a `del` answered
 abbrev pub del_failure : Result (Unit {0}) CoreRefusal → Option CountFault

@@ -4,6 +4,7 @@ ghost use Rattle.std.specs.Prelude.{◌≡◌, ◌<◌, [], None, Some, Err, is_
 ghost use Rattle.aio_base.specs.Devices.{PollerStep, TellsFaults};
 ghost use Rattle.aio_base.specs.declared.steps.Step.TheVariants as step;
 ghost use Rattle.aio_react.specs.declared.refusals.CoreRefusal.TheVariants.{NoListener, OutOfMemory};
+ghost use Rattle.aio_react.specs.Asking.{UsesPoller, step_part};
 ghost use Rattle.aio_react.specs.Cores.{IsListenedTo};
 ghost use Rattle.aio_react.specs.Listeners.{listen_reply, listen_refusal, step_reply, step_refusal, step_armed, first_step, IsFirstPoll, drop_reply, given_up};
 ghost use Rattle.aio_react.specs.Meeting.{Meets};
@@ -74,6 +75,9 @@ impl<P: Poller> Core<P> {
         ensures memory { result ≡ Err OutOfMemory → IsFirstPoll self.old.1.listeners listener }
         ensures refused { OnErr result (self.new ≡ self.old) }
         ensures round { self.new.1.round ≡ self.old.1.round }
+        ensures lent { UsesPoller P.arm_step P.interests P.rest P.fault_count P.is_sure
+            (step_part self.old.1 self.new.1 listener w) (step_armed result)
+            self.old.0 self.new.0 }
         ensures faults { TellsFaults P.fault_count P.is_sure self.old.0 self.new.0
             (IsErr (step_armed result)) }
         ensures fault { IfErr (step_armed result) (λ fault.

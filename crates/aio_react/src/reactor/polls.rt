@@ -4,6 +4,7 @@ ghost use Rattle.std.specs.Prelude.{◌≡◌, [], None, is_ok, is_some, IfErr, 
 ghost use Rattle.aio_base.specs.Devices.{PollerStep, TellsFaults};
 ghost use Rattle.aio_base.specs.declared.steps.Step.TheVariants as step;
 ghost use Rattle.aio_react.specs.declared.refusals.CoreRefusal.TheVariants.{NoSource};
+ghost use Rattle.aio_react.specs.Asking.{UsesPoller, poll_part};
 ghost use Rattle.aio_react.specs.Cores.{entry_at};
 ghost use Rattle.aio_react.specs.Meeting.{Meets};
 ghost use Rattle.aio_react.specs.Polls.{poll_reply, poll_wakes, poll_armed};
@@ -25,6 +26,8 @@ impl<P: Poller> Core<P> {
         ensures live { is_ok result ≡ is_some (entry_at self.old.1.sources key.0) }
         ensures refused { IfErr result (λ refusal. (refusal ≡ NoSource) × (self.new ≡ self.old)) }
         ensures round { self.new.1.round ≡ self.old.1.round }
+        ensures lent { UsesPoller P.arm_step P.interests P.rest P.fault_count P.is_sure
+            (poll_part self.old.1 key.0 dir w) (poll_armed result) self.old.0 self.new.0 }
         ensures faults { TellsFaults P.fault_count P.is_sure self.old.0 self.new.0
             (IsErr (poll_armed result)) }
         ensures fault { IfErr (poll_armed result) (λ fault. fault ≡ record {

@@ -7,10 +7,11 @@ ghost use Rattle.aio_base.specs.declared.steps.Step.TheVariants as step;
 ghost use Rattle.aio_base.specs.Devices.{PollerStep, TellsFaults};
 ghost use Rattle.aio_base.specs.Machine.{handle_round, finish_round};
 ghost use Rattle.aio_react.specs.declared.round.RoundFault.TheVariants.{Arm};
+ghost use Rattle.aio_react.specs.Asking.{UsesPoller, handle_part};
 ghost use Rattle.aio_react.specs.Meeting.{Meets};
 ghost use Rattle.aio_react.specs.Parts.{MeetsPart};
 ghost use Rattle.aio_react.specs.Replies.{empty_hand_refusal};
-ghost use Rattle.aio_react.specs.Rounds.{HasRisen};
+ghost use Rattle.aio_react.specs.Rounds.{HasRisen, arm_told};
 ghost use Rattle.aio_react.specs.Sections.{IsRefusedBy, begin_refusal, core_begun, begin_reply, handle_refusal, handle_reply, handle_fault, finish_reply, finish_wakes};
 
 #[cfg(test)]
@@ -80,6 +81,9 @@ impl<P: Poller> Core<P> {
         ensures runs { self.new.1.round.running ≡ self.old.1.round.running }
         ensures kept { self.new.1.round.fault
             ≡ option_or self.old.1.round.fault (option_map Arm (handle_fault result)) }
+        ensures lent { IfOk result (λ handled.
+            UsesPoller P.arm_step P.interests P.rest P.fault_count P.is_sure
+            (handle_part self.old.1) (arm_told handled.fault) self.old.0 self.new.0) }
         ensures faults { TellsFaults P.fault_count P.is_sure self.old.0 self.new.0
             (IsSome (handle_fault result)) }
         ensures fault { IfOk result (λ handled. IfSome handled.fault (λ fault. fault ≡ record {

@@ -2,12 +2,12 @@
 
 ghost use Rattle.std.specs.Prelude.{◌≡◌, ◌<◌, ◌≤◌, [], None, Some, Err, IsSome, IfSome, option_map, vec_len, vec_capacity};
 ghost use Rattle.aio_base.specs.declared.steps.Step.TheVariants as step;
-ghost use Rattle.aio_base.specs.Devices.{PollerStep, TellsFaults};
+ghost use Rattle.aio_base.specs.Devices.{PollerStep, TellsFaults, AddOf, RemoveOf};
 ghost use Rattle.aio_react.specs.declared.refusals.CoreRefusal.TheVariants as refusal;
 ghost use Rattle.aio_react.specs.declared.entries.SourceEntry.{SourceEntry as Entry};
 ghost use Rattle.aio_react.specs.Cores.{entry_at};
 ghost use Rattle.aio_react.specs.Meeting.{Meets};
-ghost use Rattle.aio_react.specs.Sources.{free_key, placed, AnswersAdd, after_add, add_failure, add_reply, AnswersDel, after_del, del_failure, del_reply};
+ghost use Rattle.aio_react.specs.Sources.{free_key, placed, AnswersAdd, after_add, add_told, add_failure, add_reply, AnswersDel, after_del, del_told, del_failure, del_reply};
 
 use super::{Core, SOURCE_LIMIT};
 use crate::entries::SourceEntry;
@@ -25,6 +25,8 @@ impl<P: Poller> Core<P> {
         ensures answer { AnswersAdd self.old.1.sources result }
         ensures after { self.new.1 ≡ after_add self.old.1 result }
         ensures refused { result ≡ Err refusal.Full → self.new ≡ self.old }
+        ensures asked { IfSome (add_told result) (λ told. P.arm_step self.old.0
+            (AddOf (record { 0 = free_key self.old.1.sources })) told self.new.0) }
         ensures faults { TellsFaults P.fault_count P.is_sure self.old.0 self.new.0
             (IsSome (add_failure result)) }
         ensures fault { IfSome (add_failure result) (λ fault. fault ≡ record {
@@ -66,6 +68,8 @@ impl<P: Poller> Core<P> {
         ensures after { self.new.1 ≡ after_del self.old.1 key.0 result }
         ensures no_source { result ≡ Err refusal.NoSource → self.new ≡ self.old }
         ensures in_use { result ≡ Err refusal.InUse → self.new ≡ self.old }
+        ensures asked { IfSome (del_told result) (λ told.
+            P.arm_step self.old.0 (RemoveOf key) told self.new.0) }
         ensures faults { TellsFaults P.fault_count P.is_sure self.old.0 self.new.0
             (IsSome (del_failure result)) }
         ensures fault { IfSome (del_failure result) (λ fault. fault ≡ record {

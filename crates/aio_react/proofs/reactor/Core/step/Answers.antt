@@ -4,6 +4,7 @@ use Rattle.aio_source.specs.Rules.{direction_of}
 use Rattle.aio_source.specs.declared.answers.Listened.{Listened}
 use Rattle.aio_react.specs.Cores.{CoreValue}
 use Rattle.aio_react.specs.Numbers.{value_of}
+use Rattle.aio_react.proofs.Asked.{first_asked}
 use Rattle.aio_react.proofs.HeardAgain.{keyed_changed, source_read}
 use Rattle.aio_react.proofs.HeldSources.{key_is}
 use Rattle.aio_react.proofs.StepKeeps.{again_key, listed_again_polled, listed_first_polled, listed_unpolled, first_key, drew, drew_none, source_unchanged}
@@ -94,3 +95,15 @@ returns-clause-meets g c =
     (first_meets g.P.Arm.arm_step g.P.EventWait.wait_step g.P.Arm.interests i.poller c.first_listen-listened.new.arm core c.args.listener l first c.args.w e c.first_listen-listened.new.self
     _ _ _ _ (key_is i.sources.items l.key e c.self.invariant.2 there) there is c.in_default-first.is numbers.0 numbers.1 told.ticket_is
     c.first_listen-listened.ensures.fault c.first_listen-listened.ensures.after c.first_listen-listened.ensures.lent.once c.first_listen-listened.ensures.lent.interests)
+
+pub returns-clause-lent : goal.returns-clause-lent
+returns-clause-lent g c =
+    let i = c.self.inside in
+    let l = c.in-Some.heard in
+    let e = c.in-Some-index_mut-2.entry in
+    let is : value_of i.listeners c.args.listener ≡ Some l = sym c.in-Some.ensures in
+    let there = source_read i.sources.items i.listeners c.args.listener l _ e c.self.invariant.3 is c.index_mut-2.ensures.value c.in-Some-index_mut-2.is in
+    let told = drew c.first_listen-listened.result c.in-Ok.told c.in-Ok.ensures in
+    rw (← c.self.view_is)
+    (first_asked g.P.Arm.arm_step g.P.Arm.interests g.P.Arm.rest g.P.Faults.fault_count g.P.Faults.is_sure i.sources.items i.listeners c.set.new.self c.args.listener l c.in-Ok.told.1 e c.args.w
+    c.first_listen-listened.result c.in-Ok.told.0 i.poller c.first_listen-listened.new.arm is there c.in_default-first.is c.set.ensures told c.first_listen-listened.ensures.lent)
