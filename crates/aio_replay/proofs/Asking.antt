@@ -1,5 +1,5 @@
 -- What each step that is a call of a core leaves of the world as it was, and which calls of the poller it makes.
-use Rattle.std.proofs.Common.{◌≡◌, ◌⊎◌, ℕ, suc, ◌+◌, Bool, true, false, cond, ◌≤◌, List, [], ◌∷◌, ◌++◌, find, length, Option, None, Some, is_some, inl, inr, refl, sym, ap, ◌∙◌, subst, arith, ⊎_elim}
+use Rattle.std.proofs.Common.{◌≡◌, ℕ, suc, ◌+◌, ◌≤◌, List, [], ◌∷◌, ◌++◌, find, Option, None, Some, inl, inr, refl, ap, ◌∙◌, arith, ⊎_elim}
 use Rattle.std.specs.Prelude.{replicate}
 use Rattle.aio_base.specs.declared.names.Event.{Event}
 use Rattle.aio_base.specs.declared.outcomes.Which.{Which}
@@ -10,7 +10,7 @@ use Rattle.aio_base.specs.Machine.{Outcome, next_answer, later_answers, begin_ro
 use Rattle.aio_base.specs.declared.outcomes.EndWord.TheVariants.{Clean}
 use Rattle.aio_base.specs.Timers.{due_wakers, limit_of}
 use Rattle.aio_base.specs.World.{PollerAnswer, Succeeds, Gives, IsInterrupted, Fails, World, RoundState, serial_of}
-use Rattle.aio_replay.proofs.Leaving.{Leaves, LeavesRest, rest_of, leaves_all, leaves_more, leaves_both, Does, AsksNothing, OnceAtMost, OfARound, add_does, del_does, poll_does, new_does, step_does, drop_does, begin_does, wait_answered_does, wait_does, handle_does, finish_does}
+use Rattle.aio_replay.proofs.Leaving.{LeavesRest, rest_of, leaves_all, leaves_more, leaves_both, Does, AsksNothing, OnceAtMost, OfARound, add_does, del_does, poll_does, new_does, step_does, drop_does, begin_does, wait_does, handle_does, finish_does}
 
 -- ## A whole round
 

@@ -1,5 +1,5 @@
 -- A call of the core over the poller in memory is the machine's step over the script: the one lemma for all calls.
-use Rattle.std.proofs.Common.{◌≡◌, ◌⊎◌, ℕ, zero, suc, ◌+◌, ◌≤◌, Bool, true, false, if◌then◌else◌, List, [], ◌∷◌, ◌++◌, map, drop, find, length, Option, None, Some, IfSome, Result, Ok, Err, IfOk, is_ok, refl, sym, ap, ◌∙◌, subst, arith, ⊎_elim}
+use Rattle.std.proofs.Common.{◌≡◌, ℕ, zero, suc, ◌+◌, Bool, true, false, if◌then◌else◌, List, [], ◌∷◌, ◌++◌, map, drop, find, Option, None, Some, IfSome, Result, Ok, Err, IfOk, is_ok, refl, sym, ap, ◌∙◌, subst, ⊎_elim}
 use Rattle.std.specs.Prelude.{replicate, ⊤}
 use Rattle.aio_base.specs.declared.names.Event.{Event}
 use Rattle.aio_base.specs.declared.names.TimerId.{TimerId}
@@ -12,22 +12,24 @@ use Rattle.aio_base.specs.declared.steps.Step.TheVariants as step
 use Rattle.aio_base.specs.Devices.{Interests, PollerMove, PollerStep, RunOf}
 use Rattle.aio_base.specs.Machine.{Outcome, is_timer, moved_on, react, case_of, step_result}
 use Rattle.aio_base.specs.Moves.{answer_of}
-use Rattle.aio_base.specs.Script.{fails_where, wait_room, wait_answer, script_answers, after_wait, after_call, after_calls, script_step}
-use Rattle.aio_base.specs.World.{PollerAnswer, Succeeds, World, DueFaults, Registration, TimerEntry}
+use Rattle.aio_base.specs.Script.{fails_where, wait_room, script_answers, after_wait, after_call, after_calls, script_step}
+use Rattle.aio_base.specs.World.{PollerAnswer, World, DueFaults, Registration, TimerEntry}
 use Rattle.aio_future.specs.Timers.{TimerValue}
 use Rattle.aio_react.specs.Cores.{CoreValue}
 use Rattle.aio_react.specs.Meeting.{kind_of, WaitsWithin, Comes, IsAt, Meets}
 use Rattle.aio_react.specs.Numbers.{value_of}
 use Rattle.aio_react.specs.declared.refusals.CoreRefusal.{CoreRefusal}
 use Rattle.aio_react.specs.declared.round.RoundFault.{RoundFault}
+use Rattle.aio_react.specs.declared.outcomes.Reacted.{Reacted}
+use Rattle.aio_react.specs.Reacting.{react_wakes, MeetsRound}
 use Rattle.aio_react.specs.Rounds.{RoundValue}
 use Rattle.aio_react.specs.Sections.{finish_wakes}
 use Rattle.aio_react.specs.Standing.{Stands}
 use Rattle.aio_replay.specs.declared.replayer.Replayer.{Replayer}
-use Rattle.aio_replay.specs.Replaying.{PollerStands, StandsFor, Gives, Replays}
+use Rattle.aio_replay.specs.Replaying.{PollerStands, StandsFor, Replays}
 use Rattle.aio_replay.specs.Timers.{TimerStands, OnlyAt, OwnsAt, Owns, TimersStand}
 use Rattle.aio_replay.proofs.Asking.{IsCall, Asked, case_does}
-use Rattle.aio_replay.proofs.Leaving.{Leaves, AsksNothing, OnceAtMost, OfARound}
+use Rattle.aio_replay.proofs.Leaving.{Leaves, OnceAtMost}
 use Rattle.aio_replay.proofs.Padding.{AreSuccesses, Pads, Alike, react_alike}
 use Rattle.aio_replay.proofs.Scripted.{told, told_for, run_scripts}
 use Rattle.aio_script.specs.Script.{Script, interests_of, ScriptArms, ScriptWaits}
@@ -301,3 +303,26 @@ pub finished_wakes : (finished : Result (Option RoundFault) CoreRefusal) (r : Ro
     → wakes ≡ (if ended then r.taken else []) → wakes ≡ finish_wakes finished r
 finished_wakes (Ok fault) r ended wakes is are = rw is at are
 finished_wakes (Err refused) r ended wakes is are = rw is at are
+
+-- ## A whole round
+
+abbrev MeetsReact : ℕ → List Waker → Script × CoreValue → Script × CoreValue → Answer → Type 0
+MeetsReact now wakes old new reply = MeetsRound (PollerStep ScriptArms ScriptWaits) (λ (p : Script). Some (interests_of p)) None now reply wakes old new
+
+react_replayed : (now : ℕ) (answer : Answer) (wakes : List Waker) (r : Replayer) (new : Script × CoreValue) → now ≡ r.clock → MeetsReact now wakes r.core new answer
+    → Replays step.React answer wakes r (record r { core = new })
+unfolding step_result
+react_replayed now answer wakes r new clock met =
+    called step.React (Some now) _ answer wakes r new met.moves tt clock met.run met.waits met.comes
+
+pub told_round : {E : Type 0} (told : Result Answer E) (reply : Option Answer) (now : ℕ) (wakes : List Waker) (r : Replayer) (new : Script × CoreValue) → now ≡ r.clock
+    → IfOk told (λ a. reply ≡ Some a) → IfSome reply (MeetsReact now wakes r.core new) → IfOk told (λ a. Replays step.React a wakes r (record r { core = new }))
+told_round (Ok a) reply now wakes r new clock is met =
+    react_replayed now a wakes r new clock (subst (λ (o : Option Answer). IfSome o (MeetsReact now wakes r.core new)) is met)
+told_round (Err e) reply now wakes r new clock is met = tt
+
+-- the wakes of a whole round
+pub reacted_wakes : (reacted : Result Reacted CoreRefusal) (r : RoundValue) (ended : Bool) (wakes : List Waker) → ended ≡ is_ok reacted
+    → wakes ≡ (if ended then r.taken else []) → wakes ≡ react_wakes reacted r
+reacted_wakes (Ok round) r ended wakes is are = rw is at are
+reacted_wakes (Err refused) r ended wakes is are = rw is at are

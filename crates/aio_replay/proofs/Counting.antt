@@ -1,19 +1,18 @@
 -- A step counts at most one round, one timer id and one number of a listener.
-use Rattle.std.proofs.Common.{◌≡◌, ℕ, ◌+◌, ◌≤◌, Bool, true, false, cond, List, find, Option, None, Some, is_some, Result, Ok, Err, IfOk, OnOk, refl, sym, ap, ◌∙◌, subst, arith}
+use Rattle.std.proofs.Common.{◌≡◌, ℕ, ◌+◌, ◌≤◌, Bool, true, false, cond, List, find, Option, None, Some, is_some, Result, Ok, Err, IfOk, OnOk, refl, sym, subst, arith}
 use Rattle.std.specs.Prelude.{◌&&◌, nat_lt, nat_le}
 use Rattle.aio_base.specs.declared.names.Waker.{Waker}
 use Rattle.aio_base.specs.declared.outcomes.Which.{Which}
 use Rattle.aio_base.specs.declared.steps.Answer.{Answer}
 use Rattle.aio_base.specs.declared.steps.Step.{Step}
 use Rattle.aio_base.specs.declared.steps.Step.TheVariants as step
-use Rattle.aio_base.specs.Machine.{Outcome, is_waker, is_timer, unregistered, registered, next_deadline, fired, waiting, tick_deadline, tick_timer, set_deadline, set_timer, end_timer, set_clock, case_of, step_result}
+use Rattle.aio_base.specs.Machine.{Outcome, is_waker, is_timer, unregistered, registered, next_deadline, fired, tick_deadline, tick_timer, set_deadline, set_timer, end_timer, case_of, step_result}
 use Rattle.aio_base.specs.Script.{script_answers, after_calls, script_step}
 use Rattle.aio_base.specs.World.{PollerAnswer, TimerEntry, World}
 use Rattle.aio_replay.specs.declared.replayer.Replayer.{Replayer}
 use Rattle.aio_replay.specs.Replaying.{Replays, IsCounted, IsWithin}
 use Rattle.aio_replay.proofs.Asking.{IsCall, case_does}
-use Rattle.aio_replay.proofs.Calling.{noting, calls_note}
-use Rattle.aio_replay.proofs.Leaving.{Leaves}
+use Rattle.aio_replay.proofs.Calling.{calls_note}
 
 -- what is counted in a world
 record Count : Type 0 where

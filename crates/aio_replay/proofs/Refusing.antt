@@ -1,11 +1,25 @@
 -- Numbers, rounds and ids are not spent while few steps were run.
-use Rattle.std.proofs.Common.{◌≡◌, ◌≢◌, ℕ, ◌<◌, ◌≤◌, ◌-◌, ◌^◌, Bool, true, false, not, ◌==◌, nat_eq, if◌then◌else◌, length, Option, None, Some, is_some, unwrap_or, Result, Ok, Err, refl, sym, ap, ◌∙◌, subst, arith}
+use Rattle.std.proofs.Common.{◌≡◌, ℕ, ◌≤◌, ◌-◌, ◌^◌, Bool, true, false, not, ◌==◌, nat_eq, ◌&&◌, if◌then◌else◌, List, length, Option, None, Some, is_none, is_some, IfSome, unwrap_or, Result, Ok, Err, refl, sym, ◌∙◌, subst, arith}
 use Rattle.std.proofs.lemmas.Bool.{ne_eqb}
+use Rattle.aio_base.specs.declared.names.Dir.{Dir}
+use Rattle.aio_base.specs.declared.outcomes.ArmFault.{ArmFault}
+use Rattle.aio_base.specs.declared.outcomes.Poll.{Poll}
+use Rattle.aio_base.specs.World.{is_empty_list}
+use Rattle.aio_source.specs.Rules.{direction_of}
+use Rattle.aio_react.specs.declared.entries.Listener.{Listener}
+use Rattle.aio_react.specs.declared.entries.SourceEntry.{SourceEntry}
+use Rattle.aio_react.specs.declared.outcomes.Handled.{Handled}
+use Rattle.aio_react.specs.declared.outcomes.Reacted.{Reacted}
 use Rattle.aio_react.specs.declared.refusals.CoreRefusal.{CoreRefusal}
 use Rattle.aio_react.specs.declared.refusals.CoreRefusal.TheVariants as refusal
 use Rattle.aio_react.specs.Cores.{CoreValue, entry_at}
-use Rattle.aio_react.specs.Listeners.{listen_refusal, listen_refused}
-use Rattle.aio_react.specs.Sections.{IsRefusedBy, begin_refusal, begin_reply}
+use Rattle.aio_react.specs.Listeners.{listen_refusal, listen_refused, step_reply, is_spent, step_refusal_of, step_refusal}
+use Rattle.aio_react.specs.Numbers.{value_of}
+use Rattle.aio_react.specs.Reacting.{react_reply}
+use Rattle.aio_react.specs.Rounds.{RoundValue}
+use Rattle.aio_react.specs.Sections.{IsRefusedBy, begin_refusal, begin_reply, handle_refusal, handle_reply}
+use Rattle.aio_react.specs.Standing.{AreFewTickets}
+use Rattle.aio_react.proofs.Later.{tickets_later}
 use Rattle.aio_replay.specs.declared.replayer.Replayer.{Replayer}
 use Rattle.aio_replay.specs.Replaying.{IsWithin}
 use Rattle.aio_replay.specs.Replies.{IsTold, IsListened}
@@ -64,8 +78,59 @@ begun_by true spent none = λ ample. refl
 begun_by false true none = absurd (cc)
 begun_by false false none = λ ample. absurd (ample refl)
 
+reacted_by : (running spent : Bool) → spent ≡ false
+    → IsTold react_reply (Err (unwrap_or (if running then Some refusal.Locked else (if spent then Some refusal.RoundsSpent else None)) refusal.OutOfMemory))
+reacted_by true spent none = λ ample. refl
+reacted_by false true none = absurd (cc)
+reacted_by false false none = λ ample. absurd (ample refl)
+
 pub begun : (core : CoreValue) (answered : Result (ℕ × Option ℕ) CoreRefusal) → core.ticker ≤ 1000000 → IsRefusedBy (begin_refusal core) answered → IsTold begin_reply answered
 begun core (Ok number) few cause = λ ample. refl
 begun core (Err r) few cause =
     let spent : (core.ticker == 2 ^ 64 - 1) ≡ false = ne_eqb core.ticker (2 ^ 64 - 1) (omega arith) in
     subst (λ (x : CoreRefusal). IsTold begin_reply (Err x)) (sym cause) (begun_by core.round.running (core.ticker == 2 ^ 64 - 1) spent)
+
+pub reacted : (core : CoreValue) (answered : Result Reacted CoreRefusal) → core.ticker ≤ 1000000 → IsRefusedBy (begin_refusal core) answered → IsTold react_reply answered
+reacted core (Ok round) few cause = λ ample. refl
+reacted core (Err r) few cause =
+    let spent : (core.ticker == 2 ^ 64 - 1) ≡ false = ne_eqb core.ticker (2 ^ 64 - 1) (omega arith) in
+    subst (λ (x : CoreRefusal). IsTold react_reply (Err x)) (sym cause) (reacted_by core.round.running (core.ticker == 2 ^ 64 - 1) spent)
+
+-- ## A poll of a listener
+
+stepped_by : (unpolled spent : Bool) → spent ≡ false → IsTold step_reply (Err (unwrap_or (if unpolled && spent then Some refusal.TicketsSpent else None) refusal.OutOfMemory))
+stepped_by true true none = absurd (cc)
+stepped_by true false none = λ ample. absurd (ample refl)
+stepped_by false spent none = λ ample. absurd (ample refl)
+
+unspent : (place : Option SourceEntry) (dir : Dir) → IfSome place (λ (e : SourceEntry). (direction_of e.source.directions dir).listeners.drawn ≤ 1000000) → is_spent place dir ≡ false
+unspent None dir few = refl
+unspent (Some e) dir few =
+    let drawn = (direction_of e.source.directions dir).listeners.drawn in
+    ne_eqb drawn (2 ^ 64 - 1) (omega (arith, few))
+
+stepped_at : (sources : List (Option SourceEntry)) (l : Option Listener) (answered : Result (Poll (Result (Unit {0}) ArmFault)) CoreRefusal) → AreFewTickets 1000000 sources
+    → IsRefusedBy (step_refusal_of sources l) answered → IsTold step_reply answered
+stepped_at sources l (Ok polled) few cause = λ ample. refl
+stepped_at sources None (Err r) few cause = subst (λ (x : CoreRefusal). IsTold step_reply (Err x)) (sym cause) (λ ample. refl)
+stepped_at sources (Some l) (Err r) few cause =
+    subst (λ (x : CoreRefusal). IsTold step_reply (Err x)) (sym cause)
+    (stepped_by (is_none l.first) (is_spent (entry_at sources l.key.0) l.dir) (unspent (entry_at sources l.key.0) l.dir (few l.key.0 l.dir)))
+
+pub stepped : (core : CoreValue) (number : ℕ) (answered : Result (Poll (Result (Unit {0}) ArmFault)) CoreRefusal) → AreFewTickets 1000000 core.sources
+    → IsRefusedBy (step_refusal core number) answered → IsTold step_reply answered
+stepped core number answered few cause = stepped_at core.sources (value_of core.listeners number) answered few cause
+
+pub few_tickets : (bound : ℕ) (r : Replayer) → IsWithin bound r → AreFewTickets bound r.core.1.sources
+few_tickets bound r within = tickets_later r.core.1.sources within.world.pos bound within.counted.steps within.stands.core.tickets
+
+-- ## An event that is handled
+
+handled_by : (running empty : Bool) → IsTold handle_reply (Err (unwrap_or (if not running then Some refusal.NoRound else (if empty then Some refusal.NothingInHand else None)) refusal.OutOfMemory))
+handled_by false empty = λ ample. refl
+handled_by true true = λ ample. refl
+handled_by true false = λ ample. absurd (ample refl)
+
+pub handled : (r : RoundValue) (answered : Result Handled CoreRefusal) → IsRefusedBy (handle_refusal r) answered → IsTold handle_reply answered
+handled r (Ok done) cause = λ ample. refl
+handled r (Err refused) cause = subst (λ (x : CoreRefusal). IsTold handle_reply (Err x)) (sym cause) (handled_by r.running (is_empty_list r.hand))

@@ -1,5 +1,5 @@
 -- The poller in memory answers as the script says, and after its calls what is noted and due is what the script leaves.
-use Rattle.std.proofs.Common.{◌≡◌, ℕ, Bool, true, false, if◌then◌else◌, List, [], ◌∷◌, map, length, take, drop, Option, Result, refl, sym, ap, ◌∙◌, subst}
+use Rattle.std.proofs.Common.{◌≡◌, ℕ, Bool, true, false, if◌then◌else◌, List, [], ◌∷◌, map, take, drop, Option, Result, refl, sym, ap, ◌∙◌, subst}
 use Rattle.aio_base.specs.declared.names.Event.{Event}
 use Rattle.aio_base.specs.declared.outcomes.Which.{Which}
 use Rattle.aio_base.specs.declared.outcomes.Which.TheVariants as which
@@ -7,13 +7,12 @@ use Rattle.aio_base.specs.declared.outcomes.Failed.{Failed}
 use Rattle.aio_base.specs.declared.outcomes.Waited.{Waited}
 use Rattle.aio_base.specs.Devices.{WaitCall, PollerMove, Armed, Awaited, ArmCall, AddOf, ArmOf, RemoveOf, PollerStep, RunOf}
 use Rattle.aio_base.specs.Moves.{answer_of}
-use Rattle.aio_base.specs.Script.{fails_where, wait_answer, wait_room, after_wait, after_call, after_calls}
+use Rattle.aio_base.specs.Script.{fails_where, wait_answer, wait_room, after_call, after_calls}
 use Rattle.aio_base.specs.World.{PollerAnswer, Gives, IsInterrupted, Fails, World, DueFaults}
 use Rattle.aio_react.specs.Meeting.{kind_of, WaitsWithin}
 use Rattle.aio_react.specs.Rounds.{wait_of}
 use Rattle.aio_replay.specs.Replaying.{PollerStands, due_of}
-use Rattle.aio_script.specs.declared.poller.Due.{Due}
-use Rattle.aio_script.specs.Script.{Script, is_due, ArmOutcome, script_arm, failed_arm, done_arm, ScriptArms, WaitOutcome, script_wait, failed_wait, interrupted_wait, giving_wait, ScriptWaits}
+use Rattle.aio_script.specs.Script.{Script, is_due, ArmOutcome, failed_arm, done_arm, ScriptArms, WaitOutcome, failed_wait, interrupted_wait, giving_wait, ScriptWaits}
 
 -- the script's answer to a call of a kind
 abbrev pub told : Which → World → PollerAnswer

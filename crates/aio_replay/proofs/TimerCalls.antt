@@ -1,14 +1,10 @@
 -- What a call on a timer over the core comes to is the machine's step on the timer of its number.
-use Rattle.std.proofs.Common.{◌≡◌, ℕ, ◌+◌, ◌*◌, ◌^◌, ◌<◌, ◌≤◌, ◌-◌, Bool, true, false, not, ◌&&◌, ◌==◌, nat_le, if◌then◌else◌, List, [], ◌∷◌, ◌++◌, find, length, Option, None, Some, is_some, IfSome, Result, Ok, Err, IfOk, refl, sym, ap, ◌∙◌, subst, arith}
+use Rattle.std.proofs.Common.{◌≡◌, ℕ, ◌+◌, ◌^◌, ◌<◌, ◌≤◌, ◌-◌, true, false, not, ◌&&◌, List, [], ◌∷◌, find, Option, None, Some, is_some, IfSome, refl, sym, ap, ◌∙◌, subst, arith}
 use Rattle.std.proofs.lemmas.Bool.{ne_eqb, false≢true}
 use Rattle.aio_base.specs.declared.names.TimerId.{TimerId}
 use Rattle.aio_base.specs.declared.names.Waker.{Waker}
-use Rattle.aio_base.specs.declared.outcomes.Poll.{Poll}
-use Rattle.aio_base.specs.declared.outcomes.Poll.TheVariants.{Ready, Pending}
 use Rattle.aio_base.specs.declared.steps.Answer.{Answer}
-use Rattle.aio_base.specs.declared.steps.Answer.TheVariants as answer
 use Rattle.aio_base.specs.declared.steps.Step.{Step}
-use Rattle.aio_base.specs.declared.steps.Step.TheVariants as step
 use Rattle.aio_base.specs.Machine.{Outcome, quiet, is_timer, is_waker, next_deadline, tick_deadline, tick_timer, set_timer, end_timer, moved_on, case_of, step_result}
 use Rattle.aio_base.specs.Machine as machine
 use Rattle.aio_base.specs.Script.{script_answers, settled, script_step}
@@ -16,19 +12,18 @@ use Rattle.aio_base.specs.Timers.{Registers, fold_changes}
 use Rattle.aio_base.specs.World.{Registration, TimerEntry, World}
 use Rattle.aio_future.specs.declared.answers.TimerFault.{TimerFault}
 use Rattle.aio_future.specs.declared.answers.TimerFault.TheVariants.{IdsSpent, OutOfMemory, Notify}
-use Rattle.aio_future.specs.Timers.{TimerValue, Work, registration_at, registration_of, no_work, firing, waiting, polling, poll_work, period_set, set_work, timer_left, lacks_id, Removes, Inserts, Done, Worked, poll_fault, poll_answer, set_fault}
+use Rattle.aio_future.specs.Timers.{TimerValue, Work, registration_of, timer_left, Removes, Inserts, Done, Worked}
 use Rattle.aio_react.specs.Cores.{CoreValue}
 use Rattle.aio_react.specs.Hosting.{core_rules}
 use Rattle.aio_react.specs.Hosts.{has_id_left, next_id}
 use Rattle.aio_react.specs.Numbers.{value_of, with_value}
-use Rattle.aio_react.specs.Standing.{Stands, BookStands, TimersSound}
 use Rattle.aio_react.proofs.Later.{stands_later}
 use Rattle.aio_replay.specs.declared.replayer.Replayer.{Replayer}
-use Rattle.aio_replay.specs.Replaying.{StandsFor, Gives, Replays}
-use Rattle.aio_replay.specs.Replies.{IsHosted, tick_reply}
-use Rattle.aio_replay.specs.Timers.{number_of, TimerStands, OnlyAt, Owns, TimersStand, MakesTimer}
-use Rattle.aio_replay.proofs.TimerChanges.{Times, times_of, with_times, TimesStand, times_without, book_without, gone_stands, next_registration, times_drawn, drawn_stands, own_registration, times_with, changed_stands, ended_stands, new_entry, new_value, made_stands}
-use Rattle.aio_replay.proofs.TimerNumbers.{value_back, nothing_back, timer_number}
+use Rattle.aio_replay.specs.Replaying.{StandsFor, Gives}
+use Rattle.aio_replay.specs.Replies.{IsHosted}
+use Rattle.aio_replay.specs.Timers.{number_of, TimerStands, OnlyAt, Owns}
+use Rattle.aio_replay.proofs.TimerChanges.{Times, times_of, with_times, TimesStand, times_without, book_without, gone_stands, next_registration, times_drawn, drawn_stands, own_registration, times_with, changed_stands}
+use Rattle.aio_replay.proofs.TimerNumbers.{timer_number}
 use Rattle.aio_script.specs.Script.{Script, interests_of}
 
 -- ## From a replayer to its timers, and back

@@ -1,5 +1,5 @@
 -- The steps on timers: what a call on a timer over the core answers and leaves is what the machine's step does.
-use Rattle.std.proofs.Common.{◌≡◌, ℕ, ◌+◌, Bool, true, false, not, ◌&&◌, nat_le, if◌then◌else◌, List, [], ◌∷◌, ◌++◌, find, filter, length, Option, None, Some, is_some, IfSome, Result, Ok, Err, IfOk, refl, sym, ap, ◌∙◌, subst, length-append}
+use Rattle.std.proofs.Common.{◌≡◌, ℕ, ◌+◌, Bool, true, false, not, ◌&&◌, nat_le, if◌then◌else◌, List, [], ◌∷◌, ◌++◌, find, filter, length, Option, None, Some, is_some, Result, Ok, Err, IfOk, refl, sym, ap, ◌∙◌, subst, length-append}
 use Rattle.aio_base.specs.declared.names.TimerId.{TimerId}
 use Rattle.aio_base.specs.declared.names.Waker.{Waker}
 use Rattle.aio_base.specs.declared.outcomes.Poll.{Poll}
@@ -20,11 +20,11 @@ use Rattle.aio_react.specs.Hosts.{next_id}
 use Rattle.aio_react.specs.Cores.{CoreValue}
 use Rattle.aio_react.specs.Numbers.{value_of, with_value}
 use Rattle.aio_replay.specs.declared.replayer.Replayer.{Replayer}
-use Rattle.aio_replay.specs.Replaying.{StandsFor, Gives, Replays}
+use Rattle.aio_replay.specs.Replaying.{StandsFor, Replays}
 use Rattle.aio_replay.specs.Replies.{tick_reply}
 use Rattle.aio_replay.specs.Timers.{number_of, TimerStands, MakesTimer}
-use Rattle.aio_replay.proofs.TimerCalls.{Settles, gives, quietly, stays, the_id, worked, done, CoreWorked, Has, own_number, here, over_stands, again_stands, timed, to_stands, from_stands, gone, gone_is, removed}
-use Rattle.aio_replay.proofs.TimerChanges.{times_of, times_without, with_times, book_without, ended_stands, made_stands, new_entry, new_value}
+use Rattle.aio_replay.proofs.TimerCalls.{Settles, gives, quietly, stays, worked, done, CoreWorked, Has, own_number, here, over_stands, again_stands, timed, to_stands, from_stands, gone, gone_is, removed}
+use Rattle.aio_replay.proofs.TimerChanges.{times_of, times_without, with_times, book_without, ended_stands, made_stands, new_value}
 use Rattle.aio_replay.proofs.TimerNumbers.{value_back, nothing_back}
 use Rattle.aio_script.specs.Script.{Script}
 

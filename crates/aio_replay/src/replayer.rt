@@ -79,6 +79,8 @@ impl Replayer {
             Step::Del(key) => Ok(self.del(key)),
             Step::Poll(key, dir, waker) => self.poll(key, dir, waker, wakes),
             Step::New(key, dir) => self.new_listener(key, dir),
+            Step::StepEar(number, waker) => self.step_listener(number, waker),
+            Step::DropEar(number) => Ok(self.drop_listener(number)),
             Step::TimerAt(deadline) => self.add_timer(Timer::at(deadline)),
             Step::TimerEvery(first, period) => self.add_timer(Timer::every(first, period)),
             Step::TimerNever => self.add_timer(Timer::never()),
@@ -92,8 +94,9 @@ impl Replayer {
             Step::Interrupt => Ok(self.interrupt_next()),
             Step::Begin(given) => self.begin(given),
             Step::Wait => Ok(self.wait()),
+            Step::Handle => self.handle(),
             Step::Finish => self.finish(wakes),
-            _ => unreachable!(),
+            Step::React => self.react(wakes),
         }
     }
 }

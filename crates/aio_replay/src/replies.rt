@@ -3,16 +3,18 @@
 ghost use Rattle.std.specs.Prelude.{◌≡◌, ◌≢◌, [], Some, Ok, Err, IfOk};
 ghost use Rattle.aio_future.specs.Timers.{poll_fault, set_fault};
 ghost use Rattle.aio_react.specs.declared.refusals.CoreRefusal.TheVariants as refusal;
-ghost use Rattle.aio_react.specs.Listeners.{listen_reply};
+ghost use Rattle.aio_react.specs.Listeners.{listen_reply, step_reply, drop_reply};
 ghost use Rattle.aio_react.specs.Polls.{poll_reply, poll_wakes};
 ghost use Rattle.aio_react.specs.Replies.{wait_reply};
-ghost use Rattle.aio_react.specs.Sections.{begin_reply, finish_reply};
+ghost use Rattle.aio_react.specs.Sections.{begin_reply, handle_reply, finish_reply};
+ghost use Rattle.aio_react.specs.Reacting.{react_reply};
+ghost use Rattle.aio_react.specs.Standing.{end_word};
 ghost use Rattle.aio_react.specs.Sources.{add_reply, del_reply};
 ghost use Rattle.aio_replay.specs.Replies.{IsTold, IsListened, IsHosted, tick_reply};
 
-use aio_base::{Answer, EndWord, Key, Moment, Poll, Waited, Waker};
+use aio_base::{Answer, ArmFault, EndWord, Key, Moment, Poll, Waited, Waker};
 use aio_future::TimerFault;
-use aio_react::{CoreRefusal, RoundFault};
+use aio_react::{CoreRefusal, Handled, Reacted, RoundFault};
 use aio_source::Polled;
 use std::alloc::AllocError;
 
@@ -74,6 +76,32 @@ pub(crate) fn told_listen(listened: Result<u64, CoreRefusal>) -> Result<Answer, 
     }
 }
 
+/// Of a poll of a listener. `AllocError` where memory ran out.
+pub(crate) fn told_step(
+    stepped: Result<Poll<Result<(), ArmFault>>, CoreRefusal>,
+) -> Result<Answer, AllocError>
+    requires { IsTold step_reply stepped }
+    ensures { IfOk result (λ answer. step_reply stepped ≡ Some answer) }
+{
+    match stepped {
+        Ok(Poll::Ready(Ok(()))) => Ok(Answer::Ready),
+        Ok(Poll::Ready(Err(_))) => Ok(Answer::FaultArm),
+        Ok(Poll::Pending) => Ok(Answer::Pending),
+        Err(CoreRefusal::NoListener) => Ok(Answer::NoListener),
+        Err(CoreRefusal::OutOfMemory) => Err(AllocError),
+        Err(_) => unreachable!(),
+    }
+}
+
+pub(crate) fn told_drop(dropped: Result<(), CoreRefusal>) -> Answer
+    ensures { result ≡ drop_reply dropped }
+{
+    match dropped {
+        Ok(()) => Answer::Dropped,
+        Err(_) => Answer::NoListener,
+    }
+}
+
 /// Of a round's begin. `AllocError` where memory ran out.
 pub(crate) fn told_begin(
     begun: Result<(u64, Option<u64>), CoreRefusal>,
@@ -101,6 +129,23 @@ pub(crate) fn told_wait(waited: Result<Waited, CoreRefusal>) -> Answer
     }
 }
 
+/// Of an event that was handled. `AllocError` where memory ran out.
+pub(crate) fn told_handle(handled: Result<Handled, CoreRefusal>) -> Result<Answer, AllocError>
+    requires { IsTold handle_reply handled }
+    ensures { IfOk result (λ answer. handle_reply handled ≡ Some answer) }
+{
+    match handled {
+        Ok(handled) => Ok(Answer::Handled {
+            key: handled.key,
+            fault: handled.fault.is_some(),
+        }),
+        Err(CoreRefusal::NoRound) => Ok(Answer::NoRound),
+        Err(CoreRefusal::NothingInHand) => Ok(Answer::Empty),
+        Err(CoreRefusal::OutOfMemory) => Err(AllocError),
+        Err(_) => unreachable!(),
+    }
+}
+
 /// Of a round's end. `AllocError` where memory ran out.
 pub(crate) fn told_finish(
     finished: Result<Option<RoundFault>, CoreRefusal>,
@@ -109,13 +154,39 @@ pub(crate) fn told_finish(
     ensures { IfOk result (λ answer. finish_reply finished ≡ Some answer) }
 {
     match finished {
-        Ok(None) => Ok(Answer::End(EndWord::Clean)),
-        Ok(Some(RoundFault::Wait(_))) => Ok(Answer::End(EndWord::FaultWait)),
-        Ok(Some(RoundFault::Arm(_))) => Ok(Answer::End(EndWord::FaultArm)),
+        Ok(fault) => Ok(Answer::End(told_end(fault))),
         Err(CoreRefusal::NoRound) => Ok(Answer::NoRound),
         Err(CoreRefusal::EventsLeft(events)) => Ok(Answer::Events(events)),
         Err(CoreRefusal::OutOfMemory) => Err(AllocError),
         Err(_) => unreachable!(),
+    }
+}
+
+/// Of a whole round. `AllocError` where memory ran out.
+pub(crate) fn told_react(reacted: Result<Reacted, CoreRefusal>) -> Result<Answer, AllocError>
+    requires { IsTold react_reply reacted }
+    ensures { IfOk result (λ answer. react_reply reacted ≡ Some answer) }
+{
+    match reacted {
+        Ok(round) => Ok(Answer::Round {
+            number: round.number,
+            events: round.events,
+            end: told_end(round.fault),
+        }),
+        Err(CoreRefusal::Locked) => Ok(Answer::Locked),
+        Err(CoreRefusal::OutOfMemory) => Err(AllocError),
+        Err(_) => unreachable!(),
+    }
+}
+
+/// How a round ended, by its first fault.
+fn told_end(fault: Option<RoundFault>) -> EndWord
+    ensures { result ≡ end_word fault }
+{
+    match fault {
+        None => EndWord::Clean,
+        Some(RoundFault::Wait(_)) => EndWord::FaultWait,
+        Some(RoundFault::Arm(_)) => EndWord::FaultArm,
     }
 }
 

@@ -5,7 +5,7 @@ ghost use Rattle.aio_base.specs.declared.steps.Step.TheVariants as step;
 ghost use Rattle.aio_replay.specs.Replaying.{Replays, IsWithin};
 
 use super::Replayer;
-use crate::replies::{told_add, told_del, told_listen, told_poll};
+use crate::replies::{told_add, told_del, told_drop, told_listen, told_poll, told_step};
 use aio_base::{Answer, Dir, Key, Waker};
 use std::alloc::AllocError;
 
@@ -47,5 +47,21 @@ impl Replayer {
             Replays (step.New key dir) answer [] self.old self.new) }
     {
         told_listen(self.core.listen(key, dir))
+    }
+
+    /// Polls a listener with a waker. `AllocError` where its first poll finds no memory for it.
+    pub fn step_listener(&mut self, number: u32, waker: Waker) -> Result<Answer, AllocError>
+        requires { IsWithin 1000000 self.old }
+        ensures { IfOk result (λ answer.
+            Replays (step.StepEar number waker) answer [] self.old self.new) }
+    {
+        told_step(self.core.step(number as u64, waker))
+    }
+
+    /// Gives up a listener.
+    pub fn drop_listener(&mut self, number: u32) -> Answer
+        ensures { Replays (step.DropEar number) result [] self.old self.new }
+    {
+        told_drop(self.core.unlisten(number as u64))
     }
 }

@@ -5,7 +5,7 @@ ghost use Rattle.aio_base.specs.declared.steps.Step.TheVariants as step;
 ghost use Rattle.aio_replay.specs.Replaying.{Replays, IsWithin};
 
 use super::Replayer;
-use crate::replies::{told_begin, told_finish, told_wait};
+use crate::replies::{told_begin, told_finish, told_handle, told_react, told_wait};
 use aio_base::{Answer, Waker};
 use std::alloc::AllocError;
 
@@ -27,6 +27,14 @@ impl Replayer {
         told_wait(self.core.wait())
     }
 
+    /// Handles the first event in hand. `AllocError` where there is no memory for the waiters of its
+    /// source.
+    pub fn handle(&mut self) -> Result<Answer, AllocError>
+        ensures { IfOk result (λ answer. Replays step.Handle answer [] self.old self.new) }
+    {
+        told_handle(self.core.handle())
+    }
+
     /// Ends the running round, whose wakers go into `wakes`, which is empty. `AllocError` where
     /// memory ran out.
     pub fn finish(&mut self, wakes: &mut Vec<Waker>) -> Result<Answer, AllocError>
@@ -37,6 +45,19 @@ impl Replayer {
         let finished = self.core.finish(self.clock.now());
         self.take_woken(finished.is_ok(), wakes)?;
         told_finish(finished)
+    }
+
+    /// A whole round with no limit, whose wakers go into `wakes`, which is empty. `AllocError` where
+    /// memory ran out.
+    pub fn react(&mut self, wakes: &mut Vec<Waker>) -> Result<Answer, AllocError>
+        requires none { wakes.old.items ≡ [] }
+        requires within { IsWithin 1000000 self.old }
+        ensures { IfOk result (λ answer.
+            Replays step.React answer wakes.new.items self.old self.new) }
+    {
+        let reacted = self.core.react(self.clock.now(), None);
+        self.take_woken(reacted.is_ok(), wakes)?;
+        told_react(reacted)
     }
 
     /// Where a round has ended, its wakers go into `wakes`, which is empty. `AllocError` where memory

@@ -1,4 +1,4 @@
-use Rattle.std.proofs.Common.{◌≡◌, List, None, Some, IfOk, sym, subst}
+use Rattle.std.proofs.Common.{List, None, Some, IfOk, sym, subst}
 use Rattle.aio_base.specs.declared.names.Waker.{Waker}
 use Rattle.aio_base.specs.declared.steps.Step.TheVariants as step
 use Rattle.aio_replay.specs.Replaying.{Replays}
