@@ -19,7 +19,7 @@ use Rattle.aio_replay.specs.declared.ends.End.{End}
 use Rattle.aio_replay.specs.declared.ends.End.TheVariants as ends
 use Rattle.aio_replay.specs.declared.replayer.Replayer.{Replayer}
 use Rattle.aio_replay.specs.Language.{Language, SaysByLines}
-use Rattle.aio_replay.specs.Replaying.{IsWithin, Replays, StandsFor}
+use Rattle.aio_replay.specs.Replaying.{Replays, StandsFor}
 use Rattle.aio_replay.specs.Driving.{Sends, Unread, LeavesAllBut, BeginsLong, TakesLine, StoppedBehind, EndsSo, UnlessMemory, is_of_memory, sink_answer, length_of_lines, bytes_before, bytes_of_end, most_bytes}
 use Rattle.aio_replay.specs.Steps.{Opens, Answers, TakesLines, Standing, LineTaken, Closes, Closing, after_steps, refusal_of, IsRead}
 use Rattle.aio_replay.proofs.DrivingLemmas.{long_is_refused}
@@ -51,20 +51,7 @@ answered old new s a wakes text_old text_new replays text w stands =
       gives.stands,
     )
 
--- what has run so many steps at most has run no more than this
-pub within_more : (few many : ℕ) (r : Replayer) → few ≤ many → IsWithin few r → IsWithin many r
-within_more few many r le within = record {
-  world = within.world;
-  stands = within.stands;
-  counted = record {
-    steps = omega (arith, le, within.counted.steps);
-    rounds = omega (arith, le, within.counted.rounds);
-    ids = omega (arith, le, within.counted.ids);
-    listeners = omega (arith, le, within.counted.listeners);
-  };
-}
-
--- ## The trace of an input, line by line
+-- ## The steps of an input
 
 after_steps-push : (done : List Step) (s : Step) (t : Trace) → after_steps done (with_step s t) ≡ after_steps (done ++ s ∷ []) t
 after_steps-push done s t = ap (λ (steps : List Step). let r : Trace = record { steps = steps; refusal = t.refusal } in r) (sym (append_assoc done (s ∷ []) t.steps))

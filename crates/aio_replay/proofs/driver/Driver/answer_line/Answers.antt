@@ -1,7 +1,8 @@
 use Rattle.std.proofs.Common.{◌≡◌, Ok, Err, ap, sym, ◌∙◌, arith, subst}
 use Rattle.aio_bytes.specs.Sinks.{Writes}
+use Rattle.aio_replay.proofs.Counting.{within_more}
 use Rattle.aio_replay.proofs.DrivingLemmas.{Sends-all}
-use Rattle.aio_replay.proofs.StepLemmas.{within_more, closes, refuses_line, goes_on, flushed, stops_in_step, leaves_more, stops_between}
+use Rattle.aio_replay.proofs.StepLemmas.{closes, refuses_line, goes_on, flushed, stops_in_step, leaves_more, stops_between}
 use Rattle.aio_replay.proofs.driver.Driver.answer_line.Goals as goal
 
 pub returns-in-Err-clause-goes_on : goal.returns-in-Err-clause-goes_on
