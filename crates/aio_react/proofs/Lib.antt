@@ -43,3 +43,6 @@ mod HandleRows
 mod RoundFaults
 mod ReactMeets
 mod Asked
+mod FreshCores
+mod PastKept
+mod SoundRuns

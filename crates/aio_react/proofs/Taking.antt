@@ -64,7 +64,7 @@ sound_cleared serial dir ls drawn serials sound = record {
 
 -- ## The past
 
-begun_more : (handled : List HandledDirection) (begun : List ℕ) (h : HandledDirection) → AllBegun handled begun → HasBegun h.begin begun → AllBegun (handled ++ h ∷ []) begun
+pub begun_more : (handled : List HandledDirection) (begun : List ℕ) (h : HandledDirection) → AllBegun handled begun → HasBegun h.begin begun → AllBegun (handled ++ h ∷ []) begun
 begun_more [] begun h all has = (has, tt)
 begun_more (k ∷ handled) begun h all has = (all.0, begun_more handled begun h all.1 has)
 

@@ -9,6 +9,7 @@
 
 mod entries;
 pub mod hosts;
+pub mod laws;
 mod numbered;
 mod outcomes;
 mod reactor;

@@ -277,12 +277,6 @@ told_with_wakes (Ok a) s answer wakes expected r new replays is are =
     subst (λ (x : Answer). Replays s x wakes r new) (sym is) (subst (λ (xs : List Waker). Replays s answer xs r new) (sym are) replays)
 told_with_wakes (Err e) s answer wakes expected r new replays is are = tt
 
--- an answer unless memory ran out
-pub told_unless : {E : Type 0} (told : Result Answer E) (lacks : Type 0) (s : Step) (answer : Answer) (r new : Replayer) → (¬ lacks → Replays s answer [] r new)
-    → IfOk told (λ a. ¬ lacks) → IfOk told (λ a. a ≡ answer) → IfOk told (λ a. Replays s a [] r new)
-told_unless (Ok a) lacks s answer r new replays ample is = subst (λ (x : Answer). Replays s x [] r new) (sym is) (replays ample)
-told_unless (Err e) lacks s answer r new replays ample is = tt
-
 some_replayed : (reply : Option Answer) (a : Answer) (s : Step) (now limit : Option ℕ) (wakes : List Waker) (r : Replayer) (new : Script × CoreValue) → IsCall s → IsClock now r.clock
     → reply ≡ Some a → IfSome reply (λ x. Meets (PollerStep ScriptArms ScriptWaits) (λ (p : Script). Some (interests_of p)) s now x wakes limit r.core new)
     → Replays s a wakes r (record r { core = new })

@@ -13,7 +13,7 @@ use Rattle.aio_react.specs.declared.outcomes.Reacted.{Reacted}
 use Rattle.aio_react.specs.declared.refusals.CoreRefusal.{CoreRefusal}
 use Rattle.aio_react.specs.declared.refusals.CoreRefusal.TheVariants as refusal
 use Rattle.aio_react.specs.Cores.{CoreValue, entry_at}
-use Rattle.aio_react.specs.Listeners.{listen_refusal, listen_refused, step_reply, is_spent, step_refusal_of, step_refusal}
+use Rattle.aio_react.specs.Listeners.{listen_refusal, listen_reply, step_reply, is_spent, step_refusal_of, step_refusal}
 use Rattle.aio_react.specs.Numbers.{value_of}
 use Rattle.aio_react.specs.Reacting.{react_reply}
 use Rattle.aio_react.specs.Rounds.{RoundValue}
@@ -22,7 +22,7 @@ use Rattle.aio_react.specs.Standing.{AreFewTickets}
 use Rattle.aio_react.proofs.Later.{tickets_later}
 use Rattle.aio_replay.specs.declared.replayer.Replayer.{Replayer}
 use Rattle.aio_replay.specs.Replaying.{IsWithin}
-use Rattle.aio_replay.specs.Replies.{IsTold, IsListened}
+use Rattle.aio_replay.specs.Replies.{IsTold}
 
 -- ## What is counted
 
@@ -37,38 +37,17 @@ few_ids bound r within = let same = within.stands.core.book.ids_are in let few =
 
 -- ## A new listener
 
-no_source : (live spent : Bool) (r : CoreRefusal) → spent ≡ false
-    → Some r ≡ (if not live then Some refusal.NoSource else (if spent then Some refusal.TicketsSpent else None)) → r ≡ refusal.NoSource
-no_source false spent r none is = cc
-no_source true true r none is = absurd (cc)
-no_source true false r none is = absurd (cc)
+listened_by : (live spent : Bool) → spent ≡ false
+    → IsTold listen_reply (Err (unwrap_or (if not live then Some refusal.NoSource else (if spent then Some refusal.TicketsSpent else None)) refusal.OutOfMemory))
+listened_by false spent none = λ ample. refl
+listened_by true true none = absurd (cc)
+listened_by true false none = λ ample. absurd (ample refl)
 
-abbrev Lacks : Result ℕ CoreRefusal → Type 0
-Lacks answered = answered ≡ Err refusal.OutOfMemory
-
-listened_at : (core : CoreValue) (key : ℕ) (r : CoreRefusal) → length core.listeners ≤ 1000000 → listen_refused (Err r) ≡ Some r
-    → (¬ Lacks (Err r) → listen_refused (Err r) ≡ listen_refusal core key) → ¬ Lacks (Err r) → IsListened (Err r)
-listened_at core key r few own cause ample =
+pub listened : (core : CoreValue) (key : ℕ) (answered : Result ℕ CoreRefusal) → length core.listeners ≤ 1000000 → IsRefusedBy (listen_refusal core key) answered → IsTold listen_reply answered
+listened core key (Ok number) few cause = λ ample. refl
+listened core key (Err r) few cause =
     let spent : nat_eq (length core.listeners) (2 ^ 64 - 1) ≡ false = ne_eqb (length core.listeners) (2 ^ 64 - 1) (omega arith) in
-    subst (λ (x : CoreRefusal). IsListened (Err x)) (sym (no_source (is_some (entry_at core.sources key)) (nat_eq (length core.listeners) (2 ^ 64 - 1)) r spent (sym own ∙ cause ample))) tt
-
-pub listened : (core : CoreValue) (key : ℕ) (answered : Result ℕ CoreRefusal) → length core.listeners ≤ 1000000
-    → (¬ Lacks answered → listen_refused answered ≡ listen_refusal core key) → IsListened answered
-listened core key (Ok number) few cause = tt
-listened core key (Err refusal.OutOfMemory) few cause = tt
-listened core key (Err refusal.NoSource) few cause = tt
-listened core key (Err (refusal.AddFault fault)) few cause = listened_at core key (refusal.AddFault fault) few refl cause (λ same. absurd (cc))
-listened core key (Err (refusal.WaitFault fault)) few cause = listened_at core key (refusal.WaitFault fault) few refl cause (λ same. absurd (cc))
-listened core key (Err (refusal.RemoveFault fault)) few cause = listened_at core key (refusal.RemoveFault fault) few refl cause (λ same. absurd (cc))
-listened core key (Err refusal.Locked) few cause = listened_at core key refusal.Locked few refl cause (λ same. absurd (cc))
-listened core key (Err refusal.NoRound) few cause = listened_at core key refusal.NoRound few refl cause (λ same. absurd (cc))
-listened core key (Err (refusal.EventsLeft n)) few cause = listened_at core key (refusal.EventsLeft n) few refl cause (λ same. absurd (cc))
-listened core key (Err refusal.InUse) few cause = listened_at core key refusal.InUse few refl cause (λ same. absurd (cc))
-listened core key (Err refusal.Full) few cause = listened_at core key refusal.Full few refl cause (λ same. absurd (cc))
-listened core key (Err refusal.RoundsSpent) few cause = listened_at core key refusal.RoundsSpent few refl cause (λ same. absurd (cc))
-listened core key (Err refusal.NothingInHand) few cause = listened_at core key refusal.NothingInHand few refl cause (λ same. absurd (cc))
-listened core key (Err refusal.NoListener) few cause = listened_at core key refusal.NoListener few refl cause (λ same. absurd (cc))
-listened core key (Err refusal.TicketsSpent) few cause = listened_at core key refusal.TicketsSpent few refl cause (λ same. absurd (cc))
+    subst (λ (x : CoreRefusal). IsTold listen_reply (Err x)) (sym cause) (listened_by (is_some (entry_at core.sources key)) (nat_eq (length core.listeners) (2 ^ 64 - 1)) spent)
 
 -- ## A begin
 

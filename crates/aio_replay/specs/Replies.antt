@@ -13,13 +13,6 @@ use Rattle.aio_react.specs.declared.refusals.CoreRefusal.TheVariants as refusal
 abbrev pub IsTold : {A : Type 0} → (Result A CoreRefusal → Option Answer) → Result A CoreRefusal → Type 0
 IsTold reply called = called ≢ Err refusal.OutOfMemory → IsSome (reply called)
 
--- a new listener, or why there is none, while numbers are left
-abbrev pub IsListened : Result ℕ CoreRefusal → Type 0
-IsListened (Ok number) = ⊤
-IsListened (Err refusal.NoSource) = ⊤
-IsListened (Err refusal.OutOfMemory) = ⊤
-IsListened (Err refused) = ⊥
-
 -- the faults that a timer can tell over a core with an id left: want of memory alone
 abbrev pub IsHosted : Option TimerFault → Type 0
 IsHosted None = ⊤

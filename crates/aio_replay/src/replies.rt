@@ -1,8 +1,7 @@
 //! What the calls of a core and of a timer answered, as answers of the trace language.
 
-ghost use Rattle.std.specs.Prelude.{◌≡◌, ◌≢◌, [], Some, Ok, Err, IfOk};
+ghost use Rattle.std.specs.Prelude.{◌≡◌, [], Some, IfOk};
 ghost use Rattle.aio_future.specs.Timers.{poll_fault, set_fault};
-ghost use Rattle.aio_react.specs.declared.refusals.CoreRefusal.TheVariants as refusal;
 ghost use Rattle.aio_react.specs.Listeners.{listen_reply, step_reply, drop_reply};
 ghost use Rattle.aio_react.specs.Polls.{poll_reply, poll_wakes};
 ghost use Rattle.aio_react.specs.Replies.{wait_reply};
@@ -10,7 +9,7 @@ ghost use Rattle.aio_react.specs.Sections.{begin_reply, handle_reply, finish_rep
 ghost use Rattle.aio_react.specs.Reacting.{react_reply};
 ghost use Rattle.aio_react.specs.Standing.{end_word};
 ghost use Rattle.aio_react.specs.Sources.{add_reply, del_reply};
-ghost use Rattle.aio_replay.specs.Replies.{IsTold, IsListened, IsHosted, tick_reply};
+ghost use Rattle.aio_replay.specs.Replies.{IsTold, IsHosted, tick_reply};
 
 use aio_base::{Answer, ArmFault, EndWord, Key, Moment, Poll, Waited, Waker};
 use aio_future::TimerFault;
@@ -64,9 +63,8 @@ pub(crate) fn told_poll(
 
 /// Of a new listener. `AllocError` where memory ran out.
 pub(crate) fn told_listen(listened: Result<u64, CoreRefusal>) -> Result<Answer, AllocError>
-    requires { IsListened listened }
-    ensures memory { IfOk result (λ answer. listened ≢ Err refusal.OutOfMemory) }
-    ensures answer { IfOk result (λ answer. answer ≡ listen_reply listened) }
+    requires { IsTold listen_reply listened }
+    ensures { IfOk result (λ answer. listen_reply listened ≡ Some answer) }
 {
     match listened {
         Ok(number) => Ok(Answer::Listener(number)),

@@ -1,7 +1,6 @@
-use Rattle.std.proofs.Common.{◌≡◌, [], None, Err}
+use Rattle.std.proofs.Common.{[], None}
 use Rattle.aio_base.specs.declared.steps.Step.TheVariants as step
-use Rattle.aio_react.specs.declared.refusals.CoreRefusal.TheVariants as refusal
-use Rattle.aio_replay.proofs.Calling.{replayed, told_unless}
+use Rattle.aio_replay.proofs.Calling.{told_met}
 use Rattle.aio_replay.proofs.Refusing.{few_numbers, listened}
 use Rattle.aio_replay.proofs.replayer.Replayer.new_listener.Goals as goal
 
@@ -11,7 +10,4 @@ told_listen-requires c =
 
 pub returns : goal.returns
 returns c =
-    let r = c.args.self.now in
-    let s = step.New c.args.key c.args.dir in
-    told_unless c.told_listen.result (c.listen.result ≡ Err refusal.OutOfMemory) s _ r (record r { core = c.listen.new.self })
-    (λ ample. replayed s None None _ [] r c.listen.new.self tt tt (c.listen.ensures.meets ample)) c.told_listen.ensures.memory c.told_listen.ensures.answer
+    told_met c.told_listen.result _ (step.New c.args.key c.args.dir) None None [] c.args.self.now c.listen.new.self tt tt c.told_listen.ensures c.listen.ensures.meets
