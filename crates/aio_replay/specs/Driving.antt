@@ -2,6 +2,7 @@
 use Rattle.std.specs.Prelude.{◌≡◌, ℕ, ◌+◌, ◌-◌, ◌*◌, ◌≤◌, Bool, true, false, IsTrue, List, [], ◌∷◌, ◌++◌, length, take, Option, None, Some, Result, Ok, Err, IfErr, ⊤}
 use Rattle.std.specs.Io.KnownBytes.{Appends, Keeps}
 use Rattle.aio_base.specs.Devices.{TellsFaults}
+use Rattle.aio_base.specs.declared.outcomes.Failed.{Failed}
 use Rattle.aio_base.specs.Script.{output, world_after}
 use Rattle.aio_base.specs.Trace.{lines_of}
 use Rattle.aio_base.specs.World.{opening}
@@ -65,6 +66,23 @@ is_write_fault s = is_failed (sink_answer s)
 abbrev pub stops_with : {T : Type 0} → (Stop → Bool) → Result T Stop → Bool
 stops_with is_fault (Ok x) = false
 stops_with is_fault (Err s) = is_fault s
+
+-- a block of answers went out, which is at least 65,536 bytes
+pub record BlockWent (out_old out_new : Option (List ℕ)) : Type 0 where
+  pub block : List ℕ
+  pub appended : Appends out_old out_new block
+  pub full : 65536 ≤ length block
+
+-- what stopped a reading: the one call of the source failed, or the source was not asked; it is no want of memory
+abbrev pub StopsReading : {S : Type 0} → (S → ℕ → Result (List ℕ) Failed → S → Type 0) → S → ℕ → (is_read is_memory : Bool) → S → Type 0
+StopsReading read_step old room true is_memory new = read_step old room (Err (record {})) new
+StopsReading read_step old room false true new = ⊥
+StopsReading read_step old room false false new = new ≡ old
+
+-- a source with so much room for bytes was asked once, and its answer is the result; it was not asked where answers could not be written before
+abbrev pub ReadsOnce : {S : Type 0} → (S → ℕ → Result (List ℕ) Failed → S → Type 0) → S → ℕ → Result ℕ Stop → List ℕ → S → Type 0
+ReadsOnce read_step old room (Ok count) bytes new = read_step old room (Ok (take count bytes)) new
+ReadsOnce read_step old room (Err s) bytes new = StopsReading read_step old room (is_read_fault s) (is_of_memory s) new
 
 -- what a source has left, with the bytes that were read ahead of it
 pub record Unread (told : Option (List ℕ)) (ahead unread : List ℕ) : Type 0 where

@@ -1,11 +1,11 @@
 //! The driver of lines: they are read, their steps run, and the answers gathered in a block of text.
 
-ghost use Rattle.std.specs.Prelude.{◌≡◌, ℕ, ◌+◌, ◌<◌, ◌≤◌, ◌≢◌, [], List, Option, Err, length, vec_len, IfErr, OnOk, OnErr, false, true, bytes_eq};
+ghost use Rattle.std.specs.Prelude.{◌≡◌, ℕ, ◌+◌, ◌-◌, ◌<◌, ◌≤◌, ◌≢◌, [], List, Option, drop, length, vec_len, IfErr, OnOk, OnErr, false, true, bytes_eq};
 ghost use Rattle.aio_bytes.specs.Held.{HasNoLineFeed, may_wait};
 ghost use Rattle.aio_bytes.specs.Sinks.{RefusedBy, Writes, is_failed};
 ghost use Rattle.aio_replay.specs.Driving.{ends_with, Causes, is_read_fault, is_write_fault};
-ghost use Rattle.aio_replay.specs.Driving.{stops_with, StopsBy, IfStopped, write_stop, Unread, FindsNext};
-ghost use Rattle.aio_replay.specs.Driving.{SendsOrStops, ReadsMore};
+ghost use Rattle.aio_replay.specs.Driving.{stops_with, StopsBy, IfStopped, Unread, FindsNext};
+ghost use Rattle.aio_replay.specs.Driving.{SendsOrStops, ReadsMore, ReadsOnce};
 ghost use Rattle.aio_replay.specs.Steps.{Closes};
 
 use crate::ends::{End, Next, Stop};
@@ -35,11 +35,11 @@ pub(crate) struct Driver {
 }
 
 impl Driver {
-    ghost use Rattle.std.specs.Prelude.{IfOk, List, None, Option, Some};
+    ghost use Rattle.std.specs.Prelude.{◌⊎◌, IfOk, List, None, Option, Some};
     ghost use Rattle.aio_base.specs.Trace.{IsInRange};
     ghost use Rattle.aio_replay.specs.Driving.{ends_with, Causes, goes_on_with};
     ghost use Rattle.aio_replay.specs.Driving.{is_read_fault, is_write_fault};
-    ghost use Rattle.aio_replay.specs.Driving.{StopsBy, IfStopped, EndsSo};
+    ghost use Rattle.aio_replay.specs.Driving.{BlockWent, StopsBy, IfStopped, EndsSo};
     ghost use Rattle.aio_replay.specs.Language.{SaysByLines};
     ghost use Rattle.aio_replay.specs.Replaying.{IsWithin};
     ghost use Rattle.aio_replay.specs.Steps.{Answers, Standing, LineTaken, GoesOn};
@@ -173,7 +173,7 @@ impl Driver {
             (line + 1) self.new.reader.ahead self.new.text.items self.new.replayer }
         ensures bound { length self.new.reader.ahead ≤ 257 }
         ensures within { result ≡ None → IsWithin (line + 1) self.new.replayer }
-        ensures block { result ≡ None → vec_len self.new.text < BLOCK }
+        ensures block { result ≡ None → vec_len self.new.text < 65536 }
         ensures read_cause { Causes S.fault_count S.is_sure
             input.old input.new (goes_on_with is_read_fault result) }
         ensures write_cause { Causes K.fault_count K.is_sure
@@ -223,8 +223,9 @@ impl Driver {
         }
     }
 
-    /// Answers the line that was found, which has this number. Where memory runs out, what was answered
-    /// before is written as far as the output takes it.
+    /// Answers the line that was found, which has this number. The answers are written where they fill
+    /// a block, and else kept. Where memory runs out, what was answered before is written as far as the
+    /// output takes it.
     fn answer_line<V: Version, K: Sink>(
         &mut self,
         version: &V,
@@ -240,7 +241,9 @@ impl Driver {
             → GoesOn V.language result input told first (K.contents out.new)
             (line + 1) self.new.reader.ahead self.new.text.items self.new.replayer }
         ensures within { result ≡ None → IsWithin (line + 1) self.new.replayer }
-        ensures block { result ≡ None → vec_len self.new.text < BLOCK }
+        ensures block { result ≡ None → vec_len self.new.text < 65536 }
+        ensures gathers { result ≡ None → (out.new ≡ out.old)
+            ⊎ BlockWent (K.contents out.old) (K.contents out.new) }
         ensures reader { self.new.reader ≡ self.old.reader }
         ensures reads { goes_on_with is_read_fault result ≡ false }
         ensures cause { Causes K.fault_count K.is_sure
@@ -314,8 +317,10 @@ fn flush<K: Sink>(text: &mut Vec<u8>, out: &mut K) -> Result<(), SinkRefusal>
 }
 
 /// Reads more of the input. Where the read may have to wait for it, the text is written before, and
-/// else it is left as it is. Answers how many bytes came; 0 is the end of the input. Where the input
-/// fails, what was answered before is written as far as the output takes it.
+/// else it is left as it is. The input is read by one call, which asks for as many bytes as there is
+/// room for, and not at all where the output refuses answers. Answers how many bytes came; 0 is the
+/// end of the input. Where the input fails, what was answered before is written as far as the output
+/// takes it.
 fn read_more<S: Source, K: Sink>(
     reader: &mut LineReader,
     text: &mut Vec<u8>,
@@ -329,8 +334,8 @@ fn read_more<S: Source, K: Sink>(
     ensures sent_before_waiting { may_wait reader.old ≡ true → OnOk result (text.new.items ≡ []) }
     ensures gathers { may_wait reader.old ≡ false
         → OnOk result ((text.new.items ≡ text.old.items) × (out.new ≡ out.old)) }
-    ensures not_read { (refusal : SinkRefusal) → result ≡ Err (write_stop refusal)
-        → input.new ≡ input.old }
+    ensures call { ReadsOnce S.read_step input.old (257 - length reader.old.ahead) result
+        (drop (length reader.old.ahead) reader.new.ahead) input.new }
     ensures refused { IfErr result (StopsBy K.write_step out.new) }
     ensures read_cause { Causes S.fault_count S.is_sure input.old input.new (stops_with is_read_fault result) }
     ensures write_cause { Causes K.fault_count K.is_sure out.old out.new (stops_with is_write_fault result) }

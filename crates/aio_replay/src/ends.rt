@@ -85,6 +85,7 @@ impl Stop {
         ensures value { result ≡ write_stop refusal }
         ensures answer { sink_answer result ≡ Err refusal }
         ensures read { is_read_fault result ≡ false }
+        ensures memory { is_of_memory result ≡ false }
     {
         match refusal {
             SinkRefusal::Failed => Stop::Write,

@@ -1,4 +1,4 @@
-use Rattle.std.proofs.Common.{◌≡◌, Ok, Err, ap, sym, ◌∙◌, arith, subst}
+use Rattle.std.proofs.Common.{◌≡◌, Ok, Err, ap, sym, ◌∙◌, arith, inr, subst}
 use Rattle.aio_bytes.specs.Sinks.{Writes}
 use Rattle.aio_replay.proofs.Counting.{within_more}
 use Rattle.aio_replay.proofs.DrivingLemmas.{Sends-all}
@@ -50,3 +50,6 @@ returns-then-len-lt-BLOCK-clause-within g c = λ none. c.in-Ok-answer.ensures.co
 
 pub returns-in-Ok-flush-clause-within : goal.returns-in-Ok-flush-clause-within
 returns-in-Ok-flush-clause-within g c = λ none. c.in-Ok-answer.ensures.counted c.args.line c.requires.within
+
+pub returns-in-Ok-flush-clause-gathers : goal.returns-in-Ok-flush-clause-gathers
+returns-in-Ok-flush-clause-gathers g c = λ none. inr (record { block = c.answer.new.self.text.items; appended = c.in-Ok-flush.ensures.written; full = omega arith })
