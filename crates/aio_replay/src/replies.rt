@@ -17,6 +17,7 @@ use aio_react::{CoreRefusal, Handled, Reacted, RoundFault};
 use aio_source::Polled;
 use std::alloc::AllocError;
 
+/// Of a new source.
 pub(crate) fn told_add(added: Result<Key, CoreRefusal>) -> Answer
     ensures { result ≡ add_reply added }
 {
@@ -27,6 +28,7 @@ pub(crate) fn told_add(added: Result<Key, CoreRefusal>) -> Answer
     }
 }
 
+/// Of a source that was taken out.
 pub(crate) fn told_del(removed: Result<(), CoreRefusal>) -> Answer
     ensures { result ≡ del_reply removed }
 {
@@ -91,6 +93,7 @@ pub(crate) fn told_step(
     }
 }
 
+/// Of a listener that was given up.
 pub(crate) fn told_drop(dropped: Result<(), CoreRefusal>) -> Answer
     ensures { result ≡ drop_reply dropped }
 {
@@ -115,6 +118,7 @@ pub(crate) fn told_begin(
     }
 }
 
+/// Of a wait.
 pub(crate) fn told_wait(waited: Result<Waited, CoreRefusal>) -> Answer
     ensures { result ≡ wait_reply waited }
 {
@@ -188,8 +192,8 @@ fn told_end(fault: Option<RoundFault>) -> EndWord
     }
 }
 
-/// Of a poll of a timer that had an id left and no notifier that can fail. `AllocError` where memory
-/// ran out.
+/// Of a poll of a timer that had an id left and no notifier that can fail. `AllocError` where
+/// memory ran out.
 pub(crate) fn told_tick(polled: Poll<Result<Moment, TimerFault>>) -> Result<Answer, AllocError>
     requires { IsHosted (poll_fault polled) }
     ensures { IfOk result (λ answer. tick_reply polled ≡ Some answer) }
@@ -202,8 +206,8 @@ pub(crate) fn told_tick(polled: Poll<Result<Moment, TimerFault>>) -> Result<Answ
     }
 }
 
-/// Of a timer that was set, with an id left and no notifier that can fail. `AllocError` where memory
-/// ran out.
+/// Of a timer that was set, with an id left and no notifier that can fail. `AllocError` where
+/// memory ran out.
 pub(crate) fn told_set(set: Result<(), TimerFault>) -> Result<Answer, AllocError>
     requires { IsHosted (set_fault set) }
     ensures { IfOk result (λ answer. (answer ≡ Answer.Set) × (set ≡ Ok tt)) }

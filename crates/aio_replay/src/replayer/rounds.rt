@@ -10,8 +10,8 @@ use aio_base::{Answer, Waker};
 use std::alloc::AllocError;
 
 impl Replayer {
-    /// Begins a round with a limit in nanoseconds, where one is given. `AllocError` where memory ran
-    /// out.
+    /// Begins a round with a limit in nanoseconds, where one is given. `AllocError` where memory
+    /// ran out.
     pub fn begin(&mut self, given: Option<u64>) -> Result<Answer, AllocError>
         requires { IsWithin 1000000 self.old }
         ensures { IfOk result (λ answer.
@@ -27,8 +27,8 @@ impl Replayer {
         told_wait(self.core.wait())
     }
 
-    /// Handles the first event in hand. `AllocError` where there is no memory for the waiters of its
-    /// source.
+    /// Handles the first event in hand. `AllocError` where there is no memory for the waiters of
+    /// its source.
     pub fn handle(&mut self) -> Result<Answer, AllocError>
         ensures { IfOk result (λ answer. Replays step.Handle answer [] self.old self.new) }
     {
@@ -47,8 +47,8 @@ impl Replayer {
         told_finish(finished)
     }
 
-    /// A whole round with no limit, whose wakers go into `wakes`, which is empty. `AllocError` where
-    /// memory ran out.
+    /// A whole round with no limit, whose wakers go into `wakes`, which is empty. `AllocError`
+    /// where memory ran out.
     pub fn react(&mut self, wakes: &mut Vec<Waker>) -> Result<Answer, AllocError>
         requires none { wakes.old.items ≡ [] }
         requires within { IsWithin 1000000 self.old }
@@ -60,8 +60,8 @@ impl Replayer {
         told_react(reacted)
     }
 
-    /// Where a round has ended, its wakers go into `wakes`, which is empty. `AllocError` where memory
-    /// ran out.
+    /// Where a round has ended, its wakers go into `wakes`, which is empty. `AllocError` where
+    /// memory ran out.
     fn take_woken(&self, ended: bool, wakes: &mut Vec<Waker>) -> Result<(), AllocError>
         requires { wakes.old.items ≡ [] }
         ensures { OnOk result
