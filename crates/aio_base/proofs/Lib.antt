@@ -13,6 +13,7 @@ pub mod CoverSources
 pub mod CoverSteps
 pub mod CoverWaiters
 pub mod FirstPolls
+pub mod Frames
 pub mod FiringOrder
 mod FalseHistories
 pub mod Following
@@ -32,6 +33,7 @@ pub mod LockSeats
 pub mod LockSteps
 pub mod Membership
 pub mod NotesUnread
+pub mod Noting
 pub mod OnceRuns
 pub mod PassLemmas
 pub mod Places
@@ -42,6 +44,7 @@ mod RefusedWorlds
 pub mod Registering
 pub mod Rewaiting
 pub mod RoundLemmas
+pub mod RoundSteps
 mod Rows
 pub mod RunLemmas
 mod RunRows

@@ -11,6 +11,9 @@ pub mod Covered
 pub mod Arming
 pub mod Distinct
 pub mod Counts
+pub mod RoundCounts
+pub mod Clock
+pub mod Handling
 pub mod FirstPolls
 pub mod Registered
 pub mod Storings
