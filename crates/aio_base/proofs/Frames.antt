@@ -69,7 +69,7 @@ either_world P false x y first second = second
 pub arm_keeps : (w : World) (key serial : ℕ) (told : PollerAnswer) → frame (after_arm w key serial told) ≡ frame w
 arm_keeps w key serial told = either_world (λ v. frame v ≡ frame w) (fails told) (broken_world w serial) (armed_world w key serial) refl refl
 
-pending_keeps : (arms : Bool) (w : World) (key serial : ℕ) (wakes : List Waker) (answers : List PollerAnswer)
+pub pending_keeps : (arms : Bool) (w : World) (key serial : ℕ) (wakes : List Waker) (answers : List PollerAnswer)
     → frame (pending arms w key serial wakes answers).world ≡ frame w
 pending_keeps false w key serial wakes answers = refl
 pending_keeps true w key serial wakes answers = arm_keeps w key serial (next_answer answers)
@@ -115,7 +115,7 @@ drop_keeps w number (Some entry) answers = refl
 
 -- ## Timers
 
-gone_keeps : (w : World) (id : Option ℕ) → frame (unregistered w id) ≡ frame w
+pub gone_keeps : (w : World) (id : Option ℕ) → frame (unregistered w id) ≡ frame w
 gone_keeps w None = refl
 gone_keeps w (Some id) = refl
 

@@ -16,6 +16,7 @@ pub mod FirstPolls
 pub mod Frames
 pub mod FiringOrder
 mod FalseHistories
+mod FalseSteps
 pub mod Following
 pub mod FreeKeys
 pub mod FreshnessLemmas
@@ -57,6 +58,7 @@ pub mod StoringCounts
 pub mod Taking
 mod TimerRows
 pub mod UnmovedLemmas
+pub mod Untouched
 pub mod WaiterLemmas
 pub mod WordBits
 pub mod WordCounts

@@ -14,6 +14,7 @@ pub mod Counts
 pub mod RoundCounts
 pub mod Clock
 pub mod Handling
+pub mod Others
 pub mod FirstPolls
 pub mod Registered
 pub mod Storings

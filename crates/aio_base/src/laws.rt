@@ -11,6 +11,7 @@ ghost use Rattle.aio_base.specs.Distinct.{IsOfTimer, NoDoubles};
 ghost use Rattle.aio_base.specs.FirstPolls.{InPollOrder};
 ghost use Rattle.aio_base.specs.Handling.{HandledIsNoted};
 ghost use Rattle.aio_base.specs.Machine.{Outcome, begin_round, finish_round, makes_second_pass, react, step_result};
+ghost use Rattle.aio_base.specs.Others.{OthersStand};
 ghost use Rattle.aio_base.specs.Refusals.{is_refusal, only_counted};
 ghost use Rattle.aio_base.specs.Registered.{TimersAreRegistered};
 ghost use Rattle.aio_base.specs.Runs.{PolledStep, answers_of, outcome_without_notes, scripted, wakes_of, without_notes, world_of};
@@ -198,6 +199,16 @@ pub fn a_handled_event_is_noted()
         → HandledIsNoted w s answers (step_result w s answers).world }
 {}
 
+/// A step leaves the sources, listeners and timers of others alone: all but its own stand after it as
+/// they stood, in the same order, so none is lost, none is changed and none joins. Of a listener this
+/// says all but its waker, which a handled event takes. A step's own are the source that it adds or
+/// takes out, the listener that it makes, polls or drops, and the timer that it makes, polls, sets or
+/// ends; a step of a round has none.
+pub fn a_step_leaves_others_alone()
+    ensures { (w : World) (s : Step) (answers : List PollerAnswer)
+        → OthersStand w s (step_result w s answers).world }
+{}
+
 /// The run of a list of steps over the script poller is a run of the machine: that in which the poller
 /// answers as the script says. It gives the same answers and the same wakes, step for step, and leaves
 /// the same world but for what is noted and due. The script's poller alone reads those: a step of the
@@ -227,6 +238,8 @@ pub fn a_script_is_a_run()
 ///
 /// Listeners that were polled stand in the order of their first polls. A last step that was told pending,
 /// or that handled an event without a fault, left its source unbroken where a waiter is left.
+/// The last step counted a round where it began one, noted each event that it handled, moved the clock
+/// where it was a `now` that was answered so, and left the things of others alone.
 pub fn a_run_stands_between_its_steps()
     ensures run { (run : List PolledStep) → StandsBetween run }
     ensures trace { (steps : List Step) → StandsAfter steps }
