@@ -8,7 +8,11 @@ use Rattle.aio_base.specs.World.{Registration, World, opening}
 use Rattle.aio_base.specs.Runs.{PolledStep, outcome_of, world_of, scripted}
 use Rattle.aio_base.specs.Storings.{storings_of}
 use Rattle.aio_base.specs.Succession.{StoringsFollow}
+use Rattle.aio_base.specs.Clock.{ClockIsSet}
 use Rattle.aio_base.specs.Counts.{CountsRise}
+use Rattle.aio_base.specs.Handling.{HandledIsNoted}
+use Rattle.aio_base.specs.Others.{OthersStand}
+use Rattle.aio_base.specs.RoundCounts.{RoundsFollow}
 use Rattle.aio_base.specs.Timers.{after_pass}
 use Rattle.aio_base.specs.Arming.{ArmsAsTold}
 use Rattle.aio_base.specs.Between.{makes_pass, is_of_timer, registrations_after, StandsBetween, StandsAfter}
@@ -18,9 +22,12 @@ use Rattle.aio_base.proofs.Rearming.{step_arms_as_told}
 use Rattle.aio_base.proofs.CoverRuns.{run_covers, run_waits_for_live}
 use Rattle.aio_base.proofs.FirstPolls.{run_polls_in_order}
 use Rattle.aio_base.proofs.Following.{run_follows}
+use Rattle.aio_base.proofs.Noting.{handled_is_noted}
 use Rattle.aio_base.proofs.OnceRuns.{run_once}
 use Rattle.aio_base.proofs.PassLemmas.{pass_leaves}
 use Rattle.aio_base.proofs.Registering.{step_registers}
+use Rattle.aio_base.proofs.RoundSteps.{rounds_follow, clock_is_set}
+use Rattle.aio_base.proofs.Untouched.{others_stand}
 use Rattle.aio_base.proofs.Singles.{run_has_no_doubles, run_registers_timers}
 
 -- the world after one step more
@@ -86,6 +93,18 @@ stands_between run = record {
   arms = λ before last is.
       let w = world_of opening before in
       subst (ArmsAsTold w last.step last.answers (outcome_of w last).answer) (sym (ap (world_of opening) is ∙ one_more opening before last)) (step_arms_as_told w last.step last.answers);
+  rounds = λ before last is.
+      let w = world_of opening before in
+      subst (RoundsFollow w last.step (outcome_of w last).answer) (sym (ap (world_of opening) is ∙ one_more opening before last)) (rounds_follow w last.step last.answers);
+  clock = λ before last is.
+      let w = world_of opening before in
+      subst (ClockIsSet w last.step (outcome_of w last).answer) (sym (ap (world_of opening) is ∙ one_more opening before last)) (clock_is_set w last.step last.answers);
+  noted = λ before last is.
+      let w = world_of opening before in
+      subst (HandledIsNoted w last.step last.answers) (sym (ap (world_of opening) is ∙ one_more opening before last)) (handled_is_noted w last.step last.answers);
+  alone = λ before last is.
+      let w = world_of opening before in
+      subst (OthersStand w last.step) (sym (ap (world_of opening) is ∙ one_more opening before last)) (others_stand w last.step last.answers);
 }
 
 pub stands_after : (steps : List Step) → StandsAfter steps

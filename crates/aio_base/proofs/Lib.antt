@@ -13,8 +13,10 @@ pub mod CoverSources
 pub mod CoverSteps
 pub mod CoverWaiters
 pub mod FirstPolls
+pub mod Frames
 pub mod FiringOrder
 mod FalseHistories
+mod FalseSteps
 pub mod Following
 pub mod FreeKeys
 pub mod FreshnessLemmas
@@ -32,6 +34,7 @@ pub mod LockSeats
 pub mod LockSteps
 pub mod Membership
 pub mod NotesUnread
+pub mod Noting
 pub mod OnceRuns
 pub mod PassLemmas
 pub mod Places
@@ -42,6 +45,7 @@ mod RefusedWorlds
 pub mod Registering
 pub mod Rewaiting
 pub mod RoundLemmas
+pub mod RoundSteps
 mod Rows
 pub mod RunLemmas
 mod RunRows
@@ -54,6 +58,7 @@ pub mod StoringCounts
 pub mod Taking
 mod TimerRows
 pub mod UnmovedLemmas
+pub mod Untouched
 pub mod WaiterLemmas
 pub mod WordBits
 pub mod WordCounts

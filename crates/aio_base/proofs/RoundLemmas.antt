@@ -62,7 +62,7 @@ filter_step g true false y z ys zs test same rest = absurd cc
 filter_step g false true y z ys zs test same rest = absurd cc
 
 -- a filter and a map that do not see what another map changes
-unseen_change : {X Y : Type 0} (q : X → Bool) (f : X → X) (g : X → Y) → ((x : X) → q (f x) ≡ q x) → ((x : X) → g (f x) ≡ g x) → (xs : List X)
+pub unseen_change : {X Y : Type 0} (q : X → Bool) (f : X → X) (g : X → Y) → ((x : X) → q (f x) ≡ q x) → ((x : X) → g (f x) ≡ g x) → (xs : List X)
     → map g (filter q (map f xs)) ≡ map g (filter q xs)
 unseen_change q f g tests sees [] = refl
 unseen_change q f g tests sees (x ∷ xs) =

@@ -454,8 +454,8 @@ no_digits_spell_none [] all = refl
 no_digits_spell_none (d ∷ digits) all =
     let range = digit_at (d ∷ digits) 0 all (omega arith) in
     false_where_never (bytes_eq (d ∷ digits) (codes "none")) (λ same.
-        let met : d ≡ 110 = ap first_of (same_bytes (d ∷ digits) (codes "none") same) in
-        omega (arith, range, met))
+    let met : d ≡ 110 = ap first_of (same_bytes (d ∷ digits) (codes "none") same) in
+    omega (arith, range, met))
 
 read_dir : (dir : Dir) → dir_of (dir_text dir) ≡ Some dir
 read_dir Read = refl

@@ -10,10 +10,14 @@ use Rattle.aio_base.specs.Storings.{Once, storings_of}
 use Rattle.aio_base.specs.Succession.{StoringsFollow}
 use Rattle.aio_base.specs.Arming.{ArmsAsTold}
 use Rattle.aio_base.specs.Covered.{Covered, WaitsForLive}
+use Rattle.aio_base.specs.Clock.{ClockIsSet}
 use Rattle.aio_base.specs.Counts.{CountsRise}
 use Rattle.aio_base.specs.Distinct.{IsOfTimer, NoDoubles}
 use Rattle.aio_base.specs.FirstPolls.{InPollOrder}
+use Rattle.aio_base.specs.Handling.{HandledIsNoted}
+use Rattle.aio_base.specs.Others.{OthersStand}
 use Rattle.aio_base.specs.Registered.{TimersAreRegistered}
+use Rattle.aio_base.specs.RoundCounts.{RoundsFollow}
 use Rattle.aio_base.specs.Timers.{AllAbove, after_pass}
 
 -- whether a step makes a pass over the registered timers: where a round begins, where one ends with a second pass, and where a whole round is run
@@ -67,6 +71,18 @@ pub record StandsBetween (run : List PolledStep) : Type 0 where
   -- the last step left the source that it polled or handled armed, where its answer tells of no fault
   pub arms : (before : List PolledStep) (last : PolledStep) → run ≡ before ++ last ∷ []
       → ArmsAsTold (world_of opening before) last.step last.answers (outcome_of (world_of opening before) last).answer (world_of opening run)
+  -- the last step counted a round where it began one, and what ran ran on
+  pub rounds : (before : List PolledStep) (last : PolledStep) → run ≡ before ++ last ∷ []
+      → RoundsFollow (world_of opening before) last.step (outcome_of (world_of opening before) last).answer (world_of opening run)
+  -- it moved the clock where it was a `now` that was answered so
+  pub clock : (before : List PolledStep) (last : PolledStep) → run ≡ before ++ last ∷ []
+      → ClockIsSet (world_of opening before) last.step (outcome_of (world_of opening before) last).answer (world_of opening run)
+  -- it noted each event that it handled
+  pub noted : (before : List PolledStep) (last : PolledStep) → run ≡ before ++ last ∷ []
+      → HandledIsNoted (world_of opening before) last.step last.answers (world_of opening run)
+  -- it left the sources, listeners and timers of others alone
+  pub alone : (before : List PolledStep) (last : PolledStep) → run ≡ before ++ last ∷ []
+      → OthersStand (world_of opening before) last.step (world_of opening run)
 
 -- what stands after these steps of a trace over the poller in memory
 abbrev pub StandsAfter : List Step → Type 0

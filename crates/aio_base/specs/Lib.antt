@@ -11,6 +11,10 @@ pub mod Covered
 pub mod Arming
 pub mod Distinct
 pub mod Counts
+pub mod RoundCounts
+pub mod Clock
+pub mod Handling
+pub mod Others
 pub mod FirstPolls
 pub mod Registered
 pub mod Storings

@@ -4,14 +4,18 @@ ghost use Rattle.std.specs.Prelude.{◌≡◌, ◌≢◌, ◌⊎◌, ◌&&◌, �
 ghost use Rattle.std.specs.List.{All, Contains};
 ghost use Rattle.aio_base.specs.Arming.{ArmsAsTold, IsArmedOrInHand};
 ghost use Rattle.aio_base.specs.Between.{StandsAfter, StandsBetween};
+ghost use Rattle.aio_base.specs.Clock.{ClockIsSet};
 ghost use Rattle.aio_base.specs.Counts.{CountsRise};
 ghost use Rattle.aio_base.specs.Covered.{Covered, WaitsForLive};
 ghost use Rattle.aio_base.specs.Distinct.{IsOfTimer, NoDoubles};
 ghost use Rattle.aio_base.specs.FirstPolls.{InPollOrder};
+ghost use Rattle.aio_base.specs.Handling.{HandledIsNoted};
 ghost use Rattle.aio_base.specs.Machine.{Outcome, begin_round, finish_round, makes_second_pass, react, step_result};
+ghost use Rattle.aio_base.specs.Others.{OthersStand};
 ghost use Rattle.aio_base.specs.Refusals.{is_refusal, only_counted};
 ghost use Rattle.aio_base.specs.Registered.{TimersAreRegistered};
 ghost use Rattle.aio_base.specs.Runs.{PolledStep, answers_of, outcome_without_notes, scripted, wakes_of, without_notes, world_of};
+ghost use Rattle.aio_base.specs.RoundCounts.{RoundsFollow};
 ghost use Rattle.aio_base.specs.Script.{outcomes_from, world_after};
 ghost use Rattle.aio_base.specs.Storings.{Once, Storings, step_ended, step_storings, storings_of};
 ghost use Rattle.aio_base.specs.Succession.{StoringsFollow};
@@ -171,6 +175,40 @@ pub fn no_number_is_given_twice()
         → CountsRise w (step_result w s answers).world }
 {}
 
+/// A round begins in a `begin` or a whole round, where none runs, and nowhere else. It gets the next
+/// number, which its answer tells, and the position at which it began is recorded. It keeps number,
+/// begin and limit until a `finish` tells its end, or its whole round is answered; no other round runs
+/// then.
+pub fn each_round_has_a_number_of_its_own()
+    ensures { (w : World) (s : Step) (answers : List PollerAnswer)
+        → RoundsFollow w s (step_result w s answers).answer (step_result w s answers).world }
+{}
+
+/// The clock is set by a `now` whose moment has not passed, to that moment, which the answer tells. A
+/// `now` whose moment has passed is told the clock's, and no other step moves the clock.
+pub fn only_now_sets_the_clock()
+    ensures { (w : World) (s : Step) (answers : List PollerAnswer)
+        → ClockIsSet w s (step_result w s answers).answer (step_result w s answers).world }
+{}
+
+/// An event that is handled, by `handle` or in a whole round, is noted: each of its directions is fresh
+/// for whoever waited before the round began, so a poll waiter or a listener that it wakes is ready at
+/// the next poll. What was fresh stays so, and no other step notes an event.
+pub fn a_handled_event_is_noted()
+    ensures { (w : World) (s : Step) (answers : List PollerAnswer)
+        → HandledIsNoted w s answers (step_result w s answers).world }
+{}
+
+/// A step leaves the sources, listeners and timers of others alone: all but its own stand after it as
+/// they stood, in the same order, so none is lost, none is changed and none joins. Of a listener this
+/// says all but its waker, which a handled event takes. A step's own are the source that it adds or
+/// takes out, the listener that it makes, polls or drops, and the timer that it makes, polls, sets or
+/// ends; a step of a round has none.
+pub fn a_step_leaves_others_alone()
+    ensures { (w : World) (s : Step) (answers : List PollerAnswer)
+        → OthersStand w s (step_result w s answers).world }
+{}
+
 /// The run of a list of steps over the script poller is a run of the machine: that in which the poller
 /// answers as the script says. It gives the same answers and the same wakes, step for step, and leaves
 /// the same world but for what is noted and due. The script's poller alone reads those: a step of the
@@ -200,6 +238,8 @@ pub fn a_script_is_a_run()
 ///
 /// Listeners that were polled stand in the order of their first polls. A last step that was told pending,
 /// or that handled an event without a fault, left its source unbroken where a waiter is left.
+/// The last step counted a round where it began one, noted each event that it handled, moved the clock
+/// where it was a `now` that was answered so, and left the things of others alone.
 pub fn a_run_stands_between_its_steps()
     ensures run { (run : List PolledStep) → StandsBetween run }
     ensures trace { (steps : List Step) → StandsAfter steps }

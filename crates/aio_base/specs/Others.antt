@@ -1,0 +1,50 @@
+-- That a step leaves each source, listener and timer alone but its own.
+use Rattle.std.specs.Prelude.{◌≡◌, ◌⊎◌, ℕ, ◌+◌, Bool, true, false, not, ◌==◌, List, map, filter, Option, None, Some}
+use Rattle.std.specs.List.{Contains}
+use Rattle.std.specs.Option.{option_map_or}
+use Rattle.aio_base.specs.declared.steps.Step.{Step}
+use Rattle.aio_base.specs.declared.steps.Step.TheVariants as step
+use Rattle.aio_base.specs.World.{LiveSource, ListenerEntry, TimerEntry, World, serial_of}
+
+-- the source that a step adds, under the next serial, or takes out
+abbrev pub is_own_source : World → Step → LiveSource → Bool
+is_own_source w step.Add x = x.serial == w.serials + 1
+is_own_source w (step.Del key) x = option_map_or (λ n. x.serial == n) (serial_of w key.0) false
+is_own_source w _ x = false
+
+-- the listener that a step makes, under the next number, or that it polls or drops
+abbrev pub is_own_listener : World → Step → ListenerEntry → Bool
+is_own_listener w (step.New key dir) l = l.number == w.listeners_drawn + 1
+is_own_listener w (step.StepEar number waker) l = l.number == number
+is_own_listener w (step.DropEar number) l = l.number == number
+is_own_listener w _ l = false
+
+-- the timer that a step makes, under the next number, or that it polls, sets or ends
+abbrev pub is_own_timer : World → Step → TimerEntry → Bool
+is_own_timer w (step.TimerAt deadline) t = t.number == w.timers_made + 1
+is_own_timer w (step.TimerEvery deadline period) t = t.number == w.timers_made + 1
+is_own_timer w step.TimerNever t = t.number == w.timers_made + 1
+is_own_timer w (step.Tick number waker) t = t.number == number
+is_own_timer w (step.SetAt number deadline) t = t.number == number
+is_own_timer w (step.SetEvery number deadline period) t = t.number == number
+is_own_timer w (step.End number) t = t.number == number
+is_own_timer w _ t = false
+
+-- a listener but for its waker, which a handled event takes
+abbrev pub but_waker : ListenerEntry → ListenerEntry
+but_waker l = record l { waker = None }
+
+abbrev pub other_sources : World → Step → World → List LiveSource
+other_sources w s v = filter (λ (x : LiveSource). not (is_own_source w s x)) v.live
+
+abbrev pub other_listeners : World → Step → World → List ListenerEntry
+other_listeners w s v = map but_waker (filter (λ (l : ListenerEntry). not (is_own_listener w s l)) v.listeners)
+
+abbrev pub other_timers : World → Step → World → List TimerEntry
+other_timers w s v = filter (λ (t : TimerEntry). not (is_own_timer w s t)) v.timers
+
+-- The others stand as they stood, in the same order: none is lost, none is changed, and none joins.
+pub record OthersStand (w : World) (s : Step) (v : World) : Type 0 where
+  pub sources : other_sources w s v ≡ other_sources w s w
+  pub listeners : other_listeners w s v ≡ other_listeners w s w
+  pub timers : other_timers w s v ≡ other_timers w s w
