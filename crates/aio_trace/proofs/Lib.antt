@@ -1,4 +1,5 @@
 pub mod Bodies
+pub mod Generations
 pub mod LineLaws
 pub mod LineNumbers
 pub mod LineWords

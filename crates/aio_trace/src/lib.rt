@@ -8,9 +8,17 @@
 //! written reads as itself and as no other.
 #![tactic(auto)]
 
+mod answer_lines;
+mod generating;
 pub mod laws;
 mod reading;
+mod step_lines;
+#[cfg(test)]
+mod tests;
 mod words;
+mod writing;
 
 pub use aio_base::LineFault;
+pub use generating::{Steps, gen_steps};
 pub use reading::read_line;
+pub use writing::{write_answer, write_line};

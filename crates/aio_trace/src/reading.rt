@@ -367,7 +367,7 @@ fn take_moment(text: &[u8]) -> Result<(u64, &[u8]), LineFault>
 }
 
 /// The moment of so many nanoseconds.
-fn moment_at(nanoseconds: u64) -> Moment
+pub(crate) fn moment_at(nanoseconds: u64) -> Moment
     requires { nanoseconds ≤ 10 ^ 18 }
     ensures { result ≡ nanoseconds }
 {
