@@ -12,7 +12,8 @@ use std::alloc::AllocError;
 #[inline]
 #[tactic(auto, unfolding(aio_base::specs::Text::answer_line))]
 pub(crate) fn push_answer(answer: &Answer, out: &mut Vec<u8>) -> Result<(), AllocError>
-    ensures ok { OnOk result (out.new.items ≡ out.old.items ++ ended_line (answer_line answer.now)) }
+    ensures ok { OnOk result (out.new.items ≡ out.old.items
+        ++ ended_line (answer_line answer.now)) }
     ensures kept { OnErr result (KeepsFront out.old.items out.new.items) }
     ensures full { OnErr result (LacksRoom (vec_capacity out.old) out.old.items
         (ended_line (answer_line answer.now))) }
@@ -29,7 +30,8 @@ pub(crate) fn push_answer(answer: &Answer, out: &mut Vec<u8>) -> Result<(), Allo
 /// Writes an answer's line, whichever it is: the general case behind the common ones.
 #[inline(never)]
 fn push_other_answer(out: &mut Vec<u8>, answer: &Answer) -> Result<(), AllocError>
-    ensures ok { OnOk result (out.new.items ≡ out.old.items ++ ended_line (answer_line answer.now)) }
+    ensures ok { OnOk result (out.new.items ≡ out.old.items
+        ++ ended_line (answer_line answer.now)) }
     ensures kept { OnErr result (KeepsFront out.old.items out.new.items) }
     ensures full { OnErr result (LacksRoom (vec_capacity out.old) out.old.items
         (ended_line (answer_line answer.now))) }

@@ -9,9 +9,9 @@ use crate::reading::moment_at;
 use aio_base::{Dir, Draws, Event, Interest, Key, Step, Waker};
 use std::marker::Model;
 
-/// The steps that a seed gives, one after the other. Seen by contracts as how many are left, and the
-/// generator that they come from: the state of its draws, the moment to which it set the clock last,
-/// and how many listeners and timers it made. It takes no memory.
+/// The steps that a seed gives, one after the other. Seen by contracts as how many are left, and
+/// the generator that they come from: the state of its draws, the moment to which it set the clock
+/// last, and how many listeners and timers it made. It takes no memory.
 #[derive(Clone, Copy, Debug)]
 pub struct Steps {
     left: u32,
@@ -24,11 +24,30 @@ pub struct Steps {
 impl Model for Steps {
     ghost Value = { StepsLeft };
 
-    ghost view = { λ s. record { left = s.left; generator = record { state = s.draws; moment = s.moment; listeners = s.listeners; timers = s.timers } } };
+    ghost view = { λ s. record {
+      left = s.left;
+      generator = record {
+        state = s.draws;
+        moment = s.moment;
+        listeners = s.listeners;
+        timers = s.timers;
+      };
+    } };
 
-    ghost invariant = { λ s. LeavesRoom s.left (record { state = s.draws; moment = s.moment; listeners = s.listeners; timers = s.timers }) };
+    ghost invariant = { λ s. LeavesRoom s.left (record {
+      state = s.draws;
+      moment = s.moment;
+      listeners = s.listeners;
+      timers = s.timers;
+    }) };
 
-    ghost inverse = { λ v. record { left = v.left; draws = v.generator.state; moment = v.generator.moment; listeners = v.generator.listeners; timers = v.generator.timers } };
+    ghost inverse = { λ v. record {
+      left = v.left;
+      draws = v.generator.state;
+      moment = v.generator.moment;
+      listeners = v.generator.listeners;
+      timers = v.generator.timers;
+    } };
 }
 
 /// The first `n` steps that the seed gives. It takes no memory.

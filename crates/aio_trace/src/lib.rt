@@ -4,8 +4,8 @@
 //!
 //! It stands on `aio_base`, whose `specs/Lines.antt` says what a line reads as, by its words, and
 //! `specs/Generated.antt` which steps a seed gives. It promises both ways: a line reads as a step
-//! exactly where that definition says so and otherwise has the fault that it names, and a step that is
-//! written reads as itself and as no other.
+//! exactly where that definition says so and otherwise has the fault that it names, and a step that
+//! is written reads as itself and as no other.
 #![tactic(auto)]
 
 mod answer_lines;

@@ -1,6 +1,6 @@
-//! Reading the step of a line. It takes no memory, and looks at each byte once: at its bytes one by one
-//! only where a line reads as no step. The two commonest lines are told by their first bytes, and what
-//! reads them is compiled in place.
+//! Reading the step of a line. It takes no memory, and looks at each byte once: at its bytes one by
+//! one only where a line reads as no step. The two commonest lines are told by their first bytes,
+//! and what reads them is compiled in place.
 
 ghost use Rattle.std.specs.Prelude.{◌≡◌, ◌↔◌, None, Some, Ok, Err, MatchResult, IfOk, if◌then◌else◌, ◌≤◌, ◌^◌};
 ghost use Rattle.std.specs.List.{list_all};
@@ -42,15 +42,15 @@ enum Command {
     React,
 }
 
-/// The step that a line reads as, given without its line feed, or what is wrong with it: exactly one
-/// of the two. It takes no memory.
+/// The step that a line reads as, given without its line feed, or what is wrong with it: exactly
+/// one of the two. It takes no memory.
 ///
 /// # Errors
 ///
-/// The first of these that a line has. `Long`: more than 256 bytes. `Byte`: a byte that a line may not
-/// hold. `Empty`: no word. Then its words from left to right, the first that is not what its place
-/// asks: `Command`, `Number`, `Direction`, `Flags`, `Choice`; or `Count` where a word is missing, or
-/// one follows the last.
+/// The first of these that a line has. `Long`: more than 256 bytes. `Byte`: a byte that a line may
+/// not hold. `Empty`: no word. Then its words from left to right, the first that is not what its
+/// place asks: `Command`, `Number`, `Direction`, `Flags`, `Choice`; or `Count` where a word is
+/// missing, or one follows the last.
 pub fn read_line(line: &[u8]) -> Result<Step, LineFault>
     ensures step { (s : Step) → Reads s line.now ↔ (result ≡ Ok s) }
     ensures fault { (f : LineFault) → (fault_of line.now ≡ Some f) ↔ (result ≡ Err f) }
@@ -81,7 +81,8 @@ fn body_of(line: &[u8]) -> &[u8]
     }
 }
 
-/// The fault of a line whose words have this fault: a byte that a line may not hold comes before it.
+/// The fault of a line whose words have this fault: a byte that a line may not hold comes before
+/// it.
 #[inline(never)]
 fn byte_before(body: &[u8], fault: LineFault) -> LineFault
     ensures { result ≡ (if list_all is_allowed body.now then fault else LineFault.Byte) }

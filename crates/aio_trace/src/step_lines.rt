@@ -49,10 +49,12 @@ pub(crate) fn push_step(step: &Step, out: &mut Vec<u8>) -> Result<(), AllocError
 
 /// Writes the line of a poll of a source.
 fn push_poll(out: &mut Vec<u8>, key: Key, direction: Dir, waker: Waker) -> Result<(), AllocError>
-    ensures ok { OnOk result (out.new.items ≡ out.old.items ++ ended_line (codes "poll " ++ decimal key.0 ++ codes " " ++ dir_text direction ++ codes " " ++ decimal waker.0)) }
+    ensures ok { OnOk result (out.new.items ≡ out.old.items ++ ended_line (codes "poll "
+        ++ decimal key.0 ++ codes " " ++ dir_text direction ++ codes " " ++ decimal waker.0)) }
     ensures kept { OnErr result (KeepsFront out.old.items out.new.items) }
     ensures full { OnErr result (LacksRoom (vec_capacity out.old) out.old.items
-        (ended_line (codes "poll " ++ decimal key.0 ++ codes " " ++ dir_text direction ++ codes " " ++ decimal waker.0))) }
+        (ended_line (codes "poll " ++ decimal key.0 ++ codes " " ++ dir_text direction
+        ++ codes " " ++ decimal waker.0))) }
     ensures grown { vec_capacity out.old ≤ vec_capacity out.new }
 {
     out.extend_from_slice(b"poll ")?;
@@ -66,7 +68,8 @@ fn push_poll(out: &mut Vec<u8>, key: Key, direction: Dir, waker: Waker) -> Resul
 
 /// Writes the line of a new listener.
 fn push_new(out: &mut Vec<u8>, key: Key, direction: Dir) -> Result<(), AllocError>
-    ensures ok { OnOk result (out.new.items ≡ out.old.items ++ ended_line (codes "new " ++ decimal key.0 ++ codes " " ++ dir_text direction)) }
+    ensures ok { OnOk result (out.new.items ≡ out.old.items ++ ended_line (codes "new "
+        ++ decimal key.0 ++ codes " " ++ dir_text direction)) }
     ensures kept { OnErr result (KeepsFront out.old.items out.new.items) }
     ensures full { OnErr result (LacksRoom (vec_capacity out.old) out.old.items
         (ended_line (codes "new " ++ decimal key.0 ++ codes " " ++ dir_text direction))) }
@@ -82,7 +85,8 @@ fn push_new(out: &mut Vec<u8>, key: Key, direction: Dir) -> Result<(), AllocErro
 
 /// Writes a line of a word, a number and a waker.
 fn push_two(out: &mut Vec<u8>, word: &[u8], number: u32, waker: Waker) -> Result<(), AllocError>
-    ensures ok { OnOk result (out.new.items ≡ out.old.items ++ ended_line (word.now ++ decimal number ++ codes " " ++ decimal waker.0)) }
+    ensures ok { OnOk result (out.new.items ≡ out.old.items ++ ended_line (word.now
+        ++ decimal number ++ codes " " ++ decimal waker.0)) }
     ensures kept { OnErr result (KeepsFront out.old.items out.new.items) }
     ensures full { OnErr result (LacksRoom (vec_capacity out.old) out.old.items
         (ended_line (word.now ++ decimal number ++ codes " " ++ decimal waker.0))) }
@@ -95,7 +99,8 @@ fn push_two(out: &mut Vec<u8>, word: &[u8], number: u32, waker: Waker) -> Result
 
 /// Writes a line of words, a deadline and a period.
 fn push_every(out: &mut Vec<u8>, words: &[u8], deadline: u64, period: u64) -> Result<(), AllocError>
-    ensures ok { OnOk result (out.new.items ≡ out.old.items ++ ended_line (words.now ++ decimal deadline ++ codes " " ++ decimal period)) }
+    ensures ok { OnOk result (out.new.items ≡ out.old.items ++ ended_line (words.now
+        ++ decimal deadline ++ codes " " ++ decimal period)) }
     ensures kept { OnErr result (KeepsFront out.old.items out.new.items) }
     ensures full { OnErr result (LacksRoom (vec_capacity out.old) out.old.items
         (ended_line (words.now ++ decimal deadline ++ codes " " ++ decimal period))) }
@@ -108,7 +113,8 @@ fn push_every(out: &mut Vec<u8>, words: &[u8], deadline: u64, period: u64) -> Re
 
 /// Writes the line that sets a timer to a deadline.
 fn push_set_at(out: &mut Vec<u8>, timer: u32, deadline: Moment) -> Result<(), AllocError>
-    ensures ok { OnOk result (out.new.items ≡ out.old.items ++ ended_line (codes "set " ++ decimal timer ++ codes " at " ++ decimal deadline)) }
+    ensures ok { OnOk result (out.new.items ≡ out.old.items ++ ended_line (codes "set "
+        ++ decimal timer ++ codes " at " ++ decimal deadline)) }
     ensures kept { OnErr result (KeepsFront out.old.items out.new.items) }
     ensures full { OnErr result (LacksRoom (vec_capacity out.old) out.old.items
         (ended_line (codes "set " ++ decimal timer ++ codes " at " ++ decimal deadline))) }
@@ -126,10 +132,12 @@ fn push_set_every(
     deadline: Moment,
     period: u64,
 ) -> Result<(), AllocError>
-    ensures ok { OnOk result (out.new.items ≡ out.old.items ++ ended_line (codes "set " ++ decimal timer ++ codes " every " ++ decimal deadline ++ codes " " ++ decimal period)) }
+    ensures ok { OnOk result (out.new.items ≡ out.old.items ++ ended_line (codes "set "
+        ++ decimal timer ++ codes " every " ++ decimal deadline ++ codes " " ++ decimal period)) }
     ensures kept { OnErr result (KeepsFront out.old.items out.new.items) }
     ensures full { OnErr result (LacksRoom (vec_capacity out.old) out.old.items
-        (ended_line (codes "set " ++ decimal timer ++ codes " every " ++ decimal deadline ++ codes " " ++ decimal period))) }
+        (ended_line (codes "set " ++ decimal timer ++ codes " every " ++ decimal deadline
+        ++ codes " " ++ decimal period))) }
     ensures grown { vec_capacity out.old ≤ vec_capacity out.new }
 {
     out.extend_from_slice(b"set ")?;
@@ -139,7 +147,8 @@ fn push_set_every(
 
 /// Writes the line of an event.
 fn push_event(out: &mut Vec<u8>, event: Event) -> Result<(), AllocError>
-    ensures ok { OnOk result (out.new.items ≡ out.old.items ++ ended_line (codes "event " ++ decimal event.key.0 ++ codes " " ++ flags_text event.on)) }
+    ensures ok { OnOk result (out.new.items ≡ out.old.items ++ ended_line (codes "event "
+        ++ decimal event.key.0 ++ codes " " ++ flags_text event.on)) }
     ensures kept { OnErr result (KeepsFront out.old.items out.new.items) }
     ensures full { OnErr result (LacksRoom (vec_capacity out.old) out.old.items
         (ended_line (codes "event " ++ decimal event.key.0 ++ codes " " ++ flags_text event.on))) }
@@ -157,7 +166,8 @@ fn push_event(out: &mut Vec<u8>, event: Event) -> Result<(), AllocError>
 
 /// Writes the line of a fault.
 fn push_fault(out: &mut Vec<u8>, kind: Which) -> Result<(), AllocError>
-    ensures ok { OnOk result (out.new.items ≡ out.old.items ++ ended_line (codes "fault " ++ which_text kind)) }
+    ensures ok { OnOk result (out.new.items ≡ out.old.items ++ ended_line (codes "fault "
+        ++ which_text kind)) }
     ensures kept { OnErr result (KeepsFront out.old.items out.new.items) }
     ensures full { OnErr result (LacksRoom (vec_capacity out.old) out.old.items
         (ended_line (codes "fault " ++ which_text kind))) }
@@ -173,7 +183,8 @@ fn push_fault(out: &mut Vec<u8>, kind: Which) -> Result<(), AllocError>
 
 /// Writes the line that begins a round.
 fn push_begin_step(out: &mut Vec<u8>, limit: Option<u64>) -> Result<(), AllocError>
-    ensures ok { OnOk result (out.new.items ≡ out.old.items ++ ended_line (codes "begin " ++ limit_text limit)) }
+    ensures ok { OnOk result (out.new.items ≡ out.old.items ++ ended_line (codes "begin "
+        ++ limit_text limit)) }
     ensures kept { OnErr result (KeepsFront out.old.items out.new.items) }
     ensures full { OnErr result (LacksRoom (vec_capacity out.old) out.old.items
         (ended_line (codes "begin " ++ limit_text limit))) }

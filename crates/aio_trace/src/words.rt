@@ -47,8 +47,8 @@ pub(crate) fn next_word(text: &[u8]) -> Option<(&[u8], &[u8])>
     Some((text, &[]))
 }
 
-/// The number, at most `most`, that the first word of a text spells, and what follows it; or the fault
-/// of that word, or of there being none.
+/// The number, at most `most`, that the first word of a text spells, and what follows it; or the
+/// fault of that word, or of there being none.
 #[inline(always)]
 pub(crate) fn next_number(text: &[u8], most: u64) -> Result<(u64, &[u8]), LineFault>
     requires { most ≤ 10 ^ 18 }

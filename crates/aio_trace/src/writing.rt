@@ -39,7 +39,8 @@ pub fn write_line(step: &Step, out: &mut Vec<u8>) -> Result<(), OutOfMemory>
 ///
 /// `OutOfMemory` only where there was no room for the line, and then `out` holds what it held.
 pub fn write_answer(answer: &Answer, out: &mut Vec<u8>) -> Result<(), OutOfMemory>
-    ensures ok { OnOk result (out.new.items ≡ out.old.items ++ ended_line (answer_line answer.now)) }
+    ensures ok { OnOk result (out.new.items ≡ out.old.items
+        ++ ended_line (answer_line answer.now)) }
     ensures err { OnErr result (out.new.items ≡ out.old.items) }
     ensures full { OnErr result (LacksRoom (vec_capacity out.old) out.old.items
         (ended_line (answer_line answer.now))) }
