@@ -1,0 +1,134 @@
+-- The number that a text's first word spells.
+use Rattle.std.proofs.Common.{◌≡◌, ℕ, ◌+◌, ◌*◌, ◌-◌, ◌<◌, ◌≤◌, Bool, true, false, cond, leb, List, [], ◌∷◌, length, get_or, take, drop, Option, None, Some, Ok, Err, refl, sym, ap, ◌∙◌, subst, inl, inr, ◌⊎◌, arith}
+use Rattle.std.specs.List.{All}
+use Rattle.std.specs.Int.{IsInRange}
+use Rattle.std.specs.Str.{all_ascii_digits}
+use Rattle.std.specs.Str.Parse.{digits_value}
+use Rattle.std.proofs.lemmas.List.{take_all, length-take-le}
+use Rattle.std.proofs.lemmas.List.Elements.{All-more}
+use Rattle.std.proofs.lemmas.Grind.{get_or_default_zero}
+use Rattle.std.proofs.lemmas.Bool.Decides.{nat_tests}
+use Rattle.std.proofs.lemmas.Bool.{leb-true, le-leb}
+use Rattle.std.proofs.lemmas.Str.Parse.{IsNumeralModel, numerals_by_value, tells_all_ascii_digits, digit_at, digits_value-take-le}
+use Rattle.std.proofs.lemmas.Str.{digit_value_digit}
+use Rattle.std.proofs.lemmas.Int.Digits.{digits_more, digits_value_more}
+use Rattle.aio_base.specs.declared.steps.LineFault.TheVariants as fault
+use Rattle.aio_base.specs.Lines.{is_blank, numeral, words_in}
+use Rattle.aio_trace.specs.Reading.{take_number, up_to, with_rest}
+use Rattle.aio_trace.proofs.LineWords.{FirstWord, first_word, words_of_text, reaches, byte_of_word, front_of_word, words_at_blank, words_of_one}
+
+abbrev pub AreDigits : List ℕ → Type 0
+AreDigits word = all_ascii_digits word ≡ true
+
+pub numerals : IsNumeralModel AreDigits (digits_value 10)
+numerals = numerals_by_value AreDigits tells_all_ascii_digits
+
+-- ## Digits
+
+digit_is_no_blank : (b : ℕ) → IsInRange 48 57 b → is_blank b ≡ false
+digit_is_no_blank b range = let low = range.0 in grind (arith, nat_tests)
+
+pub digits_are_solid : (word : List ℕ) → AreDigits word → All (λ b. is_blank b ≡ false) word
+digits_are_solid word digits k d within =
+    let same : get_or word k d ≡ get_or word k 0 = get_or_default_zero word k d within in
+    ap is_blank same ∙ digit_is_no_blank (get_or word k 0) (digit_at word k (numerals.to word digits) within)
+
+pub one_more_digit : (text : List ℕ) (at : ℕ) → at < length text → AreDigits (take at text) → 48 ≤ get_or text at 0 → get_or text at 0 ≤ 57 → AreDigits (take (at + 1) text)
+one_more_digit text at within digits low high =
+    numerals.from (take (at + 1) text)
+    (digits_more 10 text at within (numerals.to (take at text) digits) (omega (arith, digit_value_digit (get_or text at 0) (low, high))))
+
+pub one_digit_more : (text : List ℕ) (at : ℕ) → at < length text → 48 ≤ get_or text at 0 → get_or text at 0 ≤ 57
+    → digits_value 10 (take (at + 1) text) ≡ digits_value 10 (take at text) * 10 + (get_or text at 0 - 48)
+one_digit_more text at within low high =
+    let more = digits_value_more 10 text at within in
+    let digit = digit_value_digit (get_or text at 0) (low, high) in
+    omega arith
+
+-- ## Words that are numbers
+
+numeral_by : (word : List ℕ) (digits : Bool) → all_ascii_digits word ≡ digits → 0 < length word → numeral word ≡ cond digits (Some (digits_value 10 word)) None
+numeral_by [] digits e some = absurd (omega arith)
+numeral_by (b ∷ bytes) digits e some = ap (λ t. cond t (Some (digits_value 10 (b ∷ bytes))) None) e
+
+pub numeral_of_digits : (word : List ℕ) → 0 < length word → AreDigits word → numeral word ≡ Some (digits_value 10 word)
+numeral_of_digits word some digits = numeral_by word true digits some
+
+-- a word that stands for a number is digits, and the number is their value
+pub record IsNumeral (word : List ℕ) (n : ℕ) : Type 0 where
+  pub some : 0 < length word
+  pub digits : AreDigits word
+  pub value : n ≡ digits_value 10 word
+
+numeral_digits_by : (word : List ℕ) (n : ℕ) (digits : Bool) → all_ascii_digits word ≡ digits → 0 < length word → cond digits (Some (digits_value 10 word)) None ≡ Some n → IsNumeral word n
+numeral_digits_by word n true e some is = record { some = some; digits = e; value = cc }
+numeral_digits_by word n false e some is = absurd cc
+
+pub numeral_digits : (word : List ℕ) (n : ℕ) → numeral word ≡ Some n → IsNumeral word n
+numeral_digits [] n e = absurd cc
+numeral_digits (b ∷ bytes) n e = numeral_digits_by (b ∷ bytes) n (all_ascii_digits (b ∷ bytes)) refl (omega arith) (sym (numeral_by (b ∷ bytes) (all_ascii_digits (b ∷ bytes)) refl (omega arith)) ∙ e)
+
+-- ## Numbers up to a greatest one
+
+pub up_to_most : (most n : ℕ) → n ≤ most → up_to most (Some n) ≡ Ok n
+up_to_most most n small = ap (λ t. cond t (Ok n) (Err fault.Number)) (le-leb n most small)
+
+up_to_none_by : (most : ℕ) (o : Option ℕ) → ((n : ℕ) → o ≡ Some n → n ≤ most → ⊥) → up_to most o ≡ Err fault.Number
+up_to_none_by most None never = refl
+up_to_none_by most (Some n) never = by_test (leb n most) refl
+  where
+    by_test : (t : Bool) → leb n most ≡ t → up_to most (Some n) ≡ Err fault.Number
+    by_test true e = absurd (never n refl (leb-true n most e))
+    by_test false e = ap (λ t. cond t (Ok n) (Err fault.Number)) e
+
+pub up_to_none : (most : ℕ) (word : List ℕ) → ((n : ℕ) → IsNumeral word n → n ≤ most → ⊥) → up_to most (numeral word) ≡ Err fault.Number
+up_to_none most word never = up_to_none_by most (numeral word) (λ n e small. never n (numeral_digits word n e) small)
+
+-- ## At the front of a text
+
+-- digits up to a blank
+pub number_at_blank : (text : List ℕ) (at value most : ℕ) → 0 < at → at < length text → AreDigits (take at text) → value ≡ digits_value 10 (take at text) → value ≤ most
+    → is_blank (get_or text at 0) ≡ true → take_number most (words_in text) ≡ Ok (value, words_in (drop at text))
+number_at_blank text at value most some within digits is small blank =
+    let word = take at text in
+    let long : 0 < length word = omega (arith, length-take-le at text (omega arith)) in
+    let read : up_to most (numeral word) ≡ Ok value = ap (up_to most) (numeral_of_digits word long digits ∙ ap Some (sym is)) ∙ up_to_most most value small in
+    ap (take_number most) (words_at_blank text at some within (digits_are_solid word digits) blank) ∙ ap (with_rest (words_in (drop at text))) read
+
+-- digits up to the end
+pub number_at_end : (text : List ℕ) (at value most : ℕ) → 0 < length text → length text ≤ at → AreDigits (take at text) → value ≡ digits_value 10 (take at text) → value ≤ most
+    → take_number most (words_in text) ≡ Ok (value, [])
+number_at_end text at value most some past digits is small =
+    let whole : take at text ≡ text = take_all at text past in
+    let all : AreDigits text = subst AreDigits whole digits in
+    let read : up_to most (numeral text) ≡ Ok value =
+    ap (up_to most) (numeral_of_digits text some all ∙ ap Some (sym (is ∙ ap (digits_value 10) whole))) ∙ up_to_most most value small in
+    ap (take_number most) (words_of_one text some (digits_are_solid text all)) ∙ ap (with_rest []) read
+
+-- a first word that is no number up to the greatest one
+number_none : (text : List ℕ) (most : ℕ) (w : FirstWord text) → 0 < length w.word → ((n : ℕ) → IsNumeral w.word n → n ≤ most → ⊥) → take_number most (words_in text) ≡ Err fault.Number
+number_none text most w some never = ap (take_number most) (words_of_text text w some) ∙ ap (with_rest (words_in w.rest)) (up_to_none most w.word never)
+
+outside : {b : ℕ} → IsInRange 48 57 b → (b < 48) ⊎ (57 < b) → ⊥
+outside range (inl l) = let low = range.0 in omega arith
+outside range (inr h) = let high = range.1 in omega arith
+
+-- another byte follows digits
+pub number_with_other : (text : List ℕ) (at most : ℕ) → at < length text → AreDigits (take at text) → is_blank (get_or text at 0) ≡ false → (get_or text at 0 < 48) ⊎ (57 < get_or text at 0)
+    → take_number most (words_in text) ≡ Err fault.Number
+number_with_other text at most within digits solid other =
+    let w = first_word text in
+    let inside : at < length w.word = reaches text w at within (All-more (λ b. is_blank b ≡ false) text at 0 within (digits_are_solid (take at text) digits) solid) in
+    number_none text most w (omega arith) (λ n is small.
+    let range : IsInRange 48 57 (get_or w.word at 0) = digit_at w.word at (numerals.to w.word is.digits) inside in
+    let P : ℕ → Type 0 = λ b. IsInRange 48 57 b in
+    outside (subst P (byte_of_word text w at inside) range) other)
+
+-- digits that stand for more already
+pub number_too_great : (text : List ℕ) (at most : ℕ) → at < length text → AreDigits (take (at + 1) text) → most < digits_value 10 (take (at + 1) text)
+    → take_number most (words_in text) ≡ Err fault.Number
+number_too_great text at most within digits great =
+    let w = first_word text in
+    let inside : at < length w.word = reaches text w at within (digits_are_solid (take (at + 1) text) digits) in
+    let front : take (at + 1) w.word ≡ take (at + 1) text = front_of_word text w (at + 1) (omega arith) in
+    number_none text most w (omega arith) (λ n is small. omega (arith, is.value, ap (digits_value 10) front, digits_value-take-le 10 w.word (at + 1) (omega arith)))

@@ -1,0 +1,184 @@
+//! The lines of answers.
+
+ghost use Rattle.std.specs.Prelude.{◌≡◌, ◌≤◌, ◌++◌, codes, decimal, MatchOption, OnErr, OnOk, vec_capacity};
+ghost use Rattle.aio_base.specs.Text.{answer_line, end_text, ended_line, fault_text, limit_text};
+ghost use Rattle.aio_trace.specs.Writing.{HasNumbers, KeepsFront, LacksRoom};
+
+use crate::writing::{push_number, push_numbered};
+use aio_base::{Answer, EndWord, Key};
+use std::alloc::AllocError;
+
+/// Writes an answer's line. The answers that most lines of a trace have come first.
+#[inline]
+#[tactic(auto, unfolding(aio_base::specs::Text::answer_line))]
+pub(crate) fn push_answer(answer: &Answer, out: &mut Vec<u8>) -> Result<(), AllocError>
+    ensures ok { OnOk result (out.new.items ≡ out.old.items
+        ++ ended_line (answer_line answer.now)) }
+    ensures kept { OnErr result (KeepsFront out.old.items out.new.items) }
+    ensures full { OnErr result (LacksRoom (vec_capacity out.old) out.old.items
+        (ended_line (answer_line answer.now))) }
+    ensures grown { vec_capacity out.old ≤ vec_capacity out.new }
+{
+    match *answer {
+        Answer::Pending => out.extend_from_slice(b"pending\n"),
+        Answer::Noted => out.extend_from_slice(b"noted\n"),
+        Answer::Ready => out.extend_from_slice(b"ready\n"),
+        _ => push_other_answer(out, answer),
+    }
+}
+
+/// Writes an answer's line, whichever it is: the general case behind the common ones.
+#[inline(never)]
+fn push_other_answer(out: &mut Vec<u8>, answer: &Answer) -> Result<(), AllocError>
+    ensures ok { OnOk result (out.new.items ≡ out.old.items
+        ++ ended_line (answer_line answer.now)) }
+    ensures kept { OnErr result (KeepsFront out.old.items out.new.items) }
+    ensures full { OnErr result (LacksRoom (vec_capacity out.old) out.old.items
+        (ended_line (answer_line answer.now))) }
+    ensures grown { vec_capacity out.old ≤ vec_capacity out.new }
+{
+    match fixed_line(answer) {
+        Some(line) => out.extend_from_slice(line),
+        None => push_with_numbers(out, answer),
+    }
+}
+
+/// The line of an answer without numbers; `None` of one with numbers.
+#[tactic(auto, unfolding(aio_base::specs::Text::answer_line))]
+fn fixed_line(answer: &Answer) -> Option<&'static [u8]>
+    ensures { MatchOption result (HasNumbers answer.now)
+        (λ line. line.now ≡ ended_line (answer_line answer.now)) }
+{
+    match *answer {
+        Answer::Ready => Some(b"ready\n"),
+        Answer::Pending => Some(b"pending\n"),
+        Answer::Noted => Some(b"noted\n"),
+        Answer::Full => Some(b"full\n"),
+        Answer::FaultAdd => Some(b"fault add\n"),
+        Answer::Gone => Some(b"gone\n"),
+        Answer::NoSource => Some(b"no source\n"),
+        Answer::InUse => Some(b"in use\n"),
+        Answer::FaultRemove => Some(b"fault remove\n"),
+        Answer::FaultArm => Some(b"fault arm\n"),
+        Answer::NoListener => Some(b"no listener\n"),
+        Answer::Dropped => Some(b"dropped\n"),
+        Answer::NoTimer => Some(b"no timer\n"),
+        Answer::Set => Some(b"set\n"),
+        Answer::Ended => Some(b"ended\n"),
+        Answer::Locked => Some(b"locked\n"),
+        Answer::Interrupted => Some(b"interrupted\n"),
+        Answer::FaultWait => Some(b"fault wait\n"),
+        Answer::NoRound => Some(b"no round\n"),
+        Answer::Empty => Some(b"empty\n"),
+        _ => None,
+    }
+}
+
+/// Writes the line of an answer with numbers, and nothing of another answer.
+#[tactic(auto, unfolding(aio_base::specs::Text::answer_line))]
+fn push_with_numbers(out: &mut Vec<u8>, answer: &Answer) -> Result<(), AllocError>
+    ensures ok { HasNumbers answer.now → OnOk result (out.new.items
+        ≡ out.old.items ++ ended_line (answer_line answer.now)) }
+    ensures kept { OnErr result (KeepsFront out.old.items out.new.items) }
+    ensures full { OnErr result (LacksRoom (vec_capacity out.old) out.old.items
+        (ended_line (answer_line answer.now))) }
+    ensures grown { vec_capacity out.old ≤ vec_capacity out.new }
+{
+    match *answer {
+        Answer::KeyIs(key) => push_numbered(out, b"key ", u64::from(key.0)),
+        Answer::Listener(number) => push_numbered(out, b"listener ", number),
+        Answer::Timer(number) => push_numbered(out, b"timer ", number),
+        Answer::ReadyAt(deadline) => push_numbered(out, b"ready ", deadline.get()),
+        Answer::At(moment) => push_numbered(out, b"at ", moment.get()),
+        Answer::Back(moment) => push_numbered(out, b"back ", moment.get()),
+        Answer::Given(count) => push_numbered(out, b"given ", u64::from(count)),
+        Answer::Events(count) => push_numbered(out, b"events ", u64::from(count)),
+        Answer::Wake(waker) => push_numbered(out, b"wake ", u64::from(waker.0)),
+        Answer::Begin { number, limit } => push_begin(out, number, limit),
+        Answer::Handled { key, fault } => push_handled(out, key, fault),
+        Answer::End(end) => push_end(out, end),
+        Answer::Round {
+            number,
+            events,
+            end,
+        } => push_round(out, number, events, end),
+        _ => Ok(()),
+    }
+}
+
+/// Writes the line of a whole round.
+fn push_round(out: &mut Vec<u8>, number: u64, events: u32, end: EndWord) -> Result<(), AllocError>
+    ensures ok { OnOk result (out.new.items ≡ out.old.items ++ ended_line (codes "round "
+        ++ decimal number ++ codes " events " ++ decimal events ++ codes " " ++ end_text end)) }
+    ensures kept { OnErr result (KeepsFront out.old.items out.new.items) }
+    ensures full { OnErr result (LacksRoom (vec_capacity out.old) out.old.items
+        (ended_line (codes "round " ++ decimal number ++ codes " events " ++ decimal events
+        ++ codes " " ++ end_text end))) }
+    ensures grown { vec_capacity out.old ≤ vec_capacity out.new }
+{
+    out.extend_from_slice(b"round ")?;
+    push_number(out, number)?;
+    out.extend_from_slice(b" events ")?;
+    push_number(out, u64::from(events))?;
+    out.push(b' ')?;
+    out.extend_from_slice(end_line(end))
+}
+
+/// Writes the line of the end of a round.
+fn push_end(out: &mut Vec<u8>, end: EndWord) -> Result<(), AllocError>
+    ensures ok { OnOk result (out.new.items
+        ≡ out.old.items ++ ended_line (codes "end " ++ end_text end)) }
+    ensures kept { OnErr result (KeepsFront out.old.items out.new.items) }
+    ensures full { OnErr result (LacksRoom (vec_capacity out.old) out.old.items
+        (ended_line (codes "end " ++ end_text end))) }
+    ensures grown { vec_capacity out.old ≤ vec_capacity out.new }
+{
+    out.extend_from_slice(b"end ")?;
+    out.extend_from_slice(end_line(end))
+}
+
+/// How a round ended, in words, with the line feed behind them.
+fn end_line(end: EndWord) -> &'static [u8]
+    ensures { result.now ≡ ended_line (end_text end) }
+{
+    match end {
+        EndWord::Clean => b"ok\n",
+        EndWord::FaultWait => b"fault wait\n",
+        EndWord::FaultArm => b"fault arm\n",
+    }
+}
+
+/// Writes the line of a round that begins.
+fn push_begin(out: &mut Vec<u8>, number: u64, limit: Option<u64>) -> Result<(), AllocError>
+    ensures ok { OnOk result (out.new.items ≡ out.old.items ++ ended_line (codes "begin "
+        ++ decimal number ++ codes " wait " ++ limit_text limit)) }
+    ensures kept { OnErr result (KeepsFront out.old.items out.new.items) }
+    ensures full { OnErr result (LacksRoom (vec_capacity out.old) out.old.items
+        (ended_line (codes "begin " ++ decimal number ++ codes " wait " ++ limit_text limit))) }
+    ensures grown { vec_capacity out.old ≤ vec_capacity out.new }
+{
+    out.extend_from_slice(b"begin ")?;
+    push_number(out, number)?;
+    out.extend_from_slice(b" wait ")?;
+    match limit {
+        None => out.extend_from_slice(b"none\n"),
+        Some(limit) => push_numbered(out, b"", limit),
+    }
+}
+
+/// Writes the line of an event that was handled.
+fn push_handled(out: &mut Vec<u8>, key: Key, fault: bool) -> Result<(), AllocError>
+    ensures ok { OnOk result (out.new.items ≡ out.old.items ++ ended_line (codes "handled "
+        ++ decimal key.0 ++ fault_text fault)) }
+    ensures kept { OnErr result (KeepsFront out.old.items out.new.items) }
+    ensures full { OnErr result (LacksRoom (vec_capacity out.old) out.old.items
+        (ended_line (codes "handled " ++ decimal key.0 ++ fault_text fault))) }
+    ensures grown { vec_capacity out.old ≤ vec_capacity out.new }
+{
+    if !fault {
+        return push_numbered(out, b"handled ", u64::from(key.0));
+    }
+    out.extend_from_slice(b"handled ")?;
+    push_number(out, u64::from(key.0))?;
+    out.extend_from_slice(b" fault arm\n")
+}

@@ -1,0 +1,461 @@
+//! Reading the step of a line. It takes no memory, and looks at each byte once: at its bytes one by
+//! one only where a line reads as no step. The two commonest lines are told by their first bytes,
+//! and what reads them is compiled in place.
+
+ghost use Rattle.std.specs.Prelude.{◌≡◌, ◌↔◌, None, Some, Ok, Err, MatchResult, IfOk, if◌then◌else◌, ◌≤◌, ◌^◌};
+ghost use Rattle.std.specs.List.{list_all};
+ghost use Rattle.aio_base.specs.Lines.{Reads, body_of, fault_of, is_allowed, last_moment, last_number, words_in};
+ghost use Rattle.aio_base.specs.declared.steps.LineFault.{LineFault};
+ghost use Rattle.aio_base.specs.declared.steps.Step.{Step};
+ghost use Rattle.aio_trace.specs.Reading.{begin_of, command_named, del_of, dir_of, drop_of, end_of, event_of, fault_chosen, fault_line_of, flags_of_word, limit_of, listener_poll_of, new_of, now_of, poll_of, set_chosen, set_of, step_of, step_of_words, take_direction, take_flags, take_limit, take_number, take_period, tick_of, timer_chosen, timer_of};
+
+use crate::words::{ended, next_number, next_word};
+use aio_base::{Dir, Event, Interest, Key, LineFault, Moment, Step, Waker, Which};
+
+/// The most bytes of a line, without its line feed.
+const LINE_BYTES: usize = 256;
+
+/// The last moment, in nanoseconds.
+const LAST_MOMENT: u64 = 1_000_000_000_000_000_000;
+
+/// The commands of the language.
+#[derive(Clone, Copy)]
+enum Command {
+    Add,
+    Del,
+    Poll,
+    New,
+    Step,
+    Drop,
+    Timer,
+    Tick,
+    Set,
+    End,
+    Now,
+    Event,
+    Fault,
+    Interrupt,
+    Begin,
+    Wait,
+    Handle,
+    Finish,
+    React,
+}
+
+/// The step that a line reads as, given without its line feed, or what is wrong with it: exactly
+/// one of the two. It takes no memory.
+///
+/// # Errors
+///
+/// The first of these that a line has. `Long`: more than 256 bytes. `Byte`: a byte that a line may
+/// not hold. `Empty`: no word. Then its words from left to right, the first that is not what its
+/// place asks: `Command`, `Number`, `Direction`, `Flags`, `Choice`; or `Count` where a word is
+/// missing, or one follows the last.
+pub fn read_line(line: &[u8]) -> Result<Step, LineFault>
+    ensures step { (s : Step) → Reads s line.now ↔ (result ≡ Ok s) }
+    ensures fault { (f : LineFault) → (fault_of line.now ≡ Some f) ↔ (result ≡ Err f) }
+{
+    if line.len() > LINE_BYTES {
+        return Err(LineFault::Long);
+    }
+    let body = body_of(line);
+    match read_body(body) {
+        Ok(step) => Ok(step),
+        Err(fault) => Err(byte_before(body, fault)),
+    }
+}
+
+/// A line without the one carriage return that may stand at its end.
+#[inline(always)]
+fn body_of(line: &[u8]) -> &[u8]
+    ensures { result.now ≡ body_of line.now }
+{
+    if line.is_empty() {
+        return line;
+    }
+    let last = line.len() - 1;
+    if line[last] == b'\r' {
+        &line[..last]
+    } else {
+        line
+    }
+}
+
+/// The fault of a line whose words have this fault: a byte that a line may not hold comes before
+/// it.
+#[inline(never)]
+fn byte_before(body: &[u8], fault: LineFault) -> LineFault
+    ensures { result ≡ (if list_all is_allowed body.now then fault else LineFault.Byte) }
+{
+    if all_allowed(body) {
+        fault
+    } else {
+        LineFault::Byte
+    }
+}
+
+/// Whether a line may hold each of these bytes.
+fn all_allowed(body: &[u8]) -> bool
+    ensures { result ≡ list_all is_allowed body.now }
+{
+    body.iter().all(|byte| *byte == b' ' || *byte == b'\t' || (*byte >= 33 && *byte <= 126))
+}
+
+/// The step that the words of a line spell, or the first fault of the words.
+fn read_body(body: &[u8]) -> Result<Step, LineFault>
+    ensures { result ≡ step_of_words (words_in body.now) }
+{
+    // With nothing behind them these two come to the general case too, which finds the same fault.
+    if let [b'p', b'o', b'l', b'l', b' ', places @ ..] = body {
+        return read_poll(places);
+    }
+    if let [b'e', b'v', b'e', b'n', b't', b' ', places @ ..] = body {
+        return read_event(places);
+    }
+    match next_word(body) {
+        None => Err(LineFault::Empty),
+        Some((word, places)) => match read_command(word) {
+            None => Err(LineFault::Command),
+            Some(command) => read_places(command, places),
+        },
+    }
+}
+
+/// The command that a line's first word names.
+fn read_command(word: &[u8]) -> Option<Command>
+    ensures { result ≡ command_named word.now }
+{
+    match word {
+        b"add" => Some(Command::Add),
+        b"del" => Some(Command::Del),
+        b"poll" => Some(Command::Poll),
+        b"new" => Some(Command::New),
+        b"step" => Some(Command::Step),
+        b"drop" => Some(Command::Drop),
+        b"timer" => Some(Command::Timer),
+        b"tick" => Some(Command::Tick),
+        b"set" => Some(Command::Set),
+        b"end" => Some(Command::End),
+        b"now" => Some(Command::Now),
+        b"event" => Some(Command::Event),
+        b"fault" => Some(Command::Fault),
+        b"interrupt" => Some(Command::Interrupt),
+        b"begin" => Some(Command::Begin),
+        b"wait" => Some(Command::Wait),
+        b"handle" => Some(Command::Handle),
+        b"finish" => Some(Command::Finish),
+        b"react" => Some(Command::React),
+        _ => None,
+    }
+}
+
+/// What a line reads as that has this command, and this text behind it.
+fn read_places(command: Command, text: &[u8]) -> Result<Step, LineFault>
+    ensures { result ≡ step_of command (words_in text.now) }
+{
+    match command {
+        Command::Add => ended(Step::Add, text),
+        Command::Del => read_del(text),
+        Command::Poll => read_poll(text),
+        Command::New => read_new(text),
+        Command::Step => read_listener_poll(text),
+        Command::Drop => read_drop(text),
+        Command::Timer => read_timer(text),
+        Command::Tick => read_tick(text),
+        Command::Set => read_set(text),
+        Command::End => read_end(text),
+        Command::Now => read_now(text),
+        Command::Event => read_event(text),
+        Command::Fault => read_fault(text),
+        Command::Interrupt => ended(Step::Interrupt, text),
+        Command::Begin => read_begin(text),
+        Command::Wait => ended(Step::Wait, text),
+        Command::Handle => ended(Step::Handle, text),
+        Command::Finish => ended(Step::Finish, text),
+        Command::React => ended(Step::React, text),
+    }
+}
+
+/// A line `del K`, read behind its command.
+fn read_del(text: &[u8]) -> Result<Step, LineFault>
+    ensures { result ≡ del_of (words_in text.now) }
+{
+    let (key, rest) = take_number(text)?;
+    ended(Step::Del(Key(key)), rest)
+}
+
+/// A line `poll K D W`, read behind its command.
+#[inline(always)]
+fn read_poll(text: &[u8]) -> Result<Step, LineFault>
+    ensures { result ≡ poll_of (words_in text.now) }
+{
+    let (key, rest) = take_number(text)?;
+    let (direction, rest) = take_direction(rest)?;
+    let (waker, rest) = take_number(rest)?;
+    ended(Step::Poll(Key(key), direction, Waker(waker)), rest)
+}
+
+/// A line `new K D`, read behind its command.
+fn read_new(text: &[u8]) -> Result<Step, LineFault>
+    ensures { result ≡ new_of (words_in text.now) }
+{
+    let (key, rest) = take_number(text)?;
+    let (direction, rest) = take_direction(rest)?;
+    ended(Step::New(Key(key), direction), rest)
+}
+
+/// A line `step N W`, read behind its command.
+fn read_listener_poll(text: &[u8]) -> Result<Step, LineFault>
+    ensures { result ≡ listener_poll_of (words_in text.now) }
+{
+    let (listener, rest) = take_number(text)?;
+    let (waker, rest) = take_number(rest)?;
+    ended(Step::StepEar(listener, Waker(waker)), rest)
+}
+
+/// A line `drop N`, read behind its command.
+fn read_drop(text: &[u8]) -> Result<Step, LineFault>
+    ensures { result ≡ drop_of (words_in text.now) }
+{
+    let (listener, rest) = take_number(text)?;
+    ended(Step::DropEar(listener), rest)
+}
+
+/// A line `tick N W`, read behind its command.
+fn read_tick(text: &[u8]) -> Result<Step, LineFault>
+    ensures { result ≡ tick_of (words_in text.now) }
+{
+    let (timer, rest) = take_number(text)?;
+    let (waker, rest) = take_number(rest)?;
+    ended(Step::Tick(timer, Waker(waker)), rest)
+}
+
+/// A line `timer at T`, `timer every T P` or `timer never`, read behind its command.
+fn read_timer(text: &[u8]) -> Result<Step, LineFault>
+    ensures { result ≡ timer_of (words_in text.now) }
+{
+    match next_word(text) {
+        None => Err(LineFault::Count),
+        Some((choice, rest)) => read_timer_chosen(choice, rest),
+    }
+}
+
+/// A line of a timer, read behind its choice.
+fn read_timer_chosen(choice: &[u8], text: &[u8]) -> Result<Step, LineFault>
+    ensures { result ≡ timer_chosen choice.now (words_in text.now) }
+{
+    match choice {
+        b"at" => {
+            let (moment, rest) = take_moment(text)?;
+            ended(Step::TimerAt(moment_at(moment)), rest)
+        }
+        b"every" => {
+            let (moment, rest) = take_moment(text)?;
+            let (period, rest) = take_period(rest)?;
+            ended(Step::TimerEvery(moment_at(moment), period), rest)
+        }
+        b"never" => ended(Step::TimerNever, text),
+        _ => Err(LineFault::Choice),
+    }
+}
+
+/// A line `set N at T` or `set N every T P`, read behind its command.
+fn read_set(text: &[u8]) -> Result<Step, LineFault>
+    ensures { result ≡ set_of (words_in text.now) }
+{
+    let (timer, rest) = take_number(text)?;
+    match next_word(rest) {
+        None => Err(LineFault::Count),
+        Some((choice, rest)) => read_set_chosen(timer, choice, rest),
+    }
+}
+
+/// A line that sets this timer, read behind its choice.
+fn read_set_chosen(timer: u32, choice: &[u8], text: &[u8]) -> Result<Step, LineFault>
+    ensures { result ≡ set_chosen timer choice.now (words_in text.now) }
+{
+    match choice {
+        b"at" => {
+            let (moment, rest) = take_moment(text)?;
+            ended(Step::SetAt(timer, moment_at(moment)), rest)
+        }
+        b"every" => {
+            let (moment, rest) = take_moment(text)?;
+            let (period, rest) = take_period(rest)?;
+            ended(Step::SetEvery(timer, moment_at(moment), period), rest)
+        }
+        _ => Err(LineFault::Choice),
+    }
+}
+
+/// A line `end N`, read behind its command.
+fn read_end(text: &[u8]) -> Result<Step, LineFault>
+    ensures { result ≡ end_of (words_in text.now) }
+{
+    let (timer, rest) = take_number(text)?;
+    ended(Step::End(timer), rest)
+}
+
+/// A line `now T`, read behind its command.
+fn read_now(text: &[u8]) -> Result<Step, LineFault>
+    ensures { result ≡ now_of (words_in text.now) }
+{
+    let (moment, rest) = take_moment(text)?;
+    ended(Step::Now(moment_at(moment)), rest)
+}
+
+/// A line `event K F`, read behind its command.
+#[inline(always)]
+fn read_event(text: &[u8]) -> Result<Step, LineFault>
+    ensures { result ≡ event_of (words_in text.now) }
+{
+    let (key, rest) = take_number(text)?;
+    let (on, rest) = take_flags(rest)?;
+    let event = Event { key: Key(key), on };
+    ended(Step::Note(event), rest)
+}
+
+/// A line `fault X`, read behind its command.
+fn read_fault(text: &[u8]) -> Result<Step, LineFault>
+    ensures { result ≡ fault_line_of (words_in text.now) }
+{
+    match next_word(text) {
+        None => Err(LineFault::Count),
+        Some((kind, rest)) => read_fault_chosen(kind, rest),
+    }
+}
+
+/// A line of a fault, read behind its kind.
+fn read_fault_chosen(kind: &[u8], text: &[u8]) -> Result<Step, LineFault>
+    ensures { result ≡ fault_chosen kind.now (words_in text.now) }
+{
+    match kind {
+        b"add" => ended(Step::Fault(Which::Add), text),
+        b"arm" => ended(Step::Fault(Which::Arm), text),
+        b"remove" => ended(Step::Fault(Which::Remove), text),
+        b"wait" => ended(Step::Fault(Which::Wait), text),
+        _ => Err(LineFault::Choice),
+    }
+}
+
+/// A line `begin L`, read behind its command.
+fn read_begin(text: &[u8]) -> Result<Step, LineFault>
+    ensures { result ≡ begin_of (words_in text.now) }
+{
+    let (limit, rest) = take_limit(text)?;
+    ended(Step::Begin(limit), rest)
+}
+
+/// The key, waker, listener or timer that a text's first word spells, and what follows it.
+#[inline(always)]
+fn take_number(text: &[u8]) -> Result<(u32, &[u8]), LineFault>
+    ensures { MatchResult result
+        (λ r. take_number last_number (words_in text.now) ≡ Ok (r.0, words_in r.1.now))
+        (λ f. take_number last_number (words_in text.now) ≡ Err f) }
+{
+    let (number, rest) = next_number(text, u64::from(u32::MAX))?;
+    Ok((number as u32, rest))
+}
+
+/// The nanoseconds of a moment that a text's first word spells, and what follows it.
+fn take_moment(text: &[u8]) -> Result<(u64, &[u8]), LineFault>
+    ensures taken { MatchResult result
+        (λ r. take_number last_moment (words_in text.now) ≡ Ok (r.0, words_in r.1.now))
+        (λ f. take_number last_moment (words_in text.now) ≡ Err f) }
+    ensures bound { IfOk result (λ r. r.0 ≤ 10 ^ 18) }
+{
+    next_number(text, LAST_MOMENT)
+}
+
+/// The moment of so many nanoseconds.
+pub(crate) fn moment_at(nanoseconds: u64) -> Moment
+    requires { nanoseconds ≤ 10 ^ 18 }
+    ensures { result ≡ nanoseconds }
+{
+    match Moment::new(nanoseconds) {
+        Some(moment) => moment,
+        None => unreachable!(),
+    }
+}
+
+/// The period in nanoseconds that a text's first word spells, and what follows it.
+fn take_period(text: &[u8]) -> Result<(u64, &[u8]), LineFault>
+    ensures { MatchResult result
+        (λ r. take_period (words_in text.now) ≡ Ok (r.0, words_in r.1.now))
+        (λ f. take_period (words_in text.now) ≡ Err f) }
+{
+    let (period, rest) = next_number(text, LAST_MOMENT)?;
+    if period == 0 {
+        return Err(LineFault::Number);
+    }
+    Ok((period, rest))
+}
+
+/// The direction that a text's first word names, and what follows it.
+#[inline(always)]
+fn take_direction(text: &[u8]) -> Result<(Dir, &[u8]), LineFault>
+    ensures { MatchResult result
+        (λ r. take_direction (words_in text.now) ≡ Ok (r.0, words_in r.1.now))
+        (λ f. take_direction (words_in text.now) ≡ Err f) }
+{
+    match next_word(text) {
+        None => Err(LineFault::Count),
+        Some((word, rest)) => Ok((read_direction(word)?, rest)),
+    }
+}
+
+/// The direction that a word names.
+#[inline(always)]
+fn read_direction(word: &[u8]) -> Result<Dir, LineFault>
+    ensures { result ≡ dir_of word.now }
+{
+    match word {
+        b"r" => Ok(Dir::Read),
+        b"w" => Ok(Dir::Write),
+        _ => Err(LineFault::Direction),
+    }
+}
+
+/// The directions of an event that a text's first word names, and what follows it.
+#[inline(always)]
+fn take_flags(text: &[u8]) -> Result<(Interest, &[u8]), LineFault>
+    ensures { MatchResult result
+        (λ r. take_flags (words_in text.now) ≡ Ok (r.0, words_in r.1.now))
+        (λ f. take_flags (words_in text.now) ≡ Err f) }
+{
+    match next_word(text) {
+        None => Err(LineFault::Count),
+        Some((word, rest)) => Ok((read_flags(word)?, rest)),
+    }
+}
+
+/// The directions of an event that a word names.
+fn read_flags(word: &[u8]) -> Result<Interest, LineFault>
+    ensures { result ≡ flags_of_word word.now }
+{
+    match word {
+        b"-" => Ok(Interest::NONE),
+        b"r" => Ok(Interest::READ),
+        b"w" => Ok(Interest::WRITE),
+        b"rw" => Ok(Interest::BOTH),
+        _ => Err(LineFault::Flags),
+    }
+}
+
+/// The limit in nanoseconds that a text's first word names, or none, and what follows it.
+fn take_limit(text: &[u8]) -> Result<(Option<u64>, &[u8]), LineFault>
+    ensures { MatchResult result
+        (λ r. take_limit (words_in text.now) ≡ Ok (r.0, words_in r.1.now))
+        (λ f. take_limit (words_in text.now) ≡ Err f) }
+{
+    match next_word(text) {
+        None => Err(LineFault::Count),
+        Some((word, rest)) => {
+            if word == b"none".as_slice() {
+                return Ok((None, rest));
+            }
+            let (limit, rest) = take_moment(text)?;
+            Ok((Some(limit), rest))
+        }
+    }
+}

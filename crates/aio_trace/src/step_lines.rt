@@ -1,0 +1,197 @@
+//! The lines of steps.
+
+ghost use Rattle.std.specs.Prelude.{◌≡◌, ◌≤◌, ◌++◌, codes, decimal, OnErr, OnOk, vec_capacity};
+ghost use Rattle.aio_base.specs.Lines.{IsInRange, written_line};
+ghost use Rattle.aio_base.specs.Text.{dir_text, ended_line, flags_text, limit_text, which_text};
+ghost use Rattle.aio_trace.specs.Writing.{KeepsFront, LacksRoom};
+
+use crate::writing::{push_number, push_numbered};
+use aio_base::{Dir, Event, Key, Moment, Step, Waker, Which};
+use std::alloc::AllocError;
+
+/// Writes a step's line, maybe a part of it where memory runs out.
+#[tactic(auto, unfolding(aio_base::specs::Lines::written_line))]
+pub(crate) fn push_step(step: &Step, out: &mut Vec<u8>) -> Result<(), AllocError>
+    requires { IsInRange step.now }
+    ensures ok { OnOk result (out.new.items ≡ out.old.items ++ ended_line (written_line step.now)) }
+    ensures kept { OnErr result (KeepsFront out.old.items out.new.items) }
+    ensures full { OnErr result (LacksRoom (vec_capacity out.old) out.old.items
+        (ended_line (written_line step.now))) }
+    ensures grown { vec_capacity out.old ≤ vec_capacity out.new }
+{
+    match *step {
+        Step::Add => out.extend_from_slice(b"add\n"),
+        Step::Del(key) => push_numbered(out, b"del ", u64::from(key.0)),
+        Step::Poll(key, direction, waker) => push_poll(out, key, direction, waker),
+        Step::New(key, direction) => push_new(out, key, direction),
+        Step::StepEar(listener, waker) => push_two(out, b"step ", listener, waker),
+        Step::DropEar(listener) => push_numbered(out, b"drop ", u64::from(listener)),
+        Step::TimerAt(deadline) => push_numbered(out, b"timer at ", deadline.get()),
+        Step::TimerEvery(deadline, period) => {
+            push_every(out, b"timer every ", deadline.get(), period)
+        }
+        Step::TimerNever => out.extend_from_slice(b"timer never\n"),
+        Step::Tick(timer, waker) => push_two(out, b"tick ", timer, waker),
+        Step::SetAt(timer, deadline) => push_set_at(out, timer, deadline),
+        Step::SetEvery(timer, deadline, period) => push_set_every(out, timer, deadline, period),
+        Step::End(timer) => push_numbered(out, b"end ", u64::from(timer)),
+        Step::Now(moment) => push_numbered(out, b"now ", moment.get()),
+        Step::Note(event) => push_event(out, event),
+        Step::Fault(kind) => push_fault(out, kind),
+        Step::Begin(limit) => push_begin_step(out, limit),
+        Step::Interrupt => out.extend_from_slice(b"interrupt\n"),
+        Step::Wait => out.extend_from_slice(b"wait\n"),
+        Step::Handle => out.extend_from_slice(b"handle\n"),
+        Step::Finish => out.extend_from_slice(b"finish\n"),
+        Step::React => out.extend_from_slice(b"react\n"),
+    }
+}
+
+/// Writes the line of a poll of a source.
+fn push_poll(out: &mut Vec<u8>, key: Key, direction: Dir, waker: Waker) -> Result<(), AllocError>
+    ensures ok { OnOk result (out.new.items ≡ out.old.items ++ ended_line (codes "poll "
+        ++ decimal key.0 ++ codes " " ++ dir_text direction ++ codes " " ++ decimal waker.0)) }
+    ensures kept { OnErr result (KeepsFront out.old.items out.new.items) }
+    ensures full { OnErr result (LacksRoom (vec_capacity out.old) out.old.items
+        (ended_line (codes "poll " ++ decimal key.0 ++ codes " " ++ dir_text direction
+        ++ codes " " ++ decimal waker.0))) }
+    ensures grown { vec_capacity out.old ≤ vec_capacity out.new }
+{
+    out.extend_from_slice(b"poll ")?;
+    push_number(out, u64::from(key.0))?;
+    out.extend_from_slice(match direction {
+        Dir::Read => b" r ",
+        Dir::Write => b" w ",
+    })?;
+    push_numbered(out, b"", u64::from(waker.0))
+}
+
+/// Writes the line of a new listener.
+fn push_new(out: &mut Vec<u8>, key: Key, direction: Dir) -> Result<(), AllocError>
+    ensures ok { OnOk result (out.new.items ≡ out.old.items ++ ended_line (codes "new "
+        ++ decimal key.0 ++ codes " " ++ dir_text direction)) }
+    ensures kept { OnErr result (KeepsFront out.old.items out.new.items) }
+    ensures full { OnErr result (LacksRoom (vec_capacity out.old) out.old.items
+        (ended_line (codes "new " ++ decimal key.0 ++ codes " " ++ dir_text direction))) }
+    ensures grown { vec_capacity out.old ≤ vec_capacity out.new }
+{
+    out.extend_from_slice(b"new ")?;
+    push_number(out, u64::from(key.0))?;
+    out.extend_from_slice(match direction {
+        Dir::Read => b" r\n",
+        Dir::Write => b" w\n",
+    })
+}
+
+/// Writes a line of a word, a number and a waker.
+fn push_two(out: &mut Vec<u8>, word: &[u8], number: u32, waker: Waker) -> Result<(), AllocError>
+    ensures ok { OnOk result (out.new.items ≡ out.old.items ++ ended_line (word.now
+        ++ decimal number ++ codes " " ++ decimal waker.0)) }
+    ensures kept { OnErr result (KeepsFront out.old.items out.new.items) }
+    ensures full { OnErr result (LacksRoom (vec_capacity out.old) out.old.items
+        (ended_line (word.now ++ decimal number ++ codes " " ++ decimal waker.0))) }
+    ensures grown { vec_capacity out.old ≤ vec_capacity out.new }
+{
+    out.extend_from_slice(word)?;
+    push_number(out, u64::from(number))?;
+    push_numbered(out, b" ", u64::from(waker.0))
+}
+
+/// Writes a line of words, a deadline and a period.
+fn push_every(out: &mut Vec<u8>, words: &[u8], deadline: u64, period: u64) -> Result<(), AllocError>
+    ensures ok { OnOk result (out.new.items ≡ out.old.items ++ ended_line (words.now
+        ++ decimal deadline ++ codes " " ++ decimal period)) }
+    ensures kept { OnErr result (KeepsFront out.old.items out.new.items) }
+    ensures full { OnErr result (LacksRoom (vec_capacity out.old) out.old.items
+        (ended_line (words.now ++ decimal deadline ++ codes " " ++ decimal period))) }
+    ensures grown { vec_capacity out.old ≤ vec_capacity out.new }
+{
+    out.extend_from_slice(words)?;
+    push_number(out, deadline)?;
+    push_numbered(out, b" ", period)
+}
+
+/// Writes the line that sets a timer to a deadline.
+fn push_set_at(out: &mut Vec<u8>, timer: u32, deadline: Moment) -> Result<(), AllocError>
+    ensures ok { OnOk result (out.new.items ≡ out.old.items ++ ended_line (codes "set "
+        ++ decimal timer ++ codes " at " ++ decimal deadline)) }
+    ensures kept { OnErr result (KeepsFront out.old.items out.new.items) }
+    ensures full { OnErr result (LacksRoom (vec_capacity out.old) out.old.items
+        (ended_line (codes "set " ++ decimal timer ++ codes " at " ++ decimal deadline))) }
+    ensures grown { vec_capacity out.old ≤ vec_capacity out.new }
+{
+    out.extend_from_slice(b"set ")?;
+    push_number(out, u64::from(timer))?;
+    push_numbered(out, b" at ", deadline.get())
+}
+
+/// Writes the line that sets a timer to a deadline and a period.
+fn push_set_every(
+    out: &mut Vec<u8>,
+    timer: u32,
+    deadline: Moment,
+    period: u64,
+) -> Result<(), AllocError>
+    ensures ok { OnOk result (out.new.items ≡ out.old.items ++ ended_line (codes "set "
+        ++ decimal timer ++ codes " every " ++ decimal deadline ++ codes " " ++ decimal period)) }
+    ensures kept { OnErr result (KeepsFront out.old.items out.new.items) }
+    ensures full { OnErr result (LacksRoom (vec_capacity out.old) out.old.items
+        (ended_line (codes "set " ++ decimal timer ++ codes " every " ++ decimal deadline
+        ++ codes " " ++ decimal period))) }
+    ensures grown { vec_capacity out.old ≤ vec_capacity out.new }
+{
+    out.extend_from_slice(b"set ")?;
+    push_number(out, u64::from(timer))?;
+    push_every(out, b" every ", deadline.get(), period)
+}
+
+/// Writes the line of an event.
+fn push_event(out: &mut Vec<u8>, event: Event) -> Result<(), AllocError>
+    ensures ok { OnOk result (out.new.items ≡ out.old.items ++ ended_line (codes "event "
+        ++ decimal event.key.0 ++ codes " " ++ flags_text event.on)) }
+    ensures kept { OnErr result (KeepsFront out.old.items out.new.items) }
+    ensures full { OnErr result (LacksRoom (vec_capacity out.old) out.old.items
+        (ended_line (codes "event " ++ decimal event.key.0 ++ codes " " ++ flags_text event.on))) }
+    ensures grown { vec_capacity out.old ≤ vec_capacity out.new }
+{
+    out.extend_from_slice(b"event ")?;
+    push_number(out, u64::from(event.key.0))?;
+    out.extend_from_slice(match (event.on.read, event.on.write) {
+        (false, false) => b" -\n".as_slice(),
+        (true, false) => b" r\n",
+        (false, true) => b" w\n",
+        (true, true) => b" rw\n",
+    })
+}
+
+/// Writes the line of a fault.
+fn push_fault(out: &mut Vec<u8>, kind: Which) -> Result<(), AllocError>
+    ensures ok { OnOk result (out.new.items ≡ out.old.items ++ ended_line (codes "fault "
+        ++ which_text kind)) }
+    ensures kept { OnErr result (KeepsFront out.old.items out.new.items) }
+    ensures full { OnErr result (LacksRoom (vec_capacity out.old) out.old.items
+        (ended_line (codes "fault " ++ which_text kind))) }
+    ensures grown { vec_capacity out.old ≤ vec_capacity out.new }
+{
+    out.extend_from_slice(match kind {
+        Which::Add => b"fault add\n".as_slice(),
+        Which::Arm => b"fault arm\n",
+        Which::Remove => b"fault remove\n",
+        Which::Wait => b"fault wait\n",
+    })
+}
+
+/// Writes the line that begins a round.
+fn push_begin_step(out: &mut Vec<u8>, limit: Option<u64>) -> Result<(), AllocError>
+    ensures ok { OnOk result (out.new.items ≡ out.old.items ++ ended_line (codes "begin "
+        ++ limit_text limit)) }
+    ensures kept { OnErr result (KeepsFront out.old.items out.new.items) }
+    ensures full { OnErr result (LacksRoom (vec_capacity out.old) out.old.items
+        (ended_line (codes "begin " ++ limit_text limit))) }
+    ensures grown { vec_capacity out.old ≤ vec_capacity out.new }
+{
+    match limit {
+        None => out.extend_from_slice(b"begin none\n"),
+        Some(limit) => push_numbered(out, b"begin ", limit),
+    }
+}

@@ -1,0 +1,90 @@
+//! The words of a line's body, taken from its front one after the other. It takes no memory, and
+//! looks at each byte once.
+
+ghost use Rattle.std.specs.Prelude.{◌≡◌, ◌<◌, ◌≤◌, ◌^◌, [], ◌∷◌, Ok, Err, false, length, slice_index, MatchOption, MatchResult};
+ghost use Rattle.aio_base.specs.Lines.{is_blank, words_in};
+ghost use Rattle.aio_trace.specs.Reading.{ended, take_number};
+
+use aio_base::{LineFault, Step};
+
+/// Whether a byte parts words: a space or a tab.
+#[inline(always)]
+fn is_blank(byte: u8) -> bool
+    ensures { result ≡ is_blank byte }
+{
+    byte == b' ' || byte == b'\t'
+}
+
+/// The text from its first byte on that is no blank.
+#[inline(always)]
+fn skip_blanks(text: &[u8]) -> &[u8]
+    ensures words { words_in result.now ≡ words_in text.now }
+    ensures first { 0 < length result.now → is_blank (slice_index result.now 0) ≡ false }
+{
+    for (at, byte) in text.iter().enumerate() {
+        if !is_blank(*byte) {
+            return &text[at..];
+        }
+    }
+    &[]
+}
+
+/// The first word of a text, and what follows it; `None` where the text has no word.
+#[inline(always)]
+pub(crate) fn next_word(text: &[u8]) -> Option<(&[u8], &[u8])>
+    ensures { MatchOption result (words_in text.now ≡ [])
+        (λ r. words_in text.now ≡ r.0.now ∷ words_in r.1.now) }
+{
+    let text = skip_blanks(text);
+    if text.is_empty() {
+        return None;
+    }
+    for (at, byte) in text.iter().enumerate() {
+        if is_blank(*byte) {
+            return Some((&text[..at], &text[at..]));
+        }
+    }
+    Some((text, &[]))
+}
+
+/// The number, at most `most`, that the first word of a text spells, and what follows it; or the
+/// fault of that word, or of there being none.
+#[inline(always)]
+pub(crate) fn next_number(text: &[u8], most: u64) -> Result<(u64, &[u8]), LineFault>
+    requires { most ≤ 10 ^ 18 }
+    ensures { MatchResult result
+        (λ r. take_number most (words_in text.now) ≡ Ok (r.0, words_in r.1.now))
+        (λ f. take_number most (words_in text.now) ≡ Err f) }
+{
+    let text = skip_blanks(text);
+    if text.is_empty() {
+        return Err(LineFault::Count);
+    }
+    let mut value: u64 = 0;
+    for (at, byte) in text.iter().enumerate() {
+        if *byte < b'0' || *byte > b'9' {
+            return if is_blank(*byte) {
+                Ok((value, &text[at..]))
+            } else {
+                Err(LineFault::Number)
+            };
+        }
+        value = 10 * value + u64::from(*byte - b'0');
+        if value > most {
+            return Err(LineFault::Number);
+        }
+    }
+    Ok((value, &[]))
+}
+
+/// A step behind whose words no word may follow.
+#[inline(always)]
+pub(crate) fn ended(step: Step, text: &[u8]) -> Result<Step, LineFault>
+    ensures { result ≡ ended step (words_in text.now) }
+{
+    if skip_blanks(text).is_empty() {
+        Ok(step)
+    } else {
+        Err(LineFault::Count)
+    }
+}

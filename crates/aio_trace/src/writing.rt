@@ -1,0 +1,82 @@
+//! Writing the line of a step, and the line of an answer, at the end of a block of output.
+
+ghost use Rattle.std.specs.Prelude.{◌≡◌, ◌≤◌, ◌++◌, decimal, OnErr, OnOk, vec_capacity};
+ghost use Rattle.aio_base.specs.Lines.{IsInRange, written_line};
+ghost use Rattle.aio_base.specs.Text.{answer_line, ended_line};
+ghost use Rattle.aio_trace.specs.Writing.{KeepsFront, LacksRoom};
+
+use crate::answer_lines::push_answer;
+use crate::step_lines::push_step;
+use aio_base::{Answer, OutOfMemory, Step};
+use itoa::Buffer;
+use std::alloc::AllocError;
+
+/// Writes the line of a step, with its line feed.
+///
+/// # Errors
+///
+/// `OutOfMemory` only where there was no room for the line, and then `out` holds what it held.
+pub fn write_line(step: &Step, out: &mut Vec<u8>) -> Result<(), OutOfMemory>
+    requires { IsInRange step.now }
+    ensures ok { OnOk result (out.new.items ≡ out.old.items ++ ended_line (written_line step.now)) }
+    ensures err { OnErr result (out.new.items ≡ out.old.items) }
+    ensures full { OnErr result (LacksRoom (vec_capacity out.old) out.old.items
+        (ended_line (written_line step.now))) }
+{
+    let written = out.len();
+    match push_step(step, out) {
+        Ok(()) => Ok(()),
+        Err(_) => {
+            out.truncate(written);
+            Err(OutOfMemory)
+        }
+    }
+}
+
+/// Writes the line of an answer, with its line feed.
+///
+/// # Errors
+///
+/// `OutOfMemory` only where there was no room for the line, and then `out` holds what it held.
+pub fn write_answer(answer: &Answer, out: &mut Vec<u8>) -> Result<(), OutOfMemory>
+    ensures ok { OnOk result (out.new.items ≡ out.old.items
+        ++ ended_line (answer_line answer.now)) }
+    ensures err { OnErr result (out.new.items ≡ out.old.items) }
+    ensures full { OnErr result (LacksRoom (vec_capacity out.old) out.old.items
+        (ended_line (answer_line answer.now))) }
+{
+    let written = out.len();
+    match push_answer(answer, out) {
+        Ok(()) => Ok(()),
+        Err(_) => {
+            out.truncate(written);
+            Err(OutOfMemory)
+        }
+    }
+}
+
+/// Writes a line of a word and a number.
+pub(crate) fn push_numbered(out: &mut Vec<u8>, word: &[u8], number: u64) -> Result<(), AllocError>
+    ensures ok { OnOk result (out.new.items
+        ≡ out.old.items ++ ended_line (word.now ++ decimal number)) }
+    ensures kept { OnErr result (KeepsFront out.old.items out.new.items) }
+    ensures full { OnErr result (LacksRoom (vec_capacity out.old) out.old.items
+        (ended_line (word.now ++ decimal number))) }
+    ensures grown { vec_capacity out.old ≤ vec_capacity out.new }
+{
+    out.extend_from_slice(word)?;
+    push_number(out, number)?;
+    out.push(b'\n')?;
+    Ok(())
+}
+
+/// Writes a number in decimal digits.
+pub(crate) fn push_number(out: &mut Vec<u8>, number: u64) -> Result<(), AllocError>
+    ensures ok { OnOk result (out.new.items ≡ out.old.items ++ decimal number) }
+    ensures kept { OnErr result (KeepsFront out.old.items out.new.items) }
+    ensures full { OnErr result (LacksRoom (vec_capacity out.old) out.old.items (decimal number)) }
+    ensures grown { vec_capacity out.old ≤ vec_capacity out.new }
+{
+    let mut digits = Buffer::new();
+    out.extend_from_slice(digits.format(number).as_bytes())
+}
