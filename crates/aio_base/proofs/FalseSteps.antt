@@ -14,6 +14,7 @@ use Rattle.aio_base.specs.RoundCounts.{RoundName, RoundsFollow}
 use Rattle.aio_base.specs.Clock.{ClockIsSet}
 use Rattle.aio_base.specs.Handling.{HandledIsNoted}
 use Rattle.aio_base.specs.Others.{OthersStand}
+use Rattle.aio_base.specs.Own.{StoodDated, KeepsItsOwn}
 use Rattle.aio_base.proofs.Membership.{first_is_in, none_is_in, among_cases}
 
 -- a round of this number that began at this position, with these events in hand
@@ -134,3 +135,17 @@ pub a_deadline_of_another_timer_is_refused :
     (record opening { pos = 1; timers = timer 1 9 ∷ timer 2 9 ∷ []; timers_made = 2 }) → ⊥
 a_deadline_of_another_timer_is_refused o =
     apart 6 9 (omega arith) (sym (dated (timer 2 9) (timer 2 6) 9 6 o.timers refl refl))
+
+-- a timer that is polled and told pending waits for another deadline then
+pub a_deadline_moved_by_a_pending_tick_is_refused :
+    KeepsItsOwn (record opening { timers = timer 1 5 ∷ []; timers_made = 1 }) (step.Tick 1 (record { 0 = 7 })) answer.Pending
+    (record opening { pos = 1; timers = timer 1 9 ∷ []; timers_made = 1 }) → ⊥
+a_deadline_moved_by_a_pending_tick_is_refused k =
+    ⊎_elim
+    (λ (wrong : false ≡ true). cc)
+    (λ (stood : StoodDated (record opening { timers = timer 1 5 ∷ []; timers_made = 1 }) (timer 1 9)).
+    ⊎_elim
+    (λ (same : timer 1 5 ≡ stood.old). apart 5 9 (omega arith) (some_number 5 9 (ap (λ (t : TimerEntry). t.deadline) same ∙ stood.deadline)))
+    (λ (none : Contains [] stood.old). none_is_in stood.old none)
+    (among_cases (timer 1 5) [] stood.old stood.among))
+    (k.timers (timer 1 9) (first_is_in (timer 1 9) []))

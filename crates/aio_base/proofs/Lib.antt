@@ -36,6 +36,7 @@ pub mod Membership
 pub mod NotesUnread
 pub mod Noting
 pub mod OnceRuns
+pub mod Owning
 pub mod PassLemmas
 pub mod Places
 pub mod Rearming

@@ -15,6 +15,7 @@ pub mod RoundCounts
 pub mod Clock
 pub mod Handling
 pub mod Others
+pub mod Own
 pub mod FirstPolls
 pub mod Registered
 pub mod Storings

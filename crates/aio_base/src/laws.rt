@@ -12,6 +12,7 @@ ghost use Rattle.aio_base.specs.FirstPolls.{InPollOrder};
 ghost use Rattle.aio_base.specs.Handling.{HandledIsNoted};
 ghost use Rattle.aio_base.specs.Machine.{Outcome, begin_round, finish_round, makes_second_pass, react, step_result};
 ghost use Rattle.aio_base.specs.Others.{OthersStand};
+ghost use Rattle.aio_base.specs.Own.{KeepsItsOwn};
 ghost use Rattle.aio_base.specs.Refusals.{is_refusal, only_counted};
 ghost use Rattle.aio_base.specs.Registered.{TimersAreRegistered};
 ghost use Rattle.aio_base.specs.Runs.{PolledStep, answers_of, outcome_without_notes, scripted, wakes_of, without_notes, world_of};
@@ -207,6 +208,14 @@ pub fn a_handled_event_is_noted()
 pub fn a_step_leaves_others_alone()
     ensures { (w : World) (s : Step) (answers : List PollerAnswer)
         → OthersStand w s (step_result w s answers).world }
+{}
+
+/// A listener is the same after a step, but for its waker, and but for its position where this is its
+/// first poll: that one it remembers, and no later one. A timer gets a deadline or a period where it is
+/// made, where it is set, and where its own `tick` is answered `ready`; in no other step do they change.
+pub fn a_position_and_a_deadline_have_their_steps()
+    ensures { (w : World) (s : Step) (answers : List PollerAnswer)
+        → KeepsItsOwn w s (step_result w s answers).answer (step_result w s answers).world }
 {}
 
 /// The run of a list of steps over the script poller is a run of the machine: that in which the poller
