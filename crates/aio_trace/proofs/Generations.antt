@@ -1,5 +1,5 @@
 -- One step of a generator.
-use Rattle.std.proofs.Common.{◌≡◌, ℕ, zero, suc, ◌+◌, ◌-◌, ◌<◌, ◌%◌, List, ◌∷◌, length, refl, sym, ap, ◌∙◌, arith}
+use Rattle.std.proofs.Common.{◌≡◌, ℕ, zero, suc, ◌-◌, ◌<◌, ◌%◌, ◌∷◌, length, refl, sym, ap, ◌∙◌, arith}
 use Rattle.aio_base.specs.declared.steps.Step.{Step}
 use Rattle.aio_base.specs.Generated.{Generator, Generated, drawn, generated_of, next_state, steps_from}
 use Rattle.aio_trace.specs.Generating.{StepsLeft, steps_left}
