@@ -509,6 +509,27 @@ fn a_reactor_holds_4096_sources(rt: HostRuntime) -> Result<(), Fail> {
     Ok(())
 }
 
+#[test]
+fn listeners_and_timers_are_as_many_as_memory_holds(rt: HostRuntime) -> Result<(), Fail> {
+    let mut trace = b"trace 1\nadd\n".to_vec(rt.alloc())?;
+    let mut answers = b"key 0\n".to_vec(rt.alloc())?;
+    let mut woken = b"round 1 events 1 ok\n".to_vec(rt.alloc())?;
+    for n in 1..2001 {
+        let lines = format!(in rt.alloc(); "new 0 r\nstep {n} 5\ntimer at 9\ntick {n} 5\n")?;
+        trace.extend_from_slice(lines.as_bytes())?;
+        let told = format!(in rt.alloc(); "listener {n}\npending\ntimer {n}\npending\n")?;
+        answers.extend_from_slice(told.as_bytes())?;
+        woken.extend_from_slice(b"wake 5\nwake 5\n")?;
+    }
+    trace.extend_from_slice(b"now 9\nevent 0 r\nreact\n")?;
+    answers.extend_from_slice(b"at 9\nnoted\n")?;
+    answers.extend_from_slice(woken.as_slice())?;
+    let ran = run_over(&rt, &["replay"], trace.as_slice(), 4096, NOTHING_FAILS)?;
+    assert_eq!(rt; ran.status.exit, 0);
+    assert!(rt; ran.out.bytes() == answers.as_slice());
+    Ok(())
+}
+
 /// A trace that never ends: its header, and then the line `react` again and again.
 #[derive(Drop)]
 struct Endless {
