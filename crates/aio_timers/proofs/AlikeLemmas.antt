@@ -1,13 +1,14 @@
 -- Nodes that differ in their chains or their wakers alone make the same heap.
-use Rattle.std.proofs.Common.{◌≡◌, ℕ, zero, suc, false, List, [], ◌∷◌, length, get_or, Option, None, Some, is_some, arith, refl, sym, ap, ◌∙◌}
+use Rattle.std.proofs.Common.{◌≡◌, ℕ, zero, suc, Bool, cond, true, List, [], ◌∷◌, length, get_or, Option, None, Some, IfSome, is_some, arith, refl, sym, ap, ◌∙◌}
 use Rattle.std.specs.List.{filter_map}
 use Rattle.std.proofs.lemmas.List.{length-map}
 use Rattle.aio_timers.specs.declared.node.Node.{Node}
-use Rattle.aio_timers.specs.Held.{Held, held_at, held_of, helds, node_at, vacant, live_of}
-use Rattle.aio_timers.specs.Precedes.{IsNotAfter}
-use Rattle.aio_timers.specs.Forest.{Forest, Bare, Rooted, first_root, LinksAre, Laid, NoneBefore, HeapOrdered}
-use Rattle.aio_timers.specs.Heap.{IsHeap, FreeChain}
+use Rattle.aio_timers.specs.Held.{Held, IsUsed, held_at, held_of, helds, node_at, vacant, live_of}
+use Rattle.aio_timers.specs.Precedes.{precedes}
+use Rattle.aio_timers.specs.Family.{Family, IsFamily, IsParent, IsTop}
+use Rattle.aio_timers.specs.Heap.{IsHeap, IsRoot}
 use Rattle.aio_timers.specs.Chains.{ChainsChange}
+use Rattle.aio_timers.proofs.RunLemmas.{run-frame, row-frame}
 
 -- what a node holds is read where it stands, and nothing behind the last node
 pub held-read : (ns : List Node) (j : ℕ) → get_or (helds ns) j vacant ≡ held_at ns j
@@ -25,52 +26,42 @@ pub record Alike (ns ms : List Node) : Type 0 where
   pub id : (j : ℕ) → (held_at ms j).id ≡ (held_at ns j).id
   pub used : (j : ℕ) → is_some (held_at ms j).waker ≡ is_some (held_at ns j).waker
 
-Laid-alike : (ns ms : List Node) (p : Option ℕ) (t : Forest) → Alike ns ms → Laid ns p t → Laid ms p t
-Laid-alike ns ms p Bare a l = tt
-Laid-alike ns ms p (Rooted i c n) a l =
-    let own : LinksAre ns i (first_root c) (first_root n) p = l.0 in
-    let here : LinksAre ms i (first_root c) (first_root n) p = record {
-      within = omega (arith, own.within, a.len);
-      child_is = a.child i ∙ own.child_is;
-      next_is = a.next i ∙ own.next_is;
-      prev_is = a.prev i ∙ own.prev_is;
-    } in
-    (here, Laid-alike ns ms (Some i) c a l.1, Laid-alike ns ms (Some i) n a l.2)
+precedes-alike : (a b x y : Held) → x.deadline ≡ a.deadline → x.id ≡ a.id → y.deadline ≡ b.deadline → y.id ≡ b.id → precedes a b ≡ true → precedes x y ≡ true
+precedes-alike a b x y ad ai bd bi h = rw (ad, ai, bd, bi) h
 
-FreeChain-alike : (ns ms : List Node) (l : Option ℕ) (xs : List ℕ) → Alike ns ms → FreeChain ns l xs → FreeChain ms l xs
-FreeChain-alike ns ms l [] a c = c
-FreeChain-alike ns ms l (i ∷ xs) a c = (c.0, omega (arith, c.1, a.len), rw (a.next i) (FreeChain-alike ns ms (node_at ns i).next xs a c.2))
+IsFamily-alike : (ns ms : List Node) (f : Family) → Alike ns ms → IsFamily ns f → IsFamily ms f
+IsFamily-alike ns ms f a h =
+    let was : (i : ℕ) → IsUsed (held_at ms i) → IsUsed (held_at ns i) = λ i u. sym (a.used i) ∙ u in
+    record {
+      linked = λ i u. rw (a.child i) (row-frame ns ms i (node_at ns i).child (f.below i) a.len (λ j c. (a.next j, a.prev j)) (h.linked i (was i u)));
+      members = λ i j u. h.members i j (was i u);
+      order = λ i j e.
+          let p : IsParent ns i j = h.order i j e in
+          record {
+            parent = a.used i ∙ p.parent;
+            child = a.used j ∙ p.child;
+            before = precedes-alike (held_at ns i) (held_at ns j) (held_at ms i) (held_at ms j) (a.deadline i) (a.id i) (a.deadline j) (a.id j) p.before;
+          };
+      apart = λ i j u v d e. h.apart i j (was i u) (was j v) (sym (a.deadline i) ∙ d ∙ a.deadline j) (sym (a.id i) ∙ e ∙ a.id j);
+    }
 
-not_after-alike : (a b x y : Held) → x.deadline ≡ a.deadline → x.id ≡ a.id → y.deadline ≡ b.deadline → y.id ≡ b.id → IsNotAfter a b → IsNotAfter x y
-not_after-alike a b x y ad ai bd bi h = rw (ad, ai, bd, bi) h
-
-NoneBefore-alike : (ns ms : List Node) (i : ℕ) (t : Forest) → Alike ns ms → NoneBefore (held_at ns) (held_at ns i) t → NoneBefore (held_at ms) (held_at ms i) t
-NoneBefore-alike ns ms i Bare a h = tt
-NoneBefore-alike ns ms i (Rooted k c n) a h =
-    (not_after-alike (held_at ns i) (held_at ns k) (held_at ms i) (held_at ms k) (a.deadline i) (a.id i) (a.deadline k) (a.id k) h.0, NoneBefore-alike ns ms i n a h.1)
-
-HeapOrdered-alike : (ns ms : List Node) (t : Forest) → Alike ns ms → HeapOrdered (held_at ns) t → HeapOrdered (held_at ms) t
-HeapOrdered-alike ns ms Bare a h = tt
-HeapOrdered-alike ns ms (Rooted i c n) a h = (NoneBefore-alike ns ms i c a h.0, HeapOrdered-alike ns ms c a h.1, HeapOrdered-alike ns ms n a h.2)
-
-pub none-of : {X : Type 0} (o : Option X) → is_some o ≡ false → o ≡ None
-none-of None e = refl
-none-of (Some x) e = cc
+IsTop-alike : (ns ms : List Node) (f : Family) (j : ℕ) → ((i : ℕ) → is_some (held_at ms i).waker ≡ is_some (held_at ns i).waker) → IsTop ns f j → IsTop ms f j
+IsTop-alike ns ms f j same t = record { used = same j ∙ t.used; free = t.free }
 
 pub IsHeap-alike : (ns ms : List Node) (root free : Option ℕ) → Alike ns ms → IsHeap ns root free → IsHeap ms root free
 IsHeap-alike ns ms root free a h = record {
-  forest = h.forest;
+  family = h.family;
   spare = h.spare;
-  root_is = h.root_is;
-  linked = Laid-alike ns ms None h.forest a h.linked;
-  alone = h.alone;
-  chained = FreeChain-alike ns ms free h.spare a h.chained;
-  once = h.once;
-  reached = λ j lt. h.reached j (omega (arith, lt, a.len));
-  order = HeapOrdered-alike ns ms h.forest a h.order;
-  live = λ j k. a.used j ∙ h.live j k;
-  idle = λ j k. none-of (held_at ms j).waker (a.used j ∙ ap is_some (h.idle j k));
+  rows = IsFamily-alike ns ms h.family a h.rows;
+  root_is = its_root root h.root_is;
+  single = λ j t. h.single j (IsTop-alike ms ns h.family j (λ i. sym (a.used i)) t);
+  run = run-frame ns ms free h.spare a.len (λ j c. a.next j) h.run;
+  idle = λ j lt. h.idle j (omega (arith, lt, a.len)) ∙ ap (λ (b : Bool). cond b 0 1) (sym (a.used j));
 }
+  where
+    its_root : (o : Option ℕ) → IfSome o (λ r. IsRoot ns h.family r) → IfSome o (λ r. IsRoot ms h.family r)
+    its_root None r = tt
+    its_root (Some i) r = record { top = IsTop-alike ns ms h.family i a.used r.top; next = a.next i ∙ r.next; prev = a.prev i ∙ r.prev }
 
 pub Alike-chains : (ns ms : List Node) → ChainsChange ns ms → Alike ns ms
 Alike-chains ns ms c = record {

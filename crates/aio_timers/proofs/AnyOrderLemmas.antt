@@ -48,7 +48,7 @@ in_order-within [] r back others = refl
 in_order-within (x ∷ front) r back others =
     ap (placed x) (in_order-within front r back (All-tail (IsOther r.deadline r.id) x front others)) ∙ placed-commutes x r (in_order (front ++ back)) (All-head (IsOther r.deadline r.id) x front others)
 
-All-of_placed : (P : Registration → Type 0) (r : Registration) (book : List Registration) → All P (placed r book) → P r × All P book
+pub All-of_placed : (P : Registration → Type 0) (r : Registration) (book : List Registration) → All P (placed r book) → P r × All P book
 All-of_placed P r [] h = (All-head P r [] h, All-nil P)
 All-of_placed P r (x ∷ book) h =
     elim (fires_before x r) as (λ b. All P (cond b (x ∷ placed r book) (r ∷ x ∷ book)) → P r × All P (x ∷ book)) [

@@ -4,11 +4,10 @@ use Rattle.std.proofs.lemmas.List.{get_or-set_same, get_or-set_other}
 use Rattle.std.proofs.lemmas.Bool.{cases_eq}
 use Rattle.std.proofs.lemmas.Bool.Decides.{nat_tests}
 use Rattle.aio_timers.specs.Held.{Held}
-use Rattle.aio_timers.specs.Forest.{one_if}
-use Rattle.aio_timers.specs.Heap.{times_in}
+use Rattle.aio_timers.specs.Rows.{one_if, times_in}
 use Rattle.aio_timers.specs.Chains.{IsChain, IsTable, IsAmong, IsJustBefore, IsWithout, bucket_in}
 use Rattle.aio_timers.proofs.CountLemmas.{one_if-same, one_if-other, some_or_none}
-use Rattle.aio_timers.proofs.SeekLemmas.{times_in-append}
+use Rattle.aio_timers.proofs.RunLemmas.{times-append, Split, split-at}
 
 pub IsChain-frame : (f g : ℕ → Held) (n m : ℕ) (l : Option ℕ) (xs : List ℕ) → n ≤ m → ((j : ℕ) → 0 < times_in j xs → (g j).chain ≡ (f j).chain) → IsChain f n l xs → IsChain g m l xs
 IsChain-frame f g n m l [] le same c = c
@@ -150,27 +149,13 @@ leaves-first f n bs at k used left is kt first takes t =
     without f f n bs (set bs k (f at).chain) at k used left tail.more is kt (length-set bs k _) (λ b ne. get_or-set_other bs k b _ None ne) (λ j. refl) t (λ b j hb ne h. refl)
     (rw (get_or-set_same bs k (f at).chain None kt) tail.chain) tail.counts takes
 
--- where a node of a chain stands
-pub record Amid (ks : List ℕ) (at : ℕ) : Type 0 where
-  pub front : List ℕ
-  pub back : List ℕ
-  pub is : ks ≡ front ++ at ∷ back
-
-pub amid : (at : ℕ) (ks : List ℕ) → 0 < times_in at ks → Amid ks at
-amid at [] h = absurd (omega (arith, h))
-amid at (i ∷ more) h =
-    elim (cases_eq at i) as (λ _. Amid (i ∷ more) at) [
-      | inl e ↦ rw e (record { front = []; back = more; is = refl })
-      | inr ne ↦ let a : Amid more at = amid at more (omega (arith, h, one_if-other at i ne)) in record { front = i ∷ a.front; back = a.back; is = ap (λ (xs : List ℕ). i ∷ xs) a.is }
-    ]
-
 -- the link of the node before leads past it
 bypass : (f g : ℕ → Held) (n before at : ℕ) (ahead back : List ℕ) (l : Option ℕ) → (g before).chain ≡ (f at).chain → ((j : ℕ) → j ≢ before → (g j).chain ≡ (f j).chain)
     → ((j : ℕ) → times_in j (ahead ++ before ∷ at ∷ back) ≤ 1) → IsChain f n l (ahead ++ before ∷ at ∷ back) → IsChain g n l (ahead ++ before ∷ back)
 bypass f g n before at [] back l here same once c =
     (c.0, c.1, rw here (IsChain-frame f g n n (f at).chain back (omega arith) (λ j h. same j (λ e. omega (arith, once before, one_if-same before, h, ap (λ (x : ℕ). times_in x back) e))) c.2.2))
 bypass f g n before at (x ∷ ahead) back l here same once c =
-    let ne : x ≢ before = λ e. omega (arith, once before, times_in-append before ahead (before ∷ at ∷ back), one_if-same before, ap (one_if before) e) in
+    let ne : x ≢ before = λ e. omega (arith, once before, times-append before ahead (before ∷ at ∷ back), one_if-same before, ap (one_if before) e) in
     (c.0, c.1, rw (same x ne) (bypass f g n before at ahead back (f x).chain here same (λ j. omega (arith, once j)) c.2))
 
 pub leaves-behind : (f g : ℕ → Held) (n : ℕ) (bs : List (Option ℕ)) (at before k : ℕ) (front back : List ℕ) (used left : ℕ → ℕ) → bucket_in (f at).id (length bs) ≡ k → k < length bs
@@ -178,14 +163,14 @@ pub leaves-behind : (f g : ℕ → Held) (n : ℕ) (bs : List (Option ℕ)) (at 
     → (t : IsTable f n bs used) → t.chains k ≡ front ++ at ∷ back → ((j : ℕ) → times_in j (t.chains k) ≤ 1) → IsJustBefore f n front before at → IsWithout used left at → IsTable g n bs left
 leaves-behind f g n bs at before k front back used left is kt here same ids t parts once j_ takes =
     let long : t.chains k ≡ j_.ahead ++ before ∷ at ∷ back = parts ∙ ap (λ (xs : List ℕ). xs ++ at ∷ back) j_.is ∙ append_assoc j_.ahead (before ∷ []) (at ∷ back) in
-    let counted : (j : ℕ) → times_in j (t.chains k) ≡ times_in j j_.ahead + (one_if j before + (one_if j at + times_in j back)) = λ j. ap (times_in j) long ∙ times_in-append j j_.ahead (before ∷ at ∷ back) in
+    let counted : (j : ℕ) → times_in j (t.chains k) ≡ times_in j j_.ahead + (one_if j before + (one_if j at + times_in j back)) = λ j. ap (times_in j) long ∙ times-append j j_.ahead (before ∷ at ∷ back) in
     let once_ : (j : ℕ) → times_in j (j_.ahead ++ before ∷ at ∷ back) ≤ 1 = λ j. omega (arith, once j, ap (times_in j) long) in
     let c : IsChain f n (get_or bs k None) (j_.ahead ++ before ∷ at ∷ back) = rw (← long) (t.linked k kt) in
     let its : bucket_in (f before).id (length bs) ≡ k = in-bucket f n bs used t k before kt (omega (arith, counted before, one_if-same before)) in
     without f g n bs bs at k used left (j_.ahead ++ before ∷ back) is kt refl (λ b ne. refl) ids t
     (λ b j hb ne h. same j (λ e. ne (sym (in-bucket f n bs used t b j hb h) ∙ ap (λ (x : ℕ). bucket_in (f x).id (length bs)) e ∙ its)))
     (bypass f g n before at j_.ahead back (get_or bs k None) here same once_ c)
-    (λ j. omega (arith, counted j, times_in-append j j_.ahead (before ∷ back))) takes
+    (λ j. omega (arith, counted j, times-append j j_.ahead (before ∷ back))) takes
 
 -- ## A node in its chain
 
@@ -208,7 +193,7 @@ pub record InItsChain (f : ℕ → Held) (n : ℕ) (head : Option ℕ) (ks : Lis
 pub in-its-chain : (f : ℕ → Held) (n : ℕ) (bs : List (Option ℕ)) (at k : ℕ) (head : Option ℕ) (used : ℕ → ℕ) → bucket_in (f at).id (length bs) ≡ k → k < length bs → get_or bs k None ≡ head → used at ≡ 1
     → (t : IsTable f n bs used) → InItsChain f n head (t.chains k) at
 in-its-chain f n bs at k head used is kt first one t =
-    let a : Amid (t.chains k) at = amid at (t.chains k) (omega (arith, in-chain f n bs used t k at is kt, one)) in
+    let a : Split at (t.chains k) = split-at at (t.chains k) (omega (arith, in-chain f n bs used t k at is kt, one)) in
     let once : (j : ℕ) → times_in j (t.chains k) ≤ 1 = λ j. omega (arith, t.members k j kt, cond-le ((bucket_in (f j).id (length bs)) == k) (used j), t.single j) in
     record {
       front = a.front;

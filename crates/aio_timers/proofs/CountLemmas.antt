@@ -1,7 +1,7 @@
 -- Indices that are the same, or are not.
 use Rattle.std.proofs.Common.{inl, inr, ◌⊎◌, zero, suc, ◌≡◌, ◌≢◌, ℕ, ◌<◌, ◌≤◌, arith, refl}
 use Rattle.std.proofs.lemmas.Bool.Decides.{nat_tests}
-use Rattle.aio_timers.specs.Forest.{one_if}
+use Rattle.aio_timers.specs.Rows.{one_if}
 
 pub one_if-same : (i : ℕ) → one_if i i ≡ 1
 one_if-same i = grind (arith, nat_tests)

@@ -1,183 +1,177 @@
--- The nodes that a walk counts are the registrations that are due.
-use Rattle.std.proofs.Common.{inl, inr, ◌≡◌, ◌≢◌, ℕ, zero, suc, ◌+◌, ◌<◌, ◌≤◌, ◌==◌, Bool, true, false, cond, List, [], ◌∷◌, length, get_or, Option, None, Some, is_some, refl, sym, ap, ◌∙◌, arith}
-use Rattle.std.specs.Prelude.{nat_le}
-use Rattle.std.specs.List.{filter, filter_map, cons_option}
-use Rattle.std.proofs.lemmas.Bool.{cases_eq}
-use Rattle.std.proofs.lemmas.Bool.Decides.{nat_tests}
+-- How many nodes are due: counted in a list of their indices, in the row of all, and in the book.
+use Rattle.std.proofs.Common.{◌≡◌, ℕ, zero, suc, ◌+◌, ◌<◌, ◌≤◌, Bool, true, false, cond, ◌&&◌, nat_le, List, [], ◌∷◌, length, filter, get_or, Option, None, Some, is_some, arith, refl, sym, ap, ◌∙◌}
+use Rattle.std.specs.List.{filter_map, cons_option}
 use Rattle.std.proofs.lemmas.List.{length-map}
+use Rattle.std.proofs.lemmas.Bool.Decides.{nat_tests}
 use Rattle.aio_base.specs.declared.names.Waker.{Waker}
 use Rattle.aio_base.specs.World.{Registration}
 use Rattle.aio_base.specs.Timers.{fires_before, placed, in_order, due_wakers}
 use Rattle.aio_timers.specs.declared.node.Node.{Node}
-use Rattle.aio_timers.specs.Held.{Held, held_at, held_of, helds, vacant, live_of, registered}
-use Rattle.aio_timers.specs.Forest.{Forest, Bare, Rooted, one_if, times}
-use Rattle.aio_timers.specs.Heap.{IsHeap}
-use Rattle.aio_timers.specs.Walk.{due_unit, due_among, IsHeapTree}
+use Rattle.aio_timers.specs.Held.{Held, IsUsed, held_at, helds, vacant, live_of, registered}
+use Rattle.aio_timers.specs.Rows.{one_if, times_in}
+use Rattle.aio_timers.specs.Due.{is_due, due_in}
 use Rattle.aio_timers.specs.Sound.{registrations}
-use Rattle.aio_timers.proofs.CountLemmas.{one_if-same, one_if-other, some_or_none}
-use Rattle.aio_timers.proofs.LayoutLemmas.{Laid-within}
+use Rattle.aio_timers.proofs.CountLemmas.{one_if-same, one_if-other}
 use Rattle.aio_timers.proofs.AlikeLemmas.{held-read}
-use Rattle.aio_timers.proofs.SoundLemmas.{length-in_order}
 
--- ## Sums below a bound
+-- ## In a list of indices
 
-abbrev sum_to : ℕ → (ℕ → ℕ) → ℕ
-sum_to zero f = 0
-sum_to (suc k) f = f k + sum_to k f
+abbrev pub one_due : ℕ → Held → ℕ
+one_due now h = cond (is_due now h) 1 0
 
-sum_to-same : (n : ℕ) (f g : ℕ → ℕ) → ((j : ℕ) → j < n → f j ≡ g j) → sum_to n f ≡ sum_to n g
-sum_to-same zero f g h = refl
-sum_to-same (suc n) f g h = omega (arith, h n (omega arith), sum_to-same n f g (λ j lt. h j (omega (arith, lt))))
+abbrev pub due_among : (ℕ → Held) → ℕ → List ℕ → ℕ
+due_among held now [] = 0
+due_among held now (i ∷ more) = one_due now (held i) + due_among held now more
 
-sum_to-front : (n : ℕ) (f : ℕ → ℕ) → sum_to (suc n) f ≡ f 0 + sum_to n (λ j. f (suc j))
-sum_to-front zero f = refl
-sum_to-front (suc n) f = omega (arith, sum_to-front n f)
+one-le : (b : Bool) → cond b 1 0 ≤ 1
+one-le true = omega arith
+one-le false = omega arith
 
-sum_to-plus : (n : ℕ) (f g h : ℕ → ℕ) → sum_to n (λ j. f j + g j + h j) ≡ sum_to n f + sum_to n g + sum_to n h
-sum_to-plus zero f g h = refl
-sum_to-plus (suc n) f g h = omega (arith, sum_to-plus n f g h)
+pub due_among-le : (held : ℕ → Held) (now : ℕ) (ks : List ℕ) → due_among held now ks ≤ length ks
+due_among-le held now [] = omega arith
+due_among-le held now (k ∷ ks) = omega (arith, one-le (is_due now (held k)), due_among-le held now ks)
 
--- ## The weight of a shape
+-- ## In the row of all
 
-abbrev weight : (ℕ → ℕ) → Forest → ℕ
-weight w Bare = 0
-weight w (Rooted i c n) = w i + weight w c + weight w n
+abbrev is_live_due : ℕ → Held → Bool
+is_live_due now h = is_some h.waker && is_due now h
 
-abbrev here : (ℕ → ℕ) → ℕ → ℕ → ℕ
-here w i j = cond (j == i) (w i) 0
+-- each node in use that is due, as often as this says of its index
+abbrev tally : ℕ → List Held → (ℕ → ℕ) → ℕ
+tally now [] c = 0
+tally now (h ∷ hs) c = cond (is_live_due now h) (c 0) 0 + tally now hs (λ i. c (suc i))
 
-abbrev share : (ℕ → ℕ) → ℕ → Forest → ℕ
-share w j Bare = 0
-share w j (Rooted i c n) = here w i j + share w j c + share w j n
-
-here-same : (w : ℕ → ℕ) (i : ℕ) → here w i i ≡ w i
-here-same w i = let t : (i == i) ≡ true = grind (arith, nat_tests) in rw t refl
-
-here-other : (w : ℕ → ℕ) (i j : ℕ) → j ≢ i → here w i j ≡ 0
-here-other w i j ne = let t : (j == i) ≡ false = grind (arith, nat_tests) in rw t refl
-
-sum-none : (n i : ℕ) (w : ℕ → ℕ) → n ≤ i → sum_to n (here w i) ≡ 0
-sum-none zero i w h = refl
-sum-none (suc n) i w h = omega (arith, here-other w i n (λ e. omega (arith, e, h)), sum-none n i w (omega (arith, h)))
-
-sum-one : (n i : ℕ) (w : ℕ → ℕ) → i < n → sum_to n (here w i) ≡ w i
-sum-one zero i w h = absurd (omega (arith, h))
-sum-one (suc n) i w h =
-    elim (cases_eq n i) as (λ _. here w i n + sum_to n (here w i) ≡ w i) [
-      | inl e ↦ rw e (omega (arith, here-same w i, sum-none i i w (omega arith)))
-      | inr ne ↦ omega (arith, here-other w i n ne, sum-one n i w (omega (arith, h, ne)))
-    ]
-
-shares : (n : ℕ) (w : ℕ → ℕ) (t : Forest) → ((j : ℕ) → 0 < times j t → j < n) → sum_to n (λ j. share w j t) ≡ weight w t
-shares n w Bare h = none n
+tally-none : (now : ℕ) (hs : List Held) (c : ℕ → ℕ) → ((i : ℕ) → c i ≡ 0) → tally now hs c ≡ 0
+tally-none now [] c none = refl
+tally-none now (h ∷ hs) c none = omega (arith, nothing (is_live_due now h), tally-none now hs (λ i. c (suc i)) (λ i. none (suc i)))
   where
-    none : (n : ℕ) → sum_to n (λ j. 0) ≡ 0
-    none zero = refl
-    none (suc n) = omega (arith, none n)
-shares n w (Rooted i c m) h =
-    omega (
-      arith,
-      sum_to-plus n (here w i) (λ j. share w j c) (λ j. share w j m),
-      sum-one n i w (h i (omega (arith, one_if-same i))),
-      shares n w c (λ j k. h j (omega (arith, k))),
-      shares n w m (λ j k. h j (omega (arith, k))),
-    )
+    nothing : (b : Bool) → cond b (c 0) 0 ≡ 0
+    nothing true = none 0
+    nothing false = refl
 
-share-none : (w : ℕ → ℕ) (j : ℕ) (t : Forest) → times j t ≡ 0 → share w j t ≡ 0
-share-none w j Bare h = refl
-share-none w j (Rooted i c n) h =
-    let ne : j ≢ i = λ e. omega (arith, h, one_if-same i, ap (λ (x : ℕ). one_if x i) e) in
-    omega (arith, here-other w i j ne, share-none w j c (omega (arith, h)), share-none w j n (omega (arith, h)))
-
-share-one : (w : ℕ → ℕ) (j : ℕ) (t : Forest) → times j t ≡ 1 → share w j t ≡ w j
-share-one w j Bare h = absurd (omega (arith, h))
-share-one w j (Rooted i c n) h =
-    elim (cases_eq j i) as (λ _. here w i j + share w j c + share w j n ≡ w j) [
-      | inl e ↦ rw e (let k : times i (Rooted i c n) ≡ 1 = sym (ap (λ (x : ℕ). times x (Rooted i c n)) e) ∙ h in omega (arith, here-same w i, share-none w i c (omega (arith, k, one_if-same i)), share-none w i n (omega (arith, k, one_if-same i))))
-      | inr ne ↦ elim (some_or_none (times j c)) as (λ _. here w i j + share w j c + share w j n ≡ w j) [
-        | inl inside ↦ omega (arith, here-other w i j ne, share-one w j c (omega (arith, h, inside, one_if-other j i ne)), share-none w j n (omega (arith, h, inside, one_if-other j i ne)))
-        | inr none ↦ omega (arith, here-other w i j ne, share-none w j c none, share-one w j n (omega (arith, h, none, one_if-other j i ne)))
-      ]
-    ]
-
--- ## The registrations that are due
-
-abbrev due_live : ℕ → Held → ℕ
-due_live now h = cond (is_some h.waker) (due_unit now h) 0
-
-abbrev due_held : ℕ → List Held → ℕ
-due_held now [] = 0
-due_held now (h ∷ hs) = due_live now h + due_held now hs
-
-sum-helds : (now : ℕ) (hs : List Held) → sum_to (length hs) (λ j. due_live now (get_or hs j vacant)) ≡ due_held now hs
-sum-helds now [] = refl
-sum-helds now (h ∷ hs) = sum_to-front (length hs) (λ j. due_live now (get_or (h ∷ hs) j vacant)) ∙ ap (λ (n : ℕ). due_live now h + n) (sum-helds now hs)
-
-abbrev due : ℕ → Registration → Bool
-due now r = nat_le r.deadline now
-
-filter-length : (p : Registration → Bool) (r : Registration) (rs : List Registration) → length (filter p (r ∷ rs)) ≡ cond (p r) 1 0 + length (filter p rs)
-filter-length p r rs = elim (p r) as (λ (b : Bool). length (cond b (r ∷ filter p rs) (filter p rs)) ≡ cond b 1 0 + length (filter p rs)) [ true ↦ omega arith | false ↦ omega arith ]
-
-filter-placed : (p : Registration → Bool) (r : Registration) (book : List Registration) → length (filter p (placed r book)) ≡ cond (p r) 1 0 + length (filter p book)
-filter-placed p r [] = filter-length p r []
-filter-placed p r (x ∷ book) =
-    elim (fires_before x r) as (λ b. length (filter p (cond b (x ∷ placed r book) (r ∷ x ∷ book))) ≡ cond (p r) 1 0 + length (filter p (x ∷ book))) [
-      | true ↦ omega (arith, filter-length p x (placed r book), filter-placed p r book, filter-length p x book)
-      | false ↦ filter-length p r (x ∷ book)
-    ]
-
-filter-in_order : (p : Registration → Bool) (rs : List Registration) → length (filter p (in_order rs)) ≡ length (filter p rs)
-filter-in_order p [] = refl
-filter-in_order p (r ∷ rs) = omega (arith, filter-placed p r (in_order rs), filter-in_order p rs, filter-length p r rs)
-
-filter-held : (now : ℕ) (hs : List Held) → length (filter (due now) (filter_map live_of hs)) ≡ due_held now hs
-filter-held now [] = refl
-filter-held now (h ∷ hs) = go h.waker refl (filter-held now hs)
+tally-add : (now : ℕ) (hs : List Held) (a b c : ℕ → ℕ) → ((i : ℕ) → c i ≡ a i + b i) → tally now hs c ≡ tally now hs a + tally now hs b
+tally-add now [] a b c sum = refl
+tally-add now (h ∷ hs) a b c sum = omega (arith, here (is_live_due now h), tally-add now hs (λ i. a (suc i)) (λ i. b (suc i)) (λ i. c (suc i)) (λ i. sum (suc i)))
   where
-    go : (o : Option Waker) → h.waker ≡ o → length (filter (due now) (filter_map live_of hs)) ≡ due_held now hs → length (filter (due now) (cons_option (registered h.deadline h.id h.waker) (filter_map live_of hs))) ≡ due_live now h + due_held now hs
-    go None e more = rw e (omega (arith, more))
-    go (Some w) e more = rw e (filter-length (due now) (record { id = h.id; deadline = h.deadline; waker = w }) (filter_map live_of hs) ∙ ap (λ (n : ℕ). due_unit now h + n) more)
+    here : (t : Bool) → cond t (c 0) 0 ≡ cond t (a 0) 0 + cond t (b 0) 0
+    here true = sum 0
+    here false = refl
 
-due-many : (now : ℕ) (rs : List Registration) → length (due_wakers now (in_order rs)) ≡ length (filter (due now) rs)
-due-many now rs = length-map (in_order (filter (due now) (in_order rs))) (λ (r : Registration). r.waker) ∙ length-in_order (filter (due now) (in_order rs)) ∙ filter-in_order (due now) rs
-
--- ## Both
-
-each-share : (ns : List Node) (root free : Option ℕ) (now : ℕ) (h : IsHeap ns root free) (j : ℕ) → j < length ns → share (λ i. due_unit now (held_at ns i)) j h.forest ≡ due_live now (get_or (helds ns) j vacant)
-each-share ns root free now h j lt =
-    elim (some_or_none (times j h.forest)) as (λ _. share (λ i. due_unit now (held_at ns i)) j h.forest ≡ due_live now (get_or (helds ns) j vacant)) [
-      | inl inside ↦ let used : is_some (held_at ns j).waker ≡ true = h.live j inside in
-          share-one (λ i. due_unit now (held_at ns i)) j h.forest (omega (arith, inside, h.once j)) ∙ sym (ap (due_live now) (held-read ns j) ∙ ap (λ (b : Bool). cond b (due_unit now (held_at ns j)) 0) used)
-      | inr none ↦ let idle : (held_at ns j).waker ≡ None = h.idle j (omega (arith, none, h.reached j lt)) in
-          share-none (λ i. due_unit now (held_at ns i)) j h.forest none ∙ sym (ap (due_live now) (held-read ns j) ∙ ap (λ (o : Option Waker). cond (is_some o) (due_unit now (held_at ns j)) 0) idle)
-    ]
-
-weight-due : (f : ℕ → Held) (now : ℕ) (t : Forest) → weight (λ i. due_unit now (f i)) t ≡ due_among f now t
-weight-due f now Bare = refl
-weight-due f now (Rooted i c n) = omega (arith, weight-due f now c, weight-due f now n)
-
-pub due-count : (ns : List Node) (root free : Option ℕ) (now : ℕ) (h : IsHeap ns root free) → due_among (held_at ns) now h.forest ≡ length (due_wakers now (registrations (helds ns)))
-due-count ns root free now h =
-    sym (weight-due (held_at ns) now h.forest)
-    ∙ sym (shares (length ns) (λ i. due_unit now (held_at ns i)) h.forest (λ j k. Laid-within ns None h.forest j h.linked k))
-    ∙ sum_to-same (length ns) (λ j. share (λ i. due_unit now (held_at ns i)) j h.forest) (λ j. due_live now (get_or (helds ns) j vacant)) (each-share ns root free now h)
-    ∙ ap (λ (n : ℕ). sum_to n (λ j. due_live now (get_or (helds ns) j vacant))) (sym (length-map ns held_of))
-    ∙ sum-helds now (helds ns)
-    ∙ sym (filter-held now (helds ns))
-    ∙ sym (due-many now (filter_map live_of (helds ns)))
-
-due-le : (now : ℕ) (rs : List Registration) → length (filter (due now) rs) ≤ length rs
-due-le now [] = omega arith
-due-le now (r ∷ rs) = omega (arith, filter-length (due now) r rs, due-le now rs, unit (due now r))
+-- of one index
+tally-one : (now : ℕ) (hs : List Held) (x : ℕ) (c : ℕ → ℕ) → ((i : ℕ) → c i ≡ one_if i x) → tally now hs c ≡ cond (is_live_due now (get_or hs x vacant)) 1 0
+tally-one now [] x c is = refl
+tally-one now (h ∷ hs) zero c is = omega (arith, here (is_live_due now h), tally-none now hs (λ i. c (suc i)) (λ i. is (suc i) ∙ one_if-other (suc i) 0 (λ e. cc (e))))
   where
-    unit : (b : Bool) → cond b 1 0 ≤ 1
-    unit true = omega arith
-    unit false = omega arith
+    here : (b : Bool) → cond b (c 0) 0 ≡ cond b 1 0
+    here true = is 0 ∙ one_if-same 0
+    here false = refl
+tally-one now (h ∷ hs) (suc x) c is = omega (arith, here (is_live_due now h), tally-one now hs x (λ i. c (suc i)) (λ i. is (suc i) ∙ behind i x))
+  where
+    here : (b : Bool) → cond b (c 0) 0 ≡ 0
+    here true = is 0 ∙ one_if-other 0 (suc x) (λ e. cc (e))
+    here false = refl
 
-pub due-wakers-le : (now : ℕ) (hs : List Held) → length (due_wakers now (registrations hs)) ≤ length (registrations hs)
-due-wakers-le now hs = omega (arith, due-many now (filter_map live_of hs), due-le now (filter_map live_of hs), length-in_order (filter_map live_of hs))
+    behind : (i x : ℕ) → one_if (suc i) (suc x) ≡ one_if i x
+    behind i x = grind (arith, nat_tests)
 
--- what is walked is the heap
-pub heap-tree : (ns : List Node) (root free : Option ℕ) → (h : IsHeap ns root free) → IsHeapTree ns h.forest root
-heap-tree ns root free h = record { whole = record { linked = h.linked; once = λ j. omega (arith, h.once j) }; root_is = h.root_is; order = h.order }
+-- of the indices of a list of nodes in use
+tally-list : (now : ℕ) (hs : List Held) (held : ℕ → Held) (ks : List ℕ) → ((i : ℕ) → get_or hs i vacant ≡ held i) → ((j : ℕ) → 0 < times_in j ks → IsUsed (held j)) → tally now hs (λ i. times_in i ks) ≡ due_among held now ks
+tally-list now hs held [] read used = tally-none now hs (λ i. times_in i []) (λ i. refl)
+tally-list now hs held (k ∷ ks) read used =
+    let sum : tally now hs (λ i. times_in i (k ∷ ks)) ≡ tally now hs (λ i. one_if i k) + tally now hs (λ i. times_in i ks) = tally-add now hs (λ i. one_if i k) (λ i. times_in i ks) (λ i. times_in i (k ∷ ks)) (λ i. refl) in
+    let one : tally now hs (λ i. one_if i k) ≡ cond (is_live_due now (get_or hs k vacant)) 1 0 = tally-one now hs k (λ i. one_if i k) (λ i. refl) in
+    let as_held : cond (is_live_due now (get_or hs k vacant)) 1 0 ≡ one_due now (held k) = ap (λ (h : Held). cond (is_live_due now h) 1 0) (read k) ∙ in_use (held k) (used k (omega (arith, one_if-same k))) in
+    let rest : tally now hs (λ i. times_in i ks) ≡ due_among held now ks = tally-list now hs held ks read (λ j more. used j (omega (arith, more))) in
+    omega (arith, sum, one, as_held, rest)
+  where
+    in_use : (h : Held) → IsUsed h → cond (is_live_due now h) 1 0 ≡ one_due now h
+    in_use h u = rw u refl
+
+tally-all : (now : ℕ) (hs : List Held) (c : ℕ → ℕ) → ((i : ℕ) → is_live_due now (get_or hs i vacant) ≡ true → c i ≡ 1) → tally now hs c ≡ due_in now hs
+tally-all now [] c all = refl
+tally-all now (h ∷ hs) c all = omega (arith, here (is_live_due now h) refl, tally-all now hs (λ i. c (suc i)) (λ i e. all (suc i) e))
+  where
+    here : (b : Bool) → is_live_due now h ≡ b → cond b (c 0) 0 ≡ cond b 1 0
+    here true e = all 0 e
+    here false e = refl
+
+-- a list with each node in use that is due, once, and no free one
+pub count-all : (ns : List Node) (now : ℕ) (ks : List ℕ) → ((j : ℕ) → 0 < times_in j ks → IsUsed (held_at ns j)) → ((j : ℕ) → IsUsed (held_at ns j) → is_due now (held_at ns j) ≡ true → times_in j ks ≡ 1)
+    → due_among (held_at ns) now ks ≡ due_in now (helds ns)
+count-all ns now ks used all =
+    sym (tally-list now (helds ns) (held_at ns) ks (held-read ns) used)
+    ∙ tally-all now (helds ns) (λ i. times_in i ks) (λ i e.
+    let both : is_live_due now (held_at ns i) ≡ true = ap (is_live_due now) (sym (held-read ns i)) ∙ e in
+    all i (first (is_some (held_at ns i).waker) (is_due now (held_at ns i)) both) (second (is_some (held_at ns i).waker) (is_due now (held_at ns i)) both))
+  where
+    first : (a b : Bool) → (a && b) ≡ true → a ≡ true
+    first true b e = refl
+    first false b e = cc
+
+    second : (a b : Bool) → (a && b) ≡ true → b ≡ true
+    second true b e = e
+    second false b e = cc
+
+-- ## In the book
+
+abbrev one_late : ℕ → Registration → ℕ
+one_late now r = cond (nat_le r.deadline now) 1 0
+
+abbrev late_in : ℕ → List Registration → ℕ
+late_in now [] = 0
+late_in now (r ∷ rs) = one_late now r + late_in now rs
+
+length-filter : (now : ℕ) (rs : List Registration) → length (filter (λ (r : Registration). nat_le r.deadline now) rs) ≡ late_in now rs
+length-filter now [] = refl
+length-filter now (r ∷ rs) = go (nat_le r.deadline now) (length-filter now rs)
+  where
+    go : (b : Bool) → length (filter (λ (x : Registration). nat_le x.deadline now) rs) ≡ late_in now rs
+        → length (cond b (r ∷ filter (λ (x : Registration). nat_le x.deadline now) rs) (filter (λ (x : Registration). nat_le x.deadline now) rs)) ≡ cond b 1 0 + late_in now rs
+    go true e = omega (arith, e)
+    go false e = omega (arith, e)
+
+late-placed : (now : ℕ) (r : Registration) (rs : List Registration) → late_in now (placed r rs) ≡ one_late now r + late_in now rs
+late-placed now r [] = refl
+late-placed now r (x ∷ rs) = go (fires_before x r) (late-placed now r rs)
+  where
+    go : (b : Bool) → late_in now (placed r rs) ≡ one_late now r + late_in now rs → late_in now (cond b (x ∷ placed r rs) (r ∷ x ∷ rs)) ≡ one_late now r + (one_late now x + late_in now rs)
+    go true e = omega (arith, e)
+    go false e = refl
+
+length-placed : (r : Registration) (rs : List Registration) → length (placed r rs) ≡ suc (length rs)
+length-placed r [] = refl
+length-placed r (x ∷ rs) = go (fires_before x r) (length-placed r rs)
+  where
+    go : (b : Bool) → length (placed r rs) ≡ suc (length rs) → length (cond b (x ∷ placed r rs) (r ∷ x ∷ rs)) ≡ suc (suc (length rs))
+    go true e = omega (arith, e)
+    go false e = refl
+
+length-in_order : (rs : List Registration) → length (in_order rs) ≡ length rs
+length-in_order [] = refl
+length-in_order (r ∷ rs) = omega (arith, length-placed r (in_order rs), length-in_order rs)
+
+due-length : (now : ℕ) (rs : List Registration) → length (due_wakers now rs) ≡ late_in now rs
+due-length now rs =
+    length-map (in_order (filter (λ (r : Registration). nat_le r.deadline now) rs)) (λ (r : Registration). r.waker)
+    ∙ length-in_order (filter (λ (r : Registration). nat_le r.deadline now) rs)
+    ∙ length-filter now rs
+
+late-registrations : (now : ℕ) (hs : List Held) → late_in now (registrations hs) ≡ due_in now hs
+late-registrations now [] = refl
+late-registrations now (h ∷ hs) = go h.waker (late-registrations now hs)
+  where
+    go : (w : Option Waker) → late_in now (registrations hs) ≡ due_in now hs
+        → late_in now (in_order (cons_option (registered h.deadline h.id w) (filter_map live_of hs))) ≡ cond (is_some w && nat_le h.deadline now) 1 0 + due_in now hs
+    go None e = omega (arith, e)
+    go (Some w) e = omega (arith, e, late-placed now (record { id = h.id; deadline = h.deadline; waker = w }) (registrations hs))
+
+pub due-wakers : (now : ℕ) (hs : List Held) → due_in now hs ≡ length (due_wakers now (registrations hs))
+due-wakers now hs = sym (due-length now (registrations hs) ∙ late-registrations now hs)
+
+-- no more are due than there are
+pub due-few : (now : ℕ) (hs : List Held) → due_in now hs ≤ length (registrations hs)
+due-few now hs = omega (arith, late-registrations now hs, few (registrations hs))
+  where
+    few : (rs : List Registration) → late_in now rs ≤ length rs
+    few [] = omega arith
+    few (r ∷ rs) = omega (arith, one-le (nat_le r.deadline now), few rs)

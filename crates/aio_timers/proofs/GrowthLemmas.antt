@@ -1,6 +1,7 @@
 -- Free nodes that join the others, and a row of buckets that is filled anew.
-use Rattle.std.proofs.Common.{inl, inr, ◌⊎◌, ◌≡◌, ◌≢◌, ℕ, zero, suc, ◌+◌, ◌<◌, ◌≤◌, ◌^◌, ◌==◌, Bool, true, false, cond, List, [], ◌∷◌, ◌++◌, length, Option, None, Some, is_some, refl, sym, ap, ◌∙◌, arith}
+use Rattle.std.proofs.Common.{inl, inr, ◌⊎◌, ◌≡◌, ◌≢◌, ℕ, zero, suc, ◌+◌, ◌<◌, ◌≤◌, ◌^◌, ◌==◌, Bool, true, false, cond, List, [], ◌∷◌, ◌++◌, length, Option, None, Some, IfSome, is_some, refl, sym, ap, ◌∙◌, arith}
 use Rattle.std.specs.Prelude.{nat_lt}
+use Rattle.std.specs.Int.{IsPowerOfTwo}
 use Rattle.std.specs.List.{filter_map, cons_option}
 use Rattle.std.proofs.lemmas.Bool.{cases_eq}
 use Rattle.std.proofs.lemmas.Bool.Decides.{nat_tests}
@@ -8,18 +9,19 @@ use Rattle.std.proofs.lemmas.List.{length-append}
 use Rattle.aio_base.specs.World.{Registration}
 use Rattle.aio_base.specs.Timers.{in_order}
 use Rattle.aio_timers.specs.declared.node.Node.{Node}
-use Rattle.aio_timers.specs.Held.{Held, held_at, held_of, helds, node_at, blank_node, free_node, live_of}
-use Rattle.aio_timers.specs.Forest.{Forest, Bare, Rooted, first_root, one_if, times, LinksAre, Laid}
-use Rattle.aio_timers.specs.Heap.{times_in, FreeChain, IsHeap}
+use Rattle.aio_timers.specs.Held.{Held, IsUsed, held_at, held_of, helds, node_at, blank_node, free_node, live_of}
+use Rattle.aio_timers.specs.Rows.{one_if, times_in, IsRun, IsRow}
+use Rattle.aio_timers.specs.Family.{Family, IsFamily, IsParent}
+use Rattle.aio_timers.specs.Heap.{IsHeap, IsRoot, one_free}
 use Rattle.aio_timers.specs.Chains.{IsTable, IsWithout, ChainsChange, used_of, bucket_in}
 use Rattle.aio_timers.specs.Sound.{registrations, IsSound}
 use Rattle.aio_timers.specs.Growth.{IsBlankRow, used_before, Rehashes, Extends, GrowsTo}
 use Rattle.aio_timers.proofs.CountLemmas.{one_if-same, one_if-other, some_or_none}
-use Rattle.aio_timers.proofs.LayoutLemmas.{Laid-within}
-use Rattle.aio_timers.proofs.NewcomerLemmas.{HeapOrdered-in}
+use Rattle.aio_timers.proofs.RunLemmas.{used-within, run-within}
+use Rattle.aio_timers.proofs.FamilyLemmas.{used-as, parent-as, apart-as}
 use Rattle.aio_timers.proofs.ChainLemmas.{IsTable-frame, cond-zero}
 use Rattle.aio_timers.proofs.AlikeLemmas.{Alike, IsHeap-alike, Alike-chains, live-chains}
-use Rattle.aio_timers.proofs.SoundLemmas.{used-yes, below, used-some}
+use Rattle.aio_timers.proofs.SoundLemmas.{used-yes, used-some}
 
 -- ## One more free node
 
@@ -41,72 +43,76 @@ live-push : (ns : List Node) (l : Option ℕ) → filter_map live_of (helds (ns 
 live-push [] l = refl
 live-push (x ∷ ns) l = ap (cons_option (live_of (held_of x))) (live-push ns l)
 
-Laid-longer : (ns ms : List Node) (p : Option ℕ) (t : Forest) → length ns ≤ length ms → ((j : ℕ) → j < length ns → node_at ms j ≡ node_at ns j) → Laid ns p t → Laid ms p t
-Laid-longer ns ms p Bare le same l = tt
-Laid-longer ns ms p (Rooted i c n) le same l =
-    let own : LinksAre ns i (first_root c) (first_root n) p = l.0 in
-    let is : node_at ms i ≡ node_at ns i = same i own.within in
-    let here : LinksAre ms i (first_root c) (first_root n) p = record {
-      within = omega (arith, own.within, le);
-      child_is = ap Node.child is ∙ own.child_is;
-      next_is = ap Node.next is ∙ own.next_is;
-      prev_is = ap Node.prev is ∙ own.prev_is;
-    } in
-    (here, Laid-longer ns ms (Some i) c le same l.1, Laid-longer ns ms (Some i) n le same l.2)
+-- runs and rows of nodes that are there go on
+run-longer : (ns ms : List Node) (l : Option ℕ) (ks : List ℕ) → length ns ≤ length ms → ((j : ℕ) → j < length ns → node_at ms j ≡ node_at ns j) → IsRun ns l ks → IsRun ms l ks
+run-longer ns ms l [] le same r = r
+run-longer ns ms l (i ∷ ks) le same r = (r.0, omega (arith, r.1, le), rw (same i r.1) (run-longer ns ms (node_at ns i).next ks le same r.2))
 
-FreeChain-longer : (ns ms : List Node) (l : Option ℕ) (xs : List ℕ) → length ns ≤ length ms → ((j : ℕ) → j < length ns → node_at ms j ≡ node_at ns j) → FreeChain ns l xs → FreeChain ms l xs
-FreeChain-longer ns ms l [] le same c = c
-FreeChain-longer ns ms l (i ∷ xs) le same c = (c.0, omega (arith, c.1, le), rw (same i c.1) (FreeChain-longer ns ms (node_at ns i).next xs le same c.2))
+row-longer : (ns ms : List Node) (b : ℕ) (l : Option ℕ) (ks : List ℕ) → length ns ≤ length ms → ((j : ℕ) → j < length ns → node_at ms j ≡ node_at ns j) → IsRow ns b l ks → IsRow ms b l ks
+row-longer ns ms b l [] le same r = r
+row-longer ns ms b l (i ∷ ks) le same r =
+    (r.0, omega (arith, r.1, le), ap Node.prev (same i r.1) ∙ r.2, rw (ap Node.next (same i r.1)) (row-longer ns ms i (node_at ns i).next ks le same r.3))
 
-FreeChain-within : (ns : List Node) (l : Option ℕ) (xs : List ℕ) (j : ℕ) → FreeChain ns l xs → 0 < times_in j xs → j < length ns
-FreeChain-within ns l [] j c h = absurd (omega (arith, h))
-FreeChain-within ns l (i ∷ xs) j c h =
-    elim (cases_eq j i) as (λ _. j < length ns) [
-      | inl e ↦ rw e c.1
-      | inr ne ↦ FreeChain-within ns (node_at ns i).next xs j c.2 (omega (arith, h, one_if-other j i ne))
-    ]
+-- one more free node, in front of the others
+module _ (ns ms : List Node) (free : Option ℕ) (len : length ms ≡ length ns + 1) (own : node_at ms (length ns) ≡ free_node free) (there : (j : ℕ) → j ≢ length ns → node_at ms j ≡ node_at ns j) where
+  extended-same : (j : ℕ) → j < length ns → node_at ms j ≡ node_at ns j
+  extended-same j lt = there j (λ e. omega (arith, lt, e))
 
-extended-heap : (ns ms : List Node) (root free : Option ℕ) → length ms ≡ length ns + 1 → node_at ms (length ns) ≡ free_node free → ((j : ℕ) → j ≢ length ns → node_at ms j ≡ node_at ns j) → IsHeap ns root free
-    → IsHeap ms root (Some (length ns))
-extended-heap ns ms root free len here there h =
-    let same : (j : ℕ) → j < length ns → node_at ms j ≡ node_at ns j = λ j lt. there j (λ e. omega (arith, lt, e)) in
-    let in_forest : (j : ℕ) → 0 < times j h.forest → j < length ns = λ j k. Laid-within ns None h.forest j h.linked k in
-    let in_spare : (j : ℕ) → 0 < times_in j h.spare → j < length ns = λ j k. FreeChain-within ns free h.spare j h.chained k in
-    let out : times (length ns) h.forest ≡ 0 = elim (some_or_none (times (length ns) h.forest)) as (λ _. times (length ns) h.forest ≡ 0) [ inl k ↦ absurd (omega (arith, in_forest (length ns) k)) | inr z ↦ z ] in
-    let apart : times_in (length ns) h.spare ≡ 0 = elim (some_or_none (times_in (length ns) h.spare)) as (λ _. times_in (length ns) h.spare ≡ 0) [ inl k ↦ absurd (omega (arith, in_spare (length ns) k)) | inr z ↦ z ] in
-    record {
-      forest = h.forest;
-      spare = length ns ∷ h.spare;
-      root_is = h.root_is;
-      linked = Laid-longer ns ms None h.forest (omega (arith, len)) same h.linked;
-      alone = h.alone;
-      chained = (refl, omega (arith, len), rw here (FreeChain-longer ns ms free h.spare (omega (arith, len)) same h.chained));
-      once = λ j. elim (cases_eq j (length ns)) as (λ _. times j h.forest + (one_if j (length ns) + times_in j h.spare) ≤ 1) [
-        | inl e ↦ rw e (omega (arith, out, apart, one_if-same (length ns)))
-        | inr ne ↦ omega (arith, h.once j, one_if-other j (length ns) ne)
-      ];
-      reached = λ j lt. elim (cases_eq j (length ns)) as (λ _. 1 ≤ times j h.forest + (one_if j (length ns) + times_in j h.spare)) [
-        | inl e ↦ rw e (omega (arith, one_if-same (length ns)))
-        | inr ne ↦ omega (arith, h.reached j (omega (arith, lt, len, ne)), one_if-other j (length ns) ne)
-      ];
-      order = HeapOrdered-in (held_at ns) (held_at ms) h.forest (λ j k. ap held_of (same j (in_forest j k))) h.order;
-      live = λ j k. ap (λ (x : Node). is_some x.waker) (same j (in_forest j k)) ∙ h.live j k;
-      idle = λ j k. elim (cases_eq j (length ns)) as (λ _. (held_at ms j).waker ≡ None) [
-        | inl e ↦ rw e (ap Node.waker here)
-        | inr ne ↦ let inside : 0 < times_in j h.spare = omega (arith, k, one_if-other j (length ns) ne) in ap Node.waker (same j (in_spare j inside)) ∙ h.idle j inside
-      ];
-    }
+  -- it is not in use
+  extended-other : (j : ℕ) → IsUsed (held_at ms j) → j ≢ length ns
+  extended-other j u e = unused (used-as (held_of (free_node free)) (held_at ms j) (sym (ap (held_at ms) e ∙ ap held_of own)) u)
+    where
+      unused : IsUsed (held_of (free_node free)) → ⊥
+      unused k = cc
+
+  extended-used : (j : ℕ) → IsUsed (held_at ms j) → IsUsed (held_at ns j)
+  extended-used j u = used-as (held_at ns j) (held_at ms j) (sym (ap held_of (there j (extended-other j u)))) u
+
+  extended-held : (j : ℕ) → IsUsed (held_at ns j) → held_at ms j ≡ held_at ns j
+  extended-held j u = ap held_of (extended-same j (used-within ns j u))
+
+  extended-family : (f : Family) → IsFamily ns f → IsFamily ms f
+  extended-family f h = record {
+    linked = λ i u. let was : IsUsed (held_at ns i) = extended-used i u in
+        rw (there i (extended-other i u)) (row-longer ns ms i (node_at ns i).child (f.below i) (omega (arith, len)) extended-same (h.linked i was));
+    members = λ i j u. h.members i j (extended-used i u);
+    order = λ i j e. let p : IsParent ns i j = h.order i j e in parent-as ns ms i j (extended-held i p.parent) (extended-held j p.child) p;
+    apart = apart-as ns ms f h (λ i u. extended-held i (extended-used i u));
+  }
+
+  extended-heap : (root : Option ℕ) → IsHeap ns root free → IsHeap ms root (Some (length ns))
+  extended-heap root h = record {
+    family = h.family;
+    spare = length ns ∷ h.spare;
+    rows = extended-family h.family h.rows;
+    root_is = its_root root h.root_is;
+    single = λ j t. h.single j (record { used = extended-used j t.used; free = t.free });
+    run = (refl, omega (arith, len), rw (ap Node.next own) (run-longer ns ms free h.spare (omega (arith, len)) extended-same h.run));
+    idle = λ j lt. elim (cases_eq j (length ns)) as (λ _. one_if j (length ns) + times_in j h.spare ≡ one_free (held_at ms j)) [
+      | inl e ↦ rw e (omega (arith, one_if-same (length ns), not-behind, ap (λ (x : Node). one_free (held_of x)) own))
+      | inr ne ↦ omega (arith, one_if-other j (length ns) ne, h.idle j (omega (arith, lt, len, ne)), ap (λ (x : Node). one_free (held_of x)) (there j ne))
+    ];
+  }
+    where
+      not-behind : times_in (length ns) h.spare ≡ 0
+      not-behind = elim (some_or_none (times_in (length ns) h.spare)) as (λ _. times_in (length ns) h.spare ≡ 0) [ inl c ↦ absurd (omega (arith, run-within ns free h.spare (length ns) h.run c)) | inr z ↦ z ]
+
+      its_root : (o : Option ℕ) → IfSome o (λ r. IsRoot ns h.family r) → IfSome o (λ r. IsRoot ms h.family r)
+      its_root None r = tt
+      its_root (Some i) r =
+          let same : node_at ms i ≡ node_at ns i = extended-same i (used-within ns i r.top.used) in
+          record { top = record { used = used-as (held_at ms i) (held_at ns i) (ap held_of same) r.top.used; free = r.top.free }; next = ap Node.next same ∙ r.next; prev = ap Node.prev same ∙ r.prev }
 
 pub pushed : (ns : List Node) (free : Option ℕ) → Extends ns (ns ++ free_node free ∷ []) free (Some (length ns))
 pushed ns free = record {
   longer = omega (arith, length-append ns (free_node free ∷ []));
-  heap = λ root h. extended-heap ns (ns ++ free_node free ∷ []) root free (length-append ns (free_node free ∷ [])) (push-here ns (free_node free)) (push-there ns (free_node free)) h;
+  heap = λ root h. extended-heap ns (ns ++ free_node free ∷ []) free (length-append ns (free_node free ∷ [])) (push-here ns (free_node free)) (push-there ns (free_node free)) root h;
   lives = live-push ns free;
   used = λ j. elim (cases_eq j (length ns)) as (λ _. used_of (held_at (ns ++ free_node free ∷ []) j) ≡ used_of (held_at ns j)) [
     | inl e ↦ rw e (ap (λ (x : Node). used_of (held_of x)) (push-here ns (free_node free)) ∙ sym (ap (λ (x : Node). used_of (held_of x)) (past-end ns)))
     | inr ne ↦ ap (λ (x : Node). used_of (held_of x)) (push-there ns (free_node free) j ne)
   ];
-  same = λ j h. ap held_of (push-there ns (free_node free) j (λ e. omega (arith, below ns j (used-some (held_at ns j) h), e)));
+  same = λ j h. ap held_of (push-there ns (free_node free) j (λ e. omega (arith, used-within ns j (used-some (held_at ns j) h), e)));
 }
 
 pub Extends-refl : (ns : List Node) (free : Option ℕ) → Extends ns ns free free
@@ -185,7 +191,7 @@ rehashed ns ms bs i change t over =
       table = IsTable-equal (held_at ms) (length ms) bs (used_before i (held_at ns)) (λ j. used_of (held_at ms j)) (λ j.
           let now : used_of (held_at ms j) ≡ used_of (held_at ns j) = ap (λ (b : Bool). cond b 1 0) (a.used j) in
           elim (some_or_none (used_of (held_at ns j))) as (λ _. used_of (held_at ms j) ≡ used_before i (held_at ns) j) [
-            | inl h ↦ omega (arith, now, before-below i (held_at ns) j (omega (arith, below ns j (used-some (held_at ns j) h), over)))
+            | inl h ↦ omega (arith, now, before-below i (held_at ns) j (omega (arith, used-within ns j (used-some (held_at ns j) h), over)))
             | inr z ↦ omega (arith, now, z, before-le i (held_at ns) j)
           ]) t;
     }
@@ -195,9 +201,9 @@ rehashed ns ms bs i change t over =
 
 -- ## Both
 
-pub grown : (ns us ms : List Node) (ds : List (Option ℕ)) (root free first : Option ℕ) (used total : ℕ) (bs : List (Option ℕ)) → IsSound ns bs root free used → Rehashes ns us ds → Extends us ms free first → length ms ≡ total → total ≤ length ds → total < 2 ^ 32
+pub grown : (ns us ms : List Node) (ds : List (Option ℕ)) (root free first : Option ℕ) (used total : ℕ) (bs : List (Option ℕ)) → IsSound ns bs root free used → Rehashes ns us ds → Extends us ms free first → length ms ≡ total → total ≤ length ds → total < 2 ^ 32 → (0 < length ds → IsPowerOfTwo (length ds))
     → GrowsTo ns ms ds root first used total
-grown ns us ms ds root free first used total bs s r e len row few =
+grown ns us ms ds root free first used total bs s r e len row few power =
     let regs : registrations (helds ms) ≡ registrations (helds ns) = ap in_order (e.lives ∙ live-chains ns us r.change) in
     record {
       len = len;
@@ -208,6 +214,7 @@ grown ns us ms ds root free first used total bs s r e len row few =
         table = IsTable-frame (held_at us) (held_at ms) (length us) (length ms) ds (λ j. used_of (held_at us j)) (λ j. used_of (held_at ms j)) e.longer
             (λ j h. (ap Held.chain (e.same j h), ap Held.id (e.same j h))) e.used r.table;
         row = omega (arith, len, row);
+        power = power;
         few = omega (arith, len, few);
         used_is = omega (arith, s.used_is, ap (λ (rs : List Registration). length rs) regs);
       };

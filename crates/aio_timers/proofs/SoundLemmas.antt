@@ -3,26 +3,26 @@ use Rattle.std.proofs.Common.{inl, inr, ◌≡◌, ◌≢◌, ℕ, zero, suc, �
 use Rattle.std.specs.Prelude.{MatchOption}
 use Rattle.std.specs.List.{All, filter_map, cons_option}
 use Rattle.std.proofs.lemmas.Bool.{cases_eq}
+use Rattle.std.proofs.lemmas.List.Elements.{All-head}
 use Rattle.std.proofs.lemmas.Bool.Decides.{nat_tests}
 use Rattle.std.proofs.lemmas.List.{length-map, get_or-set_same, get_or-set_other, length-set, map-set}
 use Rattle.aio_base.specs.declared.names.Waker.{Waker}
 use Rattle.aio_base.specs.World.{Registration}
 use Rattle.aio_base.specs.Timers.{fires_before, placed, in_order, is_pair, without_pair}
 use Rattle.aio_timers.specs.declared.node.Node.{Node}
-use Rattle.aio_timers.specs.Held.{Held, held_at, held_of, helds, node_at, vacant, gone, live_of, registered, is_pair_of}
-use Rattle.aio_timers.specs.Forest.{Forest, Bare, Rooted, first_root, one_if, times}
-use Rattle.aio_timers.specs.Heap.{times_in, FreeChain, IsHeap, Sets}
+use Rattle.aio_timers.specs.Held.{Held, IsUsed, held_at, held_of, helds, node_at, blank_node, vacant, gone, live_of, registered, is_pair_of}
+use Rattle.aio_timers.specs.Rows.{one_if, times_in, IsRun}
+use Rattle.aio_timers.specs.Heap.{Holds, one_free}
 use Rattle.aio_timers.specs.Chains.{IsTable, IsBucket, IsWithout, IsFound, ChainsChange, used_of, bucket_in}
 use Rattle.aio_timers.specs.Sound.{registrations, IsSound, IsAbsent, IsPairAt, Gains, Drops}
 use Rattle.aio_timers.proofs.BookLemmas.{IsOther, IsBook-placed}
 use Rattle.aio_timers.proofs.AnyOrderLemmas.{gains, GivesUp, gives_up, without_pair-placed}
 use Rattle.aio_timers.proofs.AlikeLemmas.{held-read, Alike, IsHeap-alike, Alike-chains, live-chains}
 use Rattle.aio_timers.proofs.CountLemmas.{one_if-same, one_if-other}
-use Rattle.aio_timers.proofs.NewcomerLemmas.{FreeTail, free_tail}
 use Rattle.aio_timers.proofs.ChainLemmas.{IsTable-frame, joins, in-chain, in-use, cond-le}
-use Rattle.aio_timers.proofs.LayoutLemmas.{set-here, set-there}
-use Rattle.aio_timers.proofs.LeastLemmas.{All-live, All-in_order-of, OfNode, of-node, least-first}
-use Rattle.aio_timers.proofs.AttachLemmas.{root-times}
+use Rattle.aio_timers.proofs.RunLemmas.{used-within}
+use Rattle.aio_timers.proofs.HeapLemmas.{FirstFree, first-free, spares-of}
+use Rattle.aio_timers.proofs.LeastLemmas.{OfNode, of-node, Live, live, all-of-each, least-first, rootless}
 
 pub length-placed : (r : Registration) (book : List Registration) → length (placed r book) ≡ length book + 1
 length-placed r [] = omega arith
@@ -40,17 +40,6 @@ used-no h e = rw e refl
 
 pub used-le : (h : Held) → used_of h ≤ 1
 used-le h = elim (is_some h.waker) as (λ (b : Bool). cond b 1 0 ≤ 1) [ true ↦ omega arith | false ↦ omega arith ]
-
-pub record Live (h : Held) : Type 0 where
-  pub registration : Registration
-  pub is : live_of h ≡ Some registration
-
-pub live : (h : Held) → is_some h.waker ≡ true → Live h
-live h e = go h.waker refl e
-  where
-    go : (o : Option Waker) → h.waker ≡ o → is_some o ≡ true → Live h
-    go None is k = cc
-    go (Some w) is k = record { registration = record { id = h.id; deadline = h.deadline; waker = w }; is = ap (registered h.deadline h.id) is }
 
 pub used-some : (h : Held) → 0 < used_of h → is_some h.waker ≡ true
 used-some h = go h.waker
@@ -76,19 +65,22 @@ reads ns ms at h lt e =
 
 -- ## A timer comes
 
-pub head-free : (ns : List Node) (root : Option ℕ) (at : ℕ) → IsHeap ns root (Some at) → (at < length ns) × ((held_at ns at).waker ≡ None)
-head-free ns root at h =
-    let r : FreeTail ns h.forest h.spare at = free_tail ns h.forest h.spare at h.chained in
-    (r.within, h.idle at (omega (arith, r.counts at, one_if-same at)))
+not-used : (h : Held) → (IsUsed h → ⊥) → h.waker ≡ None
+not-used h free = go h.waker free
+  where
+    go : (o : Option Waker) → (is_some o ≡ true → ⊥) → o ≡ None
+    go None k = refl
+    go (Some w) k = absurd (k refl)
 
 pub added : (ns ms : List Node) (bs : List (Option ℕ)) (root top free head : Option ℕ) (at k used d i : ℕ) (w : Waker) → IsSound ns bs root (Some at) used → bucket_in i (length bs) ≡ k → k < length bs → head ≡ get_or bs k None
-    → IsAbsent d i (helds ns) → Sets ns ms at (record { deadline = d; id = i; waker = Some w; chain = head }) top free → Gains ns ms (set bs k (Some at)) top free used (record { id = i; deadline = d; waker = w })
+    → IsAbsent d i (helds ns) → Holds ns ms at (record { deadline = d; id = i; waker = Some w; chain = head }) top free → Gains ns ms (set bs k (Some at)) top free used (record { id = i; deadline = d; waker = w })
 added ns ms bs root top free head at k used d i w s is kt first absent c =
-    let is_free = head-free ns root at s.heap in
-    let lt : at < length ns = is_free.0 in
+    let first_free : FirstFree ns at = first-free ns at (spares-of ns root (Some at) s.heap) in
+    let is_free : (held_at ns at).waker ≡ None = not-used (held_at ns at) first_free.unused in
+    let lt : at < length ns = first_free.within in
     let old : length (helds ns) ≡ length ns = length-map ns held_of in
     let read : Reads ns ms at (record { deadline = d; id = i; waker = Some w; chain = head }) = reads ns ms at (record { deadline = d; id = i; waker = Some w; chain = head }) lt c.helds_are in
-    let empty : live_of (get_or (helds ns) at vacant) ≡ None = ap live_of (held-read ns at) ∙ ap (registered (held_at ns at).deadline (held_at ns at).id) is_free.1 in
+    let empty : live_of (get_or (helds ns) at vacant) ≡ None = ap live_of (held-read ns at) ∙ ap (registered (held_at ns at).deadline (held_at ns at).id) is_free in
     let entries : registrations (helds ms) ≡ placed (record { id = i; deadline = d; waker = w }) (registrations (helds ns)) =
     rw c.helds_are (gains live_of (helds ns) at vacant (record { deadline = d; id = i; waker = Some w; chain = head }) (record { id = i; deadline = d; waker = w }) (omega (arith, lt, old)) empty refl absent) in
     let its_id : (held_at ms at).id ≡ i = ap Held.id read.here in
@@ -99,12 +91,13 @@ added ns ms bs root top free head at k used d i w s is kt first absent c =
         heap = c.heap;
         book = rw entries (IsBook-placed (record { id = i; deadline = d; waker = w }) (registrations (helds ns)) s.book absent);
         table = rw read.len (joins (held_at ns) (held_at ms) (length ns) bs at k (λ j. used_of (held_at ns j)) (λ j. used_of (held_at ms j)) lt (ap (λ (x : ℕ). bucket_in x (length bs)) its_id ∙ is) kt
-            (used-no (held_at ns at) is_free.1) (ap Held.chain read.here ∙ first) (λ j ne. (ap Held.chain (read.there j ne), ap Held.id (read.there j ne)))
+            (used-no (held_at ns at) is_free) (ap Held.chain read.here ∙ first) (λ j ne. (ap Held.chain (read.there j ne), ap Held.id (read.there j ne)))
             (λ j. elim (cases_eq j at) as (λ _. used_of (held_at ns j) + one_if j at ≡ used_of (held_at ms j)) [
-              | inl e ↦ rw e (omega (arith, used-no (held_at ns at) is_free.1, one_if-same at, ap used_of read.here))
+              | inl e ↦ rw e (omega (arith, used-no (held_at ns at) is_free, one_if-same at, ap used_of read.here))
               | inr ne ↦ omega (arith, one_if-other j at ne, ap used_of (read.there j ne))
             ]) s.table);
         row = omega (arith, s.row, read.len, length-set bs k (Some at));
+        power = λ some. rw (length-set bs k (Some at)) (s.power (omega (arith, kt)));
         few = omega (arith, s.few, read.len);
         used_is = omega (arith, s.used_is, ap (λ (rs : List Registration). length rs) entries, length-placed (record { id = i; deadline = d; waker = w }) (registrations (helds ns)));
       };
@@ -114,7 +107,7 @@ added ns ms bs root top free head at k used d i w s is kt first absent c =
 
 pub dropped : (ns us ms : List Node) (bs ds : List (Option ℕ)) (root top free : Option ℕ) (at used : ℕ) (r : Registration) → IsSound ns bs root free used → ChainsChange ns us → length ds ≡ length bs
     → ((left : ℕ → ℕ) → IsWithout (λ j. used_of (held_at ns j)) left at → IsTable (held_at us) (length us) ds left) → live_of (held_at ns at) ≡ Some r → at < length ns
-    → Sets us ms at (gone (held_at us at)) top (Some at) → Drops ns ms ds top (Some at) used r
+    → Holds us ms at (gone (held_at us at)) top (Some at) → Drops ns ms ds top (Some at) used r
 dropped ns us ms bs ds root top free at used r s change row table is_live lt c =
     let a : Alike ns us = Alike-chains ns us change in
     let regs : registrations (helds us) ≡ registrations (helds ns) = ap in_order (live-chains ns us change) in
@@ -142,6 +135,7 @@ dropped ns us ms bs ds root top free at used r s change row table is_live lt c =
         table = IsTable-frame (held_at us) (held_at ms) (length us) (length ms) ds (λ j. used_of (held_at ms j)) (λ j. used_of (held_at ms j)) (omega (arith, read.len))
             (λ j h. let ne : j ≢ at = λ e. omega (arith, h, none_left, ap (λ (x : ℕ). used_of (held_at ms x)) e) in (ap Held.chain (read.there j ne), ap Held.id (read.there j ne))) (λ j. refl) (table (λ j. used_of (held_at ms j)) without);
         row = omega (arith, s.row, read.len, a.len, row);
+        power = λ some. rw row (s.power (omega (arith, some, row)));
         few = omega (arith, s.few, read.len, a.len);
         used_is = omega (arith, e, s.used_is, ap (λ (rs : List Registration). length rs) entries, length-placed r (registrations (helds ms)));
       };
@@ -158,14 +152,14 @@ other-id d i r ne = grind (arith, nat_tests)
 pub absent : (ns : List Node) (bs : List (Option ℕ)) (root free : Option ℕ) (used d i k : ℕ) → (s : IsSound ns bs root free used) → bucket_in i (length bs) ≡ k → k < length bs → IsFound (held_at ns) d i (s.table.chains k) None
     → IsAbsent d i (helds ns)
 absent ns bs root free used d i k s is kt none =
-    All-in_order-of (λ (r : Registration). is_pair d i r ≡ false) (filter_map live_of (helds ns)) (All-live (λ (r : Registration). is_pair d i r ≡ false) (helds ns) (λ j within r k_.
-    let its : OfNode (held_at ns j) r = of-node (held_at ns j) r (sym (ap live_of (held-read ns j)) ∙ k_) in
+    all-of-each (λ (r : Registration). is_pair d i r ≡ false) (helds ns) (λ j r live_.
+    let its : OfNode (held_at ns j) r = of-node (held_at ns j) r (sym (ap live_of (held-read ns j)) ∙ live_) in
     elim (cases_eq (held_at ns j).id i) as (λ _. is_pair d i r ≡ false) [
       | inl e ↦
           let inside = in-chain (held_at ns) (length ns) bs (λ (x : ℕ). used_of (held_at ns x)) s.table k j (ap (λ (x : ℕ). bucket_in x (length bs)) e ∙ is) kt in
           other-pair d i (held_at ns j) r its.deadline_is its.id_is (none j (omega (arith, inside, used-yes (held_at ns j) its.used)))
       | inr ne ↦ other-id d i r (λ e. ne (sym its.id_is ∙ e))
-    ]))
+    ])
 
 -- with no node nothing is there
 pub absent-empty : (ns : List Node) (d i : ℕ) → length ns ≡ 0 → IsAbsent d i (helds ns)
@@ -175,18 +169,13 @@ absent-empty (x ∷ ns) d i e = absurd (omega (arith, e))
 its-pair : (d i : ℕ) (h : Held) → is_pair_of d i h ≡ true → (h.deadline ≡ d) × (h.id ≡ i)
 its-pair d i h k = grind (arith, nat_tests)
 
-pub below : (ns : List Node) (j : ℕ) → is_some (held_at ns j).waker ≡ true → j < length ns
-below [] j e = cc
-below (x ∷ ns) zero e = omega arith
-below (x ∷ ns) (suc j) e = omega (arith, below ns j e)
-
 pub found : (ns : List Node) (bs : List (Option ℕ)) (root free : Option ℕ) (used d i k at : ℕ) → (s : IsSound ns bs root free used) → k < length bs → IsFound (held_at ns) d i (s.table.chains k) (Some at) → IsPairAt ns d i at
 found ns bs root free used d i k at s kt both =
     let used_here : is_some (held_at ns at).waker ≡ true = used-some (held_at ns at) (in-use (held_at ns) (length ns) bs (λ (x : ℕ). used_of (held_at ns x)) s.table k at kt both.0) in
     let l : Live (held_at ns at) = live (held_at ns at) used_here in
     let its : OfNode (held_at ns at) l.registration = of-node (held_at ns at) l.registration l.is in
     let p = its-pair d i (held_at ns at) both.1 in
-    record { within = below ns at used_here; registration = l.registration; live = l.is; deadline_is = its.deadline_is ∙ p.0; id_is = its.id_is ∙ p.1 }
+    record { within = used-within ns at used_here; registration = l.registration; live = l.is; deadline_is = its.deadline_is ∙ p.0; id_is = its.id_is ∙ p.1 }
 
 -- ## A waker takes the place of another
 
@@ -207,8 +196,8 @@ rewoken ns ms bs root free used d i at w s p e =
     let h : Held = record (held_at ns at) { waker = Some w } in
     let old : length (helds ns) ≡ length ns = length-map ns held_of in
     let lt : at < length (helds ns) = omega (arith, old, p.within) in
-    let here : node_at ms at ≡ record (node_at ns at) { waker = Some w } = rw e (set-here ns at _ p.within) in
-    let there : (j : ℕ) → j ≢ at → node_at ms j ≡ node_at ns j = λ j ne. rw e (set-there ns at _ j ne) in
+    let here : node_at ms at ≡ record (node_at ns at) { waker = Some w } = rw e (get_or-set_same ns at _ blank_node p.within) in
+    let there : (j : ℕ) → j ≢ at → node_at ms j ≡ node_at ns j = λ j ne. rw e (get_or-set_other ns at j _ blank_node ne) in
     let len : length ms ≡ length ns = ap (λ (xs : List Node). length xs) e ∙ length-set ns at _ in
     let a : Alike ns ms = record {
       len = len;
@@ -242,6 +231,7 @@ rewoken ns ms bs root free used d i at w s p e =
         table = IsTable-frame (held_at ns) (held_at ms) (length ns) (length ms) bs (λ j. used_of (held_at ns j)) (λ j. used_of (held_at ms j)) (omega (arith, len))
             (λ j _. (chain j, a.id j)) (λ j. ap (λ (b : Bool). cond b 1 0) (a.used j)) s.table;
         row = omega (arith, s.row, len);
+        power = s.power;
         few = omega (arith, s.few, len);
         used_is = omega (
           arith,
@@ -277,8 +267,8 @@ filter-le (h ∷ hs) = go (live_of h) (filter-le hs)
     go None k = omega (arith, k)
     go (Some r) k = omega (arith, k)
 
-pub used-within : (ns : List Node) (bs : List (Option ℕ)) (root free : Option ℕ) (used : ℕ) → IsSound ns bs root free used → used ≤ length ns
-used-within ns bs root free used s = omega (arith, s.used_is, length-in_order (filter_map live_of (helds ns)), filter-le (helds ns), length-map ns held_of)
+pub used-fits : (ns : List Node) (bs : List (Option ℕ)) (root free : Option ℕ) (used : ℕ) → IsSound ns bs root free used → used ≤ length ns
+used-fits ns bs root free used s = omega (arith, s.used_is, length-in_order (filter_map live_of (helds ns)), filter-le (helds ns), length-map ns held_of)
 
 all-live : (hs : List Held) → ((i : ℕ) → i < length hs → is_some (get_or hs i vacant).waker ≡ true) → length (filter_map live_of hs) ≡ length hs
 all-live [] h = refl
@@ -290,33 +280,29 @@ all-live (x ∷ hs) h = go x.waker (h 0 (omega arith)) (all-live hs (λ i lt. h 
 
 -- with no free node all are in use
 pub no-room : (ns : List Node) (bs : List (Option ℕ)) (root : Option ℕ) (used : ℕ) → IsSound ns bs root None used → used ≡ length ns
-no-room ns bs root used s = go s.heap.spare s.heap.chained s.heap.reached
+no-room ns bs root used s = go s.heap.spare s.heap.run s.heap.idle
   where
-    go : (spare : List ℕ) → FreeChain ns None spare → ((j : ℕ) → j < length ns → 1 ≤ times j s.heap.forest + times_in j spare) → used ≡ length ns
-    go (i ∷ more) c reached = cc (c.0)
-    go [] c reached = omega (
+    in-use : (h : Held) → 0 ≡ one_free h → is_some h.waker ≡ true
+    in-use h = elim (is_some h.waker) as (λ (b : Bool). ◌≡◌ {A = ℕ} 0 (cond b 0 1) → b ≡ true) [ true ↦ λ e. refl | false ↦ λ e. absurd (omega (arith, e)) ]
+
+    go : (spare : List ℕ) → IsRun ns None spare → ((j : ℕ) → j < length ns → times_in j spare ≡ one_free (held_at ns j)) → used ≡ length ns
+    go (i ∷ more) c idle = cc (c.0)
+    go [] c idle = omega (
       arith,
       s.used_is,
       length-in_order (filter_map live_of (helds ns)),
       length-map ns held_of,
-      all-live (helds ns) (λ i lt. let within : i < length ns = omega (arith, lt, length-map ns held_of) in ap (λ (h : Held). is_some h.waker) (held-read ns i) ∙ s.heap.live i (omega (arith, reached i within))),
+      all-live (helds ns) (λ i lt. ap (λ (h : Held). is_some h.waker) (held-read ns i) ∙ in-use (held_at ns i) (idle i (omega (arith, lt, length-map ns held_of)))),
     )
-
-none-live : (hs : List Held) → ((i : ℕ) → i < length hs → (get_or hs i vacant).waker ≡ None) → filter_map live_of hs ≡ []
-none-live [] h = refl
-none-live (x ∷ hs) h = go x.waker (h 0 (omega arith)) (none-live hs (λ i lt. h (suc i) (omega (arith, lt))))
-  where
-    go : (o : Option Waker) → o ≡ None → filter_map live_of hs ≡ [] → cons_option (registered x.deadline x.id o) (filter_map live_of hs) ≡ []
-    go (Some w) k more = cc
-    go None k more = more
 
 -- with no root none is in use
 pub no-root : (ns : List Node) (bs : List (Option ℕ)) (free : Option ℕ) (used : ℕ) → IsSound ns bs None free used → registrations (helds ns) ≡ []
-no-root ns bs free used s = ap in_order (go s.heap.forest s.heap.root_is s.heap.reached)
+no-root ns bs free used s = none (registrations (helds ns)) (all-of-each (λ (r : Registration). ⊥) (helds ns) (λ j r e.
+    let its : OfNode (held_at ns j) r = of-node (held_at ns j) r (sym (ap live_of (held-read ns j)) ∙ e) in rootless ns free s.heap j its.used))
   where
-    go : (t : Forest) → first_root t ≡ None → ((j : ℕ) → j < length ns → 1 ≤ times j t + times_in j s.heap.spare) → filter_map live_of (helds ns) ≡ []
-    go (Rooted i c n) k reached = cc
-    go Bare k reached = none-live (helds ns) (λ i lt. let within : i < length ns = omega (arith, lt, length-map ns held_of) in ap (λ (h : Held). h.waker) (held-read ns i) ∙ s.heap.idle i (omega (arith, reached i within)))
+    none : (rs : List Registration) → All (λ (r : Registration). ⊥) rs → rs ≡ []
+    none [] h = refl
+    none (r ∷ rs) h = absurd (All-head (λ (r : Registration). ⊥) r rs h)
 
 -- the root is in use
 pub record RootLive (ns : List Node) (root : ℕ) : Type 0 where
@@ -328,35 +314,36 @@ pub record RootLive (ns : List Node) (root : ℕ) : Type 0 where
 
 pub root-live : (ns : List Node) (bs : List (Option ℕ)) (root : ℕ) (free : Option ℕ) (used : ℕ) → IsSound ns bs (Some root) free used → RootLive ns root
 root-live ns bs root free used s =
-    let inside : 0 < times root s.heap.forest = root-times s.heap.forest root s.heap.root_is in
-    let used_here : is_some (held_at ns root).waker ≡ true = s.heap.live root inside in
+    let used_here : is_some (held_at ns root).waker ≡ true = s.heap.root_is.top.used in
     let l : Live (held_at ns root) = live (held_at ns root) used_here in
     record {
-      within = below ns root used_here;
+      within = used-within ns root used_here;
       registration = l.registration;
       is = l.is;
       more = registrations (set (helds ns) root (gone (held_at ns root)));
-      book = least-first ns root free l.registration s.heap s.book (below ns root used_here) l.is;
+      book = least-first ns root free l.registration s.heap s.book l.is;
     }
 
 pub empty-sound : IsSound [] [] None None 0
 empty-sound = record {
   heap = record {
-    forest = Bare;
+    family = record { above = λ j. None; below = λ j. [] };
     spare = [];
-    root_is = refl;
-    linked = tt;
-    alone = tt;
-    chained = refl;
-    once = λ j. omega arith;
-    reached = λ j lt. absurd (omega (arith, lt));
-    order = tt;
-    live = λ j k. absurd (omega (arith, k));
-    idle = λ j k. absurd (omega (arith, k));
+    rows = record {
+      linked = λ i u. refl;
+      members = λ i j u. refl;
+      order = λ i j e. cc;
+      apart = λ i j u v d e. cc;
+    };
+    root_is = tt;
+    single = λ j t. cc;
+    run = refl;
+    idle = λ j lt. absurd (omega (arith, lt));
   };
   book = tt;
   table = record { chains = λ b. []; linked = λ b h. absurd (omega (arith, h)); members = λ b j h. absurd (omega (arith, h)); single = λ j. omega arith };
   row = omega arith;
+  power = λ some. absurd (omega (arith, some));
   few = omega arith;
   used_is = refl;
 }

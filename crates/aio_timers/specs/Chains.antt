@@ -1,14 +1,19 @@
 -- The buckets, and the chains of nodes that start at them.
-use Rattle.std.specs.Prelude.{ℕ, ◌≡◌, ◌+◌, ◌<◌, ◌≤◌, ◌%◌, ◌==◌, if◌then◌else◌, List, [], ◌∷◌, ◌++◌, length, Option, None, Some, MatchOption, is_some, true, false, slice_index_or}
+use Rattle.std.specs.Prelude.{ℕ, zero, suc, ◌≡◌, ◌+◌, ◌<◌, ◌≤◌, ◌%◌, ◌==◌, if◌then◌else◌, List, [], ◌∷◌, ◌++◌, length, Option, None, Some, MatchOption, is_some, true, false, slice_index_or}
 use Rattle.aio_timers.specs.declared.node.Node.{Node}
 use Rattle.aio_timers.specs.Held.{Held, node_at, is_pair_of}
-use Rattle.aio_timers.specs.Forest.{one_if}
-use Rattle.aio_timers.specs.Heap.{times_in}
+use Rattle.aio_timers.specs.Rows.{one_if, times_in}
 
 -- nodes below a bound, each with a link to the next one of its bucket
 abbrev pub IsChain : (ℕ → Held) → ℕ → Option ℕ → List ℕ → Type 0
 IsChain f n link [] = link ≡ None
 IsChain f n link (i ∷ more) = (link ≡ Some i) × (i < n) × IsChain f n (f i).chain more
+
+-- how many nodes there are along the links of a chain, at most so many
+abbrev pub chain_steps : ℕ → (ℕ → Held) → Option ℕ → ℕ
+chain_steps zero f link = 0
+chain_steps (suc fuel) f None = 0
+chain_steps (suc fuel) f (Some i) = chain_steps fuel f (f i).chain + 1
 
 -- a chain in which no node stands twice
 pub record IsBucket (f : ℕ → Held) (n : ℕ) (head : Option ℕ) (ks : List ℕ) : Type 0 where
@@ -35,12 +40,11 @@ IsFound f deadline id ks answer =
     MatchOption answer ((j : ℕ) → 0 < times_in j ks → is_pair_of deadline id (f j) ≡ false) (λ at. (0 < times_in at ks) × (is_pair_of deadline id (f at) ≡ true))
 
 -- a search under way: none of the nodes that it passed has the pair
-pub record IsSought (f : ℕ → Held) (n deadline id : ℕ) (ks : List ℕ) (link : Option ℕ) (index : ℕ) : Type 0 where
+pub record IsSought (f : ℕ → Held) (n deadline id : ℕ) (ks : List ℕ) (link : Option ℕ) : Type 0 where
   pub left : List ℕ
   pub chain : IsChain f n link left
   pub within : (j : ℕ) → times_in j left ≤ times_in j ks
   pub others : (j : ℕ) → 0 < times_in j ks → times_in j left ≡ 0 → is_pair_of deadline id (f j) ≡ false
-  pub size : length left + index ≡ length ks
 
 -- a node in a chain, behind these and before those
 pub record IsAmong (f : ℕ → Held) (n : ℕ) (head : Option ℕ) (at : ℕ) (front back : List ℕ) : Type 0 where
@@ -55,12 +59,11 @@ pub record IsJustBefore (f : ℕ → Held) (n : ℕ) (front : List ℕ) (before 
   pub leads : (f before).chain ≡ Some at
 
 -- the way to a node of a chain, at some time
-pub record Nears (f : ℕ → Held) (n at : ℕ) (front back : List ℕ) (here index : ℕ) : Type 0 where
+pub record Nears (f : ℕ → Held) (n at : ℕ) (front back : List ℕ) (here : ℕ) : Type 0 where
   pub passed : List ℕ
   pub left : List ℕ
   pub is : front ≡ passed ++ here ∷ left
   pub chain : IsChain f n (Some here) (here ∷ left ++ at ∷ back)
-  pub size : length passed ≡ index
 
 -- only links of chains were written
 pub record ChainsChange (old new : List Node) : Type 0 where

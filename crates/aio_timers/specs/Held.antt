@@ -1,5 +1,5 @@
 -- What a node holds besides its place in the heap: a timer, where it is in use, and the link of its chain.
-use Rattle.std.specs.Prelude.{ℕ, Bool, ◌&&◌, ◌==◌, List, map, Option, None, Some, slice_index_or}
+use Rattle.std.specs.Prelude.{ℕ, ◌≡◌, Bool, true, is_some, ◌&&◌, ◌==◌, List, map, Option, None, Some, slice_index_or}
 use Rattle.aio_base.specs.declared.names.Waker.{Waker}
 use Rattle.aio_base.specs.World.{Registration}
 use Rattle.aio_timers.specs.declared.node.Node.{Node}
@@ -40,6 +40,10 @@ vacant = held_of blank_node
 -- a timer that left
 abbrev pub gone : Held → Held
 gone h = record h { waker = None }
+
+-- a node that is not free
+abbrev pub IsUsed : Held → Type 0
+IsUsed h = is_some h.waker ≡ true
 
 abbrev pub is_pair_of : ℕ → ℕ → Held → Bool
 is_pair_of deadline id h = (h.id == id) && (h.deadline == deadline)

@@ -3,10 +3,11 @@ pub mod Book
 pub mod Links
 pub mod Held
 pub mod Precedes
-pub mod Nodes
-pub mod Forest
+pub mod Writes
+pub mod Rows
+pub mod Family
 pub mod Heap
-pub mod Walk
+pub mod Due
 pub mod Chains
 pub mod Sound
 pub mod Growth

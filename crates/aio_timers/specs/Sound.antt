@@ -1,6 +1,7 @@
 -- What stands of a book of timers.
 use Rattle.std.specs.Prelude.{ℕ, ◌≡◌, ◌<◌, ◌≤◌, ◌^◌, ◌+◌, false, List, length, Option, Some}
 use Rattle.std.specs.List.{All, filter_map}
+use Rattle.std.specs.Int.{IsPowerOfTwo}
 use Rattle.aio_base.specs.World.{Registration}
 use Rattle.aio_base.specs.Timers.{in_order, placed, is_pair, IsBook}
 use Rattle.aio_timers.specs.declared.node.Node.{Node}
@@ -18,6 +19,7 @@ pub record IsSound (nodes : List Node) (buckets : List (Option ℕ)) (root free 
   pub book : IsBook (registrations (helds nodes))
   pub table : IsTable (held_at nodes) (length nodes) buckets (λ j. used_of (held_at nodes j))
   pub row : length nodes ≤ length buckets
+  pub power : 0 < length buckets → IsPowerOfTwo (length buckets)
   pub few : length nodes < 2 ^ 32
   pub used_is : used ≡ length (registrations (helds nodes))
 

@@ -7,13 +7,13 @@ ghost use Rattle.aio_base.specs.World.{Registration};
 ghost use Rattle.aio_base.specs.Timers.{IsBook, fold_changes, due_wakers, after_pass, first_deadline};
 ghost use Rattle.aio_timers.specs.Book.{change_of, entries_needed, first_pair, is_first_due};
 
+use crate::due::count_due;
 use crate::link::Link;
 use crate::node::Node;
 use crate::op::TimerOp;
 use crate::reads::{is_due_at, pair_at, waker_at};
 use crate::room::{grow, wanted};
 use crate::steps::{add, find, set_waker, take};
-use crate::walk::count_due;
 use aio_base::{Moment, OutOfMemory, TimerId, Waker};
 use std::alloc::Global;
 use std::marker::Model;

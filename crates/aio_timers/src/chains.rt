@@ -1,28 +1,29 @@
 //! The buckets, and the chains through the nodes that find the timer of a deadline and an id.
 
 ghost use Rattle.std.specs.Prelude.{◌≡◌, ◌≢◌, ◌<◌, ◌+◌, ◌%◌, ◌^◌, ◌≤◌, ℕ, length, slice_index_or, None, Option, Some, List, slice_set, IsTrue, ◌↔◌};
+ghost use Rattle.std.specs.Int.{IsPowerOfTwo};
 ghost use Rattle.aio_timers.specs.Held.{Held, node_at, held_at, is_pair_of};
-ghost use Rattle.aio_timers.specs.Forest.{one_if};
 ghost use Rattle.aio_timers.specs.Chains.{IsBucket, IsTable, IsFound, IsAmong, IsJustBefore, ChainsChange, IsWithout, bucket_in};
-ghost use Rattle.aio_timers.specs.Nodes.{with_chain};
+ghost use Rattle.aio_timers.specs.Writes.{with_chain};
 
 use crate::link::Link;
 use crate::node::Node;
 use aio_base::{Moment, TimerId};
 
-/// The bucket of an id, of so many.
+/// The bucket of an id, of so many: the rest of the division, which is the low bits as their number
+/// is a power of two.
 pub(crate) fn bucket_of(id: TimerId, buckets: usize) -> usize
-    requires { 0 < buckets }
+    requires { IsPowerOfTwo buckets }
     ensures value { result ≡ bucket_in id.0 buckets }
     ensures within { result < buckets }
 {
-    (id.0 % buckets as u64) as usize
+    (id.0 & (buckets as u64 - 1)) as usize
 }
 
 /// The bucket of a node, of so many.
 fn bucket_at(nodes: &[Node], at: usize, buckets: usize) -> usize
     requires within { at < length nodes.now }
-    requires some { 0 < buckets }
+    requires power { IsPowerOfTwo buckets }
     ensures value { result ≡ bucket_in (Held.id (held_at nodes.now at)) buckets }
     ensures within { result < buckets }
 {
@@ -58,16 +59,11 @@ pub(crate) fn seek(nodes: &[Node], head: Link, deadline: Moment, id: TimerId) ->
     ensures { (ks : List ℕ) → IsBucket (held_at nodes.now) (length nodes.now) head ks → IsFound (held_at nodes.now) deadline id.0 ks result }
 {
     let mut link = head;
-    for _ in 0..nodes.len() {
-        match link.get() {
-            None => return None,
-            Some(at) => {
-                if is_pair_at(nodes, at, deadline, id) {
-                    return Some(at);
-                }
-                link = chain_of(nodes, at);
-            }
+    while let Some(at) = link.get() {
+        if is_pair_at(nodes, at, deadline, id) {
+            return Some(at);
         }
+        link = chain_of(nodes, at);
     }
     None
 }
@@ -88,16 +84,11 @@ fn before(nodes: &[Node], first: usize, at: usize) -> usize
     ensures { (front back : List ℕ) → IsAmong (held_at nodes.now) (length nodes.now) (Some first) at front back → IsJustBefore (held_at nodes.now) (length nodes.now) front result at }
 {
     let mut here = first;
-    for _ in 0..nodes.len() {
-        match chain_of(nodes, here).get() {
-            None => unreachable!(),
-            Some(next) => {
-                if next == at {
-                    return here;
-                }
-                here = next;
-            }
+    while let Some(next) = chain_of(nodes, here).get() {
+        if next == at {
+            return here;
         }
+        here = next;
     }
     unreachable!()
 }
@@ -105,7 +96,7 @@ fn before(nodes: &[Node], first: usize, at: usize) -> usize
 /// Takes a node out of the chain of its bucket, along that chain alone.
 pub(crate) fn leave(nodes: &mut [Node], buckets: &mut [Link], at: usize)
     requires within { at < length nodes.old }
-    requires some { 0 < length buckets.old }
+    requires power { IsPowerOfTwo (length buckets.old) }
     requires table { (used : ℕ → ℕ) × IsTable (held_at nodes.old) (length nodes.old) buckets.old used × (used at ≡ 1) }
     ensures table { (used left : ℕ → ℕ) → IsTable (held_at nodes.old) (length nodes.old) buckets.old used → used at ≡ 1 → IsWithout used left at
         → IsTable (held_at nodes.new) (length nodes.new) buckets.new left }
@@ -130,7 +121,7 @@ pub(crate) fn leave(nodes: &mut [Node], buckets: &mut [Link], at: usize)
 pub(crate) fn join(nodes: &mut [Node], buckets: &mut [Link], at: usize)
     requires few { length nodes.old < 2 ^ 32 }
     requires within { at < length nodes.old }
-    requires some { 0 < length buckets.old }
+    requires power { IsPowerOfTwo (length buckets.old) }
     ensures table { (used more : ℕ → ℕ) → IsTable (held_at nodes.old) (length nodes.old) buckets.old used → used at ≡ 0 → IsWithout more used at
         → IsTable (held_at nodes.new) (length nodes.new) buckets.new more }
     ensures nodes { ChainsChange nodes.old nodes.new }

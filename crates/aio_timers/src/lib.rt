@@ -4,24 +4,25 @@
 //! timers stand in the order in which they fire, by deadline and then by id, a change is that of one
 //! pair of a deadline and an id, and a pass takes exactly the wakers that are due, in order.
 //!
-//! The list is kept as a pairing heap in one vector of nodes (`heap`, `links`, `walk`), with chains of
+//! The list is kept as a pairing heap in one vector of nodes (`siblings`, `merge`, `heap`, `due`), with chains of
 //! nodes by id (`chains`) and a list of free nodes (`room`). That is the matter of the book's
 //! invariant: no clause above speaks of it.
 #![tactic(auto)]
 
 mod book;
 mod chains;
+mod due;
 mod heap;
 mod link;
-mod links;
+mod merge;
 mod node;
 mod op;
 mod reads;
 mod room;
+mod siblings;
 mod steps;
 #[cfg(test)]
 mod tests;
-mod walk;
 
 pub use book::TimerBook;
 pub use op::TimerOp;

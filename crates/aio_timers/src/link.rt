@@ -4,37 +4,37 @@ ghost use Rattle.std.specs.Prelude.{◌≡◌, ◌<◌, ◌-◌, ◌^◌, None, 
 
 use std::marker::Model;
 
-/// The index of a node, or none. Contracts see an option; the number kept is one more than the
-/// index, and 0 for none.
+/// The node that comes next somewhere, or none. Contracts see an option; kept is the index of the
+/// node, and for none the greatest number, which is the index of no node.
 #[derive(Clone, Copy)]
 pub(crate) struct Link {
-    code: u32,
+    index: u32,
 }
 
 impl Model for Link {
     ghost use Rattle.std.specs.Prelude.{Option, ℕ, ◌<◌, ◌^◌};
     ghost use Rattle.std.specs.Coded.{coded_ℕ, coded_option};
-    ghost use Rattle.aio_timers.specs.Links.{index_of, code_of, code_of-index};
+    ghost use Rattle.aio_timers.specs.Links.{leads_from, stands_for, stands_for-inside};
 
     ghost Value = { Option ℕ };
 
     ghost coded = { coded_option coded_ℕ };
 
-    ghost view = { λ l. index_of l.code };
+    ghost view = { λ l. leads_from l.index };
 
-    ghost invariant = { λ l. l.code < 2 ^ 32 };
+    ghost invariant = { λ l. l.index < 2 ^ 32 };
 
-    ghost inverse = { λ o. record { code = code_of o } };
+    ghost inverse = { λ o. record { index = stands_for o } };
 
-    ghost inverse_ok = { λ l h. code_of-index l };
+    ghost inverse_ok = { λ l h. stands_for-inside l };
 }
 
 impl Link {
-    /// The link to no node.
+    /// No link.
     pub(crate) fn none() -> Link
         ensures { result ≡ None }
     {
-        Link { code: 0 }
+        Link { index: u32::MAX }
     }
 
     /// The link to the node with this index.
@@ -43,7 +43,7 @@ impl Link {
         ensures { result ≡ Some index }
     {
         Link {
-            code: index as u32 + 1,
+            index: index as u32,
         }
     }
 
@@ -51,10 +51,9 @@ impl Link {
     pub(crate) fn get(self) -> Option<usize>
         ensures { result ≡ self }
     {
-        if self.code == 0 {
-            None
-        } else {
-            Some(self.code as usize - 1)
+        if self.index == u32::MAX {
+            return None;
         }
+        Some(self.index as usize)
     }
 }

@@ -7,22 +7,23 @@ ghost use Rattle.aio_timers.specs.Precedes.{precedes};
 use crate::link::Link;
 use aio_base::{Moment, TimerId, Waker};
 
-/// A node of the heap while it has a waker, and of the free list while it has none. Its deadline,
-/// its id and its waker are the timer's; all else are links to other nodes.
+/// A registered timer while it has a waker, else a free place. Its deadline, its id and its waker are
+/// the timer's; all else are links to other nodes. What a look along a row of siblings reads stands
+/// side by side.
 #[derive(Clone, Copy)]
 pub(crate) struct Node {
-    pub(crate) deadline: Moment,
     pub(crate) id: TimerId,
     /// The task to wake, where the node is in use.
     pub(crate) waker: Option<Waker>,
-    /// The next node of its bucket.
-    pub(crate) chain: Link,
-    /// The first child.
-    pub(crate) child: Link,
+    pub(crate) deadline: Moment,
     /// The next sibling, or the next free node.
     pub(crate) next: Link,
+    /// The first child.
+    pub(crate) child: Link,
     /// The sibling before it, or the parent of a first child.
     pub(crate) prev: Link,
+    /// The next node of its bucket.
+    pub(crate) chain: Link,
 }
 
 impl Node {

@@ -1,6 +1,7 @@
 //! Growth: free nodes, and a row of buckets for them.
 
 ghost use Rattle.std.specs.Prelude.{◌≡◌, ◌<◌, ◌≤◌, ◌+◌, ◌^◌, ℕ, Option, None, Some, List, length, slice_index_or, vec_len, vec_capacity, OnOk, OnErr, IfSome};
+ghost use Rattle.std.specs.Int.{IsPowerOfTwo};
 ghost use Rattle.aio_timers.specs.Held.{held_at, helds, free_node};
 ghost use Rattle.aio_timers.specs.Chains.{IsTable, ChainsChange, used_of};
 ghost use Rattle.aio_timers.specs.Growth.{IsBlankRow, Extends, Grows, Rehashes};
@@ -51,22 +52,23 @@ pub(crate) fn grow(
 }
 
 /// Makes the buckets at least so many, and puts every node in use into its new bucket. Their number
-/// is odd, so that ids that differ by a large power of two alone, as those of several passes do, come
-/// into different buckets.
+/// is a power of two, so that the bucket of an id takes no division.
 fn widen(nodes: &mut Vec<Node>, buckets: &mut Vec<Link>, total: usize) -> Result<(), OutOfMemory>
     requires some { 0 < total }
     requires bound { total < 2 ^ 32 }
     requires few { length nodes.old.items < 2 ^ 32 }
     requires table { IsTable (held_at nodes.old.items) (length nodes.old.items) buckets.old.items (λ j. used_of (held_at nodes.old.items j)) }
+    requires power { 0 < length buckets.old.items → IsPowerOfTwo (length buckets.old.items) }
     ensures table { Rehashes nodes.old.items nodes.new.items buckets.new.items }
     ensures row { OnOk result (total ≤ length buckets.new.items) }
+    ensures power { OnOk result (IsPowerOfTwo (length buckets.new.items)) }
     ensures refused { OnErr result (buckets.new.items ≡ buckets.old.items) }
     ensures capacity { vec_capacity nodes.new ≡ vec_capacity nodes.old }
 {
     if total <= buckets.len() {
         return Ok(());
     }
-    let row = total + (total + 1) % 2;
+    let row = total.next_power_of_two();
     let more = row - buckets.len();
     match buckets.reserve_exact(more) {
         Err(_) => Err(OutOfMemory),
@@ -93,7 +95,7 @@ fn clear_row(buckets: &mut Vec<Link>, total: usize)
 /// Puts every node in use into the bucket of its id.
 fn rehash(nodes: &mut [Node], buckets: &mut [Link])
     requires few { length nodes.old < 2 ^ 32 }
-    requires some { 0 < length buckets.old }
+    requires power { IsPowerOfTwo (length buckets.old) }
     requires blank { IsBlankRow buckets.old }
     ensures table { Rehashes nodes.old nodes.new buckets.new }
 {

@@ -3,14 +3,14 @@
 ghost use Rattle.std.specs.Prelude.{◌≡◌, ◌<◌, ℕ, Option, None, Some, is_some, true, length, MatchOption};
 ghost use Rattle.aio_base.specs.World.{Registration};
 ghost use Rattle.aio_timers.specs.Held.{held_at, helds, live_of};
-ghost use Rattle.aio_timers.specs.Nodes.{with_waker};
+ghost use Rattle.aio_timers.specs.Writes.{with_waker};
 ghost use Rattle.aio_timers.specs.Sound.{IsSound, IsAbsent, IsPairAt, Gains, Drops};
 
 use crate::chains::{bucket_of, head_of, leave, seek};
 use crate::heap::{place, take_inner, take_root};
 use crate::link::Link;
-use crate::links::next_of;
 use crate::node::Node;
+use crate::siblings::next_of;
 use aio_base::{Moment, TimerId, Waker};
 
 /// The node in use with this deadline and this id.

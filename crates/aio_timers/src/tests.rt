@@ -108,29 +108,69 @@ fn a_root_with_all_others_below_it_keeps_the_order(rt: HostRuntime) -> Result<()
     check_order(&rt, rt.alloc(), false)
 }
 
-/// Removals in all places of the heap: of the root, of a first child, between siblings and of the
-/// last one, each with and without children. After each the timer that fires first is compared.
+/// Timers at the moments 2 to 10. As those at 0 and 1 came before, and went in a pass before the last
+/// two came, 2 is the root, with the children 10, 9, 5 and 3; 5 has the children 7 and 6, 3 has 4 and
+/// 7 has 8.
+fn tall(rt: &impl Abort, alloc: Global) -> Result<TimerBook, Fail> {
+    let mut book = TimerBook::new(alloc);
+    book.reserve(11)?;
+    for deadline in 0u32..9 {
+        insert(rt, &mut book, deadline as u64, 7, deadline);
+    }
+    let taken = passed(alloc, &mut book, moment(rt, 1))?;
+    assert_eq!(rt; taken.as_slice(), [Waker(0), Waker(1)].as_slice());
+    insert(rt, &mut book, 9, 7, 9);
+    insert(rt, &mut book, 10, 7, 10);
+    Ok(book)
+}
+
+/// The root, and a first child, one between siblings and a last one, each with children and without
+/// (7 and 10, 5 and 9, 3 and 6), and only children: after each removal the others stand in order.
 #[test]
 fn a_timer_leaves_from_every_place(rt: HostRuntime) -> Result<(), Fail> {
+    for gone in 2u32..11 {
+        let mut book = tall(&rt, rt.alloc())?;
+        remove(&rt, &mut book, gone as u64, 7);
+        assert_eq!(rt; book.len(), 8);
+        let first = if gone == 2 { 3 } else { 2 };
+        assert_eq!(rt; book.first(), Some((moment(&rt, first), TimerId(7))));
+        let taken = passed(rt.alloc(), &mut book, moment(&rt, 10))?;
+        assert_eq!(rt; taken.len(), 8);
+        assert!(rt; taken.iter().is_sorted());
+        assert!(rt; !taken.contains(&Waker(gone)));
+        remove(&rt, &mut book, 2, 7);
+        assert_eq!(rt; book.first(), None);
+    }
+    Ok(())
+}
+
+#[test]
+fn a_count_of_due_timers_ends_at_the_first_that_is_not(rt: HostRuntime) -> Result<(), Fail> {
+    let mut book = TimerBook::new(rt.alloc());
+    assert_eq!(rt; book.due_count(moment(&rt, 0)), 0);
+    book = tall(&rt, rt.alloc())?;
+    assert_eq!(rt; book.due_count(moment(&rt, 1)), 0);
+    for now in 2u32..12 {
+        let due = now.min(10) as usize - 1;
+        assert_eq!(rt; book.due_count(moment(&rt, now as u64)), due);
+    }
+    Ok(())
+}
+
+/// Ten timers of one deadline, inserted in another order than that of their ids.
+#[test]
+fn timers_of_one_deadline_fire_by_id(rt: HostRuntime) -> Result<(), Fail> {
     let mut book = TimerBook::new(rt.alloc());
     book.reserve(10)?;
-    for deadline in [10, 20, 30, 40, 50, 60, 70, 80, 90] {
-        insert(&rt, &mut book, deadline, 7, deadline as u32);
+    for id in [3u32, 9, 1, 7, 5, 8, 0, 6, 2, 4] {
+        insert(&rt, &mut book, 50, id as u64, id);
     }
-    for (deadline, first) in [
-        (60, 10),
-        (90, 10),
-        (20, 10),
-        (10, 30),
-        (40, 30),
-        (80, 30),
-        (30, 50),
-        (70, 50),
-    ] {
-        remove(&rt, &mut book, deadline, 7);
-        assert_eq!(rt; book.first(), Some((moment(&rt, first), TimerId(7))));
-    }
-    remove(&rt, &mut book, 50, 7);
-    assert_eq!(rt; book.first(), None);
+    assert_eq!(rt; book.first(), Some((moment(&rt, 50), TimerId(0))));
+    assert_eq!(rt; book.due_count(moment(&rt, 49)), 0);
+    assert_eq!(rt; book.due_count(moment(&rt, 50)), 10);
+    remove(&rt, &mut book, 50, 4);
+    let taken = passed(rt.alloc(), &mut book, moment(&rt, 50))?;
+    let ids = [0, 1, 2, 3, 5, 6, 7, 8, 9].map(Waker);
+    assert_eq!(rt; taken.as_slice(), ids.as_slice());
     Ok(())
 }

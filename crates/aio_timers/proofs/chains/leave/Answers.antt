@@ -1,7 +1,7 @@
 -- The link that led to the node leads past it: that of the bucket, or that of the node before.
 use Rattle.std.proofs.Common.{◌≡◌, ℕ, None, Some, length, ap, sym, ◌∙◌, arith, get_or, length-set}
 use Rattle.aio_timers.specs.Held.{Held, held_at}
-use Rattle.aio_timers.specs.Nodes.{with_chain}
+use Rattle.aio_timers.specs.Writes.{with_chain}
 use Rattle.aio_timers.specs.Chains.{IsTable, IsJustBefore}
 use Rattle.aio_timers.proofs.ChainLemmas.{leaves-first, leaves-behind, first-below, none-empty, InItsChain, in-its-chain, in-chain}
 use Rattle.aio_timers.proofs.BucketLemmas.{chain-here, chain-there, chain-id}
@@ -58,5 +58,5 @@ returns-else-first-at-clause-table c = λ used left t one takes.
     (sym c.bucket_at-bucket.ensures.value) c.bucket_at-bucket.ensures.within
     (chain-here ns c.before-before.result c.chain_of-behind.result j.within ∙ c.chain_of-behind.ensures)
     (λ x ne. ap Held.chain (chain-there ns c.before-before.result c.chain_of-behind.result x ne))
-    (λ x. chain-id ns c.before-before.result c.chain_of-behind.result x j.within)
+    (λ x. chain-id ns c.before-before.result c.chain_of-behind.result x)
     t i.is i.once j takes)

@@ -1,8 +1,11 @@
--- No node that was passed has the pair.
+-- No node that was passed has the pair, and fewer are to come.
 use Rattle.std.proofs.Common.{ℕ, List, length}
 use Rattle.aio_timers.specs.Held.{held_at}
-use Rattle.aio_timers.specs.Chains.{IsBucket, IsSought}
+use Rattle.aio_timers.specs.Chains.{IsBucket, IsSought, chain_steps}
 use Rattle.aio_timers.proofs.chains.seek.Given as goal
 
-abbrev pub invariant-loop : goal.invariant-loop
-invariant-loop l = (ks : List ℕ) → IsBucket (held_at l.fn.nodes) (length l.fn.nodes) l.fn.head ks → IsSought (held_at l.fn.nodes) (length l.fn.nodes) l.fn.deadline l.fn.id.0 ks l.link l.counter
+abbrev pub invariant-loop-at : goal.invariant-loop-at
+invariant-loop-at l = (ks : List ℕ) → IsBucket (held_at l.fn.nodes) (length l.fn.nodes) l.fn.head ks → IsSought (held_at l.fn.nodes) (length l.fn.nodes) l.fn.deadline l.fn.id.0 ks l.link
+
+abbrev pub decreases-loop-at : goal.decreases-loop-at
+decreases-loop-at l = chain_steps (length l.fn.nodes) (held_at l.fn.nodes) l.link

@@ -1,45 +1,42 @@
--- The node leaves its siblings, its children become one tree, and that joins the rest.
-use Rattle.std.proofs.Common.{Some, None}
-use Rattle.aio_timers.specs.Forest.{CutOut}
-use Rattle.aio_timers.proofs.CutLemmas.{cut_out-tells}
-use Rattle.aio_timers.proofs.InsideLemmas.{Inside, inside_of, links-within, cut_out-row, take-alone, take-joined, Removal, steps}
+-- The node leaves its row; then the trees below it are merged, and joined with the rest.
+use Rattle.std.proofs.Common.{Some}
+use Rattle.aio_timers.proofs.HeapLemmas.{LinksInside, links-inside, Opens, opens-inner, merged-none, Rejoins, rejoins}
 use Rattle.aio_timers.proofs.heap.take_inner.Goals as goal
 
-pub cut-requires-clause-next : goal.cut-requires-clause-next
-cut-requires-clause-next c =
-    let i : Inside c.args.nodes.now c.args.root c.args.at _ = inside_of c.args.nodes.now c.args.root c.args.at c.args.free c.requires.heap c.requires.within c.requires.used c.requires.other in
-    let w = links-within c.args.nodes.now c.args.at i.around i.below i.later i.place in w.next
+pub leave_row-requires : goal.leave_row-requires
+leave_row-requires c =
+    let l : LinksInside c.args.nodes.now c.args.at = links-inside c.args.nodes.now c.args.root c.args.at c.args.free c.requires.heap c.requires.used c.requires.other in
+    record { here = c.requires.within; next = l.next; prev = l.prev }
 
-pub cut-requires-clause-prev : goal.cut-requires-clause-prev
-cut-requires-clause-prev c =
-    let i : Inside c.args.nodes.now c.args.root c.args.at _ = inside_of c.args.nodes.now c.args.root c.args.at c.args.free c.requires.heap c.requires.within c.requires.used c.requires.other in
-    let w = links-within c.args.nodes.now c.args.at i.around i.below i.later i.place in w.prev
-
-pub merge-requires-clause-row : goal.merge-requires-clause-row
-merge-requires-clause-row c =
-    let i : Inside c.args.nodes.now c.args.root c.args.at _ = inside_of c.args.nodes.now c.args.root c.args.at c.args.free c.requires.heap c.requires.within c.requires.used c.requires.other in
-    let u : CutOut c.args.nodes.now c.cut.new.nodes c.args.at i.around i.below i.later = rw c.cut.ensures (cut_out-tells c.args.nodes.now c.args.at i.around i.below i.later i.place) in
-    (i.below, rw c.child_of-children.ensures (cut_out-row c.args.nodes.now c.cut.new.nodes c.args.root c.args.at _ i u))
-
-pub meld-top-requires-clause-first : goal.meld-top-requires-clause-first
-meld-top-requires-clause-first c =
-    let s : Removal c.args.nodes.now c.cut.new.nodes c.merge.new.nodes c.args.root c.args.at c.args.free (Some c.in-Some.rest) c.requires.heap = steps c.args.nodes.now c.cut.new.nodes c.merge.new.nodes c.args.root c.args.at c.args.free (Some c.in-Some.rest) c.requires.heap c.requires.within c.requires.used c.requires.other c.cut.ensures (λ t s. c.in-Some.ensures t (rw c.child_of-children.ensures s)) in
-    let both = take-joined c.args.nodes.now c.cut.new.nodes c.merge.new.nodes c.args.root c.args.at c.args.free c.requires.heap c.requires.within s.place s.gone c.in-Some.rest s.merged in
-    both.0.first
-
-pub meld-top-requires-clause-second : goal.meld-top-requires-clause-second
-meld-top-requires-clause-second c =
-    let s : Removal c.args.nodes.now c.cut.new.nodes c.merge.new.nodes c.args.root c.args.at c.args.free (Some c.in-Some.rest) c.requires.heap = steps c.args.nodes.now c.cut.new.nodes c.merge.new.nodes c.args.root c.args.at c.args.free (Some c.in-Some.rest) c.requires.heap c.requires.within c.requires.used c.requires.other c.cut.ensures (λ t s. c.in-Some.ensures t (rw c.child_of-children.ensures s)) in
-    let both = take-joined c.args.nodes.now c.cut.new.nodes c.merge.new.nodes c.args.root c.args.at c.args.free c.requires.heap c.requires.within s.place s.gone c.in-Some.rest s.merged in
-    both.0.second
+pub merge-requires-clause-tops : goal.merge-requires-clause-tops
+merge-requires-clause-tops c =
+    let o : Opens c.args.nodes.now c.release.new.nodes c.args.at (Some c.args.root) c.child_of-first.result =
+    opens-inner c.args.nodes.now c.leave_row.new.nodes c.release.new.nodes c.args.root c.args.at c.child_of-first.result c.args.free c.leave_row.ensures c.child_of-first.ensures c.release.ensures c.requires.heap c.requires.used c.requires.other in
+    (o.family, o.row, o.tops)
 
 pub returns-in-None : goal.returns-in-None
 returns-in-None c =
-    let s : Removal c.args.nodes.now c.cut.new.nodes c.merge.new.nodes c.args.root c.args.at c.args.free None c.requires.heap = steps c.args.nodes.now c.cut.new.nodes c.merge.new.nodes c.args.root c.args.at c.args.free None c.requires.heap c.requires.within c.requires.used c.requires.other c.cut.ensures (λ t s. c.in-None.ensures t (rw c.child_of-children.ensures s)) in
-    rw c.release.ensures (take-alone c.args.nodes.now c.cut.new.nodes c.merge.new.nodes c.args.root c.args.at c.args.free c.requires.heap c.requires.within s.place s.gone s.merged)
+    let o : Opens c.args.nodes.now c.release.new.nodes c.args.at (Some c.args.root) c.child_of-first.result =
+    opens-inner c.args.nodes.now c.leave_row.new.nodes c.release.new.nodes c.args.root c.args.at c.child_of-first.result c.args.free c.leave_row.ensures c.child_of-first.ensures c.release.ensures c.requires.heap c.requires.used c.requires.other in
+    merged-none c.args.nodes.now c.release.new.nodes c.merge.new.nodes c.args.at (Some c.args.root) c.child_of-first.result o (c.in-None.ensures o.family o.row o.tops)
+
+pub join-requires-clause-first : goal.join-requires-clause-first
+join-requires-clause-first c =
+    let o : Opens c.args.nodes.now c.release.new.nodes c.args.at (Some c.args.root) c.child_of-first.result =
+    opens-inner c.args.nodes.now c.leave_row.new.nodes c.release.new.nodes c.args.root c.args.at c.child_of-first.result c.args.free c.leave_row.ensures c.child_of-first.ensures c.release.ensures c.requires.heap c.requires.used c.requires.other in
+    let r : Rejoins c.args.nodes.now c.merge.new.nodes c.args.at c.args.root c.in-Some.top = rejoins c.args.nodes.now c.release.new.nodes c.merge.new.nodes c.args.at c.args.root c.in-Some.top c.child_of-first.result o (c.in-Some.ensures o.family o.row o.tops) in
+    r.first
+
+pub join-requires-clause-second : goal.join-requires-clause-second
+join-requires-clause-second c =
+    let o : Opens c.args.nodes.now c.release.new.nodes c.args.at (Some c.args.root) c.child_of-first.result =
+    opens-inner c.args.nodes.now c.leave_row.new.nodes c.release.new.nodes c.args.root c.args.at c.child_of-first.result c.args.free c.leave_row.ensures c.child_of-first.ensures c.release.ensures c.requires.heap c.requires.used c.requires.other in
+    let r : Rejoins c.args.nodes.now c.merge.new.nodes c.args.at c.args.root c.in-Some.top = rejoins c.args.nodes.now c.release.new.nodes c.merge.new.nodes c.args.at c.args.root c.in-Some.top c.child_of-first.result o (c.in-Some.ensures o.family o.row o.tops) in
+    r.second
 
 pub returns-in-Some : goal.returns-in-Some
 returns-in-Some c =
-    let s : Removal c.args.nodes.now c.cut.new.nodes c.merge.new.nodes c.args.root c.args.at c.args.free (Some c.in-Some.rest) c.requires.heap = steps c.args.nodes.now c.cut.new.nodes c.merge.new.nodes c.args.root c.args.at c.args.free (Some c.in-Some.rest) c.requires.heap c.requires.within c.requires.used c.requires.other c.cut.ensures (λ t s. c.in-Some.ensures t (rw c.child_of-children.ensures s)) in
-    let both = take-joined c.args.nodes.now c.cut.new.nodes c.merge.new.nodes c.args.root c.args.at c.args.free c.requires.heap c.requires.within s.place s.gone c.in-Some.rest s.merged in
-    rw (c.release-in-Some.ensures, c.meld-top.ensures.nodes, c.meld-top.ensures.root) both.1
+    let o : Opens c.args.nodes.now c.release.new.nodes c.args.at (Some c.args.root) c.child_of-first.result =
+    opens-inner c.args.nodes.now c.leave_row.new.nodes c.release.new.nodes c.args.root c.args.at c.child_of-first.result c.args.free c.leave_row.ensures c.child_of-first.ensures c.release.ensures c.requires.heap c.requires.used c.requires.other in
+    let r : Rejoins c.args.nodes.now c.merge.new.nodes c.args.at c.args.root c.in-Some.top = rejoins c.args.nodes.now c.release.new.nodes c.merge.new.nodes c.args.at c.args.root c.in-Some.top c.child_of-first.result o (c.in-Some.ensures o.family o.row o.tops) in
+    rw (c.join.ensures.nodes, c.join.ensures.root) r.holds

@@ -1,11 +1,14 @@
--- What was below the root is the heap.
-use Rattle.aio_timers.proofs.RootLemmas.{RootChildren, root-children, take-root}
+-- The trees below the root are merged.
+use Rattle.std.proofs.Common.{None}
+use Rattle.aio_timers.proofs.HeapLemmas.{Opens, opens-root, merged-alone}
 use Rattle.aio_timers.proofs.heap.take_root.Goals as goal
 
-pub merge-rest-requires-clause-row : goal.merge-rest-requires-clause-row
-merge-rest-requires-clause-row c = let ch = root-children c.args.nodes.now c.args.root c.args.free c.requires.heap in (ch.below, rw c.child_of-children.ensures ch.row)
+pub merge-requires-clause-tops : goal.merge-requires-clause-tops
+merge-requires-clause-tops c =
+    let o : Opens c.args.nodes.now c.release.new.nodes c.args.root None c.child_of-first.result = opens-root c.args.nodes.now c.release.new.nodes c.args.root c.child_of-first.result c.args.free c.child_of-first.ensures c.release.ensures c.requires.heap in
+    (o.family, o.row, o.tops)
 
 pub returns : goal.returns
 returns c =
-    let ch : RootChildren c.args.nodes.now c.args.root _ = root-children c.args.nodes.now c.args.root c.args.free c.requires.heap in
-    rw c.release.ensures (take-root c.args.nodes.now c.merge-rest.new.nodes c.args.root c.args.free c.merge-rest.result c.requires.heap c.requires.within ch (c.merge-rest.ensures ch.below (rw c.child_of-children.ensures ch.row)))
+    let o : Opens c.args.nodes.now c.release.new.nodes c.args.root None c.child_of-first.result = opens-root c.args.nodes.now c.release.new.nodes c.args.root c.child_of-first.result c.args.free c.child_of-first.ensures c.release.ensures c.requires.heap in
+    merged-alone c.args.nodes.now c.release.new.nodes c.merge.new.nodes c.args.root c.child_of-first.result c.merge.result o (c.merge.ensures o.family o.row o.tops)

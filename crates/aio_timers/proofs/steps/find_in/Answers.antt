@@ -1,9 +1,17 @@
 -- The chain of the bucket holds all nodes in use with this id.
-use Rattle.std.proofs.Common.{length, sym}
+use Rattle.std.proofs.Common.{◌≡◌, ◌==◌, ◌<◌, ◌∙◌, ℕ, false, length, sym, arith}
+use Rattle.std.proofs.lemmas.Bool.Decides.{nat_tests}
 use Rattle.aio_timers.specs.Held.{held_at}
 use Rattle.aio_timers.specs.Chains.{IsBucket}
+use Rattle.aio_timers.specs.Sound.{IsSound}
 use Rattle.aio_timers.proofs.SoundLemmas.{its-bucket, search-tells}
 use Rattle.aio_timers.proofs.steps.find_in.Goals as goal
+
+positive : (n : ℕ) → (n == 0) ≡ false → 0 < n
+positive n e = grind (arith, nat_tests)
+
+pub bucket_of-bucket-requires : goal.bucket_of-bucket-requires
+bucket_of-bucket-requires c = let s : IsSound c.args.nodes.now c.args.buckets.now c.requires.0 c.requires.1 c.requires.2 = c.requires.3 in s.power (positive (length c.args.buckets.now) (sym c.is_empty.ensures ∙ c.if-is_empty.false))
 
 pub returns : goal.returns
 returns c = λ root free used s.

@@ -1,7 +1,7 @@
 -- The timers stand, and there are more nodes, or as many.
 use Rattle.std.proofs.Common.{◌≡◌, ◌-◌, length, arith, ap, ◌∙◌}
 use Rattle.aio_timers.specs.Room.{Book}
-use Rattle.aio_timers.proofs.SoundLemmas.{used-within}
+use Rattle.aio_timers.proofs.SoundLemmas.{used-fits}
 use Rattle.aio_timers.proofs.book.TimerBook.reserve.Goals as goal
 
 pub invariant_of-self : goal.invariant_of-self
@@ -34,7 +34,7 @@ returns-in-Ok-clause-room c =
       c.len.ensures,
       c.spare-spare.ensures.value,
       c.if-n-spare.false,
-      used-within c.self.inside.nodes.items c.self.inside.buckets.items c.self.inside.root c.self.inside.free c.self.inside.used c.self.invariant,
+      used-fits c.self.inside.nodes.items c.self.inside.buckets.items c.self.inside.root c.self.inside.free c.self.inside.used c.self.invariant,
     )
 
 pub returns-in-Ok-clause-spare : goal.returns-in-Ok-clause-spare

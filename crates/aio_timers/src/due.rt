@@ -1,0 +1,92 @@
+//! The count of the timers that are due: a walk over the heap that goes from a node that is due, and
+//! from no other, to its children, from the last child on, and back by the links.
+
+ghost use Rattle.std.specs.Prelude.{◌≡◌, ◌<◌, ℕ, List, [], length, Option, None, Some, if◌then◌else◌};
+ghost use Rattle.aio_timers.specs.Held.{held_at, helds};
+ghost use Rattle.aio_timers.specs.Rows.{IsRunOnce};
+ghost use Rattle.aio_timers.specs.Family.{Family};
+ghost use Rattle.aio_timers.specs.Heap.{IsHeap};
+ghost use Rattle.aio_timers.specs.Due.{due_in, is_due, IsLast, Trail, IsOnTrail, GoesOn};
+
+use crate::node::Node;
+use crate::siblings::{child_of, is_link_to, next_of, prev_of};
+use aio_base::Moment;
+
+/// The last node of a row, from its first.
+fn last_of(nodes: &[Node], first: usize) -> usize
+    requires { (ks : List ℕ) × IsRunOnce nodes.now (Some first) ks }
+    ensures { (ks : List ℕ) → IsRunOnce nodes.now (Some first) ks → IsLast ks result }
+{
+    let mut at = first;
+    while let Some(next) = next_of(nodes, at).get() {
+        at = next;
+    }
+    at
+}
+
+/// The sibling before a node, or before the nearest node above that has one.
+fn retreat(nodes: &[Node], from: usize) -> Option<usize>
+    requires { (root : Option ℕ) × (free : Option ℕ) × (h : IsHeap nodes.now root free) × (t : Trail) × IsOnTrail nodes.now h.family from t }
+    ensures { (root free : Option ℕ) (h : IsHeap nodes.now root free) (t : Trail) → IsOnTrail nodes.now h.family from t → GoesOn nodes.now h.family [] t result }
+{
+    let mut at = from;
+    for _ in 0..nodes.len() {
+        match prev_of(nodes, at).get() {
+            None => return None,
+            Some(before) => {
+                if !is_link_to(child_of(nodes, before), at) {
+                    return Some(before);
+                }
+                at = before;
+            }
+        }
+    }
+    unreachable!()
+}
+
+/// Where the walk goes from a node: to its last child where the node is due and has one, else on to
+/// what is before it.
+fn step(nodes: &[Node], at: usize, due: bool) -> Option<usize>
+    requires { (root : Option ℕ) × (free : Option ℕ) × (h : IsHeap nodes.now root free) × (t : Trail) × IsOnTrail nodes.now h.family at t }
+    ensures { (root free : Option ℕ) (h : IsHeap nodes.now root free) (t : Trail) → IsOnTrail nodes.now h.family at t
+        → GoesOn nodes.now h.family (if due then h.family.below at else []) t result }
+{
+    if !due {
+        return retreat(nodes, at);
+    }
+    match child_of(nodes, at).get() {
+        None => retreat(nodes, at),
+        Some(first) => Some(last_of(nodes, first)),
+    }
+}
+
+/// How many nodes are due at a moment. It looks at those and their children alone.
+pub(crate) fn count_due(nodes: &[Node], root: Option<usize>, now: Moment) -> usize
+    requires { (free : Option ℕ) × IsHeap nodes.now root free }
+    ensures { result ≡ due_in now (helds nodes.now) }
+{
+    let mut at = match root {
+        None => return 0,
+        Some(top) => top,
+    };
+    let mut count = 0;
+    for _ in 0..nodes.len() {
+        let due = is_due_at(nodes, at, now);
+        if due {
+            count += 1;
+        }
+        match step(nodes, at, due) {
+            None => return count,
+            Some(next) => at = next,
+        }
+    }
+    unreachable!()
+}
+
+/// Whether the timer of a node is due at a moment.
+fn is_due_at(nodes: &[Node], at: usize, now: Moment) -> bool
+    requires { at < length nodes.now }
+    ensures { result ≡ is_due now (held_at nodes.now at) }
+{
+    nodes[at].is_due(now)
+}
