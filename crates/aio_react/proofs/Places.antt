@@ -1,5 +1,5 @@
 -- The places of a core's sources: the first free one, a source at a place, and how many there are.
-use Rattle.std.proofs.Common.{◌≡◌, ◌≢◌, ℕ, zero, suc, ◌+◌, ◌<◌, ◌≤◌, true, List, [], ◌∷◌, ◌++◌, length, set, Option, None, Some, IfSome, is_some, refl, sym, ap, ◌∙◌, subst, ⊎_elim, arith}
+use Rattle.std.proofs.Common.{◌≡◌, ◌≢◌, ℕ, zero, suc, ◌+◌, ◌<◌, ◌≤◌, min, true, List, [], ◌∷◌, ◌++◌, length, set, Option, None, Some, IfSome, is_some, refl, sym, ap, ◌∙◌, subst, ⊎_elim, arith}
 use Rattle.std.proofs.lemmas.Bool.{cases_lt, cases_eq}
 use Rattle.aio_react.specs.declared.entries.SourceEntry.{SourceEntry}
 use Rattle.aio_react.specs.Cores.{entry_at, AreKeyed}
@@ -36,6 +36,18 @@ below_free [] key below = absurd (omega arith)
 below_free (None ∷ sources) key below = absurd (omega arith)
 below_free (Some e ∷ sources) zero below = refl
 below_free (Some e ∷ sources) (suc key) below = below_free sources key (omega arith)
+
+-- a source that is changed in its place leaves the first free one
+free_again : (sources : List (Option SourceEntry)) (at : ℕ) (e new : SourceEntry) → entry_at sources at ≡ Some e → free_key (set sources at (Some new)) ≡ free_key sources
+free_again [] at e new is = refl
+free_again (None ∷ sources) zero e new is = absurd (cc)
+free_again (Some d ∷ sources) zero e new is = refl
+free_again (None ∷ sources) (suc at) e new is = refl
+free_again (Some d ∷ sources) (suc at) e new is = ap (λ (n : ℕ). 1 + n) (free_again sources at e new is)
+
+pub live_again : (sources : List (Option SourceEntry)) (first at : ℕ) (e new : SourceEntry) → entry_at sources at ≡ Some e → first ≤ free_key sources
+    → first ≤ free_key (set sources at (Some new))
+live_again sources first at e new is live = omega (arith, free_again sources at e new is)
 
 -- where every place has a source none is free
 all_filled : (sources : List (Option SourceEntry)) → length sources ≤ count_entries sources → length sources ≤ free_key sources
@@ -93,6 +105,15 @@ placed_few (place ∷ sources) zero limit e few within = omega arith
 placed_few (place ∷ sources) (suc at) zero e few within = absurd (omega arith)
 placed_few (place ∷ sources) (suc at) (suc limit) e few within = omega (arith, placed_few sources at limit e (omega arith) (omega arith))
 
+-- a source at the first free place leaves each key up to it live
+pub live_placed : (sources : List (Option SourceEntry)) (at : ℕ) (e : SourceEntry) → at ≡ free_key sources → at + 1 ≤ free_key (placed sources at e)
+live_placed [] zero e is = omega arith
+live_placed [] (suc at) e is = absurd (omega arith)
+live_placed (None ∷ sources) zero e is = omega arith
+live_placed (None ∷ sources) (suc at) e is = absurd (omega arith)
+live_placed (Some d ∷ sources) zero e is = absurd (omega arith)
+live_placed (Some d ∷ sources) (suc at) e is = omega (arith, live_placed sources at e (omega arith))
+
 -- what is so of the source at each place is so after a source came to one, of which it is so
 pub each_placed : (sources : List (Option SourceEntry)) (at : ℕ) (e : SourceEntry) (Is : ℕ → SourceEntry → Type 0) → at ≤ length sources → Is at e
     → ((key : ℕ) → IfSome (entry_at sources key) (Is key)) → (key : ℕ) → IfSome (entry_at (placed sources at e) key) (Is key)
@@ -128,6 +149,13 @@ cleared_count (None ∷ sources) zero e is = absurd (cc)
 cleared_count (Some d ∷ sources) zero e is = refl
 cleared_count (None ∷ sources) (suc at) e is = cleared_count sources at e is
 cleared_count (Some d ∷ sources) (suc at) e is = ap (λ (n : ℕ). n + 1) (cleared_count sources at e is)
+
+-- a place without its source leaves each key below it live that was
+pub live_left : (sources : List (Option SourceEntry)) (at : ℕ) → min (free_key sources) at ≤ free_key (set sources at None)
+live_left [] at = omega arith
+live_left (None ∷ sources) at = omega arith
+live_left (Some d ∷ sources) zero = omega arith
+live_left (Some d ∷ sources) (suc at) = omega (arith, live_left sources at)
 
 -- what is so of the source at each other place is so of each that is left
 pub each_left : (sources : List (Option SourceEntry)) (at : ℕ) (Is : ℕ → SourceEntry → Type 0) → ((key : ℕ) → key ≢ at → IfSome (entry_at sources key) (Is key))

@@ -39,6 +39,8 @@ const IDS: u64 = 0xff_ffff_ffff;
 pub struct Core<P> {
     poller: P,
     sources: Vec<Option<SourceEntry>>,
+    /// Every key below this one is live.
+    first_free: usize,
     listeners: Numbered<Listener>,
     ticker: u64,
     book: TimerBook,
@@ -50,6 +52,7 @@ pub struct Core<P> {
 impl<P> Model for Core<P> {
     ghost use Rattle.std.specs.Prelude.{◌≤◌, ◌-◌, ◌^◌, vec_len, vec_capacity};
     ghost use Rattle.aio_react.specs.Cores.{CoreValue, AreKeyed, AreListed};
+    ghost use Rattle.aio_react.specs.Sources.{free_key};
 
     ghost Value = { P × CoreValue };
 
@@ -67,7 +70,7 @@ impl<P> Model for Core<P> {
 
     ghost invariant = { λ c. (vec_len c.sources ≤ 4096) × (4096 ≤ vec_capacity c.sources)
         × AreKeyed c.sources.items × AreListed c.sources.items c.listeners
-        × (c.ids_drawn ≤ 2 ^ 40 - 1) };
+        × (c.ids_drawn ≤ 2 ^ 40 - 1) × (c.first_free ≤ free_key c.sources.items) };
 }
 
 impl<P: Poller> Core<P> {
@@ -102,6 +105,7 @@ impl<P: Poller> Core<P> {
         Ok(Core {
             poller,
             sources,
+            first_free: 0,
             listeners: Numbered::new(alloc),
             ticker: 0,
             book: TimerBook::new(alloc),

@@ -34,7 +34,7 @@ impl<P: Poller> Core<P> {
           after = P.fault_count self.new.0;
         }) }
     {
-        let at = first_free_place(self.sources.as_slice());
+        let at = first_free_place(self.sources.as_slice(), self.first_free);
         if at >= SOURCE_LIMIT {
             return Err(CoreRefusal::Full);
         }
@@ -54,6 +54,7 @@ impl<P: Poller> Core<P> {
             listeners: 0,
         };
         fill_place(&mut self.sources, at, entry);
+        self.first_free = at + 1;
         Ok(key)
     }
 
@@ -85,7 +86,9 @@ impl<P: Poller> Core<P> {
         }
         let before = self.poller.faults();
         let removed = self.poller.remove(key);
-        self.sources[key.0 as usize] = None;
+        let at = key.0 as usize;
+        self.sources[at] = None;
+        self.first_free = self.first_free.min(at);
         match removed {
             Ok(()) => Ok(()),
             Err(_) => Err(CoreRefusal::RemoveFault(CountFault {
@@ -110,11 +113,12 @@ fn listeners_of(sources: &[Option<SourceEntry>], key: Key) -> Option<u64>
     }
 }
 
-/// The first place with no source, or the end.
-fn first_free_place(sources: &[Option<SourceEntry>]) -> usize
+/// The first place with no source, or the end, where each place before `from` has one.
+fn first_free_place(sources: &[Option<SourceEntry>], from: usize) -> usize
+    requires { from ≤ free_key sources.now }
     ensures { result ≡ free_key sources.now }
 {
-    for place in 0..sources.len() {
+    for place in from..sources.len() {
         if sources[place].is_none() {
             return place;
         }

@@ -4,7 +4,7 @@ use Rattle.aio_react.specs.Cores.{CoreValue, entry_at}
 use Rattle.aio_react.specs.Sources.{free_key}
 use Rattle.aio_react.proofs.AddMeets.{full_meets, added_meets, unadded_meets}
 use Rattle.aio_react.proofs.Listed.{listed_placed}
-use Rattle.aio_react.proofs.Places.{free_few, free_within, free_is_none, has_free, keyed_placed, placed_few}
+use Rattle.aio_react.proofs.Places.{free_few, free_within, free_is_none, has_free, keyed_placed, live_placed, placed_few}
 use Rattle.aio_react.proofs.reactor.Core.add.Goals as goal
 
 pub returns-then-at-ge-SOURCE_LIMIT-clause-meets : goal.returns-then-at-ge-SOURCE_LIMIT-clause-meets
@@ -53,6 +53,7 @@ invariant_of-self-2 g c =
       rw (c.fill_place.ensures.items, c.new.ensures) (keyed_placed i.sources.items at _ c.self.invariant.2 within refl),
       rw (c.fill_place.ensures.items, c.new.ensures) (listed_placed i.sources.items i.listeners key c.self.invariant.3 within none),
       c.self.invariant.4,
+      rw (c.fill_place.ensures.items, c.new.ensures) (live_placed i.sources.items at _ free),
     )
 
 pub returns-clause-meets : goal.returns-clause-meets

@@ -4,7 +4,7 @@ use Rattle.aio_react.specs.Sources.{del_reply}
 use Rattle.aio_react.proofs.DelMeets.{missing_meets, used_meets, removed_meets, gone_reply, no_entry, an_entry, as_counted}
 use Rattle.aio_react.proofs.Hearing.{uncounted_others}
 use Rattle.aio_react.proofs.Listed.{listed_left}
-use Rattle.aio_react.proofs.Places.{keyed_left}
+use Rattle.aio_react.proofs.Places.{keyed_left, live_left}
 use Rattle.aio_react.proofs.reactor.Core.del.Goals as goal
 use Rattle.aio_react.proofs.reactor.Core.del.Goals.{in-Ok, in-Err}
 
@@ -32,6 +32,7 @@ invariant_of-self g c =
       keyed_left i.sources.items c.args.key.0 c.self.invariant.2,
       listed_left i.sources.items i.listeners c.args.key.0 c.self.invariant.3 (uncounted_others i.listeners c.args.key.0 (omega (arith, count, it.2))),
       c.self.invariant.4,
+      omega (arith, live_left i.sources.items c.args.key.0),
     )
 
 pub returns-clause-meets : goal.returns-clause-meets

@@ -7,6 +7,7 @@ use Rattle.aio_react.proofs.FirstEvent.{first_of}
 use Rattle.aio_react.proofs.HandleMeets.{handle_idle, handle_empty, handle_dropped, handle_answered, handle_unanswered}
 use Rattle.aio_react.proofs.HeldSources.{HoldsOn, holds_itself, read_at, read_past, read_back, key_is, keyed_on, listed_on, handled_on}
 use Rattle.aio_react.proofs.PartMeets.{part_steps, replies_step}
+use Rattle.aio_react.proofs.Places.{live_again}
 use Rattle.aio_react.proofs.RoundPast.{told_running, told_idle}
 use Rattle.aio_react.proofs.reactor.Core.handle.Goals as goal
 use Rattle.aio_react.proofs.reactor.Core.handle.Goals.{in-Ok, in-Err}
@@ -56,6 +57,7 @@ invariant_of-self-in-Some-index_mut g c =
       keyed_on i.sources.items key e _ is on c.self.invariant.2,
       listed_on i.sources.items i.listeners key e _ is on refl c.self.invariant.3,
       omega arith,
+      live_again i.sources.items _ key e _ is c.self.invariant.5,
     )
 
 pub returns-after-handle-clause-part : goal.returns-after-handle-clause-part

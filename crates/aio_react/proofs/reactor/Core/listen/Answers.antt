@@ -3,6 +3,7 @@ use Rattle.aio_base.specs.Devices.{PollerStep}
 use Rattle.aio_react.proofs.HeldSources.{read_at, read_past, read_back, keyed_again}
 use Rattle.aio_react.proofs.ListenMeets.{listen_meets, listen_misses, next_number, listed_more, few_listeners}
 use Rattle.aio_react.proofs.NewListeners.{counted}
+use Rattle.aio_react.proofs.Places.{live_again}
 use Rattle.aio_react.proofs.reactor.Core.listen.Goals as goal
 
 pub returns-then-at-len-clause-meets : goal.returns-then-at-len-clause-meets
@@ -33,6 +34,7 @@ invariant_of-self-2 g c =
       keyed_again i.sources.items c.args.key.0 c.in-Some.entry (counted c.in-Some.entry) is (record { key_is = refl; listeners = λ d. refl }) c.self.invariant.2,
       rw c.in-Ok.ensures.added (listed_more i.sources.items i.listeners c.args.key c.args.dir c.in-Some.entry is c.self.invariant.3),
       omega arith,
+      live_again i.sources.items _ c.args.key.0 c.in-Some.entry _ is c.self.invariant.5,
     )
 
 pub returns-clause-meets : goal.returns-clause-meets

@@ -1,6 +1,7 @@
 use Rattle.std.proofs.Common.{◌∙◌, refl, arith}
 use Rattle.aio_base.specs.Devices.{PollerStep}
 use Rattle.aio_react.proofs.HeldSources.{read_at, read_past, read_back, key_is, keyed_again, listed_again, polled_keeps}
+use Rattle.aio_react.proofs.Places.{live_again}
 use Rattle.aio_react.proofs.PollMeets.{poll_meets, poll_misses}
 use Rattle.aio_react.proofs.reactor.Core.poll.Goals as goal
 
@@ -19,6 +20,7 @@ invariant_of-self g c =
       keyed_again i.sources.items c.args.key.0 c.in-Some.entry _ is keeps c.self.invariant.2,
       listed_again i.sources.items i.listeners c.args.key.0 c.in-Some.entry _ is keeps refl c.self.invariant.3,
       omega arith,
+      live_again i.sources.items _ c.args.key.0 c.in-Some.entry _ is c.self.invariant.5,
     )
 
 pub returns-in-Some-clause-meets : goal.returns-in-Some-clause-meets

@@ -7,6 +7,7 @@ use Rattle.aio_react.specs.Numbers.{value_of}
 use Rattle.aio_react.proofs.Asked.{first_asked}
 use Rattle.aio_react.proofs.HeardAgain.{keyed_changed, source_read}
 use Rattle.aio_react.proofs.HeldSources.{key_is}
+use Rattle.aio_react.proofs.Places.{live_again}
 use Rattle.aio_react.proofs.StepKeeps.{again_key, listed_again_polled, listed_first_polled, listed_unpolled, first_key, drew, drew_none, source_unchanged}
 use Rattle.aio_react.proofs.StepMeets.{again_meets, first_meets, step_misses}
 use Rattle.aio_react.proofs.reactor.Core.step.Goals as goal
@@ -31,6 +32,7 @@ invariant_of-self g c =
       keyed_changed i.sources.items l.key.0 e _ there same c.self.invariant.2,
       listed_again_polled i.sources.items i.listeners c.args.listener l c.in-Some-first.first e c.listen_again.new.self c.args.w _ there is c.listen_again.ensures.after c.self.invariant.3,
       omega arith,
+      live_again i.sources.items _ l.key.0 e _ there c.self.invariant.5,
     )
 
 pub returns-in-Some-index_mut-clause-meets : goal.returns-in-Some-index_mut-clause-meets
@@ -60,6 +62,7 @@ invariant_of-self-in-Err g c =
       keyed_changed i.sources.items l.key.0 e _ there (ap (λ s. s.key) same) c.self.invariant.2,
       listed_unpolled i.sources.items i.listeners l e c.first_listen-listened.new.self there same c.self.invariant.3,
       omega arith,
+      live_again i.sources.items _ l.key.0 e _ there c.self.invariant.5,
     )
 
 pub invariant_of-self-2 : goal.invariant_of-self-2
@@ -77,6 +80,7 @@ invariant_of-self-2 g c =
       rw c.set.ensures (listed_first_polled i.sources.items i.listeners c.args.listener l c.in-Ok.told.1 e c.first_listen-listened.new.self c.args.w _ _ there is told.ticket_is
           c.first_listen-listened.ensures.fresh c.first_listen-listened.ensures.after c.self.invariant.3),
       omega arith,
+      live_again i.sources.items _ l.key.0 e _ there c.self.invariant.5,
     )
 
 pub returns-clause-meets : goal.returns-clause-meets

@@ -5,6 +5,7 @@ use Rattle.aio_react.specs.Numbers.{value_of}
 use Rattle.aio_react.proofs.DropMeets.{drop_meets, drop_misses}
 use Rattle.aio_react.proofs.HeardAgain.{value_untaken, counts_mine, listed_changed, keyed_changed, gives_up, left_key, source_read}
 use Rattle.aio_react.proofs.ListenMeets.{count_at}
+use Rattle.aio_react.proofs.Places.{live_again}
 use Rattle.aio_react.proofs.reactor.Core.unlisten.Goals as goal
 
 pub returns-in_default-clause-meets : goal.returns-in_default-clause-meets
@@ -35,6 +36,7 @@ invariant_of-self-2 g c =
       rw c.give_up.ensures (keyed_changed i.sources.items l.key.0 e _ there (left_key e.source l.dir l.first) c.self.invariant.2),
       rw (c.give_up.ensures, c.in-Some.ensures.after) (listed_changed i.sources.items i.listeners _ l.key.0 c.args.listener e _ there (gives_up i.sources.items i.listeners c.args.listener l e there is c.self.invariant.3) c.self.invariant.3),
       omega arith,
+      live_again i.sources.items _ l.key.0 e _ there c.self.invariant.5,
     )
 
 pub returns-clause-meets : goal.returns-clause-meets

@@ -1,7 +1,10 @@
 use Rattle.std.proofs.Common.{◌≡◌, true, length, get_or, None, is_none, not, refl, sym, ap, ◌∙◌, arith}
-use Rattle.std.proofs.lemmas.List.Sums.{position_or_len_is}
+use Rattle.std.proofs.lemmas.List.Sums.{fails_before_first, position_or_len_is}
 use Rattle.std.proofs.lemmas.Option.{slice_get_read, get_or_from_slice_get}
 use Rattle.aio_react.proofs.reactor.sources.first_free_place.Goals as goal
+
+pub loop-place-init : goal.loop-place-init
+loop-place-init c = λ k below. fails_before_first is_none c.args.sources.now k None (omega arith)
 
 pub returns-then-is_none : goal.returns-then-is_none
 returns-then-is_none c =
