@@ -138,6 +138,7 @@ impl<P: Poller> Core<P> {
     /// exactly where no round runs, and then `EventsLeft` exactly where events are in hand: both
     /// leave all as it was. `WaitFault` only where the poller's count of faults rose; the round
     /// keeps it where it kept none. It takes no memory.
+    #[inline(always)]
     pub fn wait(&mut self) -> Result<Waited, CoreRefusal>
         ensures meets { Meets (PollerStep P.arm_step P.wait_step) P.interests step.Wait None
             (wait_reply result) [] self.old.1.round.limit self.old self.new }

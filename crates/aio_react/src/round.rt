@@ -186,6 +186,7 @@ impl Round {
     /// an arm that failed, which is kept where no fault was; the event is handled all the same.
     /// `OutOfMemory` where there is no memory for the wakers; the event then stays in hand, and all
     /// is as before.
+    #[inline(always)]
     pub fn handle<A: Arm>(
         &mut self,
         s: &mut SourceState,

@@ -72,7 +72,7 @@ fn push_answer(out: &mut Vec<u8>, answer: Answer) -> Result<(), AllocError>
         Answer::Pending => out.extend_from_slice(b"pending\n"),
         Answer::Noted => out.extend_from_slice(b"noted\n"),
         Answer::Ready => out.extend_from_slice(b"ready\n"),
-        _ => push_other_answer(out, answer),
+        other => push_other_answer(out, other),
     }
 }
 

@@ -157,6 +157,7 @@ impl Direction {
 
     /// Moves the waiters to the end of `taken` for an event of this round, the poll waiter first; the
     /// listeners stay, with no waker.
+    #[inline(always)]
     pub(crate) fn take_waiters(&mut self, round: u64, taken: &mut Vec<Waker>)
         requires { vec_len taken.old + length (waiters_of self.old) ≤ vec_capacity taken.old }
         ensures after { self.new ≡ handled round self.old }

@@ -67,6 +67,7 @@ impl Directions {
 
     /// Moves the waiters of the directions that an event of this round names to the end of `taken`,
     /// direction by direction in the order of `DIRS`.
+    #[inline(always)]
     pub(crate) fn take_waiters(&mut self, on: Interest, round: u64, taken: &mut Vec<Waker>)
         requires { vec_len taken.old + length (waiters_in directions self.old)
             ≤ vec_capacity taken.old }

@@ -246,6 +246,7 @@ impl SourceState {
     /// direction the poll waiter first. Then the poller is armed where a waiter is left. `ArmFault`
     /// only where the count of faults of `arm` rose; the wakers are taken all the same. It takes no
     /// memory.
+    #[inline(always)]
     pub fn handle<A: Arm>(
         &mut self,
         arm: &mut A,

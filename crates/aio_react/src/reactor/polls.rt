@@ -20,6 +20,7 @@ impl<P: Poller> Core<P> {
     /// core counts. A poll waiter that it replaced is to be woken. `NoSource` exactly where no source
     /// has this key; all is as it was then. `ArmFault`, inside the answer, only where the poller's
     /// count of faults rose. It takes no memory.
+    #[inline(always)]
     pub fn poll(&mut self, key: Key, dir: Dir, w: Waker) -> Result<Polled, CoreRefusal>
         ensures meets { Meets (PollerStep P.arm_step P.wait_step) P.interests (step.Poll key dir w)
             None (poll_reply result) (poll_wakes result) None self.old self.new }

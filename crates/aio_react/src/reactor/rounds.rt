@@ -66,6 +66,7 @@ impl<P: Poller> Core<P> {
     /// `NoRound` exactly where no round runs, and then `NothingInHand` exactly where no event is in
     /// hand; `OutOfMemory` where there is no memory for the waiters, and the event stays in hand.
     /// All is as before then.
+    #[inline(always)]
     pub fn handle(&mut self) -> Result<Handled, CoreRefusal>
         ensures meets { IfSome (handle_reply result) (λ reply. Meets
             (PollerStep P.arm_step P.wait_step) P.interests step.Handle None
