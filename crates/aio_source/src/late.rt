@@ -112,6 +112,7 @@ impl LateListeners {
     }
 
     /// Moves the wakers that listeners hold to the end of `out`, in order.
+    #[inline(always)]
     pub(crate) fn drain_into(&mut self, out: &mut Vec<Waker>)
         requires { vec_len out.old + length (wakers_of self.old.entries) ≤ vec_capacity out.old }
         ensures drained { self.new ≡ record self.old { entries = emptied self.old.entries } }
