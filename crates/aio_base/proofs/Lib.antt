@@ -53,7 +53,7 @@ mod RunRows
 pub mod SeatLists
 pub mod Searching
 pub mod Singles
-pub mod Spellings
+pub mod Shapes
 pub mod Standing
 pub mod StoringCounts
 pub mod Taking
@@ -67,4 +67,3 @@ pub mod WordFrames
 pub mod WordMoves
 mod WordRows
 pub mod WordSteps
-pub mod Words

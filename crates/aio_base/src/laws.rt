@@ -10,6 +10,7 @@ ghost use Rattle.aio_base.specs.Covered.{Covered, WaitsForLive};
 ghost use Rattle.aio_base.specs.Distinct.{IsOfTimer, NoDoubles};
 ghost use Rattle.aio_base.specs.FirstPolls.{InPollOrder};
 ghost use Rattle.aio_base.specs.Handling.{HandledIsNoted};
+ghost use Rattle.aio_base.specs.Lines.{Reads, step_read};
 ghost use Rattle.aio_base.specs.Machine.{Outcome, begin_round, finish_round, makes_second_pass, react, step_result};
 ghost use Rattle.aio_base.specs.Others.{OthersStand};
 ghost use Rattle.aio_base.specs.Own.{KeepsItsOwn};
@@ -20,27 +21,17 @@ ghost use Rattle.aio_base.specs.RoundCounts.{RoundsFollow};
 ghost use Rattle.aio_base.specs.Script.{outcomes_from, world_after};
 ghost use Rattle.aio_base.specs.Storings.{Once, Storings, step_ended, step_storings, storings_of};
 ghost use Rattle.aio_base.specs.Succession.{StoringsFollow};
-ghost use Rattle.aio_base.specs.Text.{spelling};
 ghost use Rattle.aio_base.specs.Timers.{AllAbove, BookChange, IsBook, IsFiringOrder, after_pass, changed, due_wakers, fires_before, in_order, pair_of};
-ghost use Rattle.aio_base.specs.Trace.{IsBuilt, written_step};
 ghost use Rattle.aio_base.specs.World.{PollerAnswer, Registration, RoundState, World, is_broken, opening, serial_of, waiters_of};
 ghost use Rattle.aio_base.specs.declared.names.Dir.{Dir};
 ghost use Rattle.aio_base.specs.declared.names.Waker.{Waker};
 ghost use Rattle.aio_base.specs.declared.steps.Answer.{Answer};
 ghost use Rattle.aio_base.specs.declared.steps.Step.{Step};
 
-/// A line spells at most one step: it spells a step exactly where it is the step's written spelling,
-/// with numbers that a line can hold.
-pub fn a_line_spells_one_step()
-    ensures reads { (line : List ℕ) (s : Step)
-        → written_step line ≡ Some s → IsBuilt s × (spelling s ≡ line) }
-    ensures spells { (line : List ℕ) (s : Step)
-        → IsBuilt s → spelling s ≡ line → written_step line ≡ Some s }
-{}
-
-/// A line of more than 256 bytes spells no step.
-pub fn a_long_line_spells_no_step()
-    ensures { (line : List ℕ) → 257 ≤ length line → written_step line ≡ None }
+/// A line reads as a step exactly where this is the step whose shape its words have (`step_read`). So a
+/// line reads as one step at most, and each step of an input is what its line reads as.
+pub fn a_line_reads_as_the_step_of_its_words()
+    ensures { (s : Step) (line : List ℕ) → Reads s line ↔ (step_read line ≡ Some s) }
 {}
 
 /// A pass at a moment leaves no registration that is due by then, and takes the waker of each that it

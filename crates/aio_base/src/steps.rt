@@ -166,9 +166,8 @@ pub enum LineFault {
     Choice,
 }
 
-/// Why a trace is refused at a line: a fault of the line; no header in the first line; a line past
-/// the millionth; or, while the whole language is not read yet, a line that is not the written
-/// spelling of a line that is built (`Stage`).
+/// Why a trace is refused at a line: a fault of the line; no header in the first line; or a line past
+/// the millionth.
 #[derive(Clone, Copy, Debug, PartialEq, Eq)]
 pub enum Reason {
     /// `long`: more than 256 bytes.
@@ -193,6 +192,4 @@ pub enum Reason {
     Header,
     /// `lines`: the line is past the millionth.
     Lines,
-    /// `stage`: the line is not the written spelling of a line that is built.
-    Stage,
 }
