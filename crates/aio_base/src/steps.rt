@@ -193,3 +193,25 @@ pub enum Reason {
     /// `lines`: the line is past the millionth.
     Lines,
 }
+
+impl From<LineFault> for Reason {
+    ghost use Rattle.std.specs.Prelude.{◌≡◌};
+    ghost use Rattle.aio_base.specs.Trace.{reason_of};
+
+    ghost from_gives = { λ fault reason. reason ≡ reason_of fault };
+
+    /// The reason for which a line with this fault is refused.
+    fn from(fault: LineFault) -> Reason {
+        match fault {
+            LineFault::Long => Reason::Long,
+            LineFault::Byte => Reason::Byte,
+            LineFault::Empty => Reason::Empty,
+            LineFault::Command => Reason::Command,
+            LineFault::Count => Reason::Count,
+            LineFault::Number => Reason::Number,
+            LineFault::Direction => Reason::Direction,
+            LineFault::Flags => Reason::Flags,
+            LineFault::Choice => Reason::Choice,
+        }
+    }
+}

@@ -1,14 +1,11 @@
 pub mod Asking
 pub mod Calling
-pub mod Commands
 pub mod Counting
 pub mod DrivingLemmas
-pub mod FirstNumber
 pub mod FirstVersion
 pub mod Leaving
 pub mod Noting
 pub mod Padding
-pub mod Prefixes
 pub mod Refusing
 pub mod Scripted
 pub mod Starting

@@ -136,7 +136,7 @@ takes l input told now first old new line ahead bytes left text kept_text r s t 
 }
 
 pub goes_on : (l : Language) (input : List ℕ) (told first out : Option (List ℕ)) (line : ℕ) (bytes ahead text new : List ℕ) (r after : Replayer) (s : Step)
-    → SaysByLines l → LineTaken l input told first out line bytes ahead text r → line ≤ l.limit → l.reads bytes ≡ Ok s → Answers s r after text new
+    → SaysByLines l → LineTaken l input told first out line bytes ahead text r → line ≤ l.limit → l.step bytes ≡ Some s → Answers s r after text new
     → Standing l input told first out (line + 1) ahead new after
 goes_on l input told first out line bytes ahead text new r after s laws t le read answers =
     let done = t.done ++ s ∷ [] in
@@ -271,7 +271,7 @@ closes l (ends.Stopped s) wanted input told first old new text r c e =
 
 -- a line that reads as no step is refused
 pub refuses_line : (l : Language) (input : List ℕ) (told first out : Option (List ℕ)) (line : ℕ) (bytes ahead text : List ℕ) (r : Replayer) (why : Reason)
-    → SaysByLines l → LineTaken l input told first out line bytes ahead text r → line ≤ l.limit → l.reads bytes ≡ Err why
+    → SaysByLines l → LineTaken l input told first out line bytes ahead text r → line ≤ l.limit → l.refusal bytes ≡ Some why
     → Closing l (ends.Refused line why) input told first out text r
 refuses_line l input told first out line bytes ahead text r why laws t le none = record {
   done = t.done;
@@ -347,7 +347,7 @@ opens_unread input ahead text told r o is = record { left = input; is_left = is;
 
 -- the first line is the header
 pub header_read : (l : Language) (input ahead text kept_text bytes left : List ℕ) (now first new : Option (List ℕ)) (r : Replayer) → SaysByLines l → Opens ahead text r
-    → TakesLine now bytes left input → bytes_eq bytes l.header ≡ true → Sends first new text kept_text
+    → TakesLine now bytes left input → l.is_header bytes ≡ true → Sends first new text kept_text
     → Standing l input now first new 2 left kept_text r
 header_read l input ahead text kept_text bytes left now first new r laws o t is sends = record {
   done = [];
@@ -378,7 +378,7 @@ header_closing l input ahead text kept_text now first new r laws o says h sends 
 
 -- the first line is no header
 pub header_refused : (l : Language) (input ahead text kept_text bytes left : List ℕ) (now first new : Option (List ℕ)) (r : Replayer) → SaysByLines l → Opens ahead text r
-    → TakesLine now bytes left input → bytes_eq bytes l.header ≡ false → Sends first new text kept_text
+    → TakesLine now bytes left input → l.is_header bytes ≡ false → Sends first new text kept_text
     → Closing l (ends.Refused 1 reason.Header) input now first new kept_text r
 header_refused l input ahead text kept_text bytes left now first new r laws o t other sends =
     header_closing l input ahead text kept_text now first new r laws o (laws.headless input bytes (lines_of t.rest) t.lines other) t.held sends

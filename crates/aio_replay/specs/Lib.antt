@@ -1,7 +1,6 @@
 pub mod Driving
 pub mod Ends
 pub mod Language
-pub mod Reading
 pub mod Replaying
 pub mod Replies
 pub mod Steps

@@ -1,6 +1,6 @@
 //! The driver of lines: they are read, their steps run, and the answers gathered in a block of text.
 
-ghost use Rattle.std.specs.Prelude.{◌≡◌, ℕ, ◌+◌, ◌-◌, ◌<◌, ◌≤◌, ◌≢◌, [], List, Option, drop, length, vec_len, IfErr, OnOk, OnErr, false, true, bytes_eq};
+ghost use Rattle.std.specs.Prelude.{◌≡◌, ℕ, ◌+◌, ◌-◌, ◌<◌, ◌≤◌, ◌≢◌, [], List, Option, drop, length, vec_len, IfErr, OnOk, OnErr, false, true};
 ghost use Rattle.aio_bytes.specs.Held.{HasNoLineFeed, may_wait};
 ghost use Rattle.aio_bytes.specs.Sinks.{RefusedBy, Writes, is_failed};
 ghost use Rattle.aio_replay.specs.Driving.{ends_with, Causes, is_read_fault, is_write_fault};
@@ -144,7 +144,7 @@ impl Driver {
         };
         match next {
             Next::Line => {
-                if is_header(self.reader.line(), version.header()) {
+                if version.is_header(self.reader.line()) {
                     return None;
                 }
                 Some(refuse(&mut self.text, out, 1, Reason::Header))
@@ -269,13 +269,6 @@ impl Driver {
             Err(refusal) => Some(End::Stopped(Stop::of_write(refusal))),
         }
     }
-}
-
-/// Whether a line is the header.
-fn is_header(line: &[u8], header: &[u8]) -> bool
-    ensures { result ≡ bytes_eq line.now header.now }
-{
-    line == header
 }
 
 /// Writes what is left of the text, and ends so; or with what stopped that.

@@ -9,7 +9,6 @@
 
 mod driver;
 pub mod ends;
-mod reading;
 mod replayer;
 mod replies;
 pub mod trace;

@@ -21,7 +21,9 @@ use std::alloc::Global;
 /// - `ReplayEnd::Done`: the input was read to its end, no line of it is refused, and `out` grew by
 ///   exactly the output of its steps.
 /// - `ReplayEnd::Refused`: exactly the first refused line and its reason, unless a fault came before;
-///   `out` grew by the output of the steps before it.
+///   `out` grew by the output of the steps before it. A line is refused for the first of its faults,
+///   `Long`, `Byte`, `Empty`, `Command`, `Count`, `Number`, `Direction`, `Flags` or `Choice`; the first
+///   line where it is no header, and the one past the millionth, whatever it holds.
 /// - `ReplayEnd::ReadFault`, `ReplayEnd::WriteFault`: only where the count of faults of `input`, or of
 ///   `out`, rose in this call, by the two counts. `out` grew by a front part of the output.
 /// - `ReplayEnd::OutOfMemory`: at any time. `out` grew by a front part of the output.

@@ -32,7 +32,9 @@ const USAGE: &[u8] =
 ///   the output of its steps.
 /// - `Why::Usage`: exactly where the words are not the one word `replay`; nothing was touched.
 /// - `Why::Refused`: exactly the first refused line and its reason, unless a fault came before; `out`
-///   grew by the output of the steps before it.
+///   grew by the output of the steps before it. A line is refused for the first of its faults, `Long`,
+///   `Byte`, `Empty`, `Command`, `Count`, `Number`, `Direction`, `Flags` or `Choice`; the first line
+///   where it is no header, and the one past the millionth, whatever it holds.
 /// - `Why::ReadFault`, `Why::WriteFault`: only where the count of faults of `input`, or of `out`, rose in
 ///   this call, by the two counts. `out` grew by a front part of the output.
 /// - `Why::OutOfMemory`: at any time. `out` grew by a front part of the output.
@@ -196,6 +198,5 @@ fn refusal_end(reason: Reason) -> &'static [u8]
         Reason::Choice => b": choice\n",
         Reason::Header => b": header\n",
         Reason::Lines => b": lines\n",
-        Reason::Stage => b": stage\n",
     }
 }

@@ -12,4 +12,6 @@ mod cores;
 #[cfg(test)]
 mod sources;
 #[cfg(test)]
+mod spellings;
+#[cfg(test)]
 mod traces;
