@@ -1,6 +1,7 @@
 pub mod Apart
 pub mod Awaiting
 pub mod Arming
+pub mod Asides
 pub mod BetweenSteps
 pub mod BookChanges
 pub mod BookLemmas
