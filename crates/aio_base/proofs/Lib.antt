@@ -33,6 +33,7 @@ pub mod Kept
 pub mod Leaving
 pub mod LockSeats
 pub mod LockSteps
+pub mod Marking
 pub mod Membership
 pub mod NotesUnread
 pub mod Noting

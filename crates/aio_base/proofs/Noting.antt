@@ -17,7 +17,7 @@ use Rattle.aio_base.specs.RoundCounts.{RoundName, name_of}
 use Rattle.aio_base.specs.Succession.{events_given}
 use Rattle.aio_base.specs.Arming.{handled_events}
 use Rattle.aio_base.specs.Handling.{begin_of, notes_of, IsNoted, HandledIsNoted}
-use Rattle.aio_base.proofs.Membership.{none_is_in, first_is_in, later_is_in, among_cases, image_is_in, passing_is_kept, any_from, any_gives}
+use Rattle.aio_base.proofs.Membership.{none_is_in, first_is_in, later_is_in, image_is_in, passing_is_kept, any_from, any_gives, piece_is_in}
 use Rattle.aio_base.proofs.WaiterLemmas.{is_of-from}
 use Rattle.aio_base.proofs.RoundLemmas.{in_hand_of, round_begun, round_waited, event_handled, hand_is}
 use Rattle.aio_base.proofs.Frames.{Frame, frame, but_live, but_listeners, but_timers, but_handled, add_keeps, del_keeps, poll_keeps, new_keeps, step_keeps, drop_keeps, tick_keeps, set_keeps, end_keeps, wait_keeps, rearmed_keeps, handle_keeps, finish_keeps}
@@ -184,15 +184,6 @@ fresh_for serial dir position h = is_of serial dir h.serial h.dir && nat_lt posi
 each_direction : (dir : Dir) → Contains directions dir
 each_direction Write = first_is_in Write (Read ∷ [])
 each_direction Read = later_is_in Write (Read ∷ []) Read (first_is_in Read [])
-
--- what one element gives is in what all give
-piece_is_in : {X Y : Type 0} (f : X → List Y) (xs : List X) (x : X) (y : Y) → Contains xs x → Contains (f x) y → Contains (flat_map f xs) y
-piece_is_in f [] x y among within = none_is_in x among
-piece_is_in f (first ∷ xs) x y among within =
-    ⊎_elim
-    (λ (same : first ≡ x). Contains-append_left (f first) (flat_map f xs) y (subst (λ z. Contains (f z) y) (sym same) within))
-    (λ (later : Contains xs x). Contains-append_right (f first) (flat_map f xs) y (piece_is_in f xs x y later within))
-    (among_cases first xs x among)
 
 -- an event of a live source is noted with each of its directions
 noted_direction : (w : World) (event : Event) (begin serial : ℕ) (dir : Dir) → serial_of w event.key.0 ≡ Some serial → has_dir event.on dir ≡ true
