@@ -7,6 +7,7 @@ pub mod BookChanges
 pub mod BookLemmas
 pub mod Clearing
 pub mod Counting
+pub mod Breaking
 pub mod CoverReact
 pub mod CoverRounds
 pub mod CoverRuns
@@ -55,6 +56,7 @@ mod RunRows
 pub mod SeatLists
 pub mod Searching
 pub mod Singles
+pub mod Sourcing
 pub mod Spellings
 pub mod Standing
 pub mod StoringCounts
