@@ -42,6 +42,7 @@ pub mod OnceRuns
 pub mod Owning
 pub mod PassLemmas
 pub mod Places
+pub mod Readying
 pub mod Rearming
 pub mod RefusalLemmas
 mod RefusedLocks
