@@ -17,7 +17,9 @@ pub mod CoverWaiters
 pub mod FirstPolls
 pub mod Frames
 pub mod FiringOrder
+mod FalseAnswers
 mod FalseHistories
+mod FalseNotes
 mod FalseSteps
 pub mod Following
 pub mod FreeKeys
