@@ -11,7 +11,9 @@ use Rattle.aio_base.specs.Succession.{StoringsFollow}
 use Rattle.aio_base.specs.Clock.{ClockIsSet}
 use Rattle.aio_base.specs.Counts.{CountsRise}
 use Rattle.aio_base.specs.Handling.{HandledIsNoted}
+use Rattle.aio_base.specs.Marks.{MarksFollow}
 use Rattle.aio_base.specs.Others.{OthersStand}
+use Rattle.aio_base.specs.Sources.{SourcesFollow}
 use Rattle.aio_base.specs.RoundCounts.{RoundsFollow}
 use Rattle.aio_base.specs.Timers.{after_pass}
 use Rattle.aio_base.specs.Arming.{ArmsAsTold}
@@ -22,11 +24,14 @@ use Rattle.aio_base.proofs.Rearming.{step_arms_as_told}
 use Rattle.aio_base.proofs.CoverRuns.{run_covers, run_waits_for_live}
 use Rattle.aio_base.proofs.FirstPolls.{run_polls_in_order}
 use Rattle.aio_base.proofs.Following.{run_follows}
+use Rattle.aio_base.proofs.Marking.{marks_follow}
 use Rattle.aio_base.proofs.Noting.{handled_is_noted}
 use Rattle.aio_base.proofs.OnceRuns.{run_once}
 use Rattle.aio_base.proofs.PassLemmas.{pass_leaves}
+use Rattle.aio_base.proofs.Readying.{ready_is_told}
 use Rattle.aio_base.proofs.Registering.{step_registers}
 use Rattle.aio_base.proofs.RoundSteps.{rounds_follow, clock_is_set}
+use Rattle.aio_base.proofs.Sourcing.{sources_follow}
 use Rattle.aio_base.proofs.Untouched.{others_stand}
 use Rattle.aio_base.proofs.Singles.{run_has_no_doubles, run_registers_timers}
 
@@ -104,7 +109,14 @@ stands_between run = record {
       subst (HandledIsNoted w last.step last.answers) (sym (ap (world_of opening) is ∙ one_more opening before last)) (handled_is_noted w last.step last.answers);
   alone = λ before last is.
       let w = world_of opening before in
-      subst (OthersStand w last.step) (sym (ap (world_of opening) is ∙ one_more opening before last)) (others_stand w last.step last.answers);
+      subst (OthersStand w last.step last.answers) (sym (ap (world_of opening) is ∙ one_more opening before last)) (others_stand w last.step last.answers);
+  marked = λ before last is.
+      let w = world_of opening before in
+      subst (MarksFollow w last.step (outcome_of w last).answer) (sym (ap (world_of opening) is ∙ one_more opening before last)) (marks_follow w last.step last.answers);
+  sources = λ before last is.
+      let w = world_of opening before in
+      subst (SourcesFollow w last.step (outcome_of w last).answer) (sym (ap (world_of opening) is ∙ one_more opening before last)) (sources_follow w last.step last.answers);
+  ready = λ before last is. ready_is_told (world_of opening before) last.step last.answers;
 }
 
 pub stands_after : (steps : List Step) → StandsAfter steps

@@ -1,11 +1,13 @@
 pub mod Apart
 pub mod Awaiting
 pub mod Arming
+pub mod Asides
 pub mod BetweenSteps
 pub mod BookChanges
 pub mod BookLemmas
 pub mod Clearing
 pub mod Counting
+pub mod Breaking
 pub mod CoverReact
 pub mod CoverRounds
 pub mod CoverRuns
@@ -15,7 +17,9 @@ pub mod CoverWaiters
 pub mod FirstPolls
 pub mod Frames
 pub mod FiringOrder
+mod FalseAnswers
 mod FalseHistories
+mod FalseNotes
 mod FalseSteps
 pub mod Following
 pub mod FreeKeys
@@ -32,6 +36,7 @@ pub mod Kept
 pub mod Leaving
 pub mod LockSeats
 pub mod LockSteps
+pub mod Marking
 pub mod Membership
 pub mod NotesUnread
 pub mod Noting
@@ -39,6 +44,7 @@ pub mod OnceRuns
 pub mod Owning
 pub mod PassLemmas
 pub mod Places
+pub mod Readying
 pub mod Rearming
 pub mod RefusalLemmas
 mod RefusedLocks
@@ -54,6 +60,7 @@ pub mod SeatLists
 pub mod Searching
 pub mod Singles
 pub mod Shapes
+pub mod Sourcing
 pub mod Standing
 pub mod StoringCounts
 pub mod Taking

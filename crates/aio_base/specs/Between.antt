@@ -15,7 +15,10 @@ use Rattle.aio_base.specs.Counts.{CountsRise}
 use Rattle.aio_base.specs.Distinct.{IsOfTimer, NoDoubles}
 use Rattle.aio_base.specs.FirstPolls.{InPollOrder}
 use Rattle.aio_base.specs.Handling.{HandledIsNoted}
+use Rattle.aio_base.specs.Marks.{MarksFollow}
 use Rattle.aio_base.specs.Others.{OthersStand}
+use Rattle.aio_base.specs.Readiness.{ReadyIsTold}
+use Rattle.aio_base.specs.Sources.{SourcesFollow}
 use Rattle.aio_base.specs.Registered.{TimersAreRegistered}
 use Rattle.aio_base.specs.RoundCounts.{RoundsFollow}
 use Rattle.aio_base.specs.Timers.{AllAbove, after_pass}
@@ -77,12 +80,21 @@ pub record StandsBetween (run : List PolledStep) : Type 0 where
   -- it moved the clock where it was a `now` that was answered so
   pub clock : (before : List PolledStep) (last : PolledStep) → run ≡ before ++ last ∷ []
       → ClockIsSet (world_of opening before) last.step (outcome_of (world_of opening before) last).answer (world_of opening run)
-  -- it noted each event that it handled
+  -- it noted each event that it handled, and nothing else
   pub noted : (before : List PolledStep) (last : PolledStep) → run ≡ before ++ last ∷ []
       → HandledIsNoted (world_of opening before) last.step last.answers (world_of opening run)
-  -- it left the sources, listeners and timers of others alone
+  -- it left the sources, marks, failed arms, listeners and timers of others alone
   pub alone : (before : List PolledStep) (last : PolledStep) → run ≡ before ++ last ∷ []
-      → OthersStand (world_of opening before) last.step (world_of opening run)
+      → OthersStand (world_of opening before) last.step last.answers (world_of opening run)
+  -- its own mark went where it was told ready, and is of this step where it stored a waker
+  pub marked : (before : List PolledStep) (last : PolledStep) → run ≡ before ++ last ∷ []
+      → MarksFollow (world_of opening before) last.step (outcome_of (world_of opening before) last).answer (world_of opening run)
+  -- it added a source where it told a key, the least that was free, and took one out where it told so
+  pub sources : (before : List PolledStep) (last : PolledStep) → run ≡ before ++ last ∷ []
+      → SourcesFollow (world_of opening before) last.step (outcome_of (world_of opening before) last).answer (world_of opening run)
+  -- it was told ready exactly where it polled what was ready
+  pub ready : (before : List PolledStep) (last : PolledStep) → run ≡ before ++ last ∷ []
+      → ReadyIsTold (world_of opening before) last.step (outcome_of (world_of opening before) last).answer
 
 -- what stands after these steps of a trace over the poller in memory
 abbrev pub StandsAfter : List Step → Type 0

@@ -15,6 +15,9 @@ pub mod RoundCounts
 pub mod Clock
 pub mod Handling
 pub mod Others
+pub mod Marks
+pub mod Sources
+pub mod Readiness
 pub mod Own
 pub mod FirstPolls
 pub mod Registered

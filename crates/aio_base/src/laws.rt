@@ -11,14 +11,17 @@ ghost use Rattle.aio_base.specs.Distinct.{IsOfTimer, NoDoubles};
 ghost use Rattle.aio_base.specs.FirstPolls.{InPollOrder};
 ghost use Rattle.aio_base.specs.Handling.{HandledIsNoted};
 ghost use Rattle.aio_base.specs.Lines.{Reads, step_read};
+ghost use Rattle.aio_base.specs.Marks.{MarksFollow};
 ghost use Rattle.aio_base.specs.Machine.{Outcome, begin_round, finish_round, makes_second_pass, react, step_result};
 ghost use Rattle.aio_base.specs.Others.{OthersStand};
 ghost use Rattle.aio_base.specs.Own.{KeepsItsOwn};
+ghost use Rattle.aio_base.specs.Readiness.{ReadyIsTold};
 ghost use Rattle.aio_base.specs.Refusals.{is_refusal, only_counted};
 ghost use Rattle.aio_base.specs.Registered.{TimersAreRegistered};
 ghost use Rattle.aio_base.specs.Runs.{PolledStep, answers_of, outcome_without_notes, scripted, wakes_of, without_notes, world_of};
 ghost use Rattle.aio_base.specs.RoundCounts.{RoundsFollow};
 ghost use Rattle.aio_base.specs.Script.{outcomes_from, world_after};
+ghost use Rattle.aio_base.specs.Sources.{SourcesFollow};
 ghost use Rattle.aio_base.specs.Storings.{Once, Storings, step_ended, step_storings, storings_of};
 ghost use Rattle.aio_base.specs.Succession.{StoringsFollow};
 ghost use Rattle.aio_base.specs.Timers.{AllAbove, BookChange, IsBook, IsFiringOrder, after_pass, changed, due_wakers, fires_before, in_order, pair_of};
@@ -42,11 +45,13 @@ pub fn no_due_timer_outlives_a_pass()
         → AllAbove moment (after_pass moment registrations) }
     ensures taken { (moment : ℕ) (registrations : List Registration) (r : Registration)
         → Contains registrations r
-        → Contains (after_pass moment registrations) r ⊎ Contains (due_wakers moment registrations) r.waker }
+        → Contains (after_pass moment registrations) r
+        ⊎ Contains (due_wakers moment registrations) r.waker }
     ensures begin { (w : World) (given : Option ℕ) (answers : List PollerAnswer)
         → w.round ≡ None → AllAbove w.now (begin_round w given answers).world.registrations }
     ensures finish { (w : World) (round : RoundState) (answers : List PollerAnswer)
-        → w.round ≡ Some round → round.in_hand ≡ [] → makes_second_pass round.last_wait round.limit ≡ true
+        → w.round ≡ Some round → round.in_hand ≡ []
+        → makes_second_pass round.last_wait round.limit ≡ true
         → AllAbove w.now (finish_round w answers).world.registrations }
     ensures react { (w : World) (given : Option ℕ) (answers : List PollerAnswer)
         → w.round ≡ None → AllAbove w.now (react w given answers).world.registrations }
@@ -57,12 +62,14 @@ pub fn no_due_timer_outlives_a_pass()
 /// that are due at its moment, of all of them and of no other.
 pub fn registrations_fire_in_order()
     ensures before { (a b : Registration)
-        → (fires_before a b ≡ true) ↔ ((a.deadline < b.deadline) ⊎ ((a.deadline ≡ b.deadline) × (a.id < b.id))) }
+        → (fires_before a b ≡ true)
+        ↔ ((a.deadline < b.deadline) ⊎ ((a.deadline ≡ b.deadline) × (a.id < b.id))) }
     ensures ordered { (registrations : List Registration)
         → IsFiringOrder registrations (in_order registrations) }
     ensures taken { (moment : ℕ) (registrations : List Registration)
         → (fired : List Registration)
-        × IsFiringOrder (filter (λ (r : Registration). nat_le r.deadline moment) registrations) fired
+        × IsFiringOrder
+        (filter (λ (r : Registration). nat_le r.deadline moment) registrations) fired
         × (due_wakers moment registrations ≡ map (λ (r : Registration). r.waker) fired) }
 {}
 
@@ -84,7 +91,8 @@ pub fn a_change_keeps_the_book()
     ensures ordered { (book : List Registration)
         → IsBook book → in_order book ≡ book }
     ensures commute { (a b : BookChange) (book : List Registration)
-        → pair_of a ≢ pair_of b → IsBook book → changed a (changed b book) ≡ changed b (changed a book) }
+        → pair_of a ≢ pair_of b → IsBook book
+        → changed a (changed b book) ≡ changed b (changed a book) }
 {}
 
 /// After every run, whatever the poller answered in it, each waiter of each live source is covered: its
@@ -92,7 +100,8 @@ pub fn a_change_keeps_the_book()
 /// step at which it broke told that. There are no other waiters: whoever waits waits for a live source.
 /// Since a run that is cut off at a step is a run, this holds between any two steps.
 pub fn every_waiter_is_covered()
-    ensures covered { (run : List PolledStep) → Covered (world_of opening run) (answers_of opening run) }
+    ensures covered { (run : List PolledStep)
+        → Covered (world_of opening run) (answers_of opening run) }
     ensures live { (run : List PolledStep) → WaitsForLive (world_of opening run) }
 {}
 
@@ -103,7 +112,8 @@ pub fn every_waiter_is_covered()
 /// step woke are its wakers, in order. Since a run that is cut off at a step is a run, this holds
 /// between any two steps.
 pub fn no_storing_is_lost_or_woken_twice()
-    ensures { (run : List PolledStep) → Once (world_of opening run) (wakes_of opening run) (storings_of opening run) }
+    ensures { (run : List PolledStep)
+        → Once (world_of opening run) (wakes_of opening run) (storings_of opening run) }
 {}
 
 /// How the storings of wakers follow from step to step (`StoringsFollow`): a storing keeps its number,
@@ -183,22 +193,62 @@ pub fn only_now_sets_the_clock()
         → ClockIsSet w s (step_result w s answers).answer (step_result w s answers).world }
 {}
 
-/// An event that is handled, by `handle` or in a whole round, is noted: each of its directions is fresh
-/// for whoever waited before the round began, so a poll waiter or a listener that it wakes is ready at
-/// the next poll. What was fresh stays so, and no other step notes an event.
+/// What is noted as handled after a step is what was noted before, and behind it, for each event that
+/// the step handled and whose key is live, one entry for each direction that the event names,
+/// writability first, with the position at which the handling round began. A `handle` handles the first
+/// event in hand, for the running round; a whole round handles each event that its wait gives, and
+/// begins with its own step. No other step notes anything.
+///
+/// So each direction of a handled event is fresh for whoever was stored, or first polled, before the
+/// round began, and a poll waiter or a listener that it wakes is ready at the next poll. What was fresh
+/// stays so.
 pub fn a_handled_event_is_noted()
     ensures { (w : World) (s : Step) (answers : List PollerAnswer)
         → HandledIsNoted w s answers (step_result w s answers).world }
 {}
 
-/// A step leaves the sources, listeners and timers of others alone: all but its own stand after it as
-/// they stood, in the same order, so none is lost, none is changed and none joins. Of a listener this
-/// says all but its waker, which a handled event takes. A step's own are the source that it adds or
-/// takes out, the listener that it makes, polls or drops, and the timer that it makes, polls, sets or
-/// ends; a step of a round has none.
+/// A step leaves what is of others alone: of sources, marks, failed arms, listeners and timers all but
+/// its own stand after it as they stood, in the same order, so none is lost, none is changed and none
+/// joins. Of a listener this says all but its waker, which a handled event takes. A step's own are the
+/// source that it adds or takes out; the mark of the direction that it polls, or all marks of the source
+/// that it takes out; the failed arm of the source that it polls, takes out or handles an event of; the
+/// listener that it makes, polls or drops; and the timer that it makes, polls, sets or ends.
+///
+/// The wakers of others stand too: `storings_follow_from_step_to_step` says which of them a step may
+/// replace, take or give up.
 pub fn a_step_leaves_others_alone()
     ensures { (w : World) (s : Step) (answers : List PollerAnswer)
-        → OthersStand w s (step_result w s answers).world }
+        → OthersStand w s answers (step_result w s answers).world }
+{}
+
+/// The mark of a direction is the position at which its last poll waiter was stored. A poll that is told
+/// `ready` uses it up; one that has to wait leaves this position, or, where that very waker is the poll
+/// waiter already, the mark that stood. A `del` that takes its source out takes all marks of it along.
+/// No other step changes a mark.
+pub fn a_mark_is_of_the_last_storing()
+    ensures { (w : World) (s : Step) (answers : List PollerAnswer)
+        → MarksFollow w s (step_result w s answers).answer (step_result w s answers).world }
+{}
+
+/// An `add` that is told a key joins one source at the end of the list, under that key and the next
+/// serial. No source has the key before, and each lesser key is that of a source. A `del` that is told
+/// `gone` or `fault remove` takes out the source of its key, which was live, and no other. A step that
+/// is told anything else, and every other step, changes neither the sources nor the count of serials.
+pub fn only_add_and_del_change_the_sources()
+    ensures { (w : World) (s : Step) (answers : List PollerAnswer)
+        → SourcesFollow w s (step_result w s answers).answer (step_result w s answers).world }
+{}
+
+/// A `poll` is told `ready` exactly where its key is live, its direction has a mark, and an event of the
+/// direction was handled by a round that began after the marked position. A `step` of a listener is told
+/// so exactly where the listener is there and was polled, and such an event was handled by a round that
+/// began after its first poll. A `tick` is told `ready` with a deadline exactly where the timer is there
+/// with that deadline, and the clock's moment is not before it. No other step is told `ready`.
+///
+/// Which events were handled, and by a round of which begin, says `a_handled_event_is_noted`.
+pub fn a_step_is_ready_exactly_where_what_it_polls_is()
+    ensures { (w : World) (s : Step) (answers : List PollerAnswer)
+        → ReadyIsTold w s (step_result w s answers).answer }
 {}
 
 /// A listener is the same after a step, but for its waker, and but for its position where this is its
@@ -217,14 +267,16 @@ pub fn a_script_is_a_run()
     ensures steps { (w : World) (steps : List Step)
         → map (λ (s : PolledStep). s.step) (scripted w steps) ≡ steps }
     ensures answers { (w : World) (steps : List Step)
-        → answers_of w (scripted w steps) ≡ map (λ (o : Outcome). o.answer) (outcomes_from w steps) }
+        → answers_of w (scripted w steps)
+        ≡ map (λ (o : Outcome). o.answer) (outcomes_from w steps) }
     ensures wakes { (w : World) (steps : List Step)
         → wakes_of w (scripted w steps) ≡ map (λ (o : Outcome). o.wakes) (outcomes_from w steps) }
     ensures world { (w : World) (steps : List Step)
         → without_notes (world_of w (scripted w steps)) ≡ without_notes (world_after w steps) }
     ensures unread { (w v : World) (s : Step) (answers : List PollerAnswer)
         → without_notes w ≡ without_notes v
-        → outcome_without_notes (step_result w s answers) ≡ outcome_without_notes (step_result v s answers) }
+        → outcome_without_notes (step_result w s answers)
+        ≡ outcome_without_notes (step_result v s answers) }
 {}
 
 /// After every run, whatever the poller answered in it, each waiter of each live source is covered and
@@ -238,8 +290,10 @@ pub fn a_script_is_a_run()
 ///
 /// Listeners that were polled stand in the order of their first polls. A last step that was told pending,
 /// or that handled an event without a fault, left its source unbroken where a waiter is left.
-/// The last step counted a round where it began one, noted each event that it handled, moved the clock
-/// where it was a `now` that was answered so, and left the things of others alone.
+/// The last step counted a round where it began one, noted each event that it handled and nothing else,
+/// moved the clock where it was a `now` that was answered so, and left the things of others alone. Its
+/// own mark went where it was told ready, it changed the sources as its answer tells, and it was told
+/// ready exactly where it polled what was ready.
 pub fn a_run_stands_between_its_steps()
     ensures run { (run : List PolledStep) → StandsBetween run }
     ensures trace { (steps : List Step) → StandsAfter steps }
