@@ -33,28 +33,28 @@ apart m n less same = absurd (omega arith)
 -- ## Rounds
 
 -- a round begins under the number of an earlier one
-pub a_round_number_given_again_is_refused : (told : Answer)
-    → RoundsFollow (record opening { rounds = 3 }) (step.Begin None) told
+pub a_round_number_given_again_is_refused : (answers : List PollerAnswer) (told : Answer)
+    → RoundsFollow (record opening { rounds = 3 }) (step.Begin None) answers told
     (record opening { pos = 1; rounds = 4; begun = 0 ∷ []; round = Some (round 1 0 []) }) → ⊥
-a_round_number_given_again_is_refused told f = apart 1 4 (omega arith) (named _ _ f.running).0
+a_round_number_given_again_is_refused answers told f = apart 1 4 (omega arith) (named _ _ f.running).0
 
 -- a round begins and is not counted
-pub a_round_that_is_not_counted_is_refused : (told : Answer)
-    → RoundsFollow (record opening { rounds = 3 }) (step.Begin None) told
+pub a_round_that_is_not_counted_is_refused : (answers : List PollerAnswer) (told : Answer)
+    → RoundsFollow (record opening { rounds = 3 }) (step.Begin None) answers told
     (record opening { pos = 1; rounds = 3; begun = 0 ∷ []; round = Some (round 4 0 []) }) → ⊥
-a_round_that_is_not_counted_is_refused told f = apart 3 4 (omega arith) f.rounds
+a_round_that_is_not_counted_is_refused answers told f = apart 3 4 (omega arith) f.rounds
 
 -- a round begins at another position than its step's
-pub a_round_that_begins_elsewhere_is_refused : (told : Answer)
-    → RoundsFollow (record opening { pos = 5 }) (step.Begin None) told
+pub a_round_that_begins_elsewhere_is_refused : (answers : List PollerAnswer) (told : Answer)
+    → RoundsFollow (record opening { pos = 5 }) (step.Begin None) answers told
     (record opening { pos = 6; rounds = 1; begun = 5 ∷ []; round = Some (round 1 2 []) }) → ⊥
-a_round_that_begins_elsewhere_is_refused told f = apart 2 5 (omega arith) (named _ _ f.running).1
+a_round_that_begins_elsewhere_is_refused answers told f = apart 2 5 (omega arith) (named _ _ f.running).1
 
 -- a wait changes the number of its round
-pub a_round_that_changes_its_number_is_refused : (told : Answer)
-    → RoundsFollow (record opening { rounds = 2; round = Some (round 2 0 []) }) step.Wait told
+pub a_round_that_changes_its_number_is_refused : (answers : List PollerAnswer) (told : Answer)
+    → RoundsFollow (record opening { rounds = 2; round = Some (round 2 0 []) }) step.Wait answers told
     (record opening { pos = 1; rounds = 2; round = Some (round 1 0 []) }) → ⊥
-a_round_that_changes_its_number_is_refused told f = apart 1 2 (omega arith) (named _ _ f.running).0
+a_round_that_changes_its_number_is_refused answers told f = apart 1 2 (omega arith) (named _ _ f.running).0
 
 -- ## The clock
 
