@@ -45,6 +45,8 @@ mod RefusedLocks
 mod RefusedWorlds
 pub mod Registering
 pub mod Rewaiting
+pub mod RoundAnswers
+pub mod RoundHands
 pub mod RoundLemmas
 pub mod RoundSteps
 mod Rows
@@ -60,6 +62,7 @@ pub mod Taking
 mod TimerRows
 pub mod UnmovedLemmas
 pub mod Untouched
+pub mod WaitedOut
 pub mod WaiterLemmas
 pub mod WordBits
 pub mod WordCounts

@@ -1,8 +1,7 @@
 -- What a step may change of a listener and of a timer, its own ones too.
-use Rattle.std.specs.Prelude.{◌≡◌, ℕ, ◌+◌, ◌<◌, ◌≤◌, ◌^◌, Bool, true, false, ◌==◌, Option, None, Some}
+use Rattle.std.specs.Prelude.{◌≡◌, ℕ, ◌+◌, ◌<◌, ◌≤◌, ◌^◌, Bool, true, false, ◌==◌, List, Option, None, Some}
 use Rattle.std.specs.List.{Contains}
 use Rattle.aio_base.specs.declared.names.Key.{Key}
-use Rattle.aio_base.specs.declared.names.Waker.{Waker}
 use Rattle.aio_base.specs.declared.names.Dir.{Dir}
 use Rattle.aio_base.specs.declared.steps.Step.{Step}
 use Rattle.aio_base.specs.declared.steps.Step.TheVariants as step
@@ -77,12 +76,12 @@ pub data TimerFrom (w : World) (s : Step) (told : Answer) (t : TimerEntry) : Typ
 
 -- ## A step
 
--- what a step makes stands after it, and is told
-abbrev pub StandsMade : World → Step → Answer → World → Type 0
-StandsMade w (step.New key dir) told v = (serial : ℕ) → serial_of w key.0 ≡ Some serial
-    → (told ≡ answer.Listener (w.listeners_drawn + 1)) × Contains v.listeners (new_listener_entry w serial dir)
-StandsMade w s told v = (deadline period : Option ℕ) → MakesTimer s deadline period
-    → (told ≡ answer.Timer (w.timers_made + 1)) × Contains v.timers (new_timer_entry w deadline period)
+-- what a step makes is told, and stands among these listeners or timers
+abbrev pub StandsMade : World → Step → Answer → List ListenerEntry → List TimerEntry → Type 0
+StandsMade w (step.New key dir) told listeners timers = (serial : ℕ) → serial_of w key.0 ≡ Some serial
+    → (told ≡ answer.Listener (w.listeners_drawn + 1)) × Contains listeners (new_listener_entry w serial dir)
+StandsMade w s told listeners timers = (deadline period : Option ℕ) → MakesTimer s deadline period
+    → (told ≡ answer.Timer (w.timers_made + 1)) × Contains timers (new_timer_entry w deadline period)
 
 -- the step that gives a listener up, and the one that gives a timer up
 abbrev pub drops_listener : Step → ℕ → Bool
@@ -97,7 +96,7 @@ pub record KeepsItsOwn (w : World) (s : Step) (told : Answer) (v : World) : Type
   -- each listener and each timer that stands comes from one that stood, or from the step
   pub listeners : (l : ListenerEntry) → Contains v.listeners l → ComesFrom w s l
   pub timers : (t : TimerEntry) → Contains v.timers t → TimerFrom w s told t
-  pub made : StandsMade w s told v
+  pub made : StandsMade w s told v.listeners v.timers
   -- none is lost that is not given up
   pub listeners_stand : (l : ListenerEntry) → Contains w.listeners l → drops_listener s l.number ≡ false
       → (after : ListenerEntry) × Contains v.listeners after × (after.number ≡ l.number)

@@ -82,7 +82,8 @@ pub fn a_refused_step_changes_nothing()
         → is_refusal (step_result w s answers).answer ≡ true
         → step_result w s answers ≡ only_counted (step_result w s answers).answer w answers }
     ensures leaves { (w : World) (s : Step) (answers : List PollerAnswer)
-        → let o = step_result w s answers in RefusalLeaves w o.answer o.wakes o.world }
+        → let after = step_result w s answers in
+        RefusalLeaves w after.answer after.wakes after.world }
 {}
 
 /// The book of registered timers stays in the order in which they fire, under each change and each
