@@ -201,7 +201,8 @@ follows_ready : (deadline : ℕ) (period : Option ℕ) → FollowsReady deadline
 follows_ready deadline None = refl
 follows_ready deadline (Some period) = (
   (λ within. cond-true (nat_le (deadline + period) last_moment) _ _ (le-leb (deadline + period) last_moment within)),
-  (λ past. cond-false (nat_le (deadline + period) last_moment) _ _ (lt-leb (deadline + period) last_moment past)))
+  (λ past. cond-false (nat_le (deadline + period) last_moment) _ _ (lt-leb (deadline + period) last_moment past)),
+)
 
 fired_dated : (w u : World) (number : ℕ) (waker : Waker) (deadline : ℕ) (entry : TimerEntry) (next : Option ℕ) → u.timers ≡ w.timers → Contains w.timers entry
     → (entry.number == number) ≡ true → entry.deadline ≡ Some deadline → deadline ≤ w.now → FollowsReady deadline entry.period next
@@ -302,11 +303,12 @@ end_last : (w : World) (number : ℕ) (found : Option TimerEntry) (answers : Lis
     → Last w (step.End number) (end_timer w found answers).world
 end_last w number None answers is = same_last w w (step.End number) refl
 end_last w number (Some entry) answers is = λ t among kept.
-    let same : entry.number ≡ number = eqb-true entry.number number (found_is_in (is_timer number) w.timers entry is).1 in
-    (t,
-    passing_is_kept (λ x. not (is_timer entry.number x)) (unregistered w entry.id).timers t (ap not (subst (λ k. (t.number == k) ≡ false) (sym same) kept))
-    (subst (λ (ts : List TimerEntry). Contains ts t) (sym (gone_same w entry.id)) among),
-    refl)
+    let same : entry.number ≡ number = eqb-true entry.number number (found_is_in (is_timer number) w.timers entry is).1 in (
+      t,
+      passing_is_kept (λ x. not (is_timer entry.number x)) (unregistered w entry.id).timers t (ap not (subst (λ k. (t.number == k) ≡ false) (sym same) kept))
+          (subst (λ (ts : List TimerEntry). Contains ts t) (sym (gone_same w entry.id)) among),
+      refl,
+    )
 
 -- ## What is made
 

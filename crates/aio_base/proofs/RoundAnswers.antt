@@ -207,9 +207,10 @@ react_told w answers None is =
     let handled = handle_each hand waited.world waited.left in
     let start = round_begun w answers (ap is_some is) in
     let given = hand_is waited.world.round _ (round_waited begun.world begun.world.round begun.left start.hand).hand in
-    let counted : length hand ≡ length (events_given (next_answer answers)) = ap length given ∙ ap (λ (rest : List PollerAnswer). length (events_given (next_answer rest))) start.left in
-    (fault_of handled.world.round,
-    ap (λ (o : Outcome). o.answer) (cond-false (is_some w.round) _ _ (ap is_some is)) ∙ ap (λ (n : ℕ). answer.Round (w.rounds + 1) n (fault_of handled.world.round)) counted)
+    let counted : length hand ≡ length (events_given (next_answer answers)) = ap length given ∙ ap (λ (rest : List PollerAnswer). length (events_given (next_answer rest))) start.left in (
+      fault_of handled.world.round,
+      ap (λ (o : Outcome). o.answer) (cond-false (is_some w.round) _ _ (ap is_some is)) ∙ ap (λ (n : ℕ). answer.Round (w.rounds + 1) n (fault_of handled.world.round)) counted,
+    )
 react_told w answers (Some round) is = ap (λ (o : Outcome). o.answer) (cond-true (is_some w.round) _ _ (ap is_some is))
 
 pub rounds_told : (w : World) (s : Step) (answers : List PollerAnswer) → RoundsTold w s answers (case_of w s answers).answer

@@ -44,7 +44,8 @@ second_pass_is round = (
   (λ passes.
       let both = both_true (gave_none round.last_wait) (not (is_zero round.limit)) passes.1 in
       record { hand = passes.0; waited = none_given round.last_wait both.0; limit = not_zero round.limit both.1 }),
-  (λ out. (out.hand, true_both (gave_none round.last_wait) (not (is_zero round.limit)) (given_none round.last_wait out.waited) (above_zero round.limit out.limit))))
+  (λ out. (out.hand, true_both (gave_none round.last_wait) (not (is_zero round.limit)) (given_none round.last_wait out.waited) (above_zero round.limit out.limit))),
+)
 
 -- the machine's test of a pass
 abbrev pub makes_pass : World → Step → Bool
