@@ -16,7 +16,9 @@ pub mod FirstPolls
 pub mod Frames
 pub mod FiringOrder
 mod FalseHistories
+mod FalseRounds
 mod FalseSteps
+mod FalseTimers
 pub mod Following
 pub mod FreeKeys
 pub mod FreshnessLemmas
