@@ -1,6 +1,5 @@
 -- Steps of wrong machines, each refused by a law of a step.
-use Rattle.std.proofs.Common.{◌≡◌, ℕ, ◌+◌, ◌<◌, true, false, List, [], ◌∷◌, Option, None, Some, refl, ap, ◌∙◌, sym, subst, ⊎_elim, ◌⊎◌, arith}
-use Rattle.std.specs.List.{Contains}
+use Rattle.std.proofs.Common.{◌≡◌, ℕ, ◌+◌, ◌<◌, true, false, List, [], ◌∷◌, Option, None, Some, refl, ap, ◌∙◌, sym, arith}
 use Rattle.aio_base.specs.declared.names.Waker.{Waker}
 use Rattle.aio_base.specs.declared.names.Dir.{Dir}
 use Rattle.aio_base.specs.declared.names.Dir.TheVariants.{Read, Write}
@@ -13,8 +12,7 @@ use Rattle.aio_base.specs.World.{PollerAnswer, LiveSource, ListenerEntry, TimerE
 use Rattle.aio_base.specs.RoundCounts.{RoundName, RoundsFollow}
 use Rattle.aio_base.specs.Clock.{ClockIsSet}
 use Rattle.aio_base.specs.Others.{OthersStand}
-use Rattle.aio_base.specs.Own.{StoodDated, KeepsItsOwn}
-use Rattle.aio_base.proofs.Membership.{first_is_in, none_is_in, among_cases}
+use Rattle.aio_base.proofs.Membership.{first_is_in}
 
 -- a round of this number that began at this position, with these events in hand
 abbrev round : ℕ → ℕ → List Event → RoundState
@@ -23,37 +21,34 @@ round number begin hand = record { number = number; begin = begin; limit = None;
 named : (a b : RoundName) → Some a ≡ Some b → (a.number ≡ b.number) × (a.begin ≡ b.begin)
 named a b same = let one : a ≡ b = cc in (ap (λ (n : RoundName). n.number) one, ap (λ (n : RoundName). n.begin) one)
 
-some_number : (m n : ℕ) → Some m ≡ Some n → m ≡ n
-some_number m n same = cc
-
 apart : (m n : ℕ) → m < n → m ≡ n → ⊥
 apart m n less same = absurd (omega arith)
 
 -- ## Rounds
 
 -- a round begins under the number of an earlier one
-pub a_round_number_given_again_is_refused : (told : Answer)
-    → RoundsFollow (record opening { rounds = 3 }) (step.Begin None) told
+pub a_round_number_given_again_is_refused : (answers : List PollerAnswer) (told : Answer)
+    → RoundsFollow (record opening { rounds = 3 }) (step.Begin None) answers told
     (record opening { pos = 1; rounds = 4; begun = 0 ∷ []; round = Some (round 1 0 []) }) → ⊥
-a_round_number_given_again_is_refused told f = apart 1 4 (omega arith) (named _ _ f.running).0
+a_round_number_given_again_is_refused answers told f = apart 1 4 (omega arith) (named _ _ f.running).0
 
 -- a round begins and is not counted
-pub a_round_that_is_not_counted_is_refused : (told : Answer)
-    → RoundsFollow (record opening { rounds = 3 }) (step.Begin None) told
+pub a_round_that_is_not_counted_is_refused : (answers : List PollerAnswer) (told : Answer)
+    → RoundsFollow (record opening { rounds = 3 }) (step.Begin None) answers told
     (record opening { pos = 1; rounds = 3; begun = 0 ∷ []; round = Some (round 4 0 []) }) → ⊥
-a_round_that_is_not_counted_is_refused told f = apart 3 4 (omega arith) f.rounds
+a_round_that_is_not_counted_is_refused answers told f = apart 3 4 (omega arith) f.rounds
 
 -- a round begins at another position than its step's
-pub a_round_that_begins_elsewhere_is_refused : (told : Answer)
-    → RoundsFollow (record opening { pos = 5 }) (step.Begin None) told
+pub a_round_that_begins_elsewhere_is_refused : (answers : List PollerAnswer) (told : Answer)
+    → RoundsFollow (record opening { pos = 5 }) (step.Begin None) answers told
     (record opening { pos = 6; rounds = 1; begun = 5 ∷ []; round = Some (round 1 2 []) }) → ⊥
-a_round_that_begins_elsewhere_is_refused told f = apart 2 5 (omega arith) (named _ _ f.running).1
+a_round_that_begins_elsewhere_is_refused answers told f = apart 2 5 (omega arith) (named _ _ f.running).1
 
 -- a wait changes the number of its round
-pub a_round_that_changes_its_number_is_refused : (told : Answer)
-    → RoundsFollow (record opening { rounds = 2; round = Some (round 2 0 []) }) step.Wait told
+pub a_round_that_changes_its_number_is_refused : (answers : List PollerAnswer) (told : Answer)
+    → RoundsFollow (record opening { rounds = 2; round = Some (round 2 0 []) }) step.Wait answers told
     (record opening { pos = 1; rounds = 2; round = Some (round 1 0 []) }) → ⊥
-a_round_that_changes_its_number_is_refused told f = apart 1 2 (omega arith) (named _ _ f.running).0
+a_round_that_changes_its_number_is_refused answers told f = apart 1 2 (omega arith) (named _ _ f.running).0
 
 -- ## The clock
 
@@ -105,17 +100,3 @@ pub a_deadline_of_another_timer_is_refused : (answers : List PollerAnswer)
     (record opening { pos = 1; timers = timer 1 9 ∷ timer 2 9 ∷ []; timers_made = 2 }) → ⊥
 a_deadline_of_another_timer_is_refused answers o =
     apart 6 9 (omega arith) (sym (dated (timer 2 9) (timer 2 6) 9 6 o.timers refl refl))
-
--- a timer that is polled and told pending waits for another deadline then
-pub a_deadline_moved_by_a_pending_tick_is_refused :
-    KeepsItsOwn (record opening { timers = timer 1 5 ∷ []; timers_made = 1 }) (step.Tick 1 (record { 0 = 7 })) answer.Pending
-    (record opening { pos = 1; timers = timer 1 9 ∷ []; timers_made = 1 }) → ⊥
-a_deadline_moved_by_a_pending_tick_is_refused k =
-    ⊎_elim
-    (λ (wrong : false ≡ true). cc)
-    (λ (stood : StoodDated (record opening { timers = timer 1 5 ∷ []; timers_made = 1 }) (timer 1 9)).
-    ⊎_elim
-    (λ (same : timer 1 5 ≡ stood.old). apart 5 9 (omega arith) (some_number 5 9 (ap (λ (t : TimerEntry). t.deadline) same ∙ stood.deadline)))
-    (λ (none : Contains [] stood.old). none_is_in stood.old none)
-    (among_cases (timer 1 5) [] stood.old stood.among))
-    (k.timers (timer 1 9) (first_is_in (timer 1 9) []))

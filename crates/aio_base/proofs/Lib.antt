@@ -20,7 +20,9 @@ pub mod FiringOrder
 mod FalseAnswers
 mod FalseHistories
 mod FalseNotes
+mod FalseRounds
 mod FalseSteps
+mod FalseTimers
 pub mod Following
 pub mod FreeKeys
 pub mod FreshnessLemmas
@@ -51,6 +53,8 @@ mod RefusedLocks
 mod RefusedWorlds
 pub mod Registering
 pub mod Rewaiting
+pub mod RoundAnswers
+pub mod RoundHands
 pub mod RoundLemmas
 pub mod RoundSteps
 mod Rows
@@ -67,6 +71,7 @@ pub mod Taking
 mod TimerRows
 pub mod UnmovedLemmas
 pub mod Untouched
+pub mod WaitedOut
 pub mod WaiterLemmas
 pub mod WordBits
 pub mod WordCounts

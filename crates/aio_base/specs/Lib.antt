@@ -11,7 +11,9 @@ pub mod Covered
 pub mod Arming
 pub mod Distinct
 pub mod Counts
+pub mod RoundAnswers
 pub mod RoundCounts
+pub mod RoundHands
 pub mod Clock
 pub mod Handling
 pub mod Others

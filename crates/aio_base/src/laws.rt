@@ -3,7 +3,7 @@
 ghost use Rattle.std.specs.Prelude.{◌≡◌, ◌≢◌, ◌⊎◌, ◌&&◌, ◌↔◌, ℕ, ◌<◌, ◌≤◌, nat_le, filter, true, false, not, List, [], ◌∷◌, ◌++◌, length, map, Option, Some, None};
 ghost use Rattle.std.specs.List.{All, Contains};
 ghost use Rattle.aio_base.specs.Arming.{ArmsAsTold, IsArmedOrInHand};
-ghost use Rattle.aio_base.specs.Between.{StandsAfter, StandsBetween};
+ghost use Rattle.aio_base.specs.Between.{IsWaitedOut, RegistrationsFollow, StandsAfter, StandsBetween, is_of_timer};
 ghost use Rattle.aio_base.specs.Clock.{ClockIsSet};
 ghost use Rattle.aio_base.specs.Counts.{CountsRise};
 ghost use Rattle.aio_base.specs.Covered.{Covered, WaitsForLive};
@@ -16,10 +16,11 @@ ghost use Rattle.aio_base.specs.Machine.{Outcome, begin_round, finish_round, mak
 ghost use Rattle.aio_base.specs.Others.{OthersStand};
 ghost use Rattle.aio_base.specs.Own.{KeepsItsOwn};
 ghost use Rattle.aio_base.specs.Readiness.{ReadyIsTold};
-ghost use Rattle.aio_base.specs.Refusals.{is_refusal, only_counted};
+ghost use Rattle.aio_base.specs.Refusals.{RefusalLeaves, is_refusal, only_counted};
 ghost use Rattle.aio_base.specs.Registered.{TimersAreRegistered};
 ghost use Rattle.aio_base.specs.Runs.{PolledStep, answers_of, outcome_without_notes, scripted, wakes_of, without_notes, world_of};
 ghost use Rattle.aio_base.specs.RoundCounts.{RoundsFollow};
+ghost use Rattle.aio_base.specs.RoundHands.{HandFollows};
 ghost use Rattle.aio_base.specs.Script.{outcomes_from, world_after};
 ghost use Rattle.aio_base.specs.Sources.{SourcesFollow};
 ghost use Rattle.aio_base.specs.Storings.{Once, Storings, step_ended, step_storings, storings_of};
@@ -75,9 +76,12 @@ pub fn registrations_fire_in_order()
 
 /// A step that is refused takes its position and changes nothing else: no wake, no call of the poller.
 pub fn a_refused_step_changes_nothing()
-    ensures { (w : World) (s : Step) (answers : List PollerAnswer)
+    ensures counted { (w : World) (s : Step) (answers : List PollerAnswer)
         → is_refusal (step_result w s answers).answer ≡ true
         → step_result w s answers ≡ only_counted (step_result w s answers).answer w answers }
+    ensures leaves { (w : World) (s : Step) (answers : List PollerAnswer)
+        → let after = step_result w s answers in
+        RefusalLeaves w after.answer after.wakes after.world }
 {}
 
 /// The book of registered timers stays in the order in which they fire, under each change and each
@@ -181,9 +185,38 @@ pub fn no_number_is_given_twice()
 /// number, which its answer tells, and the position at which it began is recorded. It keeps number,
 /// begin and limit until a `finish` tells its end, or its whole round is answered; no other round runs
 /// then.
+///
+/// While a round runs, `begin` and `react` are told `locked`, and where none runs `wait`, `handle` and
+/// `finish` are told `no round`. With events in hand `wait` and `finish` are told how many, and with an
+/// empty hand `handle` is told `empty`. No step is told so in another case. Else a `begin` tells the
+/// limit of its waits, in nanoseconds: the least of the given limit and of the times to the registered
+/// deadlines, 0 for one that has come, and none where there is neither. A `wait` tells what the poller
+/// answered, a `handle` the key of its event, a `finish` the first fault of its round, and a `react` how
+/// many events its wait gave.
 pub fn each_round_has_a_number_of_its_own()
     ensures { (w : World) (s : Step) (answers : List PollerAnswer)
-        → RoundsFollow w s (step_result w s answers).answer (step_result w s answers).world }
+        → RoundsFollow w s answers (step_result w s answers).answer (step_result w s answers).world }
+{}
+
+/// A round begins with an empty hand. A `wait` that tells how many events were given takes just these in
+/// hand, and none where it was interrupted or failed; a `handle` takes out the first one, whose key it
+/// tells. No other step changes the hand. A round remembers what its last wait was answered, and its
+/// first fault, and nothing else changes those.
+pub fn a_round_has_in_hand_what_its_wait_gave()
+    ensures { (w : World) (s : Step) (answers : List PollerAnswer)
+        → HandFollows w s answers (step_result w s answers).answer (step_result w s answers).world }
+{}
+
+/// A step that begins a round makes a pass over the registered timers, a whole round makes one, and so
+/// does a `finish` of a round with nothing in hand whose limit is not 0 and whose last wait gave no
+/// event, and was neither interrupted nor failed. No other step does. Such a pass takes what is due at
+/// the clock's moment. Else a step that is not of a timer leaves each registration.
+pub fn a_waited_out_round_ends_with_a_pass()
+    ensures step { (w : World) (s : Step) (answers : List PollerAnswer)
+        → is_of_timer s ≡ false → RegistrationsFollow w s (step_result w s answers).world }
+    ensures test { (round : RoundState)
+        → (round.in_hand ≡ []) × (makes_second_pass round.last_wait round.limit ≡ true)
+        ↔ IsWaitedOut round }
 {}
 
 /// The clock is set by a `now` whose moment has not passed, to that moment, which the answer tells. A
@@ -252,8 +285,15 @@ pub fn a_step_is_ready_exactly_where_what_it_polls_is()
 {}
 
 /// A listener is the same after a step, but for its waker, and but for its position where this is its
-/// first poll: that one it remembers, and no later one. A timer gets a deadline or a period where it is
-/// made, where it is set, and where its own `tick` is answered `ready`; in no other step do they change.
+/// first poll: that one it remembers, and no later one. One that is made has the source of its step's
+/// key and its step's direction, no position and no waker, and it stands under the number that is told.
+///
+/// A timer that is made has just the deadline and the period of its step, and stands under the number
+/// that is told. A `set` that is answered `set` gives its timer the deadline that it names, and keeps
+/// the period, or with `every` gives the one that it names. A `tick` that is told `ready` tells the
+/// timer's deadline, which has come, and the next is one period later where that is at most 10^18
+/// nanoseconds; else there is none. The period stays. No other step changes deadline or period, and no
+/// listener or timer is lost but the one that is given up.
 pub fn a_position_and_a_deadline_have_their_steps()
     ensures { (w : World) (s : Step) (answers : List PollerAnswer)
         → KeepsItsOwn w s (step_result w s answers).answer (step_result w s answers).world }
@@ -290,10 +330,12 @@ pub fn a_script_is_a_run()
 ///
 /// Listeners that were polled stand in the order of their first polls. A last step that was told pending,
 /// or that handled an event without a fault, left its source unbroken where a waiter is left.
-/// The last step counted a round where it began one, noted each event that it handled and nothing else,
-/// moved the clock where it was a `now` that was answered so, and left the things of others alone. Its
-/// own mark went where it was told ready, it changed the sources as its answer tells, and it was told
-/// ready exactly where it polled what was ready.
+/// The last step counted a round where it began one, told what a step of a round tells, moved the hand as
+/// it told, noted each event that it handled and nothing else, moved the clock where it was a `now` that
+/// was answered so, and left the things of others alone. Its own mark went where it was told ready, it
+/// changed the sources as its answer tells and its own listener or timer as such a step may, and it was
+/// told ready exactly where it polled what was ready. Where it was refused it took its position and did
+/// nothing else.
 pub fn a_run_stands_between_its_steps()
     ensures run { (run : List PolledStep) → StandsBetween run }
     ensures trace { (steps : List Step) → StandsAfter steps }
