@@ -185,6 +185,21 @@ pub a_listener_lost_by_its_poll_is_refused : (told : Answer) (waker : Waker)
 a_listener_lost_by_its_poll_is_refused told waker k =
     let after = k.listeners_stand (listener Read None) (first_is_in (listener Read None) []) refl in none_is_in after.0 after.1
 
+-- a listener is dropped, and stands on
+pub a_dropped_listener_that_stands_on_is_refused :
+    KeepsItsOwn (listening (listener Read None)) (step.DropEar 1) answer.Dropped (listening (listener Read None)) → ⊥
+a_dropped_listener_that_stands_on_is_refused k = k.goes.gone refl (listener Read None, first_is_in (listener Read None) [], refl)
+
+-- a listener that is not there is dropped
+pub a_drop_of_no_listener_is_refused : (v : World) → KeepsItsOwn sourced (step.DropEar 1) answer.Dropped v → ⊥
+a_drop_of_no_listener_is_refused v k = let had = k.goes.was refl in none_is_in had.0 had.1
+
+-- a timer is ended, and stands on
+pub an_ended_timer_that_stands_on_is_refused :
+    KeepsItsOwn (record opening { timers = timer 1 (Some 5) None ∷ []; timers_made = 1 }) (step.End 1) answer.Ended
+    (record opening { pos = 1; timers = timer 1 (Some 5) None ∷ []; timers_made = 1 }) → ⊥
+an_ended_timer_that_stands_on_is_refused k = k.goes.gone refl (timer 1 (Some 5) None, first_is_in (timer 1 (Some 5) None) [], refl)
+
 -- ## Refused steps
 
 -- a step that is refused moves the clock

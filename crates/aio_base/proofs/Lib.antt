@@ -26,6 +26,7 @@ mod FalseTimers
 pub mod Following
 pub mod FreeKeys
 pub mod FreshnessLemmas
+mod GivingUp
 pub mod HeldEvents
 pub mod HeldListeners
 pub mod HeldPolls

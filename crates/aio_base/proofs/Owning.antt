@@ -15,6 +15,7 @@ use Rattle.aio_base.specs.World.{PollerAnswer, ListenerEntry, TimerEntry, World,
 use Rattle.aio_base.specs.Machine.{Outcome, quiet, last_moment, is_fresh_since, is_waker, pending, is_listener, with_listening, step_listener, without_listener, drop_listener, new_listener, is_timer, with_timer, unregistered, registered, next_deadline, fired, tick_deadline, tick_timer, set_deadline, set_timer, end_timer, case_of, step_result}
 use Rattle.aio_base.specs.Others.{but_waker}
 use Rattle.aio_base.specs.Own.{new_listener_entry, new_timer_entry, ComesFrom, Stood, FirstPolled, Made, polls_listener, MakesTimer, FollowsReady, redates, Redated, TimerFrom, StoodDated, IsRedated, MadeTimer, StandsMade, drops_listener, ends_timer, KeepsItsOwn}
+use Rattle.aio_base.proofs.GivingUp.{what_is_given_up_goes}
 use Rattle.aio_base.proofs.Membership.{found_is_in, filtered_is_in, passing_is_kept, mapped_from, image_is_in}
 use Rattle.aio_base.proofs.Frames.{Frame, frame, either, either_world, add_keeps, del_keeps, poll_keeps, new_keeps, step_keeps, drop_keeps, tick_keeps, set_keeps, end_keeps, begin_keeps, wait_keeps, handle_keeps, finish_keeps, gone_keeps}
 use Rattle.aio_base.proofs.Untouched.{entries, react_keeps, pending_entries}
@@ -461,4 +462,4 @@ case_owns w step.React answers =
 pub keeps_its_own : (w : World) (s : Step) (answers : List PollerAnswer) → KeepsItsOwn w s (step_result w s answers).answer (step_result w s answers).world
 unfolding step_result
 keeps_its_own w s answers =
-    let c = case_owns w s answers in record { listeners = c.listeners; timers = c.timers; made = c.made; listeners_stand = c.stay; timers_stand = c.last }
+    let c = case_owns w s answers in record { listeners = c.listeners; timers = c.timers; made = c.made; listeners_stand = c.stay; timers_stand = c.last; goes = what_is_given_up_goes w s answers }

@@ -1,5 +1,5 @@
 -- What a step may change of a listener and of a timer, its own ones too.
-use Rattle.std.specs.Prelude.{◌≡◌, ℕ, ◌+◌, ◌<◌, ◌≤◌, ◌^◌, Bool, true, false, ◌==◌, List, Option, None, Some}
+use Rattle.std.specs.Prelude.{◌≡◌, ◌⊎◌, ℕ, ◌+◌, ◌<◌, ◌≤◌, ◌^◌, Bool, true, false, ◌==◌, List, Option, None, Some}
 use Rattle.std.specs.List.{Contains}
 use Rattle.aio_base.specs.declared.names.Key.{Key}
 use Rattle.aio_base.specs.declared.names.Dir.{Dir}
@@ -92,6 +92,26 @@ abbrev pub ends_timer : Step → ℕ → Bool
 ends_timer (step.End number) n = n == number
 ends_timer _ n = false
 
+-- a listener, and a timer, of this number stands among these
+abbrev pub HasListener : List ListenerEntry → ℕ → Type 0
+HasListener listeners number = (l : ListenerEntry) × Contains listeners l × (l.number ≡ number)
+
+abbrev pub HasTimer : List TimerEntry → ℕ → Type 0
+HasTimer timers number = (t : TimerEntry) × Contains timers t × (t.number ≡ number)
+
+-- Something is given up where it is told so: it was there, and is there no longer. Where it is told that there is none, there was none.
+pub record GivesUp (Had Has : Type 0) (given_up none told : Answer) : Type 0 where
+  pub tells : (told ≡ given_up) ⊎ (told ≡ none)
+  pub was : told ≡ given_up → Had
+  pub gone : told ≡ given_up → Has → ⊥
+  pub never : told ≡ none → Had → ⊥
+
+-- a `drop` gives a listener up, and an `end` a timer
+abbrev pub OwnGoes : World → Step → Answer → World → Type 0
+OwnGoes w (step.DropEar number) told v = GivesUp (HasListener w.listeners number) (HasListener v.listeners number) answer.Dropped answer.NoListener told
+OwnGoes w (step.End number) told v = GivesUp (HasTimer w.timers number) (HasTimer v.timers number) answer.Ended answer.NoTimer told
+OwnGoes w _ told v = Unit {0}
+
 pub record KeepsItsOwn (w : World) (s : Step) (told : Answer) (v : World) : Type 0 where
   -- each listener and each timer that stands comes from one that stood, or from the step
   pub listeners : (l : ListenerEntry) → Contains v.listeners l → ComesFrom w s l
@@ -102,3 +122,5 @@ pub record KeepsItsOwn (w : World) (s : Step) (told : Answer) (v : World) : Type
       → (after : ListenerEntry) × Contains v.listeners after × (after.number ≡ l.number)
   pub timers_stand : (t : TimerEntry) → Contains w.timers t → ends_timer s t.number ≡ false
       → (after : TimerEntry) × Contains v.timers after × (after.number ≡ t.number)
+  -- and what is given up is gone
+  pub goes : OwnGoes w s told v

@@ -293,7 +293,7 @@ pub fn a_step_is_ready_exactly_where_what_it_polls_is()
 /// the period, or with `every` gives the one that it names. A `tick` that is told `ready` tells the
 /// timer's deadline, which has come, and the next is one period later where that is at most 10^18
 /// nanoseconds; else there is none. The period stays. No other step changes deadline or period, and no
-/// listener or timer is lost but the one that is given up.
+/// listener or timer is lost but the one that is given up, which is gone.
 pub fn a_position_and_a_deadline_have_their_steps()
     ensures { (w : World) (s : Step) (answers : List PollerAnswer)
         → KeepsItsOwn w s (step_result w s answers).answer (step_result w s answers).world }
