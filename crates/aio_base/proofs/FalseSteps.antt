@@ -1,13 +1,15 @@
 -- Steps of wrong machines, each refused by a law of a step.
-use Rattle.std.proofs.Common.{◌≡◌, ℕ, ◌<◌, true, false, List, [], ◌∷◌, None, Some, refl, ap, ◌∙◌, sym, ⊎_elim, arith}
+use Rattle.std.proofs.Common.{◌≡◌, ℕ, ◌+◌, ◌<◌, true, false, List, [], ◌∷◌, Option, None, Some, refl, ap, ◌∙◌, sym, subst, ⊎_elim, ◌⊎◌, arith}
 use Rattle.std.specs.List.{Contains}
-use Rattle.aio_base.specs.declared.names.Dir.TheVariants.{Read}
+use Rattle.aio_base.specs.declared.names.Waker.{Waker}
+use Rattle.aio_base.specs.declared.names.Dir.{Dir}
+use Rattle.aio_base.specs.declared.names.Dir.TheVariants.{Read, Write}
 use Rattle.aio_base.specs.declared.names.Event.{Event}
 use Rattle.aio_base.specs.declared.steps.Step.TheVariants as step
 use Rattle.aio_base.specs.declared.steps.Answer.{Answer}
 use Rattle.aio_base.specs.declared.steps.Answer.TheVariants as answer
 use Rattle.aio_base.specs.declared.outcomes.EndWord.TheVariants.{Clean}
-use Rattle.aio_base.specs.World.{PollerAnswer, ListenerEntry, TimerEntry, RoundState, World, opening}
+use Rattle.aio_base.specs.World.{PollerAnswer, LiveSource, ListenerEntry, TimerEntry, RoundState, World, opening}
 use Rattle.aio_base.specs.RoundCounts.{RoundName, RoundsFollow}
 use Rattle.aio_base.specs.Clock.{ClockIsSet}
 use Rattle.aio_base.specs.Others.{OthersStand}
