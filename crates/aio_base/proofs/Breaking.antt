@@ -11,14 +11,14 @@ use Rattle.aio_base.specs.declared.names.Event.{Event}
 use Rattle.aio_base.specs.declared.steps.Step.{Step}
 use Rattle.aio_base.specs.declared.steps.Step.TheVariants as step
 use Rattle.aio_base.specs.World.{PollerAnswer, LiveSource, ListenerEntry, BrokenSource, RoundState, World, directions_of, serial_of, key_of, poll_waiter, mark_of, is_empty_list, is_idle, is_broken, without_broken, wanted}
-use Rattle.aio_base.specs.Machine.{Outcome, fails, next_answer, broken_world, armed_world, after_arm, pending, del_source, is_fresh_since, is_waker, with_waiter, poll_source, with_listening, step_listener, is_listener, is_timer, begin_round, wait_round, without_waiters, world_taken, wakers_taken, rearmed, handle_source, handle_first, handle_in, handle_round, handle_each, hand_of, finish_round, react, case_of}
+use Rattle.aio_base.specs.Machine.{Outcome, fails, next_answer, broken_world, armed_world, after_arm, pending, del_source, is_fresh_since, is_waker, with_waiter, poll_source, with_listening, step_listener, is_listener, is_timer, begin_round, wait_round, without_waiters, world_taken, rearmed, handle_source, handle_first, handle_in, handle_round, handle_each, hand_of, finish_round, react, case_of}
 use Rattle.aio_base.specs.Succession.{events_given}
 use Rattle.aio_base.specs.Arming.{handled_events}
-use Rattle.aio_base.specs.Others.{armed_sources, is_own_broken, other_broken}
+use Rattle.aio_base.specs.Others.{other_broken}
 use Rattle.aio_base.proofs.Membership.{first_is_in, later_is_in, any_from, piece_is_in}
 use Rattle.aio_base.proofs.Searching.{of_not, refiltered, unseen_push}
 use Rattle.aio_base.proofs.RoundLemmas.{in_hand_of, event_handled, round_begun, round_waited, hand_is}
-use Rattle.aio_base.proofs.Frames.{Frame, frame, either, either_world, wait_keeps, handle_keeps}
+use Rattle.aio_base.proofs.Frames.{Frame, either, either_world, wait_keeps, handle_keeps}
 use Rattle.aio_base.proofs.Asides.{Aside, aside, add_leaves, new_leaves, drop_leaves, tick_leaves, set_leaves, end_leaves, begin_leaves, wait_leaves, finish_leaves}
 
 -- a test that no failed arm of this source passes

@@ -1,17 +1,15 @@
 -- Answers of wrong machines, each refused by a law of a step: of sources that are added and taken out, and of what is ready.
-use Rattle.std.proofs.Common.{◌≡◌, ℕ, ◌+◌, ◌<◌, ◌≤◌, true, false, List, [], ◌∷◌, ◌++◌, length, Option, None, Some, refl, ap, ◌∙◌, sym, subst, ◌⊎◌, inl, inr, ⊎_elim, arith}
+use Rattle.std.proofs.Common.{◌≡◌, ℕ, ◌<◌, ◌≤◌, true, false, [], ◌∷◌, length, Option, None, Some, refl, ap, ◌∙◌, sym, subst, ◌⊎◌, inl, inr, ⊎_elim, arith}
 use Rattle.std.specs.List.{Contains}
 use Rattle.aio_base.specs.declared.names.Dir.{Dir}
 use Rattle.aio_base.specs.declared.names.Dir.TheVariants.{Read, Write}
-use Rattle.aio_base.specs.declared.steps.Step.{Step}
 use Rattle.aio_base.specs.declared.steps.Step.TheVariants as step
-use Rattle.aio_base.specs.declared.steps.Answer.{Answer}
 use Rattle.aio_base.specs.declared.steps.Answer.TheVariants as answer
 use Rattle.aio_base.specs.World.{LiveSource, ListenerEntry, TimerEntry, HandledDirection, World, opening, mark_of}
-use Rattle.aio_base.specs.Readiness.{IsHandledSince, SourceIsReady, ListenerIsReady, TimerIsReady, ReadyIsTold}
+use Rattle.aio_base.specs.Readiness.{IsHandledSince, ReadyIsTold}
 use Rattle.aio_base.specs.Sources.{SourcesFollow}
 use Rattle.aio_base.proofs.Membership.{first_is_in, none_is_in, among_cases}
-use Rattle.aio_base.proofs.FalseNotes.{task, key, entry, mark, waiting}
+use Rattle.aio_base.proofs.FalseNotes.{task, key, entry, waiting}
 
 -- ## Sources
 
@@ -105,9 +103,11 @@ only_entry : (w : World) (h : HandledDirection) (serial : ℕ) (dir : Dir) (posi
     → (h.serial ≡ serial) × (h.dir ≡ dir) × (position < h.begin)
 only_entry w h serial dir position one is =
     ⊎_elim
-    (λ (same : h ≡ is.entry).
-    (ap (λ (e : HandledDirection). e.serial) same ∙ is.of, ap (λ (e : HandledDirection). e.dir) same ∙ is.on,
-    subst (λ (e : HandledDirection). position < e.begin) (sym same) is.later))
+    (λ (same : h ≡ is.entry). (
+      ap (λ (e : HandledDirection). e.serial) same ∙ is.of,
+      ap (λ (e : HandledDirection). e.dir) same ∙ is.on,
+      subst (λ (e : HandledDirection). position < e.begin) (sym same) is.later,
+    ))
     (λ (none : Contains [] is.entry). none_is_in is.entry none)
     (among_cases h [] is.entry (subst (λ hs. Contains hs is.entry) one is.among))
 

@@ -1,5 +1,5 @@
 -- What a step does with marks: those of others stand, and its own follow its answer.
-use Rattle.std.proofs.Common.{◌≡◌, ℕ, Bool, true, false, not, cond, ◌||◌, ◌==◌, List, [], ◌∷◌, ◌++◌, find, Option, None, Some, option_to_list, refl, ap, ◌∙◌, sym, append-nil}
+use Rattle.std.proofs.Common.{◌≡◌, ℕ, Bool, true, false, not, cond, ◌||◌, ◌==◌, List, [], ◌∷◌, find, Option, None, Some, option_to_list, refl, ap, ◌∙◌, sym, append-nil}
 use Rattle.std.specs.Prelude.{nat_lt, flat_map}
 use Rattle.std.specs.List.{filter, list_any}
 use Rattle.std.specs.Option.{option_map_or}
@@ -117,21 +117,21 @@ poll_own w key dir waker (Some serial) answers is =
     let sees : (marks : List Mark) → filter (is_own_mark w s) marks ≡ filter own marks = λ marks. ap (λ (f : Option ℕ). filter (of_direction f dir) marks) is in
     let used : filter own (without_mark w.marks serial dir) ≡ [] = filtered_empty own (λ m. not (own m)) (λ m stays. not-true (own m) stays) w.marks in
     let left : left_waiting w key dir waker (serial_of w key.0) ≡ waiting_mark w dir waker stood serial =
-        ap (left_waiting w key dir waker) is ∙ append-nil (waiting_mark w dir waker stood serial) in
+    ap (left_waiting w key dir waker) is ∙ append-nil (waiting_mark w dir waker stood serial) in
     either P (is_fresh_since w serial dir (mark_of w.marks serial dir)) _ _ (sees (without_mark w.marks serial dir) ∙ used)
     (by_test P (is_waker waker waiter) _ _
     (λ same.
     let arms = is_broken w serial in
     let there = ap (λ (a : Aside). filter (is_own_mark w s) a.marks) (pending_leaves arms w key.0 serial [] answers)
-        ∙ sym (left ∙ cond-true (is_waker waker waiter) stood (new_mark w serial dir ∷ []) same) in
+    ∙ sym (left ∙ cond-true (is_waker waker waiter) stood (new_mark w serial dir ∷ []) same) in
     pending_told (λ told. own_marks w s (pending arms w key.0 serial [] answers).world ≡ own_marks_after w s told) arms w key.0 serial [] answers there there)
     (λ other.
     let arms = is_idle w serial dir || is_broken w serial in
     let u = with_waiter w serial dir waker in
     let wakes = option_to_list waiter in
     let here = ap (λ (a : Aside). filter (is_own_mark w s) a.marks) (pending_leaves arms u key.0 serial wakes answers) ∙ sees u.marks
-        ∙ kept_push own (without_mark w.marks serial dir) (new_mark w serial dir) used (is_of-from serial dir serial dir refl refl)
-        ∙ sym (left ∙ cond-false (is_waker waker waiter) stood (new_mark w serial dir ∷ []) other) in
+    ∙ kept_push own (without_mark w.marks serial dir) (new_mark w serial dir) used (is_of-from serial dir serial dir refl refl)
+    ∙ sym (left ∙ cond-false (is_waker waker waiter) stood (new_mark w serial dir ∷ []) other) in
     pending_told (λ told. own_marks w s (pending arms u key.0 serial wakes answers).world ≡ own_marks_after w s told) arms u key.0 serial wakes answers here here))
 
 del_own : (w : World) (key : Key) (found : Option ℕ) (answers : List PollerAnswer) → serial_of w key.0 ≡ found
@@ -141,8 +141,8 @@ del_own w key (Some serial) answers is =
     let s = step.Del key in
     let left = filter (λ (m : Mark). not (m.serial == serial)) w.marks in
     let none : filter (is_own_mark w s) left ≡ [] =
-        ap (λ (f : Option ℕ). filter (of_source f) left) is
-        ∙ filtered_empty (λ (m : Mark). m.serial == serial) (λ (m : Mark). not (m.serial == serial)) (λ m stays. not-true (m.serial == serial) stays) w.marks in
+    ap (λ (f : Option ℕ). filter (of_source f) left) is
+    ∙ filtered_empty (λ (m : Mark). m.serial == serial) (λ (m : Mark). not (m.serial == serial)) (λ m stays. not-true (m.serial == serial) stays) w.marks in
     either (λ o. own_marks w s o.world ≡ own_marks_after w s o.answer) (list_any (λ (l : ListenerEntry). l.serial == serial) w.listeners) _ _ refl
     (cond_both (fails (next_answer answers)) answer.FaultRemove answer.Gone (λ told. filter (is_own_mark w s) left ≡ own_marks_after w s told)
     (λ failed. none) (λ done. none))

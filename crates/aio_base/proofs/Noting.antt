@@ -1,26 +1,25 @@
 -- What a step notes: each event that it handles, with the begin of the round that handles it.
-use Rattle.std.proofs.Common.{◌≡◌, ℕ, ◌+◌, ◌<◌, Bool, true, false, cond, ◌&&◌, ◌==◌, List, [], ◌∷◌, ◌++◌, map, find, Option, None, Some, is_some, option_map, option_to_list, refl, ap, ◌∙◌, sym, subst, ⊎_elim, append_assoc, append-nil}
+use Rattle.std.proofs.Common.{◌≡◌, ℕ, ◌+◌, ◌<◌, Bool, true, false, cond, ◌&&◌, ◌==◌, List, [], ◌∷◌, ◌++◌, map, find, Option, None, Some, is_some, option_map, option_to_list, refl, ap, ◌∙◌, sym, subst, append_assoc, append-nil}
 use Rattle.std.specs.Prelude.{nat_lt, flat_map, take}
-use Rattle.std.specs.List.{Contains, filter}
+use Rattle.std.specs.List.{Contains}
 use Rattle.std.specs.Option.{option_map_or}
 use Rattle.std.proofs.lemmas.Bool.{cond_both, lt-ltb}
 use Rattle.std.proofs.lemmas.List.Elements.{Contains-append_left, Contains-append_right}
 use Rattle.aio_base.specs.declared.names.Dir.{Dir}
 use Rattle.aio_base.specs.declared.names.Dir.TheVariants.{Read, Write}
 use Rattle.aio_base.specs.declared.names.Event.{Event}
-use Rattle.aio_base.specs.declared.names.Interest.{Interest}
 use Rattle.aio_base.specs.declared.steps.Step.{Step}
 use Rattle.aio_base.specs.declared.steps.Step.TheVariants as step
 use Rattle.aio_base.specs.World.{PollerAnswer, LiveSource, RoundState, HandledDirection, World, directions, directions_of, has_dir, is_of, serial_of, is_fresh}
-use Rattle.aio_base.specs.Machine.{Outcome, is_listener, is_timer, begin_round, wait_round, without_waiters, world_taken, handle_source, handle_first, handle_in, handle_round, finish_round, handle_each, hand_of, react, case_of, step_result, next_answer}
+use Rattle.aio_base.specs.Machine.{Outcome, is_listener, is_timer, begin_round, wait_round, without_waiters, world_taken, handle_source, handle_first, handle_in, handle_round, finish_round, handle_each, hand_of, case_of, step_result, next_answer}
 use Rattle.aio_base.specs.RoundCounts.{RoundName, name_of}
 use Rattle.aio_base.specs.Succession.{events_given}
 use Rattle.aio_base.specs.Arming.{handled_events}
-use Rattle.aio_base.specs.Handling.{begin_of, notes_of, IsNoted, HandledIsNoted}
-use Rattle.aio_base.proofs.Membership.{none_is_in, first_is_in, later_is_in, image_is_in, passing_is_kept, any_from, any_gives, piece_is_in}
+use Rattle.aio_base.specs.Handling.{begin_of, notes_of, HandledIsNoted}
+use Rattle.aio_base.proofs.Membership.{first_is_in, later_is_in, image_is_in, passing_is_kept, any_from, any_gives, piece_is_in}
 use Rattle.aio_base.proofs.WaiterLemmas.{is_of-from}
 use Rattle.aio_base.proofs.RoundLemmas.{in_hand_of, round_begun, round_waited, event_handled, hand_is}
-use Rattle.aio_base.proofs.Frames.{Frame, frame, but_live, but_listeners, but_timers, but_handled, add_keeps, del_keeps, poll_keeps, new_keeps, step_keeps, drop_keeps, tick_keeps, set_keeps, end_keeps, wait_keeps, rearmed_keeps, handle_keeps, finish_keeps}
+use Rattle.aio_base.proofs.Frames.{Frame, add_keeps, del_keeps, poll_keeps, new_keeps, step_keeps, drop_keeps, tick_keeps, set_keeps, end_keeps, wait_keeps, rearmed_keeps, handle_keeps, finish_keeps}
 
 -- ## What an event adds
 
@@ -92,10 +91,10 @@ each_past (event ∷ events) w name answers named at =
     let still : name_of first.world.round ≡ Some name = ap (λ (f : Frame). f.name) kept ∙ named in
     let one = notes_as name.begin event (serial_of w event.key.0) in
     let noted : first.world.handled ≡ w.handled ++ one =
-        handle_past w w.round 0 answers
-        ∙ ap (λ (begin : ℕ). w.handled ++ notes_in begin (take 1 (hand_of w.round)) w.live) (named_begin w.round name 0 named)
-        ∙ ap (λ (es : List Event). w.handled ++ notes_in name.begin es w.live) (first_of w.round event events at)
-        ∙ ap (λ (notes : List HandledDirection). w.handled ++ notes) (append-nil one) in
+    handle_past w w.round 0 answers
+    ∙ ap (λ (begin : ℕ). w.handled ++ notes_in begin (take 1 (hand_of w.round)) w.live) (named_begin w.round name 0 named)
+    ∙ ap (λ (es : List Event). w.handled ++ notes_in name.begin es w.live) (first_of w.round event events at)
+    ∙ ap (λ (notes : List HandledDirection). w.handled ++ notes) (append-nil one) in
     each_past events first.world name first.left still (event_handled w event events answers at).hand
     ∙ ap (λ (past : List HandledDirection). past ++ notes_in name.begin events first.world.live) noted
     ∙ append_assoc w.handled one (notes_in name.begin events first.world.live)

@@ -1,7 +1,7 @@
 -- A step is told `ready` exactly where it polls what is ready.
-use Rattle.std.proofs.Common.{◌≡◌, ◌↔◌, ℕ, ◌+◌, ◌<◌, ◌≤◌, Bool, true, false, not, cond, ◌&&◌, ◌||◌, ◌==◌, List, [], ◌∷◌, ◌++◌, length, find, Option, None, Some, is_some, option_to_list, refl, ap, ◌∙◌, sym, subst, arith}
+use Rattle.std.proofs.Common.{◌≡◌, ◌↔◌, ℕ, ◌≤◌, Bool, true, false, cond, ◌&&◌, ◌||◌, ◌==◌, List, [], ◌∷◌, ◌++◌, length, find, Option, None, Some, is_some, option_to_list, refl, ap, ◌∙◌, sym, subst, arith}
 use Rattle.std.specs.Prelude.{nat_lt, nat_le, unwrap_or}
-use Rattle.std.specs.List.{Contains, filter, list_any}
+use Rattle.std.specs.List.{list_any}
 use Rattle.std.proofs.lemmas.Bool.{cond_both, and_parts, and_from, lt-ltb, ltb-true, le-leb, leb-true}
 use Rattle.aio_base.specs.declared.names.Key.{Key}
 use Rattle.aio_base.specs.declared.names.Waker.{Waker}
@@ -12,8 +12,8 @@ use Rattle.aio_base.specs.declared.steps.Step.TheVariants as step
 use Rattle.aio_base.specs.declared.steps.Answer.{Answer}
 use Rattle.aio_base.specs.declared.steps.Answer.TheVariants as answer
 use Rattle.aio_base.specs.World.{PollerAnswer, Succeeds, Gives, IsInterrupted, Fails, ListenerEntry, TimerEntry, HandledDirection, RoundState, World, directions_of, is_of, serial_of, key_of, poll_waiter, mark_of, is_empty_list, is_idle, is_broken, wanted, is_fresh}
-use Rattle.aio_base.specs.Machine.{Outcome, fails, next_answer, later_answers, pending, source_limit, free_key, add, del_source, is_fresh_since, is_waker, with_waiter, poll_source, new_listener, is_listener, with_listening, step_listener, drop_listener, is_timer, tick_deadline, tick_timer, set_timer, end_timer, begin_round, wait_answered, wait_in, world_taken, wakers_taken, rearmed, handle_source, handle_first, handle_in, finish_in, react, case_of, step_result}
-use Rattle.aio_base.specs.Readiness.{IsHandledSince, SourceIsReady, ListenerIsReady, TimerIsReady, PollsReady, TicksReady, ReadyIsTold}
+use Rattle.aio_base.specs.Machine.{Outcome, fails, next_answer, later_answers, pending, source_limit, free_key, add, del_source, is_fresh_since, is_waker, with_waiter, poll_source, new_listener, is_listener, with_listening, step_listener, drop_listener, is_timer, tick_deadline, tick_timer, set_timer, end_timer, wait_answered, wait_in, world_taken, wakers_taken, rearmed, handle_source, handle_first, handle_in, finish_in, case_of, step_result}
+use Rattle.aio_base.specs.Readiness.{IsHandledSince, SourceIsReady, ListenerIsReady, TimerIsReady, ReadyIsTold}
 use Rattle.aio_base.proofs.Membership.{any_from, any_gives}
 use Rattle.aio_base.proofs.WaiterLemmas.{is_of-eq, is_of-from}
 use Rattle.aio_base.proofs.Frames.{either}
@@ -151,30 +151,33 @@ at_is a b same = cc
 
 due_or : (w : World) (number : ℕ) (entry : TimerEntry) (t d : ℕ) (due : Bool) (x y : Outcome) → find (is_timer number) w.timers ≡ Some entry → entry.deadline ≡ Some t
     → nat_le t w.now ≡ due → x.answer ≡ answer.ReadyAt t → y.answer ≡ answer.Pending → ((cond due x y).answer ≡ answer.ReadyAt d) ↔ TimerIsReady w number d
-due_or w number entry t d true x y there waits due ready pends =
-    (λ same.
-    let one : t ≡ d = at_is t d (sym ready ∙ same) in
-    record { timer = entry; there = there; waits = waits ∙ ap Some one; come = subst (λ n. n ≤ w.now) one (leb-true t w.now due) },
-    λ r.
-    let one : r.timer ≡ entry = some_is r.timer entry (sym r.there ∙ there) in
-    let same : t ≡ d = some_is t d (sym waits ∙ ap (λ (x : TimerEntry). x.deadline) (sym one) ∙ r.waits) in
-    ready ∙ ap answer.ReadyAt same)
-due_or w number entry t d false x y there waits due ready pends =
-    (λ same. absurd (let wrong : answer.Pending ≡ answer.ReadyAt d = sym pends ∙ same in cc),
-    λ r.
-    let one : r.timer ≡ entry = some_is r.timer entry (sym r.there ∙ there) in
-    let same : t ≡ d = some_is t d (sym waits ∙ ap (λ (x : TimerEntry). x.deadline) (sym one) ∙ r.waits) in
-    let come : nat_le t w.now ≡ true = le-leb t w.now (subst (λ n. n ≤ w.now) (sym same) r.come) in
-    absurd (let wrong : true ≡ false = sym come ∙ due in cc))
+due_or w number entry t d true x y there waits due ready pends = (
+  λ same.
+      let one : t ≡ d = at_is t d (sym ready ∙ same) in
+      record { timer = entry; there = there; waits = waits ∙ ap Some one; come = subst (λ n. n ≤ w.now) one (leb-true t w.now due) },
+  λ r.
+      let one : r.timer ≡ entry = some_is r.timer entry (sym r.there ∙ there) in
+      let same : t ≡ d = some_is t d (sym waits ∙ ap (λ (x : TimerEntry). x.deadline) (sym one) ∙ r.waits) in
+      ready ∙ ap answer.ReadyAt same,
+)
+due_or w number entry t d false x y there waits due ready pends = (
+  λ same. absurd (let wrong : answer.Pending ≡ answer.ReadyAt d = sym pends ∙ same in cc),
+  λ r.
+      let one : r.timer ≡ entry = some_is r.timer entry (sym r.there ∙ there) in
+      let same : t ≡ d = some_is t d (sym waits ∙ ap (λ (x : TimerEntry). x.deadline) (sym one) ∙ r.waits) in
+      let come : nat_le t w.now ≡ true = le-leb t w.now (subst (λ n. n ≤ w.now) (sym same) r.come) in
+      absurd (let wrong : true ≡ false = sym come ∙ due in cc),
+)
 
 tick_ready_at : (w : World) (number : ℕ) (waker : Waker) (entry : TimerEntry) (deadline : Option ℕ) (answers : List PollerAnswer) (d : ℕ)
     → find (is_timer number) w.timers ≡ Some entry → entry.deadline ≡ deadline
     → ((tick_deadline w entry waker deadline answers).answer ≡ answer.ReadyAt d) ↔ TimerIsReady w number d
-tick_ready_at w number waker entry None answers d there waits =
-    (λ same. absurd cc,
-    λ r.
-    let one : r.timer ≡ entry = some_is r.timer entry (sym r.there ∙ there) in
-    absurd (let wrong : None ≡ Some d = sym waits ∙ ap (λ (x : TimerEntry). x.deadline) (sym one) ∙ r.waits in cc))
+tick_ready_at w number waker entry None answers d there waits = (
+  λ same. absurd cc,
+  λ r.
+      let one : r.timer ≡ entry = some_is r.timer entry (sym r.there ∙ there) in
+      absurd (let wrong : None ≡ Some d = sym waits ∙ ap (λ (x : TimerEntry). x.deadline) (sym one) ∙ r.waits in cc),
+)
 tick_ready_at w number waker entry (Some t) answers d there waits = due_or w number entry t d (nat_le t w.now) _ _ there waits refl refl refl
 
 tick_ready : (w : World) (number : ℕ) (waker : Waker) (found : Option TimerEntry) (answers : List PollerAnswer) (d : ℕ) → find (is_timer number) w.timers ≡ found

@@ -1,5 +1,5 @@
 -- The sources after a step are those that its answer tells, and a new one has the least free key.
-use Rattle.std.proofs.Common.{◌≡◌, ℕ, ◌+◌, ◌<◌, Bool, true, false, not, cond, ◌==◌, List, [], ◌∷◌, ◌++◌, length, map, find, Option, None, Some, is_some, refl, ap, ◌∙◌, sym, subst}
+use Rattle.std.proofs.Common.{◌≡◌, ℕ, ◌+◌, Bool, true, false, not, cond, ◌==◌, List, [], ◌∷◌, ◌++◌, length, find, Option, None, Some, is_some, refl, ap, ◌∙◌, sym, subst}
 use Rattle.std.specs.Prelude.{nat_lt, nat_le}
 use Rattle.std.specs.List.{Contains, filter, list_any}
 use Rattle.std.specs.Option.{option_map_or}
@@ -10,13 +10,13 @@ use Rattle.aio_base.specs.declared.steps.Step.TheVariants as step
 use Rattle.aio_base.specs.declared.steps.Answer.{Answer}
 use Rattle.aio_base.specs.declared.steps.Answer.TheVariants as answer
 use Rattle.aio_base.specs.World.{PollerAnswer, LiveSource, ListenerEntry, World, serial_of}
-use Rattle.aio_base.specs.Machine.{Outcome, fails, next_answer, source_limit, is_live, free_key, add, del_source, is_listener, is_timer, case_of, step_result}
+use Rattle.aio_base.specs.Machine.{Outcome, fails, next_answer, source_limit, free_key, add, del_source, is_listener, is_timer, case_of, step_result}
 use Rattle.aio_base.specs.Sources.{sources_after, serials_after, keys_of, IsLeastFree, TellsOfSources, SourcesFollow}
 use Rattle.aio_base.proofs.Membership.{any_from, any_gives, image_is_in, mapped_from}
 use Rattle.aio_base.proofs.FreeKeys.{free_key-free, free_key-least}
 use Rattle.aio_base.proofs.Frames.{Frame, either, poll_keeps, new_keeps, step_keeps, drop_keeps, tick_keeps, set_keeps, end_keeps, begin_keeps, wait_keeps, handle_keeps, finish_keeps}
 use Rattle.aio_base.proofs.Untouched.{react_keeps}
-use Rattle.aio_base.proofs.Asides.{Aside, new_leaves, poll_serials, del_serials, step_leaves, drop_leaves, tick_leaves, set_leaves, end_leaves, begin_leaves, wait_leaves, handle_leaves, finish_leaves, react_leaves}
+use Rattle.aio_base.proofs.Asides.{Aside, new_leaves, poll_serials, step_leaves, drop_leaves, tick_leaves, set_leaves, end_leaves, begin_leaves, wait_leaves, handle_leaves, finish_leaves, react_leaves}
 
 -- ## The least free key
 

@@ -9,14 +9,14 @@ use Rattle.aio_base.specs.declared.names.Dir.{Dir}
 use Rattle.aio_base.specs.declared.steps.Step.{Step}
 use Rattle.aio_base.specs.declared.steps.Step.TheVariants as step
 use Rattle.aio_base.specs.World.{PollerAnswer, LiveSource, ListenerEntry, TimerEntry, World, serial_of, key_of, is_idle, is_broken}
-use Rattle.aio_base.specs.Machine.{Outcome, fails, next_answer, source_limit, free_key, add, del_source, is_fresh_since, is_waker, pending, is_listener, with_listening, step_listener, drop_listener, new_listener, is_timer, with_timer, unregistered, registered, next_deadline, fired, tick_deadline, tick_timer, set_deadline, set_timer, end_timer, hand_of, begin_round, wait_round, handle_each, finish_round, react, case_of, step_result}
-use Rattle.aio_base.specs.Others.{is_own_source, is_own_listener, is_own_timer, but_waker, other_sources, other_listeners, other_timers, OthersStand}
+use Rattle.aio_base.specs.Machine.{Outcome, fails, next_answer, source_limit, free_key, add, del_source, is_fresh_since, is_waker, pending, is_listener, with_listening, step_listener, drop_listener, new_listener, is_timer, with_timer, unregistered, registered, next_deadline, fired, tick_deadline, tick_timer, set_deadline, set_timer, end_timer, hand_of, begin_round, wait_round, handle_each, react, case_of, step_result}
+use Rattle.aio_base.specs.Others.{is_own_source, but_waker, other_sources, other_listeners, other_timers, OthersStand}
 use Rattle.aio_base.proofs.Breaking.{broken_stand}
 use Rattle.aio_base.proofs.Marking.{marks_stand}
 use Rattle.aio_base.proofs.Membership.{found_is_in}
 use Rattle.aio_base.proofs.Searching.{refiltered, unseen_push}
 use Rattle.aio_base.proofs.RoundLemmas.{unseen_change}
-use Rattle.aio_base.proofs.Frames.{Frame, frame, but_live, but_listeners, but_timers, but_handled, but_name, but_rounds, either, either_world, add_keeps, del_keeps, poll_keeps, new_keeps, step_keeps, drop_keeps, tick_keeps, set_keeps, end_keeps, begin_keeps, wait_keeps, handle_keeps, each_keeps, finish_keeps, pending_keeps, gone_keeps}
+use Rattle.aio_base.proofs.Frames.{Frame, frame, either, either_world, add_keeps, del_keeps, poll_keeps, new_keeps, step_keeps, drop_keeps, tick_keeps, set_keeps, end_keeps, begin_keeps, wait_keeps, handle_keeps, each_keeps, finish_keeps, gone_keeps}
 
 -- ## Filtered lists
 

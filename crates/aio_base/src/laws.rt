@@ -226,57 +226,60 @@ pub fn only_now_sets_the_clock()
         → ClockIsSet w s (step_result w s answers).answer (step_result w s answers).world }
 {}
 
-/// What is noted as handled after a step is what was noted before, and behind it, for each event that
-/// the step handled and whose key is live, one entry for each direction that the event names,
-/// writability first, with the position at which the handling round began. A `handle` handles the first
-/// event in hand, for the running round; a whole round handles each event that its wait gives, and
-/// begins with its own step. No other step notes anything.
+/// What is noted as handled after a step is what was noted before, and behind it, for each event
+/// that the step handled and whose key is live, one entry for each direction that the event names,
+/// writability first, with the position at which the handling round began. A `handle` handles the
+/// first event in hand, for the running round; a whole round handles each event that its wait
+/// gives, and begins with its own step. No other step notes anything.
 ///
-/// So each direction of a handled event is fresh for whoever was stored, or first polled, before the
-/// round began, and a poll waiter or a listener that it wakes is ready at the next poll. What was fresh
-/// stays so.
+/// So each direction of a handled event is fresh for whoever was stored, or first polled, before
+/// the round began, and a poll waiter or a listener that it wakes is ready at the next poll. What
+/// was fresh stays so.
 pub fn a_handled_event_is_noted()
     ensures { (w : World) (s : Step) (answers : List PollerAnswer)
         → HandledIsNoted w s answers (step_result w s answers).world }
 {}
 
-/// A step leaves what is of others alone: of sources, marks, failed arms, listeners and timers all but
-/// its own stand after it as they stood, in the same order, so none is lost, none is changed and none
-/// joins. Of a listener this says all but its waker, which a handled event takes. A step's own are the
-/// source that it adds or takes out; the mark of the direction that it polls, or all marks of the source
-/// that it takes out; the failed arm of the source that it polls, takes out or handles an event of; the
-/// listener that it makes, polls or drops; and the timer that it makes, polls, sets or ends.
+/// A step leaves what is of others alone: of sources, marks, failed arms, listeners and timers all
+/// but its own stand after it as they stood, in the same order, so none is lost, none is changed
+/// and none joins. Of a listener this says all but its waker, which a handled event takes. A step's
+/// own are the source that it adds or takes out; the mark of the direction that it polls, or all
+/// marks of the source that it takes out; the failed arm of the source that it polls, takes out or
+/// handles an event of; the listener that it makes, polls or drops; and the timer that it makes,
+/// polls, sets or ends.
 ///
-/// The wakers of others stand too: `storings_follow_from_step_to_step` says which of them a step may
-/// replace, take or give up.
+/// The wakers of others stand too: `storings_follow_from_step_to_step` says which of them a step
+/// may replace, take or give up.
 pub fn a_step_leaves_others_alone()
     ensures { (w : World) (s : Step) (answers : List PollerAnswer)
         → OthersStand w s answers (step_result w s answers).world }
 {}
 
-/// The mark of a direction is the position at which its last poll waiter was stored. A poll that is told
-/// `ready` uses it up; one that has to wait leaves this position, or, where that very waker is the poll
-/// waiter already, the mark that stood. A `del` that takes its source out takes all marks of it along.
-/// No other step changes a mark.
+/// The mark of a direction is the position at which its last poll waiter was stored. A poll that is
+/// told `ready` uses it up; one that has to wait leaves this position, or, where that very waker is
+/// the poll waiter already, the mark that stood. A `del` that takes its source out takes all marks
+/// of it along. No other step changes a mark.
 pub fn a_mark_is_of_the_last_storing()
     ensures { (w : World) (s : Step) (answers : List PollerAnswer)
         → MarksFollow w s (step_result w s answers).answer (step_result w s answers).world }
 {}
 
 /// An `add` that is told a key joins one source at the end of the list, under that key and the next
-/// serial. No source has the key before, and each lesser key is that of a source. A `del` that is told
-/// `gone` or `fault remove` takes out the source of its key, which was live, and no other. A step that
-/// is told anything else, and every other step, changes neither the sources nor the count of serials.
+/// serial. No source has the key before, and each lesser key is that of a source. A `del` that is
+/// told `gone` or `fault remove` takes out the source of its key, which was live, and no other. A
+/// step that is told anything else, and every other step, changes neither the sources nor the count
+/// of serials.
 pub fn only_add_and_del_change_the_sources()
     ensures { (w : World) (s : Step) (answers : List PollerAnswer)
         → SourcesFollow w s (step_result w s answers).answer (step_result w s answers).world }
 {}
 
-/// A `poll` is told `ready` exactly where its key is live, its direction has a mark, and an event of the
-/// direction was handled by a round that began after the marked position. A `step` of a listener is told
-/// so exactly where the listener is there and was polled, and such an event was handled by a round that
-/// began after its first poll. A `tick` is told `ready` with a deadline exactly where the timer is there
-/// with that deadline, and the clock's moment is not before it. No other step is told `ready`.
+/// A `poll` is told `ready` exactly where its key is live, its direction has a mark, and an event
+/// of the direction was handled by a round that began after the marked position. A `step` of a
+/// listener is told so exactly where the listener is there and was polled, and such an event was
+/// handled by a round that began after its first poll. A `tick` is told `ready` with a deadline
+/// exactly where the timer is there with that deadline, and the clock's moment is not before it. No
+/// other step is told `ready`.
 ///
 /// Which events were handled, and by a round of which begin, says `a_handled_event_is_noted`.
 pub fn a_step_is_ready_exactly_where_what_it_polls_is()
