@@ -1,14 +1,13 @@
 -- Steps of wrong machines, each refused by a law of a step.
-use Rattle.std.proofs.Common.{◌≡◌, ℕ, ◌+◌, ◌<◌, true, false, List, [], ◌∷◌, Option, None, Some, refl, ap, ◌∙◌, sym, arith}
-use Rattle.aio_base.specs.declared.names.Waker.{Waker}
+use Rattle.std.proofs.Common.{◌≡◌, ℕ, ◌<◌, true, false, List, [], ◌∷◌, None, Some, refl, ap, ◌∙◌, sym, arith}
 use Rattle.aio_base.specs.declared.names.Dir.{Dir}
-use Rattle.aio_base.specs.declared.names.Dir.TheVariants.{Read, Write}
+use Rattle.aio_base.specs.declared.names.Dir.TheVariants.{Read}
 use Rattle.aio_base.specs.declared.names.Event.{Event}
 use Rattle.aio_base.specs.declared.steps.Step.TheVariants as step
 use Rattle.aio_base.specs.declared.steps.Answer.{Answer}
 use Rattle.aio_base.specs.declared.steps.Answer.TheVariants as answer
 use Rattle.aio_base.specs.declared.outcomes.EndWord.TheVariants.{Clean}
-use Rattle.aio_base.specs.World.{PollerAnswer, Gives, LiveSource, ListenerEntry, TimerEntry, HandledDirection, RoundState, World, opening, is_fresh}
+use Rattle.aio_base.specs.World.{PollerAnswer, Gives, ListenerEntry, TimerEntry, HandledDirection, RoundState, World, opening, is_fresh}
 use Rattle.aio_base.specs.RoundCounts.{RoundName, RoundsFollow}
 use Rattle.aio_base.specs.Clock.{ClockIsSet}
 use Rattle.aio_base.specs.Handling.{HandledIsNoted}
