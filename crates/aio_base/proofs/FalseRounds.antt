@@ -1,17 +1,16 @@
 -- Steps of machines that run rounds wrongly, each refused by a law of rounds, of hands or of passes.
-use Rattle.std.proofs.Common.{◌≡◌, ◌⊎◌, ℕ, ◌+◌, ◌<◌, ◌≤◌, Bool, true, false, List, [], ◌∷◌, Option, None, Some, refl, ap, ◌∙◌, sym, subst, ⊎_elim, inl, inr, arith}
+use Rattle.std.proofs.Common.{◌≡◌, ℕ, ◌<◌, ◌≤◌, Bool, true, false, List, [], ◌∷◌, Option, None, Some, refl, ap, ◌∙◌, sym, subst, ⊎_elim, inl, arith}
 use Rattle.std.specs.List.{Contains}
 use Rattle.aio_base.specs.declared.names.Key.{Key}
 use Rattle.aio_base.specs.declared.names.Event.{Event}
 use Rattle.aio_base.specs.declared.outcomes.EndWord.{EndWord}
-use Rattle.aio_base.specs.declared.outcomes.EndWord.TheVariants.{Clean, FaultWait, FaultArm}
-use Rattle.aio_base.specs.declared.steps.Step.{Step}
+use Rattle.aio_base.specs.declared.outcomes.EndWord.TheVariants.{Clean, FaultWait}
 use Rattle.aio_base.specs.declared.steps.Step.TheVariants as step
 use Rattle.aio_base.specs.declared.steps.Answer.{Answer}
 use Rattle.aio_base.specs.declared.steps.Answer.TheVariants as answer
 use Rattle.aio_base.specs.World.{PollerAnswer, Succeeds, Gives, IsInterrupted, Fails, Registration, RoundState, World, opening}
-use Rattle.aio_base.specs.RoundAnswers.{IsWithin, time_left, IsRoundLimit}
-use Rattle.aio_base.specs.RoundCounts.{RoundName, RoundsFollow}
+use Rattle.aio_base.specs.RoundAnswers.{IsWithin, time_left}
+use Rattle.aio_base.specs.RoundCounts.{RoundsFollow}
 use Rattle.aio_base.specs.RoundHands.{TakesFirst, HandFollows}
 use Rattle.aio_base.specs.Between.{IsWaitedOut, RegistrationsFollow}
 use Rattle.aio_base.proofs.Membership.{among_cases, first_is_in, none_is_in}

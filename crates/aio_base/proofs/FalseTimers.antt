@@ -1,5 +1,5 @@
 -- Steps of machines that treat a timer or a listener wrongly, and refused steps that do something, each refused by a law of a step.
-use Rattle.std.proofs.Common.{◌≡◌, ℕ, ◌+◌, ◌<◌, ◌≤◌, ◌^◌, true, false, List, [], ◌∷◌, Option, None, Some, refl, ap, ◌∙◌, sym, subst, ⊎_elim, arith}
+use Rattle.std.proofs.Common.{◌≡◌, ℕ, ◌<◌, ◌≤◌, true, false, [], ◌∷◌, Option, None, Some, refl, ap, ◌∙◌, sym, subst, ⊎_elim, arith}
 use Rattle.std.specs.List.{Contains}
 use Rattle.aio_base.specs.declared.names.Key.{Key}
 use Rattle.aio_base.specs.declared.names.Waker.{Waker}
@@ -9,7 +9,7 @@ use Rattle.aio_base.specs.declared.steps.Step.{Step}
 use Rattle.aio_base.specs.declared.steps.Step.TheVariants as step
 use Rattle.aio_base.specs.declared.steps.Answer.{Answer}
 use Rattle.aio_base.specs.declared.steps.Answer.TheVariants as answer
-use Rattle.aio_base.specs.World.{LiveSource, ListenerEntry, TimerEntry, World, opening}
+use Rattle.aio_base.specs.World.{ListenerEntry, TimerEntry, World, opening}
 use Rattle.aio_base.specs.Own.{ComesFrom, Stood, FirstPolled, Made, TimerFrom, StoodDated, IsRedated, MadeTimer, FollowsReady, redates, KeepsItsOwn}
 use Rattle.aio_base.specs.Refusals.{RefusalLeaves}
 use Rattle.aio_base.proofs.Membership.{among_cases, first_is_in, none_is_in}

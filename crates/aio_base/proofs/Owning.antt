@@ -1,8 +1,8 @@
 -- What a step leaves of its own listener and timer.
-use Rattle.std.proofs.Common.{◌≡◌, ◌⊎◌, ℕ, ◌+◌, ◌≤◌, ◌<◌, ◌^◌, Bool, true, false, not, cond, ◌&&◌, ◌||◌, ◌==◌, List, [], ◌∷◌, ◌++◌, map, find, Option, None, Some, is_some, refl, ap, ◌∙◌, sym, subst, ⊎_elim, inl, inr}
+use Rattle.std.proofs.Common.{◌≡◌, ℕ, ◌+◌, ◌≤◌, Bool, true, false, not, cond, ◌&&◌, ◌||◌, ◌==◌, List, [], ◌∷◌, ◌++◌, map, find, Option, None, Some, is_some, refl, ap, ◌∙◌, sym, subst, ⊎_elim}
 use Rattle.std.specs.Prelude.{nat_lt, nat_le, unwrap_or}
 use Rattle.std.specs.List.{Contains, filter}
-use Rattle.std.proofs.lemmas.Bool.{cases_Bool, cond_both, cond-true, cond-false, eq-eqb, eqb-true, le-leb, leb-true, lt-leb}
+use Rattle.std.proofs.lemmas.Bool.{cases_Bool, cond_both, cond-true, cond-false, eqb-true, le-leb, leb-true, lt-leb}
 use Rattle.std.proofs.lemmas.List.Elements.{Contains-append_left, Contains-push, Contains-push_cases}
 use Rattle.aio_base.specs.declared.names.Key.{Key}
 use Rattle.aio_base.specs.declared.names.Waker.{Waker}
@@ -12,12 +12,12 @@ use Rattle.aio_base.specs.declared.steps.Step.TheVariants as step
 use Rattle.aio_base.specs.declared.steps.Answer.{Answer}
 use Rattle.aio_base.specs.declared.steps.Answer.TheVariants as answer
 use Rattle.aio_base.specs.World.{PollerAnswer, ListenerEntry, TimerEntry, World, serial_of, key_of, is_idle, is_broken}
-use Rattle.aio_base.specs.Machine.{Outcome, quiet, last_moment, is_fresh_since, is_waker, pending, is_listener, with_listening, step_listener, without_listener, drop_listener, new_listener, is_timer, with_timer, unregistered, registered, next_deadline, fired, tick_deadline, tick_timer, set_deadline, set_timer, end_timer, case_of, step_result}
+use Rattle.aio_base.specs.Machine.{Outcome, quiet, last_moment, is_fresh_since, is_waker, is_listener, with_listening, step_listener, drop_listener, new_listener, is_timer, with_timer, unregistered, next_deadline, fired, tick_deadline, tick_timer, set_deadline, set_timer, end_timer, case_of, step_result}
 use Rattle.aio_base.specs.Others.{but_waker}
-use Rattle.aio_base.specs.Own.{new_listener_entry, new_timer_entry, ComesFrom, Stood, FirstPolled, Made, polls_listener, MakesTimer, FollowsReady, redates, Redated, TimerFrom, StoodDated, IsRedated, MadeTimer, StandsMade, drops_listener, ends_timer, KeepsItsOwn}
+use Rattle.aio_base.specs.Own.{new_listener_entry, new_timer_entry, ComesFrom, Stood, FirstPolled, Made, MakesTimer, FollowsReady, redates, Redated, TimerFrom, StoodDated, IsRedated, MadeTimer, StandsMade, drops_listener, ends_timer, KeepsItsOwn}
 use Rattle.aio_base.proofs.GivingUp.{what_is_given_up_goes}
 use Rattle.aio_base.proofs.Membership.{found_is_in, filtered_is_in, passing_is_kept, mapped_from, image_is_in}
-use Rattle.aio_base.proofs.Frames.{Frame, frame, either, either_world, add_keeps, del_keeps, poll_keeps, new_keeps, step_keeps, drop_keeps, tick_keeps, set_keeps, end_keeps, begin_keeps, wait_keeps, handle_keeps, finish_keeps, gone_keeps}
+use Rattle.aio_base.proofs.Frames.{Frame, either, either_world, add_keeps, del_keeps, poll_keeps, new_keeps, step_keeps, drop_keeps, tick_keeps, set_keeps, end_keeps, begin_keeps, wait_keeps, handle_keeps, finish_keeps, gone_keeps}
 use Rattle.aio_base.proofs.Untouched.{entries, react_keeps, pending_entries}
 
 -- ## Listeners

@@ -10,7 +10,7 @@ use Rattle.aio_base.specs.declared.steps.Step.TheVariants as step
 use Rattle.aio_base.specs.World.{PollerAnswer, ListenerEntry, Registration, RoundState, World, serial_of, key_of, poll_waiter, mark_of, is_empty_list, is_idle, is_broken}
 use Rattle.aio_base.specs.Machine.{Outcome, fails, next_answer, pending, source_limit, add, del_source, is_fresh_since, is_waker, with_waiter, poll_source, new_listener, is_listener, with_listening, step_listener, drop_listener, gave_none, is_zero, ends_with_pass, finish_in, react, step_result}
 use Rattle.aio_base.specs.Timers.{after_pass}
-use Rattle.aio_base.specs.Between.{is_of_timer, MakesPass, RegistrationsFollow}
+use Rattle.aio_base.specs.Between.{is_of_timer, RegistrationsFollow}
 use Rattle.aio_base.proofs.WaitedOut.{makes_pass, pass_is_made, made_pass_is}
 use Rattle.aio_base.proofs.PassLemmas.{Timed, timed, Keeps, either_keeps, either_world, arm_keeps, wait_keeps, handle_keeps, react_passes}
 

@@ -6,19 +6,18 @@ use Rattle.std.proofs.lemmas.Bool.{cases_Bool, cases_lt, cond-true, cond-false, 
 use Rattle.std.proofs.Math.Nat.{min-le_left, min-le_right, min-eq_left, min-eq_right}
 use Rattle.aio_base.specs.declared.names.Key.{Key}
 use Rattle.aio_base.specs.declared.names.Event.{Event}
-use Rattle.aio_base.specs.declared.outcomes.EndWord.{EndWord}
 use Rattle.aio_base.specs.declared.steps.Step.{Step}
 use Rattle.aio_base.specs.declared.steps.Step.TheVariants as step
 use Rattle.aio_base.specs.declared.steps.Answer.{Answer}
 use Rattle.aio_base.specs.declared.steps.Answer.TheVariants as answer
 use Rattle.aio_base.specs.World.{PollerAnswer, Succeeds, Gives, IsInterrupted, Fails, Registration, RoundState, World, serial_of, is_empty_list, wanted}
 use Rattle.aio_base.specs.Timers.{fires_before, placed, in_order, due_wakers, after_pass, lesser, first_deadline, time_to, limit_of}
-use Rattle.aio_base.specs.Machine.{Outcome, next_answer, later_answers, fails, begin_round, wait_answered, wait_in, wait_round, rearmed, handle_source, handle_first, handle_in, handle_each, hand_of, fault_of, finish_in, finish_round, react, case_of, step_result}
+use Rattle.aio_base.specs.Machine.{Outcome, next_answer, later_answers, fails, begin_round, wait_answered, wait_in, wait_round, rearmed, handle_source, handle_first, handle_in, handle_each, hand_of, fault_of, finish_in, react, case_of}
 use Rattle.aio_base.specs.Succession.{events_given}
 use Rattle.aio_base.specs.RoundAnswers.{IsWithin, time_left, IsRoundLimit, BeginTold, with_empty_hand, wait_tells, FirstTold, HandleTold, ReactTold, RoundsTold}
-use Rattle.aio_base.proofs.Membership.{none_is_in, first_is_in, later_is_in, among_cases, filtered_is_in, filtered_passes, passing_is_kept, mapped_from, image_is_in}
+use Rattle.aio_base.proofs.Membership.{none_is_in, first_is_in, later_is_in, among_cases, filtered_is_in, filtered_passes, passing_is_kept, image_is_in}
 use Rattle.aio_base.proofs.Frames.{either}
-use Rattle.aio_base.proofs.RoundLemmas.{in_hand_of, round_begun, round_waited, hand_is}
+use Rattle.aio_base.proofs.RoundLemmas.{round_begun, round_waited, hand_is}
 
 -- ## The lesser of two limits
 

@@ -15,7 +15,7 @@ use Rattle.aio_base.specs.declared.steps.Answer.TheVariants as answer
 use Rattle.aio_base.specs.World.{PollerAnswer, Succeeds, Gives, IsInterrupted, Fails, ListenerEntry, TimerEntry, RoundState, World, serial_of, key_of, directions_of, poll_waiter, mark_of, is_empty_list, is_idle, is_broken, wanted}
 use Rattle.aio_base.specs.Machine.{Outcome, next_answer, later_answers, fails, broken_world, armed_world, after_arm, pending, source_limit, add, del_source, is_fresh_since, is_waker, with_waiter, poll_source, new_listener, is_listener, with_listening, step_listener, drop_listener, is_timer, unregistered, next_deadline, fired, tick_deadline, tick_timer, set_deadline, set_timer, end_timer, set_clock, begin_round, first_fault, wait_answered, wait_in, world_taken, wakers_taken, rearmed, handle_source, handle_first, handle_in, hand_of, fault_of, finish_in, react, case_of, step_result}
 use Rattle.aio_base.specs.RoundCounts.{name_of}
-use Rattle.aio_base.specs.RoundHands.{HandMoves, TakesFirst, last_wait_of, last_wait_after, fault_kept, fault_after, HandFollows}
+use Rattle.aio_base.specs.RoundHands.{HandMoves, last_wait_of, last_wait_after, fault_kept, fault_after, HandFollows}
 use Rattle.aio_base.proofs.Frames.{either, either_world}
 use Rattle.aio_base.proofs.RoundSteps.{react_ends}
 

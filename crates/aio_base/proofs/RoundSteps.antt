@@ -12,7 +12,7 @@ use Rattle.aio_base.specs.RoundCounts.{RoundName, name_of, begins_round, limit_t
 use Rattle.aio_base.specs.Clock.{clock_after, TellsTheMoment, ClockIsSet}
 use Rattle.aio_base.proofs.RoundAnswers.{rounds_told}
 use Rattle.aio_base.proofs.RoundLemmas.{in_hand_of, round_begun, round_waited, all_handled, hand_is}
-use Rattle.aio_base.proofs.Frames.{Frame, frame, but_live, but_listeners, but_timers, but_handled, either, add_keeps, del_keeps, poll_keeps, new_keeps, step_keeps, drop_keeps, tick_keeps, set_keeps, end_keeps, wait_keeps, handle_keeps, each_keeps}
+use Rattle.aio_base.proofs.Frames.{Frame, frame, either, add_keeps, del_keeps, poll_keeps, new_keeps, step_keeps, drop_keeps, tick_keeps, set_keeps, end_keeps, wait_keeps, handle_keeps, each_keeps}
 
 -- the clock's moment and the rounds of a frame
 record Count : Type 0 where

@@ -1,5 +1,5 @@
 -- What a step leaves of the running round: the events in hand, what its last wait was answered, and its first fault.
-use Rattle.std.specs.Prelude.{◌≡◌, true, false, if◌then◌else◌, List, [], ◌∷◌, Option, None, Some}
+use Rattle.std.specs.Prelude.{◌≡◌, true, if◌then◌else◌, List, [], ◌∷◌, Option, None, Some}
 use Rattle.aio_base.specs.declared.names.Key.{Key}
 use Rattle.aio_base.specs.declared.names.Event.{Event}
 use Rattle.aio_base.specs.declared.outcomes.EndWord.{EndWord}
