@@ -1,17 +1,15 @@
 -- Steps of wrong machines, each refused by a law of a step.
-use Rattle.std.proofs.Common.{◌≡◌, ℕ, ◌<◌, true, false, List, [], ◌∷◌, None, Some, refl, ap, ◌∙◌, sym, arith}
-use Rattle.aio_base.specs.declared.names.Dir.{Dir}
+use Rattle.std.proofs.Common.{◌≡◌, ℕ, ◌<◌, List, [], ◌∷◌, None, Some, refl, ap, ◌∙◌, sym, arith}
 use Rattle.aio_base.specs.declared.names.Dir.TheVariants.{Read}
 use Rattle.aio_base.specs.declared.names.Event.{Event}
 use Rattle.aio_base.specs.declared.steps.Step.TheVariants as step
 use Rattle.aio_base.specs.declared.steps.Answer.{Answer}
 use Rattle.aio_base.specs.declared.steps.Answer.TheVariants as answer
 use Rattle.aio_base.specs.declared.outcomes.EndWord.TheVariants.{Clean}
-use Rattle.aio_base.specs.World.{PollerAnswer, LiveSource, ListenerEntry, TimerEntry, RoundState, World, opening}
+use Rattle.aio_base.specs.World.{PollerAnswer, ListenerEntry, TimerEntry, RoundState, World, opening}
 use Rattle.aio_base.specs.RoundCounts.{RoundName, RoundsFollow}
 use Rattle.aio_base.specs.Clock.{ClockIsSet}
 use Rattle.aio_base.specs.Others.{OthersStand}
-use Rattle.aio_base.proofs.Membership.{first_is_in}
 
 -- a round of this number that began at this position, with these events in hand
 abbrev round : ℕ → ℕ → List Event → RoundState
