@@ -1,11 +1,11 @@
 -- An input of the first version says what its lines say.
-use Rattle.std.proofs.Common.{◌≡◌, ℕ, ◌+◌, ◌<◌, ◌≤◌, Bool, true, false, nat_lt, if◌then◌else◌, List, [], ◌∷◌, ◌++◌, length, Option, None, Some, Result, Ok, Err, bytes_eq, refl, sym, ap, ◌∙◌, arith}
+use Rattle.std.proofs.Common.{◌≡◌, ℕ, ◌+◌, ◌<◌, ◌≤◌, Bool, true, false, nat_lt, if◌then◌else◌, List, ◌∷◌, Option, None, Some, Ok, Err, bytes_eq, refl, sym, ap, ◌∙◌, arith}
 use Rattle.std.proofs.lemmas.Bool.Decides.{nat_tests}
 use Rattle.aio_base.specs.declared.steps.Step.{Step}
 use Rattle.aio_base.specs.declared.steps.Step.TheVariants as step
 use Rattle.aio_base.specs.declared.steps.Reason.{Reason}
 use Rattle.aio_base.specs.declared.steps.Reason.TheVariants as reason
-use Rattle.aio_base.specs.Trace.{IsBuilt, IsInRange, Trace, refused, with_step, lines_of, trace_of, trace_of_lines, trace_from, trace_after, written_step, header_text, line_limit}
+use Rattle.aio_base.specs.Trace.{IsBuilt, IsInRange, refused, with_step, lines_of, trace_of, trace_of_lines, trace_from, trace_after, written_step, header_text, line_limit}
 use Rattle.aio_base.proofs.Spellings.{reads_spelling, long_front_spells_none, long_front_is_no_header}
 use Rattle.aio_replay.specs.Language.{SaysByLines, first_version, read_of}
 

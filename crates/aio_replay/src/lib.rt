@@ -3,8 +3,10 @@
 //!
 //! It stands on `aio_base`, `aio_bytes`, `aio_script`, `aio_listen`, `aio_source`, `aio_timers`,
 //! `aio_react` and `aio_future`. It promises, for every list of bytes that the input has left, that
-//! the output is that of the reactor machine run over the steps of these bytes, and that the core
-//! which ran them stands for the machine's world in which that run ends.
+//! the output is that of the reactor machine run over the steps of these bytes. Where the replay ends
+//! with the input or with a refused line, the core that is handed back stands for the machine's world
+//! in which that run ends; at a fault, for the world after the first of the steps, among them each
+//! whose answer was written; where memory ran out there is none.
 #![tactic(auto)]
 
 mod driver;

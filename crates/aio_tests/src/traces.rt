@@ -153,7 +153,7 @@ const TRACES: [(&[u8], &[u8], u8, &[u8]); 29] = [
     (b"", b"", 2, b"line 1: header\n"),
     (b"\ntrace 1\n", b"", 2, b"line 1: header\n"),
     (b"trace 1\r\n", b"", 2, b"line 1: header\n"),
-    (b"trace 2\nadd\n", b"", 2, b"line 1: header\n"),
+    (b"trace 3\nadd\n", b"", 2, b"line 1: header\n"),
     (
         b"trace 1\nadd\ninterrupts\nadd\n",
         b"key 0\n",

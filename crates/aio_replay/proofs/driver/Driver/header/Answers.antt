@@ -1,4 +1,4 @@
-use Rattle.std.proofs.Common.{◌≡◌, true, false, bytes_eq, ap, sym, ◌∙◌}
+use Rattle.std.proofs.Common.{bytes_eq, ap, sym, ◌∙◌}
 use Rattle.aio_replay.proofs.StepLemmas.{closes, header_stopped, header_read, header_refused, header_long, header_missing, opens_unread}
 use Rattle.aio_replay.proofs.driver.Driver.header.Goals as goal
 
