@@ -49,7 +49,7 @@ bytes_taken _ input = 257000257
 abbrev pub StandsAt : Script × CoreValue → World → Type 0
 StandsAt core w = Stands (Some (interests_of core.0)) core.1 w
 
--- It stands for the world after the first of these steps, among which are all those of whose answers and wakes the output took a byte.
+-- It stands for the world after a front part of these steps, in which are all those of whose answers and wakes a byte was written.
 pub record StandsOnTheWay (core : Script × CoreValue) (steps : List Step) (out_old out_new : Option (List ℕ)) : Type 0 where
   pub done : List Step
   pub more : List Step
@@ -58,7 +58,7 @@ pub record StandsOnTheWay (core : Script × CoreValue) (steps : List Step) (out_
   pub stands : StandsAt core (world_after opening done)
 
 -- Where the input is read to its end or a line of it is refused, the core is handed back and stands for the world in which the run of the steps
--- ends; at a fault, for the world after the first of them, with all those among these that the output tells of; where memory ran out there is none.
+-- ends; at a fault, for the world after a front part of them, in which are all those whose answers were written; where memory ran out there is none.
 abbrev pub HandsBack : ReplayEnd → List ℕ → Option (Script × CoreValue) → Option (List ℕ) → Option (List ℕ) → Type 0
 HandsBack ends.Done input (Some core) out_old out_new = StandsAt core (world_after opening (trace_of input).steps)
 HandsBack (ends.Refused line reason) input (Some core) out_old out_new = StandsAt core (world_after opening (trace_of input).steps)

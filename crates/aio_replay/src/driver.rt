@@ -13,11 +13,11 @@ ghost use Rattle.aio_replay.specs.Steps.{Closes};
 use crate::ends::{End, Next, Stop};
 use crate::replayer::Replayer;
 use crate::version::Version;
-use crate::writing::push_reply;
 use aio_base::{Reason, Step, Waker};
 use aio_bytes::{LineReader, Sink, SinkRefusal, Source, write_all};
 use aio_react::Core;
 use aio_script::ScriptPoller;
+use aio_trace::write_reply;
 use std::alloc::{AllocError, Global};
 
 /// How many bytes of answers are gathered before they are written.
@@ -83,8 +83,10 @@ impl Driver {
         ensures reader { self.new.reader ≡ self.old.reader }
     {
         let answer = self.replayer.step(step, &mut self.wakes)?;
-        push_reply(&mut self.text, answer, self.wakes.as_slice())?;
-        Ok(())
+        match write_reply(answer, self.wakes.as_slice(), &mut self.text) {
+            Ok(()) => Ok(()),
+            Err(_) => Err(AllocError),
+        }
     }
 
     /// Replays a trace, from its header to its end.
