@@ -1,5 +1,5 @@
 -- Numbers, rounds and ids are not spent while few steps were run.
-use Rattle.std.proofs.Common.{◌≡◌, ℕ, ◌≤◌, ◌-◌, ◌^◌, Bool, true, false, not, ◌==◌, nat_eq, ◌&&◌, if◌then◌else◌, List, length, Option, None, Some, is_none, is_some, IfSome, unwrap_or, Result, Ok, Err, refl, sym, ◌∙◌, subst, arith}
+use Rattle.std.proofs.Common.{◌≡◌, ℕ, ◌≤◌, ◌-◌, ◌^◌, Bool, true, false, not, ◌==◌, nat_eq, ◌&&◌, if◌then◌else◌, List, length, Option, None, Some, is_none, is_some, IfSome, unwrap_or, Result, Ok, Err, refl, sym, subst, arith}
 use Rattle.std.proofs.lemmas.Bool.{ne_eqb}
 use Rattle.aio_base.specs.declared.names.Dir.{Dir}
 use Rattle.aio_base.specs.declared.outcomes.ArmFault.{ArmFault}

@@ -1,5 +1,5 @@
 -- From what stands before a line to what stands after it, or to what an end says.
-use Rattle.std.proofs.Common.{◌≡◌, ℕ, ◌+◌, ◌-◌, ◌*◌, ◌≤◌, ◌<◌, Bool, true, false, List, [], ◌∷◌, ◌++◌, length, length-append, take, Option, None, Some, Result, Ok, Err, refl, sym, ap, ◌∙◌, subst, append_assoc, append-nil, arith, bytes_eq}
+use Rattle.std.proofs.Common.{◌≡◌, ℕ, ◌+◌, ◌-◌, ◌*◌, ◌≤◌, true, false, List, [], ◌∷◌, ◌++◌, length, length-append, take, Option, None, Some, Result, Ok, Err, refl, sym, ap, ◌∙◌, subst, append_assoc, append-nil, arith, bytes_eq}
 use Rattle.std.proofs.lemmas.List.{take_at}
 use Rattle.std.specs.Io.KnownBytes.{Appends}
 use Rattle.std.proofs.KnownBytes.{Appends-trans, Appends-nil}
@@ -14,13 +14,13 @@ use Rattle.aio_base.specs.Trace.{Trace, Refusal, lines_of, with_step, refused}
 use Rattle.aio_bytes.specs.declared.traits.SinkRefusal.{SinkRefusal}
 use Rattle.aio_bytes.specs.Sinks.{AppendsPart, Writes}
 use Rattle.aio_replay.specs.declared.ends.Stop.{Stop}
-use Rattle.aio_replay.specs.declared.ends.Stop.TheVariants as stop
 use Rattle.aio_replay.specs.declared.ends.End.{End}
 use Rattle.aio_replay.specs.declared.ends.End.TheVariants as ends
 use Rattle.aio_replay.specs.declared.replayer.Replayer.{Replayer}
 use Rattle.aio_replay.specs.Language.{Language, SaysByLines}
 use Rattle.aio_replay.specs.Replaying.{Replays, StandsFor}
 use Rattle.aio_replay.specs.Driving.{Sends, Unread, LeavesAllBut, BeginsLong, TakesLine, StoppedBehind, EndsSo, UnlessMemory, is_of_memory, sink_answer, length_of_lines, bytes_before, bytes_of_end, most_bytes}
+use Rattle.aio_replay.specs.Ends.{StandsOnTheWay}
 use Rattle.aio_replay.specs.Steps.{Opens, Answers, TakesLines, Standing, LineTaken, Closes, Closing, after_steps, refusal_of, IsRead}
 use Rattle.aio_replay.proofs.DrivingLemmas.{long_is_refused}
 
@@ -184,6 +184,10 @@ written_behind (Err refusal) first old new sent text whole p q e = record {
   appended = Appends-trans first old new sent q.added p q.appended;
 }
 
+written_part : (r : Result (Unit {0}) SinkRefusal) (old new : Option (List ℕ)) (bytes : List ℕ) → Writes r old new bytes → AppendsPart old new bytes
+written_part (Ok done) old new bytes q = record { added = bytes; rest = []; whole = sym (append-nil bytes); appended = q }
+written_part (Err refusal) old new bytes q = q
+
 written_of_more : (r : Result (Unit {0}) SinkRefusal) (old new : Option (List ℕ)) (bytes more : List ℕ) → Writes r old new bytes → AppendsPart old new (bytes ++ more)
 written_of_more (Ok done) old new bytes more q = record { added = bytes; rest = more; whole = refl; appended = q }
 written_of_more (Err refusal) old new bytes more q = record {
@@ -200,6 +204,17 @@ stopped_part l s input old new r b =
     subst (AppendsPart old new) (sym (ap output b.steps ∙ output-append opening b.done b.more))
     (written_of_more (sink_answer s) old new (output b.done) (output_from (world_after opening b.done) b.more) b.written)
 
+-- where memory did not run out, the core stands for the world after steps among which are all those that the output tells of
+pub stands_on_the_way : (l : Language) (s : Stop) (input : List ℕ) (old new : Option (List ℕ)) (r : Replayer) → is_of_memory s ≡ false
+    → StoppedBehind l s input old new r → StandsOnTheWay r.core (l.trace input).steps old new
+stands_on_the_way l s input old new r other b = record {
+  done = b.done;
+  more = b.more;
+  whole = b.steps;
+  written = written_part (sink_answer s) old new (output b.done) b.written;
+  stands = (b.world other).core;
+}
+
 pub stops : (l : Language) (input : List ℕ) (now first old new : Option (List ℕ)) (sent text : List ℕ) (done : List Step) (t : Trace) (s : Stop) (r : Replayer)
     → l.trace input ≡ after_steps done t → Appends first old sent → sent ++ text ≡ output done → Writes (sink_answer s) old new text
     → UnlessMemory s (StandsFor r (world_after opening done)) → LeavesAllBut (most_bytes l) now input → EndsSo l (ends.Stopped s) input now first new r
@@ -212,6 +227,7 @@ stops l input now first old new sent text done t s r says appended whole written
     world = world;
   };
   taken = taken;
+  few = taken;
 }
 
 -- it was stopped while a line was looked for
@@ -253,6 +269,7 @@ closes l ends.Done wanted input told first old new text r c e =
         stands_after r c.done (l.trace input).steps steps c.world,
       );
       taken = subst (λ (x : End). LeavesAllBut (bytes_of_end l x input) told input) same c.taken;
+      few = c.taken_few;
     }
 closes l (ends.Refused line why) wanted input told first old new text r c e =
     let same : wanted ≡ ends.Refused line why = e.0 in
@@ -264,6 +281,7 @@ closes l (ends.Refused line why) wanted input told first old new text r c e =
         stands_after r c.done (l.trace input).steps steps c.world,
       );
       taken = subst (λ (x : End). LeavesAllBut (bytes_of_end l x input) told input) same c.taken;
+      few = c.taken_few;
     }
 closes l (ends.Stopped s) wanted input told first old new text r c e =
     stops l input told first old new c.sent text c.done (record { steps = []; refusal = refusal_of wanted }) s r

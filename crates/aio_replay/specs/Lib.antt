@@ -5,4 +5,3 @@ pub mod Replaying
 pub mod Replies
 pub mod Steps
 pub mod Timers
-pub mod Writing

@@ -40,8 +40,9 @@ const USAGE: &[u8] =
 /// - `Why::OutOfMemory`: at any time. `out` grew by a front part of the output.
 ///
 /// The text for the user is written to `err` as far as that takes it; a refusal of `err` changes no
-/// status. What is taken of `input` is the front of what it has left: at most 257 bytes of a refused
-/// line, behind the lines before it, and at most 257,000,257 bytes otherwise.
+/// status. What is taken of `input` is the front of what it has left, at most 257,000,257 bytes: 257
+/// times the lines that a trace may have, and one line more. Of a refused line it is at most 257 bytes,
+/// behind the lines before it.
 ///
 /// The parts below that are handed no runtime are proved to return. Of this call itself no clause
 /// says so, since what is handed a runtime may wait: it is seen from its body, which makes no use of
@@ -66,6 +67,8 @@ pub fn run<R: Wait + Threads + Sync + Send + Copy, S: Source, K: Sink, E: Sink>(
         → Replays result.why bytes (S.remaining input.new) (K.contents out.old) (K.contents out.new) }
     ensures taken { (bytes : List ℕ) → S.remaining input.old ≡ Some bytes
         → LeavesAllBut (bytes_taken result.why bytes) (S.remaining input.new) bytes }
+    ensures most { (bytes : List ℕ) → S.remaining input.old ≡ Some bytes
+        → LeavesAllBut 257000257 (S.remaining input.new) bytes }
 
     // After any steps of the trace each waiter is covered, no storing of a waker is lost or woken twice and
     // the last step moved storings as it may, and right after a pass no timer is left that was due.
@@ -109,6 +112,8 @@ fn run_replay<S: Source, K: Sink>(alloc: Global, input: &mut S, out: &mut K) -> 
         → Replays result bytes (S.remaining input.new) (K.contents out.old) (K.contents out.new) }
     ensures taken { (bytes : List ℕ) → S.remaining input.old ≡ Some bytes
         → LeavesAllBut (bytes_taken result bytes) (S.remaining input.new) bytes }
+    ensures most { (bytes : List ℕ) → S.remaining input.old ≡ Some bytes
+        → LeavesAllBut 257000257 (S.remaining input.new) bytes }
     ensures counts { TellsCounts result (S.fault_count input.old) (S.fault_count input.new) (K.fault_count out.old) (K.fault_count out.new) }
     ensures read_cause { Causes S.fault_count S.is_sure input.old input.new (is_read_fault result) }
     ensures write_cause { Causes K.fault_count K.is_sure out.old out.new (is_write_fault result) }

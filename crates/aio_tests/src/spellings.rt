@@ -52,7 +52,7 @@ const REFUSED: [(&[u8], &[u8], &[u8]); 41] = [
     (b"trace 01\n", b"", b"line 1: header\n"),
     (b"trace\nadd\n", b"", b"line 1: header\n"),
     (b"trace 1 2\n", b"", b"line 1: header\n"),
-    (b"trace 2\n", b"", b"line 1: header\n"),
+    (b"trace 3\n", b"", b"line 1: header\n"),
     (b"trace 1\r\r\n", b"", b"line 1: header\n"),
     (b"trace\x001\n", b"", b"line 1: header\n"),
     (b"trace 1\xff\n", b"", b"line 1: header\n"),
