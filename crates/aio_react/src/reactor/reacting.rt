@@ -19,8 +19,8 @@ impl<P: Poller> Core<P> {
     /// that are to be woken then. A wait or an arm that fails stops nothing, and the first fault is
     /// answered at the end. `Locked` exactly where a round runs, and then `RoundsSpent` exactly where
     /// 2^64 - 1 rounds have begun; all is as before then. `OutOfMemory` where memory ran out: before
-    /// the begin all is as before, and no round runs; after it the round runs on with its events and
-    /// wakers, for `handle` and `finish`.
+    /// the begin all is as before, and no round runs; after it the round runs on with its events,
+    /// wakers and first fault, which this call met, for `handle` and `finish`.
     pub fn react(&mut self, now: Moment, given: Option<u64>) -> Result<Reacted, CoreRefusal>
         ensures meets { IfSome (react_reply result) (λ reply. MeetsRound
             (PollerStep P.arm_step P.wait_step) P.interests given now
@@ -32,6 +32,9 @@ impl<P: Poller> Core<P> {
         ensures stopped { OnErr result (begin_refusal self.old.1 ≡ None
             → self.new.1.round.running ≡ true → Stopped
             (PollerStep P.arm_step P.wait_step) P.interests given now self.old self.new) }
+        ensures kept { OnErr result (begin_refusal self.old.1 ≡ None
+            → self.new.1.round.running ≡ true → IfSome self.new.1.round.fault
+            (RisesWithin (P.fault_count self.old.0) (P.fault_count self.new.0))) }
         ensures idle { OnOk result (self.new.1.round.running ≡ false) }
         ensures faults { TellsFaults P.fault_count P.is_sure self.old.0 self.new.0
             (IsSome (react_fault result)) }
