@@ -23,9 +23,8 @@ use Rattle.aio_react.specs.Sections.{begin_refusal, core_begun}
 use Rattle.aio_react.specs.Standing.{StandsWithin, end_word}
 use Rattle.aio_react.proofs.BeginMeets.{world_begun, begun_stands, begin_is_made, begin_meets, busy_world}
 use Rattle.aio_react.proofs.HandleRows.{steps_stand}
-use Rattle.aio_react.proofs.Later.{stands_later}
+use Rattle.aio_react.proofs.Later.{stands_later, stands_moved}
 use Rattle.aio_react.proofs.PartRows.{runs_both, waits_both, answers_both, mapped_both}
-use Rattle.aio_react.proofs.SourceChanges.{stands_moved}
 use Rattle.aio_react.proofs.WaitMeets.{none_runs, one_runs}
 
 -- ## The machine
