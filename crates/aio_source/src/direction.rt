@@ -115,18 +115,22 @@ impl Direction {
         ensures replaced { result
             ≡ (if is_waker waker self.old.waiter then None else self.old.waiter) }
     {
-        let replaced = match self.waiter {
-            None => None,
+        match &mut self.waiter {
+            None => {
+                self.ticks = Some((ticker, self.tick));
+                self.waiter = Some(waker);
+                None
+            }
             Some(held) => {
-                if held.0 == waker.0 {
+                let before = *held;
+                if before.0 == waker.0 {
                     return None;
                 }
-                Some(held)
+                *held = waker;
+                self.ticks = Some((ticker, self.tick));
+                Some(before)
             }
-        };
-        self.ticks = Some((ticker, self.tick));
-        self.waiter = Some(waker);
-        replaced
+        }
     }
 
     /// Whether a listener has this ticket.
