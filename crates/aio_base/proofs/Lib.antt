@@ -48,6 +48,7 @@ mod RefusedWorlds
 pub mod Registering
 pub mod Rewaiting
 pub mod RoundAnswers
+pub mod RoundFaults
 pub mod RoundHands
 pub mod RoundLemmas
 pub mod RoundSteps

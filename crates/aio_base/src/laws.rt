@@ -52,11 +52,13 @@ pub fn no_due_timer_outlives_a_pass()
         → AllAbove moment (after_pass moment registrations) }
     ensures taken { (moment : ℕ) (registrations : List Registration) (r : Registration)
         → Contains registrations r
-        → Contains (after_pass moment registrations) r ⊎ Contains (due_wakers moment registrations) r.waker }
+        → Contains (after_pass moment registrations) r
+        ⊎ Contains (due_wakers moment registrations) r.waker }
     ensures begin { (w : World) (given : Option ℕ) (answers : List PollerAnswer)
         → w.round ≡ None → AllAbove w.now (begin_round w given answers).world.registrations }
     ensures finish { (w : World) (round : RoundState) (answers : List PollerAnswer)
-        → w.round ≡ Some round → round.in_hand ≡ [] → makes_second_pass round.last_wait round.limit ≡ true
+        → w.round ≡ Some round → round.in_hand ≡ []
+        → makes_second_pass round.last_wait round.limit ≡ true
         → AllAbove w.now (finish_round w answers).world.registrations }
     ensures react { (w : World) (given : Option ℕ) (answers : List PollerAnswer)
         → w.round ≡ None → AllAbove w.now (react w given answers).world.registrations }
@@ -67,12 +69,14 @@ pub fn no_due_timer_outlives_a_pass()
 /// that are due at its moment, of all of them and of no other.
 pub fn registrations_fire_in_order()
     ensures before { (a b : Registration)
-        → (fires_before a b ≡ true) ↔ ((a.deadline < b.deadline) ⊎ ((a.deadline ≡ b.deadline) × (a.id < b.id))) }
+        → (fires_before a b ≡ true)
+        ↔ ((a.deadline < b.deadline) ⊎ ((a.deadline ≡ b.deadline) × (a.id < b.id))) }
     ensures ordered { (registrations : List Registration)
         → IsFiringOrder registrations (in_order registrations) }
     ensures taken { (moment : ℕ) (registrations : List Registration)
         → (fired : List Registration)
-        × IsFiringOrder (filter (λ (r : Registration). nat_le r.deadline moment) registrations) fired
+        × IsFiringOrder (filter (λ (r : Registration). nat_le r.deadline moment) registrations)
+        fired
         × (due_wakers moment registrations ≡ map (λ (r : Registration). r.waker) fired) }
 {}
 
@@ -97,7 +101,8 @@ pub fn a_change_keeps_the_book()
     ensures ordered { (book : List Registration)
         → IsBook book → in_order book ≡ book }
     ensures commute { (a b : BookChange) (book : List Registration)
-        → pair_of a ≢ pair_of b → IsBook book → changed a (changed b book) ≡ changed b (changed a book) }
+        → pair_of a ≢ pair_of b → IsBook book
+        → changed a (changed b book) ≡ changed b (changed a book) }
 {}
 
 /// After every run, whatever the poller answered in it, each waiter of each live source is covered: its
@@ -105,7 +110,8 @@ pub fn a_change_keeps_the_book()
 /// step at which it broke told that. There are no other waiters: whoever waits waits for a live source.
 /// Since a run that is cut off at a step is a run, this holds between any two steps.
 pub fn every_waiter_is_covered()
-    ensures covered { (run : List PolledStep) → Covered (world_of opening run) (answers_of opening run) }
+    ensures covered { (run : List PolledStep)
+        → Covered (world_of opening run) (answers_of opening run) }
     ensures live { (run : List PolledStep) → WaitsForLive (world_of opening run) }
 {}
 
@@ -116,7 +122,8 @@ pub fn every_waiter_is_covered()
 /// step woke are its wakers, in order. Since a run that is cut off at a step is a run, this holds
 /// between any two steps.
 pub fn no_storing_is_lost_or_woken_twice()
-    ensures { (run : List PolledStep) → Once (world_of opening run) (wakes_of opening run) (storings_of opening run) }
+    ensures { (run : List PolledStep)
+        → Once (world_of opening run) (wakes_of opening run) (storings_of opening run) }
 {}
 
 /// How the storings of wakers follow from step to step (`StoringsFollow`): a storing keeps its number,
@@ -191,10 +198,11 @@ pub fn no_number_is_given_twice()
 /// limit of its waits, in nanoseconds: the least of the given limit and of the times to the registered
 /// deadlines, 0 for one that has come, and none where there is neither. A `wait` tells what the poller
 /// answered, a `handle` the key of its event, a `finish` the first fault of its round, and a `react` how
-/// many events its wait gave.
+/// many events its wait gave, and that it failed where it did.
 pub fn each_round_has_a_number_of_its_own()
     ensures { (w : World) (s : Step) (answers : List PollerAnswer)
-        → RoundsFollow w s answers (step_result w s answers).answer (step_result w s answers).world }
+        → let after = step_result w s answers in
+        RoundsFollow w s answers after.answer after.world }
 {}
 
 /// A round begins with an empty hand. A `wait` that tells how many events were given takes just these in
@@ -203,7 +211,8 @@ pub fn each_round_has_a_number_of_its_own()
 /// first fault, and nothing else changes those.
 pub fn a_round_has_in_hand_what_its_wait_gave()
     ensures { (w : World) (s : Step) (answers : List PollerAnswer)
-        → HandFollows w s answers (step_result w s answers).answer (step_result w s answers).world }
+        → let after = step_result w s answers in
+        HandFollows w s answers after.answer after.world }
 {}
 
 /// A step that begins a round makes a pass over the registered timers, a whole round makes one, and so
@@ -266,14 +275,16 @@ pub fn a_script_is_a_run()
     ensures steps { (w : World) (steps : List Step)
         → map (λ (s : PolledStep). s.step) (scripted w steps) ≡ steps }
     ensures answers { (w : World) (steps : List Step)
-        → answers_of w (scripted w steps) ≡ map (λ (o : Outcome). o.answer) (outcomes_from w steps) }
+        → answers_of w (scripted w steps)
+        ≡ map (λ (o : Outcome). o.answer) (outcomes_from w steps) }
     ensures wakes { (w : World) (steps : List Step)
         → wakes_of w (scripted w steps) ≡ map (λ (o : Outcome). o.wakes) (outcomes_from w steps) }
     ensures world { (w : World) (steps : List Step)
         → without_notes (world_of w (scripted w steps)) ≡ without_notes (world_after w steps) }
     ensures unread { (w v : World) (s : Step) (answers : List PollerAnswer)
         → without_notes w ≡ without_notes v
-        → outcome_without_notes (step_result w s answers) ≡ outcome_without_notes (step_result v s answers) }
+        → outcome_without_notes (step_result w s answers)
+        ≡ outcome_without_notes (step_result v s answers) }
 {}
 
 /// After every run, whatever the poller answered in it, each waiter of each live source is covered and
