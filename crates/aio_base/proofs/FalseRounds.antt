@@ -70,7 +70,7 @@ a_begin_within_a_round_is_refused given limit answers number v f = let told : an
 
 -- a whole round is refused where none runs
 pub a_react_told_locked_without_a_round_is_refused : (answers : List PollerAnswer) (v : World) → RoundsFollow opening step.React answers answer.Locked v → ⊥
-a_react_told_locked_without_a_round_is_refused answers v f = let told = f.answered.1 in cc
+a_react_told_locked_without_a_round_is_refused answers v f = let told = f.answered.2 in cc
 
 -- a round ends with an event in hand
 pub an_end_with_events_in_hand_is_refused : (answers : List PollerAnswer) (word : EndWord) (v : World)
@@ -113,7 +113,15 @@ another_number_of_events_is_refused events v f =
 pub another_number_of_events_of_a_whole_round_is_refused : (end : EndWord) (v : World)
     → RoundsFollow opening step.React (Gives (event 0 ∷ []) ∷ []) (answer.Round 1 0 end) v → ⊥
 another_number_of_events_of_a_whole_round_is_refused end v f =
-    let told : answer.Round 1 0 end ≡ answer.Round 1 1 f.answered.0 = f.answered.1 in apart 0 1 (omega arith) (some_number 0 1 (ap count_told told))
+    let told : answer.Round 1 0 end ≡ answer.Round 1 1 f.answered.0 = f.answered.2 in apart 0 1 (omega arith) (some_number 0 1 (ap count_told told))
+
+-- a whole round tells that it ended clean, and its wait failed
+pub a_failed_wait_of_a_whole_round_that_is_not_told_is_refused : (number events : ℕ) (v : World)
+    → RoundsFollow opening step.React (Fails ∷ []) (answer.Round number events Clean) v → ⊥
+a_failed_wait_of_a_whole_round_that_is_not_told_is_refused number events v f =
+    let told : answer.Round number events Clean ≡ answer.Round 1 0 f.answered.0 = f.answered.2 in
+    let failed : f.answered.0 ≡ FaultWait = f.answered.1 in
+    cc
 
 -- a `finish` tells that its round ended clean, and its wait had failed
 pub a_fault_that_is_not_told_is_refused : (answers : List PollerAnswer) (v : World)

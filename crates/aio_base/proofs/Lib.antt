@@ -55,6 +55,7 @@ mod RefusedWorlds
 pub mod Registering
 pub mod Rewaiting
 pub mod RoundAnswers
+pub mod RoundFaults
 pub mod RoundHands
 pub mod RoundLemmas
 pub mod RoundSteps

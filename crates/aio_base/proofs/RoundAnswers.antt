@@ -14,9 +14,10 @@ use Rattle.aio_base.specs.World.{PollerAnswer, Succeeds, Gives, IsInterrupted, F
 use Rattle.aio_base.specs.Timers.{fires_before, placed, in_order, due_wakers, after_pass, lesser, first_deadline, time_to, limit_of}
 use Rattle.aio_base.specs.Machine.{Outcome, next_answer, later_answers, fails, begin_round, wait_answered, wait_in, wait_round, rearmed, handle_source, handle_first, handle_in, handle_each, hand_of, fault_of, finish_in, react, case_of}
 use Rattle.aio_base.specs.Succession.{events_given}
-use Rattle.aio_base.specs.RoundAnswers.{IsWithin, time_left, IsRoundLimit, BeginTold, with_empty_hand, wait_tells, FirstTold, HandleTold, ReactTold, RoundsTold}
+use Rattle.aio_base.specs.RoundAnswers.{IsWithin, time_left, IsRoundLimit, BeginTold, with_empty_hand, wait_tells, FirstTold, HandleTold, EndsAsWaited, ReactTold, RoundsTold}
 use Rattle.aio_base.proofs.Membership.{none_is_in, first_is_in, later_is_in, among_cases, filtered_is_in, filtered_passes, passing_is_kept, image_is_in}
 use Rattle.aio_base.proofs.Frames.{either}
+use Rattle.aio_base.proofs.RoundFaults.{waited_ends, handled_ends, begun_clean}
 use Rattle.aio_base.proofs.RoundLemmas.{round_begun, round_waited, hand_is}
 
 -- ## The lesser of two limits
@@ -205,9 +206,12 @@ react_told w answers None is =
     let hand = hand_of waited.world.round in
     let handled = handle_each hand waited.world waited.left in
     let start = round_begun w answers (ap is_some is) in
+    let ends : EndsAsWaited (next_answer begun.left) (fault_of waited.world.round) = waited_ends begun.world begun.world.round begun.left start.hand (begun_clean w None answers (ap is_some is)) in
     let given = hand_is waited.world.round _ (round_waited begun.world begun.world.round begun.left start.hand).hand in
     let counted : length hand ≡ length (events_given (next_answer answers)) = ap length given ∙ ap (λ (rest : List PollerAnswer). length (events_given (next_answer rest))) start.left in (
       fault_of handled.world.round,
+      subst (λ (rest : List PollerAnswer). EndsAsWaited (next_answer rest) (fault_of handled.world.round)) start.left
+          (handled_ends (next_answer begun.left) hand waited.world waited.left given ends),
       ap (λ (o : Outcome). o.answer) (cond-false (is_some w.round) _ _ (ap is_some is)) ∙ ap (λ (n : ℕ). answer.Round (w.rounds + 1) n (fault_of handled.world.round)) counted,
     )
 react_told w answers (Some round) is = ap (λ (o : Outcome). o.answer) (cond-true (is_some w.round) _ _ (ap is_some is))

@@ -1,5 +1,5 @@
 -- What a step leaves of the running round: its hand, the answer of its last wait, and its first fault.
-use Rattle.std.proofs.Common.{◌≡◌, ℕ, Bool, true, false, cond, ◌&&◌, ◌||◌, ◌==◌, List, [], ◌∷◌, ◌++◌, length, find, Option, None, Some, is_some, refl, ap, ◌∙◌, sym, subst}
+use Rattle.std.proofs.Common.{◌≡◌, ℕ, Bool, true, false, cond, ◌&&◌, ◌||◌, ◌==◌, List, [], ◌∷◌, length, find, Option, None, Some, is_some, refl, ap, ◌∙◌, sym, subst}
 use Rattle.std.specs.Prelude.{nat_lt, nat_le, option_to_list, unwrap_or}
 use Rattle.std.specs.List.{list_any}
 use Rattle.aio_base.specs.declared.names.Key.{Key}
@@ -7,16 +7,17 @@ use Rattle.aio_base.specs.declared.names.Waker.{Waker}
 use Rattle.aio_base.specs.declared.names.Dir.{Dir}
 use Rattle.aio_base.specs.declared.names.Event.{Event}
 use Rattle.aio_base.specs.declared.outcomes.EndWord.{EndWord}
-use Rattle.aio_base.specs.declared.outcomes.EndWord.TheVariants.{Clean, FaultWait, FaultArm}
+use Rattle.aio_base.specs.declared.outcomes.EndWord.TheVariants.{FaultWait, FaultArm}
 use Rattle.aio_base.specs.declared.steps.Step.{Step}
 use Rattle.aio_base.specs.declared.steps.Step.TheVariants as step
 use Rattle.aio_base.specs.declared.steps.Answer.{Answer}
 use Rattle.aio_base.specs.declared.steps.Answer.TheVariants as answer
-use Rattle.aio_base.specs.World.{PollerAnswer, Succeeds, Gives, IsInterrupted, Fails, ListenerEntry, TimerEntry, RoundState, World, serial_of, key_of, directions_of, poll_waiter, mark_of, is_empty_list, is_idle, is_broken, wanted}
-use Rattle.aio_base.specs.Machine.{Outcome, next_answer, later_answers, fails, broken_world, armed_world, after_arm, pending, source_limit, add, del_source, is_fresh_since, is_waker, with_waiter, poll_source, new_listener, is_listener, with_listening, step_listener, drop_listener, is_timer, unregistered, next_deadline, fired, tick_deadline, tick_timer, set_deadline, set_timer, end_timer, set_clock, begin_round, first_fault, wait_answered, wait_in, world_taken, wakers_taken, rearmed, handle_source, handle_first, handle_in, hand_of, fault_of, finish_in, react, case_of, step_result}
+use Rattle.aio_base.specs.World.{PollerAnswer, Succeeds, Gives, IsInterrupted, Fails, ListenerEntry, TimerEntry, RoundState, World, serial_of, key_of, poll_waiter, mark_of, is_empty_list, is_idle, is_broken}
+use Rattle.aio_base.specs.Machine.{Outcome, next_answer, later_answers, fails, broken_world, armed_world, after_arm, pending, source_limit, add, del_source, is_fresh_since, is_waker, with_waiter, poll_source, new_listener, is_listener, with_listening, step_listener, drop_listener, is_timer, unregistered, next_deadline, fired, tick_deadline, tick_timer, set_deadline, set_timer, end_timer, set_clock, begin_round, wait_answered, wait_in, handle_source, handle_first, handle_in, hand_of, fault_of, finish_in, react, case_of, step_result}
 use Rattle.aio_base.specs.RoundCounts.{name_of}
 use Rattle.aio_base.specs.RoundHands.{HandMoves, last_wait_of, last_wait_after, fault_kept, fault_after, HandFollows}
 use Rattle.aio_base.proofs.Frames.{either, either_world}
+use Rattle.aio_base.proofs.RoundFaults.{first_is_kept, source_handles}
 use Rattle.aio_base.proofs.RoundSteps.{react_ends}
 
 -- ## Other steps leave the round
@@ -116,11 +117,6 @@ empty_is : (events : List Event) → is_empty_list events ≡ true → events �
 empty_is [] empty = refl
 empty_is (event ∷ events) empty = absurd cc
 
-first_is_kept : (before new : EndWord) → first_fault before new ≡ fault_kept before new
-first_is_kept Clean new = refl
-first_is_kept FaultWait new = refl
-first_is_kept FaultArm new = refl
-
 -- what an outcome of a wait leaves, by what the poller answered
 record Waited (w : World) (round : RoundState) (given : PollerAnswer) (o : Outcome) : Type 0 where
   hand : HandMoves step.Wait given o.answer round.in_hand (hand_of o.world.round)
@@ -156,38 +152,6 @@ wait_follows w (Some round) answers is =
     (λ some. record { hand = refl; waited = refl; fault = refl })
 
 -- ## An event is handled
-
--- what an outcome leaves of a round in which an event of a key was handled
-record Handles (round : RoundState) (key : Key) (o : Outcome) : Type 0 where
-  failed : Bool
-  told : o.answer ≡ answer.Handled key failed
-  hand : hand_of o.world.round ≡ round.in_hand
-  waited : last_wait_of o.world.round ≡ round.last_wait
-  fault : fault_of o.world.round ≡ cond failed (fault_kept round.fault FaultArm) round.fault
-
-arm_handles : (failing : Bool) (v : World) (round : RoundState) (key : Key) (serial : ℕ) (answers : List PollerAnswer)
-    → let u : World = record v { round = Some round } in
-    let armed : World = cond failing (broken_world u serial) (armed_world u key.0 serial) in
-    let after : World = cond failing (record armed { round = Some (record round { fault = first_fault round.fault FaultArm }) }) armed in
-    (hand_of after.round ≡ round.in_hand) × (last_wait_of after.round ≡ round.last_wait) × (fault_of after.round ≡ cond failing (fault_kept round.fault FaultArm) round.fault)
-arm_handles true v round key serial answers = (refl, refl, first_is_kept round.fault FaultArm)
-arm_handles false v round key serial answers = (refl, refl, refl)
-
-rearmed_handles : (v : World) (round : RoundState) (key : Key) (serial : ℕ) (answers : List PollerAnswer)
-    → Handles round key (rearmed (record v { round = Some round }) round key serial answers)
-rearmed_handles v round key serial answers =
-    let armed = arm_handles (fails (next_answer answers)) v round key serial answers in
-    either (Handles round key) (is_empty_list (wanted (record v { round = Some round }) serial)) _ _
-    (record { failed = false; told = refl; hand = refl; waited = refl; fault = refl })
-    (record { failed = fails (next_answer answers); told = refl; hand = armed.0; waited = armed.1; fault = armed.2 })
-
-source_handles : (w : World) (round : RoundState) (event : Event) (serial : Option ℕ) (answers : List PollerAnswer)
-    → Handles round event.key (handle_source w round event serial answers)
-source_handles w round event None answers = record { failed = false; told = refl; hand = refl; waited = refl; fault = refl }
-source_handles w round event (Some serial) answers =
-    let dirs = directions_of event.on in
-    let h = rearmed_handles (world_taken w serial round.begin dirs) (record round { taken = round.taken ++ wakers_taken w serial round.begin dirs }) event.key serial answers in
-    record { failed = h.failed; told = h.told; hand = h.hand; waited = h.waited; fault = h.fault }
 
 fault_handled : (failed : Bool) (key : Key) (before : EndWord) → cond failed (fault_kept before FaultArm) before ≡ fault_after step.Handle (answer.Handled key failed) before
 fault_handled true key before = refl

@@ -1,8 +1,9 @@
 -- What the steps of a round are told: which of them are refused, and by which answer, and what the others tell.
-use Rattle.std.specs.Prelude.{◌≡◌, ◌⊎◌, ℕ, ◌+◌, ◌-◌, ◌≤◌, Bool, if◌then◌else◌, List, [], ◌∷◌, length, map, Option, None, Some}
+use Rattle.std.specs.Prelude.{◌≡◌, ◌≢◌, ◌⊎◌, ℕ, ◌+◌, ◌-◌, ◌≤◌, Bool, if◌then◌else◌, List, [], ◌∷◌, length, map, Option, None, Some}
 use Rattle.std.specs.List.{Contains}
 use Rattle.aio_base.specs.declared.names.Event.{Event}
 use Rattle.aio_base.specs.declared.outcomes.EndWord.{EndWord}
+use Rattle.aio_base.specs.declared.outcomes.EndWord.TheVariants.{FaultWait}
 use Rattle.aio_base.specs.declared.steps.Step.{Step}
 use Rattle.aio_base.specs.declared.steps.Step.TheVariants as step
 use Rattle.aio_base.specs.declared.steps.Answer.{Answer}
@@ -58,9 +59,14 @@ abbrev pub HandleTold : Option RoundState → Answer → Type 0
 HandleTold None told = (told ≡ answer.NoRound)
 HandleTold (Some round) told = FirstTold round.in_hand told
 
+-- a round ends as one whose wait failed where its wait did, and only there
+abbrev pub EndsAsWaited : PollerAnswer → EndWord → Type 0
+EndsAsWaited Fails end = (end ≡ FaultWait)
+EndsAsWaited _ end = (end ≢ FaultWait)
+
 -- a whole round tells its number, which is the next one, how many events its wait gave, and how it ended
 abbrev pub ReactTold : World → Option RoundState → PollerAnswer → Answer → Type 0
-ReactTold w None waited told = (end : EndWord) × (told ≡ answer.Round (w.rounds + 1) (length (events_given waited)) end)
+ReactTold w None waited told = (end : EndWord) × EndsAsWaited waited end × (told ≡ answer.Round (w.rounds + 1) (length (events_given waited)) end)
 ReactTold w (Some round) waited told = (told ≡ answer.Locked)
 
 -- What a step of a round is told, by the round that runs before it and its hand. A `finish` tells the first fault of its round.

@@ -192,10 +192,11 @@ pub fn no_number_is_given_twice()
 /// limit of its waits, in nanoseconds: the least of the given limit and of the times to the registered
 /// deadlines, 0 for one that has come, and none where there is neither. A `wait` tells what the poller
 /// answered, a `handle` the key of its event, a `finish` the first fault of its round, and a `react` how
-/// many events its wait gave.
+/// many events its wait gave, and that it failed where it did.
 pub fn each_round_has_a_number_of_its_own()
     ensures { (w : World) (s : Step) (answers : List PollerAnswer)
-        → RoundsFollow w s answers (step_result w s answers).answer (step_result w s answers).world }
+        → let after = step_result w s answers in
+        RoundsFollow w s answers after.answer after.world }
 {}
 
 /// A round begins with an empty hand. A `wait` that tells how many events were given takes just these in
@@ -204,7 +205,8 @@ pub fn each_round_has_a_number_of_its_own()
 /// first fault, and nothing else changes those.
 pub fn a_round_has_in_hand_what_its_wait_gave()
     ensures { (w : World) (s : Step) (answers : List PollerAnswer)
-        → HandFollows w s answers (step_result w s answers).answer (step_result w s answers).world }
+        → let after = step_result w s answers in
+        HandFollows w s answers after.answer after.world }
 {}
 
 /// A step that begins a round makes a pass over the registered timers, a whole round makes one, and so
