@@ -224,8 +224,8 @@ impl EventWait for ScriptPoller {
         let noted = self.noted.as_slice();
         let count = noted.len().min(room as usize);
         let given = &noted[..count];
-        out.extend_from_slice(given).unwrap();
         clear_interests(&mut self.armed, given);
+        out.extend_from_slice(given).unwrap();
         self.noted.skip(count);
         Ok(Waited::Given(count as u32))
     }
