@@ -95,9 +95,6 @@ steps-of-run zero ns l (i ∷ ks) r h = absurd (omega (arith, h))
 steps-of-run (suc fuel) ns l [] r h = rw r refl
 steps-of-run (suc fuel) ns l (i ∷ ks) r h = rw r.0 (omega (arith, steps-of-run fuel ns (node_at ns i).next ks r.2 (omega (arith, h))))
 
-pub steps-of-once : (ns : List Node) (l : Option ℕ) (ks : List ℕ) → IsRunOnce ns l ks → steps_from (length ns) ns l ≡ length ks
-steps-of-once ns l ks r = steps-of-run (length ns) ns l ks r.run (once-le (length ns) ks r.once (λ j h. run-within ns l ks j r.run h))
-
 -- ## Induction along the order in which nodes fire
 
 -- what holds of a node where it holds of all that fire before it holds of each
