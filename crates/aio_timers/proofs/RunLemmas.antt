@@ -6,7 +6,7 @@ use Rattle.std.proofs.lemmas.Bool.Decides.{nat_tests}
 use Rattle.aio_timers.specs.declared.node.Node.{Node}
 use Rattle.aio_timers.specs.Held.{Held, IsUsed, held_at, node_at, blank_node}
 use Rattle.aio_timers.specs.Precedes.{precedes}
-use Rattle.aio_timers.specs.Rows.{one_if, times_in, IsRun, IsRow, IsRunOnce, steps_from}
+use Rattle.aio_timers.specs.Rows.{one_if, times_in, IsRun, IsRow, steps_from}
 use Rattle.aio_timers.proofs.CountLemmas.{one_if-same, one_if-other, some_or_none}
 
 -- what is read behind the last node is free

@@ -1,6 +1,5 @@
 -- Each step looks at one node more of the row.
-use Rattle.std.proofs.Common.{length, sym, ◌∙◌}
-use Rattle.aio_timers.specs.Held.{held_at}
+use Rattle.std.proofs.Common.{sym, ◌∙◌}
 use Rattle.aio_timers.proofs.DueLemmas.{sees-start, sees-end, SeesOn, sees-on}
 use Rattle.aio_timers.proofs.due.last_due_of.Goals as goal
 use Rattle.aio_timers.proofs.due.last_due_of.Goals.{then-is_due_at, else-is_due_at}
