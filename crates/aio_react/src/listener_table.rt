@@ -11,8 +11,8 @@ use aio_source::Listened;
 use std::alloc::Global;
 use std::marker::Model;
 
-/// Whom a listener waits for, and where its direction keeps it once it was polled. It takes eight
-/// bytes, since a key is below 4,096.
+/// Which direction of which source a listener is of, and where that direction keeps it once it was
+/// polled. It takes eight bytes, since a key is below 4,096.
 #[derive(Clone, Copy)]
 pub(crate) enum Seat {
     /// The listener was given up.

@@ -20,4 +20,4 @@ returns c =
     let next : c.args.number ≡ suc (c.args.number - 1) = omega (arith, c.if-number-eq0.false) in
     rw (← c.self.view_is)
     (c.listener_in.ensures ∙ sym (value-there i.seats.items i.first_polls.items c.args.number (c.args.number - 1) c.index.result.now c.index-2.result.now next
-        (omega (arith, c.if-number-eq0.false, c.len.ensures, c.if-number-len.false)) c.self.invariant c.index.ensures c.index-2.ensures))
+    (omega (arith, c.if-number-eq0.false, c.len.ensures, c.if-number-len.false)) c.self.invariant c.index.ensures c.index-2.ensures))
