@@ -5,5 +5,6 @@ pub mod Reading
 pub mod Replaying
 pub mod Replies
 pub mod Steps
+pub mod Summing
 pub mod Timers
 pub mod Writing
