@@ -65,8 +65,8 @@ module _ (a steps from : List ℕ) where
 
 -- ## One command at most
 
--- the numbers of a command
-same_numbers : (name other : List ℕ) (n seed m from : ℕ) (words : List (List ℕ)) → IsOfSteps name n seed words → IsOfSteps other m from words
+-- the name and the numbers of a command of steps
+pub same_numbers : (name other : List ℕ) (n seed m from : ℕ) (words : List (List ℕ)) → IsOfSteps name n seed words → IsOfSteps other m from words
     → (name ≡ other) × (n ≡ m) × (seed ≡ from)
 same_numbers name other n seed m from [] p q = absurd p
 same_numbers name other n seed m from (a ∷ []) p q = absurd p
@@ -84,17 +84,8 @@ steps_no_replay name n seed (a ∷ b ∷ []) p is = p
 steps_no_replay name n seed (a ∷ b ∷ c ∷ []) p is = no_replay a b (c ∷ []) is
 steps_no_replay name n seed (a ∷ b ∷ c ∷ d ∷ words) p is = p
 
-pub named_once : (words : List (List ℕ)) (c d : Command) → Names c words → Names d words → c ≡ d
-named_once words command.Replay command.Replay p q = refl
-named_once words command.Replay (command.Gen n seed) p q = absurd (steps_no_replay (codes "gen") n seed words q p)
-named_once words command.Replay (command.Sum n seed) p q = absurd (steps_no_replay (codes "sum") n seed words q p)
-named_once words (command.Gen n seed) command.Replay p q = absurd (steps_no_replay (codes "gen") n seed words p q)
-named_once words (command.Gen n seed) (command.Gen m from) p q =
-    let same = same_numbers (codes "gen") (codes "gen") n seed m from words p q in rw (same.1, same.2) refl
-named_once words (command.Gen n seed) (command.Sum m from) p q =
-    let same = (same_numbers (codes "gen") (codes "sum") n seed m from words p q).0 in absurd cc
-named_once words (command.Sum n seed) command.Replay p q = absurd (steps_no_replay (codes "sum") n seed words p q)
-named_once words (command.Sum n seed) (command.Gen m from) p q =
-    let same = (same_numbers (codes "sum") (codes "gen") n seed m from words p q).0 in absurd cc
-named_once words (command.Sum n seed) (command.Sum m from) p q =
-    let same = same_numbers (codes "sum") (codes "sum") n seed m from words p q in rw (same.1, same.2) refl
+-- no words are those of both
+pub gen_no_sum : (n seed m from : ℕ) (words : List (List ℕ)) → IsGen n seed words → IsSum m from words → ⊥
+gen_no_sum n seed m from words p q =
+    let first : 103 ≡ 115 = ap (λ name. get_or name 0 0) (same_numbers (codes "gen") (codes "sum") n seed m from words p q).0 in
+    absurd (omega (arith, first))

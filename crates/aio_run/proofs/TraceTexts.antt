@@ -13,7 +13,7 @@ use Rattle.aio_base.specs.Lines.{HasSpelling, IsInRange, written_line}
 use Rattle.aio_base.specs.Text.{ended_line}
 use Rattle.aio_base.specs.Trace.{header_text}
 use Rattle.aio_bytes.specs.declared.traits.SinkRefusal.{SinkRefusal}
-use Rattle.aio_bytes.specs.Sinks.{AppendsPart, Writes}
+use Rattle.aio_bytes.specs.Sinks.{AppendsPart, HasFailed, Writes}
 use Rattle.aio_trace.specs.Generating.{StepsLeft, steps_left}
 use Rattle.aio_trace.proofs.Ranges.{all_spelled, in_range}
 use Rattle.aio_replay.specs.Driving.{Sends}
@@ -110,4 +110,19 @@ tells_on count is_sure old mid new failed first second = record {
         (after.0, after.1 ∙ before.1);
   };
   sure = second.sure ∙ first.sure;
+}
+
+-- no call was made
+pub tells_none : {S : Type 0} (count : S → ℕ) (is_sure : S → Bool) (now : S) → TellsFaults count is_sure now now ⊥
+tells_none count is_sure now = record {
+  cause = record { later = omega arith; rose = λ failed. absurd failed; never = λ sure. (λ failed. failed, refl) };
+  sure = refl;
+}
+
+-- a call that was answered `Ok` did not fail
+pub tells_done : {S : Type 0} (count : S → ℕ) (is_sure : S → Bool) (old new : S) (r : Result (Unit {0}) SinkRefusal) (done : Unit {0}) → r ≡ Ok done
+    → TellsFaults count is_sure old new (HasFailed r) → TellsFaults count is_sure old new ⊥
+tells_done count is_sure old new r done is tells = record {
+  cause = record { later = tells.cause.later; rose = λ failed. absurd failed; never = λ sure. (λ failed. failed, (tells.cause.never sure).1) };
+  sure = tells.sure;
 }

@@ -1,6 +1,6 @@
 //! The commands of the program, read from its words.
 
-ghost use Rattle.std.specs.Prelude.{ℕ, [], ◌∷◌, MatchOption, map, string_bytes};
+ghost use Rattle.std.specs.Prelude.{◌≡◌, ◌==◌, ℕ, [], ◌∷◌, MatchOption, map, slice_index, string_bytes};
 ghost use Rattle.aio_run.specs.Commands.{Names, SpellsUpTo};
 ghost use Rattle.aio_run.specs.declared.commands.Command.{Command};
 
@@ -68,12 +68,19 @@ fn number_up_to(word: &str, most: u64) -> Option<u64>
     ensures { MatchOption result ((n : ℕ) → SpellsUpTo most n word.now → ⊥)
         (λ n. SpellsUpTo most n word.now) }
 {
-    // `parse` takes a leading plus too.
-    if word.as_bytes().first() == Some(&b'+') {
+    // `parse` would take a plus before the digits.
+    if has_plus(word) {
         return None;
     }
     match word.parse::<u64>() {
         Ok(number) if number <= most => Some(number),
         _ => None,
     }
+}
+
+/// Whether a word begins with a plus.
+fn has_plus(word: &str) -> bool
+    ensures { result ≡ (slice_index word.now 0 == 43) }
+{
+    word.as_bytes().first() == Some(&b'+')
 }

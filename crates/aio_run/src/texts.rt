@@ -62,7 +62,7 @@ fn header(alloc: Global) -> Result<Vec<u8>, AllocError>
 /// block. Where memory runs out, the text before is written as far as the output takes it.
 fn gather<K: Sink>(step: &Step, text: &mut Vec<u8>, out: &mut K) -> Result<(), SinkRefusal>
     requires { IsInRange step.now }
-    ensures { Gathers result (K.contents out.old) (K.contents out.new)
+    ensures gathers { Gathers result (K.contents out.old) (K.contents out.new)
         text.old.items text.new.items (ended_line (written_line step.now)) }
     ensures cause { TellsFaults K.fault_count K.is_sure out.old out.new (HasFailed result) }
 {

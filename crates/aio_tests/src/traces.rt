@@ -22,22 +22,22 @@ const ORDINARY_ANSWERS: &[u8] = b"key 0\npending\nnoted\nround 1 events 1 ok\nwa
 
 /// What a call answered, and what it wrote.
 #[derive(Drop)]
-struct Ran {
-    status: Status,
-    out: MemSink,
-    err: MemSink,
+pub(crate) struct Ran {
+    pub(crate) status: Status,
+    pub(crate) out: MemSink,
+    pub(crate) err: MemSink,
 }
 
 /// The numbers of the calls that fail, from 1: the reads of the input, and the writes of the output
 /// and of what is told to the user.
 #[derive(Clone, Copy)]
-struct Failing {
-    reads: &'static [u64],
-    writes: &'static [u64],
-    tells: &'static [u64],
+pub(crate) struct Failing {
+    pub(crate) reads: &'static [u64],
+    pub(crate) writes: &'static [u64],
+    pub(crate) tells: &'static [u64],
 }
 
-const NOTHING_FAILS: Failing = Failing {
+pub(crate) const NOTHING_FAILS: Failing = Failing {
     reads: &[],
     writes: &[],
     tells: &[],
@@ -45,7 +45,7 @@ const NOTHING_FAILS: Failing = Failing {
 
 /// Runs the command of these words over an input in memory, of which a read gives at most `piece`
 /// bytes, and one where that is 0.
-fn run_over<R: Wait + Threads + Sync + Send + Copy + AllocGlobal>(
+pub(crate) fn run_over<R: Wait + Threads + Sync + Send + Copy + AllocGlobal>(
     rt: &R,
     words: &[&str],
     input: &[u8],
@@ -344,12 +344,33 @@ fn rounds_are_answered_section_by_section(rt: HostRuntime) -> Result<(), Fail> {
 
 #[test]
 fn other_words_are_no_command(rt: HostRuntime) -> Result<(), Fail> {
-    let lists: [&[&str]; 5] = [
+    let lists: [&[&str]; 26] = [
         &[],
-        &["replay", "x"],
-        &["gen", "2", "0"],
-        &["Replay"],
         &[""],
+        &["replay", "x"],
+        &["Replay"],
+        &["gen"],
+        &["gen", "1"],
+        &["gen", "1", "2", "3"],
+        &["Gen", "1", "0"],
+        &["gen ", "1", "0"],
+        &["gen", "1000000", "0"],
+        &["gen", "4294967296", "0"],
+        &["gen", "1", "281474976710656"],
+        &["gen", "18446744073709551616", "0"],
+        &["gen", "-1", "0"],
+        &["gen", "+1", "0"],
+        &["gen", "1", "+0"],
+        &["gen", "x", "0"],
+        &["gen", "1x", "0"],
+        &["gen", "", "0"],
+        &["gen", "1", ""],
+        &["gen 1 0"],
+        &["sum", " 0", "1"],
+        &["sum", "1000000", "1"],
+        &["sum", "replay"],
+        &["relay", "4000", "1", "1", "1"],
+        &["stress", "1", "1"],
     ];
     for words in lists {
         let ran = run_over(&rt, words, ORDINARY, 4096, NOTHING_FAILS)?;
