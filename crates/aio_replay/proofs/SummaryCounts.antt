@@ -1,6 +1,6 @@
 -- What stands while the steps of a seed are run and counted.
-use Rattle.std.proofs.Common.{◌≡◌, ℕ, zero, suc, ◌+◌, ◌≤◌, ◌<◌, ◌^◌, Bool, cond, List, [], ◌∷◌, ◌++◌, length, refl, sym, ap, ◌∙◌, subst, append_assoc, append-nil, arith}
-use Rattle.std.specs.Prelude.{count_by, sum_by, if◌then◌else◌}
+use Rattle.std.proofs.Common.{◌≡◌, ℕ, zero, suc, ◌+◌, ◌≤◌, Bool, cond, List, [], ◌∷◌, ◌++◌, length, refl, sym, ap, ◌∙◌, subst, append_assoc, append-nil, arith}
+use Rattle.std.specs.Prelude.{sum_by, if◌then◌else◌}
 use Rattle.std.specs.List.{All}
 use Rattle.std.proofs.lemmas.List.{length-append}
 use Rattle.std.proofs.lemmas.List.Elements.{All-head, All-tail}
@@ -8,7 +8,7 @@ use Rattle.std.proofs.lemmas.List.Sums.{count_by-le-length, sum_by_push}
 use Rattle.aio_base.specs.declared.names.Waker.{Waker}
 use Rattle.aio_base.specs.declared.steps.Answer.{Answer}
 use Rattle.aio_base.specs.declared.steps.Step.{Step}
-use Rattle.aio_base.specs.Generated.{Generator, RunCounts, count_answers, counts_of, generated_by, generated_steps, first_generator, run_counts, steps_from, tells_pending, tells_ready, tells_round}
+use Rattle.aio_base.specs.Generated.{Generator, count_answers, counts_of, generated_by, generated_steps, first_generator, run_counts, steps_from, tells_pending, tells_ready, tells_round}
 use Rattle.aio_base.specs.Lines.{HasSpelling, IsInRange}
 use Rattle.aio_base.specs.Machine.{Outcome}
 use Rattle.aio_base.specs.Refusals.{is_refusal}
@@ -34,7 +34,8 @@ length-generated : (n seed : ℕ) → length (generated_steps n seed) ≡ n
 unfolding generated_steps
 length-generated n seed = length-steps_from n (first_generator seed)
 
-behind : (done : List Step) (s : Step) (rest : List Step) → All HasSpelling (done ++ s ∷ rest) → HasSpelling s
+-- the step behind some steps that all have spellings
+pub behind : (done : List Step) (s : Step) (rest : List Step) → All HasSpelling (done ++ s ∷ rest) → HasSpelling s
 behind [] s rest all = All-head HasSpelling s rest all
 behind (d ∷ done) s rest all = behind done s rest (All-tail HasSpelling d (done ++ s ∷ rest) all)
 

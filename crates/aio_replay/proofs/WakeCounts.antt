@@ -3,7 +3,6 @@ use Rattle.std.proofs.Common.{◌≡◌, ℕ, zero, suc, ◌+◌, ◌≤◌, ◌
 use Rattle.std.specs.Prelude.{flat_map, sum_by, option_to_list, nat_lt}
 use Rattle.std.proofs.lemmas.Bool.{eqb-true, eqb-false, eq-eqb, ne_eqb, ltb-true, ltb-false}
 use Rattle.std.proofs.lemmas.List.{length-append, length-map}
-use Rattle.std.proofs.lemmas.List.Concat.{length-flat_map}
 use Rattle.std.proofs.lemmas.List.Sums.{sum_by-cons}
 use Rattle.aio_base.specs.declared.names.Dir.{Dir}
 use Rattle.aio_base.specs.declared.names.Waker.{Waker}
@@ -12,9 +11,9 @@ use Rattle.aio_base.specs.declared.steps.Step.TheVariants as step
 use Rattle.aio_base.specs.Machine.{Outcome, is_timer}
 use Rattle.aio_base.specs.Runs.{PolledStep, scripted, wakes_of, world_of}
 use Rattle.aio_base.specs.Script.{outcomes_from}
-use Rattle.aio_base.specs.Storings.{Place, OfPoll, OfTimer, Once, Stored, Storings, storings_of, times, times_in, wakers}
+use Rattle.aio_base.specs.Storings.{Place, OfTimer, Once, Stored, Storings, storings_of, times, wakers}
 use Rattle.aio_base.specs.Succession.{StoringsFollow, own_storing, poll_places, stored_as, stores, waker_kept}
-use Rattle.aio_base.specs.World.{PollerAnswer, TimerEntry, World, opening, serial_of}
+use Rattle.aio_base.specs.World.{PollerAnswer, World, opening, serial_of}
 use Rattle.aio_base.proofs.Following.{run_follows}
 use Rattle.aio_base.proofs.OnceRuns.{run_once}
 use Rattle.aio_base.proofs.RunLemmas.{scripted_steps, scripted_wakes}

@@ -1,5 +1,5 @@
 -- Which command words name: one at most; and words that name none.
-use Rattle.std.proofs.Common.{◌≡◌, ◌≢◌, ℕ, ◌-◌, ◌^◌, ◌≤◌, List, [], ◌∷◌, Some, length, map, get_or, sym, ap, ◌∙◌, subst, refl, arith}
+use Rattle.std.proofs.Common.{◌≡◌, ◌≢◌, ℕ, ◌-◌, ◌^◌, List, [], ◌∷◌, length, map, get_or, sym, ap, ◌∙◌, refl, arith}
 use Rattle.std.specs.Prelude.{codes}
 use Rattle.aio_run.specs.declared.commands.Command.{Command}
 use Rattle.aio_run.specs.declared.commands.Command.TheVariants as command

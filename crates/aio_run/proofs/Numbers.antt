@@ -1,7 +1,7 @@
 -- The number that a word spells, as `parse` reads it.
-use Rattle.std.proofs.Common.{◌≡◌, ◌≢◌, ℕ, ◌^◌, ◌≤◌, ◌<◌, true, List, Some, Result, Ok, Err, length, get_or, sym, ap, ◌∙◌, subst, arith}
+use Rattle.std.proofs.Common.{◌≡◌, ◌≢◌, ℕ, ◌^◌, ◌<◌, List, Some, Result, Ok, Err, get_or, sym, ap, ◌∙◌, subst, arith}
 use Rattle.std.specs.Result.{OkIff}
-use Rattle.std.specs.Str.Parse.{IsNumeral, ParsesUnsigned, digits_value, without_leading_plus}
+use Rattle.std.specs.Str.Parse.{IsNumeral, ParsesUnsigned, digits_value}
 use Rattle.std.proofs.lemmas.Str.Parse.{without_leading_plus_none, digit_at}
 use Rattle.aio_base.specs.Lines.{numeral}
 use Rattle.aio_trace.proofs.LineNumbers.{numeral_digits, numeral_of_digits, numerals}

@@ -1,5 +1,5 @@
 -- What became of a text that is gathered and written a block at a time.
-use Rattle.std.specs.Prelude.{◌≡◌, ℕ, List, ◌++◌, Option, Result, Ok, Err}
+use Rattle.std.specs.Prelude.{ℕ, List, ◌++◌, Option, Result, Ok, Err}
 use Rattle.aio_bytes.specs.Sinks.{AppendsPart}
 use Rattle.aio_bytes.specs.declared.traits.SinkRefusal.{SinkRefusal}
 use Rattle.aio_replay.specs.Driving.{Sends}

@@ -1,5 +1,5 @@
-use Rattle.std.proofs.Common.{◌≡◌, List, length, sym, subst, ◌∙◌, ap, ◌+◌, ◌≤◌, arith}
-use Rattle.aio_replay.proofs.SummaryCounts.{CountsOne, next_in_range, sums_all, sums_few, sums_none, sums_one, sums_within, wakes_few}
+use Rattle.std.proofs.Common.{sym, ◌∙◌, ap, arith}
+use Rattle.aio_replay.proofs.SummaryCounts.{next_in_range, sums_all, sums_few, sums_none, sums_one, sums_within, wakes_few}
 use Rattle.aio_replay.proofs.summing.summary.Goals as goal
 use Rattle.aio_trace.specs.Generating.{steps_left}
 

@@ -1,4 +1,3 @@
-use Rattle.std.proofs.Common.{rules}
 use Rattle.aio_run.proofs.Naming.{no_seed, no_steps}
 use Rattle.aio_run.proofs.commands.named_with_steps.Goals as goal
 

@@ -1,4 +1,4 @@
-use Rattle.std.proofs.Common.{◌≡◌, ◌≢◌, ◌∙◌, get_or, sym, arith}
+use Rattle.std.proofs.Common.{◌∙◌, get_or, sym}
 use Rattle.std.proofs.lemmas.Bool.{eqb-false, eqb-true}
 use Rattle.aio_run.proofs.Numbers.{spells, spells_no_plus, spells_none}
 use Rattle.aio_run.proofs.commands.number_up_to.Goals as goal

@@ -1,4 +1,4 @@
-use Rattle.std.proofs.Common.{◌≡◌, sym, take}
+use Rattle.std.proofs.Common.{take}
 use Rattle.std.specs.Prelude.{codes}
 use Rattle.aio_base.specs.Trace.{trace_of}
 use Rattle.aio_base.proofs.BetweenSteps.{stands_after}
