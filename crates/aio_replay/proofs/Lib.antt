@@ -10,7 +10,9 @@ pub mod Refusing
 pub mod Scripted
 pub mod Starting
 pub mod StepLemmas
+pub mod SummaryCounts
 pub mod TimerCalls
 pub mod TimerChanges
 pub mod TimerNumbers
 pub mod TimerSteps
+pub mod WakeCounts

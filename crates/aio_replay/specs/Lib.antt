@@ -4,4 +4,5 @@ pub mod Language
 pub mod Replaying
 pub mod Replies
 pub mod Steps
+pub mod Summing
 pub mod Timers

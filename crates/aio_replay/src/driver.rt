@@ -13,14 +13,11 @@ use crate::ends::{End, Next, Stop};
 use crate::replayer::Replayer;
 use crate::version::Version;
 use aio_base::{Reason, Step, Waker};
-use aio_bytes::{LineReader, Sink, SinkRefusal, Source, write_all};
+use aio_bytes::{BLOCK, LineReader, Sink, Source, flush};
 use aio_react::Core;
 use aio_script::ScriptPoller;
 use aio_trace::write_reply;
 use std::alloc::{AllocError, Global};
-
-/// How many bytes of answers are gathered before they are written.
-const BLOCK: usize = 65_536;
 
 /// Room for the reply that fills a block: an answer and the wakes of a round.
 const REPLY_ROOM: usize = 32_768;
@@ -300,21 +297,6 @@ fn refuse<K: Sink>(text: &mut Vec<u8>, out: &mut K, line: u64, reason: Reason) -
     ensures refused { IfStopped result (StopsBy K.write_step out.new) }
 {
     close(text, out, End::Refused { line, reason })
-}
-
-/// Writes the text, and is left with none of it; where the output refuses some of it, the text stays.
-fn flush<K: Sink>(text: &mut Vec<u8>, out: &mut K) -> Result<(), SinkRefusal>
-    ensures written { Writes result (K.contents out.old) (K.contents out.new) text.old.items }
-    ensures empty { OnOk result (text.new.items ≡ []) }
-    ensures kept { OnErr result (text.new.items ≡ text.old.items) }
-    ensures refused { IfErr result (RefusedBy K.write_step out.new) }
-    ensures cause { Causes K.fault_count K.is_sure out.old out.new (is_failed result) }
-{
-    let result = write_all(out, text.as_slice());
-    if result.is_ok() {
-        text.clear();
-    }
-    result
 }
 
 /// Reads more of the input. Where the read may have to wait for it, the text is written before, and

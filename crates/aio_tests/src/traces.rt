@@ -23,18 +23,18 @@ const ORDINARY_ANSWERS: &[u8] = b"key 0\npending\nnoted\nround 1 events 1 ok\nwa
 /// What a call answered, and what it wrote.
 #[derive(Drop)]
 pub(crate) struct Ran {
-    pub status: Status,
-    pub out: MemSink,
-    pub err: MemSink,
+    pub(crate) status: Status,
+    pub(crate) out: MemSink,
+    pub(crate) err: MemSink,
 }
 
 /// The numbers of the calls that fail, from 1: the reads of the input, and the writes of the output
 /// and of what is told to the user.
 #[derive(Clone, Copy)]
 pub(crate) struct Failing {
-    reads: &'static [u64],
-    writes: &'static [u64],
-    tells: &'static [u64],
+    pub(crate) reads: &'static [u64],
+    pub(crate) writes: &'static [u64],
+    pub(crate) tells: &'static [u64],
 }
 
 pub(crate) const NOTHING_FAILS: Failing = Failing {
@@ -266,12 +266,33 @@ fn rounds_are_answered_section_by_section(rt: HostRuntime) -> Result<(), Fail> {
 
 #[test]
 fn other_words_are_no_command(rt: HostRuntime) -> Result<(), Fail> {
-    let lists: [&[&str]; 5] = [
+    let lists: [&[&str]; 26] = [
         &[],
-        &["replay", "x"],
-        &["gen", "2", "0"],
-        &["Replay"],
         &[""],
+        &["replay", "x"],
+        &["Replay"],
+        &["gen"],
+        &["gen", "1"],
+        &["gen", "1", "2", "3"],
+        &["Gen", "1", "0"],
+        &["gen ", "1", "0"],
+        &["gen", "1000000", "0"],
+        &["gen", "4294967296", "0"],
+        &["gen", "1", "281474976710656"],
+        &["gen", "18446744073709551616", "0"],
+        &["gen", "-1", "0"],
+        &["gen", "+1", "0"],
+        &["gen", "1", "+0"],
+        &["gen", "x", "0"],
+        &["gen", "1x", "0"],
+        &["gen", "", "0"],
+        &["gen", "1", ""],
+        &["gen 1 0"],
+        &["sum", " 0", "1"],
+        &["sum", "1000000", "1"],
+        &["sum", "replay"],
+        &["relay", "4000", "1", "1", "1"],
+        &["stress", "1", "1"],
     ];
     for words in lists {
         let ran = run_over(&rt, words, ORDINARY, 4096, NOTHING_FAILS)?;
