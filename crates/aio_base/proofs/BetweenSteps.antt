@@ -1,6 +1,5 @@
 -- What stands between two steps of a run, from the laws over all runs and of the passes.
 use Rattle.std.proofs.Common.{◌≡◌, ◌<◌, true, false, List, [], ◌∷◌, ◌++◌, refl, sym, ap, ◌∙◌, subst}
-use Rattle.std.proofs.lemmas.Bool.{cond-true}
 use Rattle.std.proofs.lemmas.List.Elements.{All-same}
 use Rattle.aio_base.specs.declared.steps.Step.{Step}
 use Rattle.aio_base.specs.declared.steps.Step.TheVariants as step
@@ -11,23 +10,35 @@ use Rattle.aio_base.specs.Succession.{StoringsFollow}
 use Rattle.aio_base.specs.Clock.{ClockIsSet}
 use Rattle.aio_base.specs.Counts.{CountsRise}
 use Rattle.aio_base.specs.Handling.{HandledIsNoted}
+use Rattle.aio_base.specs.Marks.{MarksFollow}
 use Rattle.aio_base.specs.Others.{OthersStand}
+use Rattle.aio_base.specs.Sources.{SourcesFollow}
+use Rattle.aio_base.specs.Own.{KeepsItsOwn}
+use Rattle.aio_base.specs.Refusals.{RefusalLeaves}
 use Rattle.aio_base.specs.RoundCounts.{RoundsFollow}
+use Rattle.aio_base.specs.RoundHands.{HandFollows}
 use Rattle.aio_base.specs.Timers.{after_pass}
 use Rattle.aio_base.specs.Arming.{ArmsAsTold}
-use Rattle.aio_base.specs.Between.{makes_pass, is_of_timer, registrations_after, StandsBetween, StandsAfter}
+use Rattle.aio_base.specs.Between.{MakesPass, is_of_timer, RegistrationsFollow, StandsBetween, StandsAfter}
 use Rattle.aio_base.proofs.Awaiting.{run_waits_for_timers}
 use Rattle.aio_base.proofs.Counting.{counts_rise}
 use Rattle.aio_base.proofs.Rearming.{step_arms_as_told}
 use Rattle.aio_base.proofs.CoverRuns.{run_covers, run_waits_for_live}
 use Rattle.aio_base.proofs.FirstPolls.{run_polls_in_order}
 use Rattle.aio_base.proofs.Following.{run_follows}
+use Rattle.aio_base.proofs.Marking.{marks_follow}
 use Rattle.aio_base.proofs.Noting.{handled_is_noted}
 use Rattle.aio_base.proofs.OnceRuns.{run_once}
+use Rattle.aio_base.proofs.Owning.{keeps_its_own}
 use Rattle.aio_base.proofs.PassLemmas.{pass_leaves}
-use Rattle.aio_base.proofs.Registering.{step_registers}
+use Rattle.aio_base.proofs.Readying.{ready_is_told}
+use Rattle.aio_base.proofs.RefusalLemmas.{refusal_leaves}
+use Rattle.aio_base.proofs.Registering.{step_leaves_registered}
+use Rattle.aio_base.proofs.RoundHands.{hand_follows}
 use Rattle.aio_base.proofs.RoundSteps.{rounds_follow, clock_is_set}
+use Rattle.aio_base.proofs.Sourcing.{sources_follow}
 use Rattle.aio_base.proofs.Untouched.{others_stand}
+use Rattle.aio_base.proofs.WaitedOut.{makes_pass, pass_is_made}
 use Rattle.aio_base.proofs.Singles.{run_has_no_doubles, run_registers_timers}
 
 -- the world after one step more
@@ -36,10 +47,10 @@ one_more w [] last = refl
 one_more w (first ∷ before) last = one_more (outcome_of w first).world before last
 
 last_registers : (run before : List PolledStep) (last : PolledStep) → run ≡ before ++ last ∷ [] → is_of_timer last.step ≡ false
-    → (world_of opening run).registrations ≡ registrations_after (world_of opening before) last.step
+    → RegistrationsFollow (world_of opening before) last.step (world_of opening run)
 last_registers run before last is other =
-    ap (λ (w : World). w.registrations) (ap (world_of opening) is ∙ one_more opening before last)
-    ∙ step_registers (world_of opening before) last.step last.answers other
+    let w = world_of opening before in
+    subst (RegistrationsFollow w last.step) (sym (ap (world_of opening) is ∙ one_more opening before last)) (step_leaves_registered w last.step last.answers other)
 
 -- a step that makes a pass is not of a timer
 pass_is_other : (w : World) (s : Step) → makes_pass w s ≡ true → is_of_timer s ≡ false
@@ -66,12 +77,11 @@ pass_is_other w step.Handle passes = refl
 pass_is_other w step.Finish passes = refl
 pass_is_other w step.React passes = refl
 
-last_passes : (run before : List PolledStep) (last : PolledStep) → run ≡ before ++ last ∷ [] → makes_pass (world_of opening before) last.step ≡ true
+last_passes : (run before : List PolledStep) (last : PolledStep) → run ≡ before ++ last ∷ [] → MakesPass (world_of opening before) last.step
     → (world_of opening run).registrations ≡ after_pass (world_of opening before).now (world_of opening before).registrations
 last_passes run before last is passes =
     let w = world_of opening before in
-    last_registers run before last is (pass_is_other w last.step passes)
-    ∙ cond-true (makes_pass w last.step) (after_pass w.now w.registrations) w.registrations passes
+    (last_registers run before last is (pass_is_other w last.step (pass_is_made w last.step passes))).pass passes
 
 pub stands_between : (run : List PolledStep) → StandsBetween run
 stands_between run = record {
@@ -95,7 +105,10 @@ stands_between run = record {
       subst (ArmsAsTold w last.step last.answers (outcome_of w last).answer) (sym (ap (world_of opening) is ∙ one_more opening before last)) (step_arms_as_told w last.step last.answers);
   rounds = λ before last is.
       let w = world_of opening before in
-      subst (RoundsFollow w last.step (outcome_of w last).answer) (sym (ap (world_of opening) is ∙ one_more opening before last)) (rounds_follow w last.step last.answers);
+      subst (RoundsFollow w last.step last.answers (outcome_of w last).answer) (sym (ap (world_of opening) is ∙ one_more opening before last)) (rounds_follow w last.step last.answers);
+  hand = λ before last is.
+      let w = world_of opening before in
+      subst (HandFollows w last.step last.answers (outcome_of w last).answer) (sym (ap (world_of opening) is ∙ one_more opening before last)) (hand_follows w last.step last.answers);
   clock = λ before last is.
       let w = world_of opening before in
       subst (ClockIsSet w last.step (outcome_of w last).answer) (sym (ap (world_of opening) is ∙ one_more opening before last)) (clock_is_set w last.step last.answers);
@@ -104,7 +117,20 @@ stands_between run = record {
       subst (HandledIsNoted w last.step last.answers) (sym (ap (world_of opening) is ∙ one_more opening before last)) (handled_is_noted w last.step last.answers);
   alone = λ before last is.
       let w = world_of opening before in
-      subst (OthersStand w last.step) (sym (ap (world_of opening) is ∙ one_more opening before last)) (others_stand w last.step last.answers);
+      subst (OthersStand w last.step last.answers) (sym (ap (world_of opening) is ∙ one_more opening before last)) (others_stand w last.step last.answers);
+  marked = λ before last is.
+      let w = world_of opening before in
+      subst (MarksFollow w last.step (outcome_of w last).answer) (sym (ap (world_of opening) is ∙ one_more opening before last)) (marks_follow w last.step last.answers);
+  sources = λ before last is.
+      let w = world_of opening before in
+      subst (SourcesFollow w last.step (outcome_of w last).answer) (sym (ap (world_of opening) is ∙ one_more opening before last)) (sources_follow w last.step last.answers);
+  ready = λ before last is. ready_is_told (world_of opening before) last.step last.answers;
+  own = λ before last is.
+      let w = world_of opening before in
+      subst (KeepsItsOwn w last.step (outcome_of w last).answer) (sym (ap (world_of opening) is ∙ one_more opening before last)) (keeps_its_own w last.step last.answers);
+  refused = λ before last is.
+      let w = world_of opening before in
+      subst (RefusalLeaves w (outcome_of w last).answer (outcome_of w last).wakes) (sym (ap (world_of opening) is ∙ one_more opening before last)) (refusal_leaves w last.step last.answers);
 }
 
 pub stands_after : (steps : List Step) → StandsAfter steps

@@ -1,21 +1,15 @@
 -- Steps of wrong machines, each refused by a law of a step.
-use Rattle.std.proofs.Common.{◌≡◌, ℕ, ◌+◌, ◌<◌, true, false, List, [], ◌∷◌, Option, None, Some, refl, ap, ◌∙◌, sym, subst, ⊎_elim, ◌⊎◌, arith}
-use Rattle.std.specs.List.{Contains}
-use Rattle.aio_base.specs.declared.names.Waker.{Waker}
-use Rattle.aio_base.specs.declared.names.Dir.{Dir}
-use Rattle.aio_base.specs.declared.names.Dir.TheVariants.{Read, Write}
+use Rattle.std.proofs.Common.{◌≡◌, ℕ, ◌<◌, List, [], ◌∷◌, None, Some, refl, ap, ◌∙◌, sym, arith}
+use Rattle.aio_base.specs.declared.names.Dir.TheVariants.{Read}
 use Rattle.aio_base.specs.declared.names.Event.{Event}
 use Rattle.aio_base.specs.declared.steps.Step.TheVariants as step
 use Rattle.aio_base.specs.declared.steps.Answer.{Answer}
 use Rattle.aio_base.specs.declared.steps.Answer.TheVariants as answer
 use Rattle.aio_base.specs.declared.outcomes.EndWord.TheVariants.{Clean}
-use Rattle.aio_base.specs.World.{PollerAnswer, Gives, LiveSource, ListenerEntry, TimerEntry, HandledDirection, RoundState, World, opening, is_fresh}
+use Rattle.aio_base.specs.World.{PollerAnswer, ListenerEntry, TimerEntry, RoundState, World, opening}
 use Rattle.aio_base.specs.RoundCounts.{RoundName, RoundsFollow}
 use Rattle.aio_base.specs.Clock.{ClockIsSet}
-use Rattle.aio_base.specs.Handling.{HandledIsNoted}
 use Rattle.aio_base.specs.Others.{OthersStand}
-use Rattle.aio_base.specs.Own.{StoodDated, KeepsItsOwn}
-use Rattle.aio_base.proofs.Membership.{first_is_in, none_is_in, among_cases}
 
 -- a round of this number that began at this position, with these events in hand
 abbrev round : ℕ → ℕ → List Event → RoundState
@@ -24,37 +18,34 @@ round number begin hand = record { number = number; begin = begin; limit = None;
 named : (a b : RoundName) → Some a ≡ Some b → (a.number ≡ b.number) × (a.begin ≡ b.begin)
 named a b same = let one : a ≡ b = cc in (ap (λ (n : RoundName). n.number) one, ap (λ (n : RoundName). n.begin) one)
 
-some_number : (m n : ℕ) → Some m ≡ Some n → m ≡ n
-some_number m n same = cc
-
 apart : (m n : ℕ) → m < n → m ≡ n → ⊥
 apart m n less same = absurd (omega arith)
 
 -- ## Rounds
 
 -- a round begins under the number of an earlier one
-pub a_round_number_given_again_is_refused : (told : Answer)
-    → RoundsFollow (record opening { rounds = 3 }) (step.Begin None) told
+pub a_round_number_given_again_is_refused : (answers : List PollerAnswer) (told : Answer)
+    → RoundsFollow (record opening { rounds = 3 }) (step.Begin None) answers told
     (record opening { pos = 1; rounds = 4; begun = 0 ∷ []; round = Some (round 1 0 []) }) → ⊥
-a_round_number_given_again_is_refused told f = apart 1 4 (omega arith) (named _ _ f.running).0
+a_round_number_given_again_is_refused answers told f = apart 1 4 (omega arith) (named _ _ f.running).0
 
 -- a round begins and is not counted
-pub a_round_that_is_not_counted_is_refused : (told : Answer)
-    → RoundsFollow (record opening { rounds = 3 }) (step.Begin None) told
+pub a_round_that_is_not_counted_is_refused : (answers : List PollerAnswer) (told : Answer)
+    → RoundsFollow (record opening { rounds = 3 }) (step.Begin None) answers told
     (record opening { pos = 1; rounds = 3; begun = 0 ∷ []; round = Some (round 4 0 []) }) → ⊥
-a_round_that_is_not_counted_is_refused told f = apart 3 4 (omega arith) f.rounds
+a_round_that_is_not_counted_is_refused answers told f = apart 3 4 (omega arith) f.rounds
 
 -- a round begins at another position than its step's
-pub a_round_that_begins_elsewhere_is_refused : (told : Answer)
-    → RoundsFollow (record opening { pos = 5 }) (step.Begin None) told
+pub a_round_that_begins_elsewhere_is_refused : (answers : List PollerAnswer) (told : Answer)
+    → RoundsFollow (record opening { pos = 5 }) (step.Begin None) answers told
     (record opening { pos = 6; rounds = 1; begun = 5 ∷ []; round = Some (round 1 2 []) }) → ⊥
-a_round_that_begins_elsewhere_is_refused told f = apart 2 5 (omega arith) (named _ _ f.running).1
+a_round_that_begins_elsewhere_is_refused answers told f = apart 2 5 (omega arith) (named _ _ f.running).1
 
 -- a wait changes the number of its round
-pub a_round_that_changes_its_number_is_refused : (told : Answer)
-    → RoundsFollow (record opening { rounds = 2; round = Some (round 2 0 []) }) step.Wait told
+pub a_round_that_changes_its_number_is_refused : (answers : List PollerAnswer) (told : Answer)
+    → RoundsFollow (record opening { rounds = 2; round = Some (round 2 0 []) }) step.Wait answers told
     (record opening { pos = 1; rounds = 2; round = Some (round 1 0 []) }) → ⊥
-a_round_that_changes_its_number_is_refused told f = apart 1 2 (omega arith) (named _ _ f.running).0
+a_round_that_changes_its_number_is_refused answers told f = apart 1 2 (omega arith) (named _ _ f.running).0
 
 -- ## The clock
 
@@ -66,10 +57,7 @@ a_clock_moved_by_another_step_is_refused told c = let same : 5 ≡ 0 = c.now in 
 pub a_now_that_sets_nothing_is_refused : ClockIsSet opening (step.Now 5) (answer.At 5) (record opening { pos = 1 }) → ⊥
 a_now_that_sets_nothing_is_refused c = let same : 0 ≡ 5 = c.now in absurd (omega arith)
 
--- ## Events
-
-abbrev readable : Event
-readable = record { key = record { 0 = 0 }; on = record { read = true; write = false } }
+-- ## Sources, listeners and timers of others
 
 -- a live source whose reader waits since position 1
 abbrev waiting : World
@@ -81,44 +69,18 @@ waiting = record opening {
   marks = record { serial = 1; dir = Read; position = 1 } ∷ [];
 }
 
-nothing_is_fresh : (serial : ℕ) (dir : Dir) (position : ℕ) → is_fresh [] serial dir position ≡ true → ⊥
-nothing_is_fresh serial dir position fresh = cc
-
--- a handled event takes its waiter, and is not noted: the task that it wakes stays pending at its next poll
-pub an_event_that_is_not_noted_is_refused : (answers : List PollerAnswer)
-    → HandledIsNoted (record waiting { round = Some (round 1 2 (readable ∷ [])) }) step.Handle answers
-    (record waiting { pos = 5; poll_waiters = []; round = Some (record (round 1 2 []) { taken = record { 0 = 7 } ∷ [] }) }) → ⊥
-an_event_that_is_not_noted_is_refused answers h =
-    nothing_is_fresh 1 Read 1 (h.handle (round 1 2 (readable ∷ [])) readable [] refl refl refl 1 Read 1 refl refl (let before : 1 < 2 = omega arith in before))
-
--- so does an event of a whole round
-pub an_event_of_a_whole_round_that_is_not_noted_is_refused :
-    HandledIsNoted waiting step.React (Gives (readable ∷ []) ∷ []) (record waiting { pos = 5; poll_waiters = []; rounds = 1; begun = 4 ∷ [] }) → ⊥
-an_event_of_a_whole_round_that_is_not_noted_is_refused h =
-    nothing_is_fresh 1 Read 1 (h.react (readable ∷ []) [] readable refl refl refl (first_is_in readable []) 1 Read 1 refl refl (let before : 1 < 4 = omega arith in before))
-
-not_empty : (noted : HandledDirection) → noted ∷ [] ≡ [] → ⊥
-not_empty noted same = cc
-
--- a wait notes an event that no step has handled
-pub an_event_noted_by_a_wait_is_refused : (answers : List PollerAnswer)
-    → HandledIsNoted waiting step.Wait answers (record waiting { pos = 5; handled = record { serial = 1; dir = Read; begin = 2 } ∷ [] }) → ⊥
-an_event_noted_by_a_wait_is_refused answers h = not_empty (record { serial = 1; dir = Read; begin = 2 }) (h.others refl)
-
--- ## Sources, listeners and timers of others
-
 -- a `now` loses a source
-pub a_source_lost_by_another_step_is_refused :
-    OthersStand waiting (step.Now 3) (record waiting { pos = 5; now = 3; live = [] }) → ⊥
-a_source_lost_by_another_step_is_refused o = let same : [] ≡ record { key = 0; serial = 1 } ∷ [] = o.sources in cc
+pub a_source_lost_by_another_step_is_refused : (answers : List PollerAnswer)
+    → OthersStand waiting (step.Now 3) answers (record waiting { pos = 5; now = 3; live = [] }) → ⊥
+a_source_lost_by_another_step_is_refused answers o = let same : [] ≡ record { key = 0; serial = 1 } ∷ [] = o.sources in cc
 
 abbrev listener : ℕ → ℕ → ListenerEntry
 listener number position = record { number = number; serial = 1; dir = Read; position = Some position; waker = None }
 
 -- a drop of a listener takes another one with it
-pub a_listener_lost_with_another_is_refused :
-    OthersStand (record waiting { listeners = listener 1 2 ∷ listener 2 3 ∷ [] }) (step.DropEar 1) (record waiting { pos = 5; listeners = [] }) → ⊥
-a_listener_lost_with_another_is_refused o = let same : [] ≡ listener 2 3 ∷ [] = o.listeners in cc
+pub a_listener_lost_with_another_is_refused : (answers : List PollerAnswer)
+    → OthersStand (record waiting { listeners = listener 1 2 ∷ listener 2 3 ∷ [] }) (step.DropEar 1) answers (record waiting { pos = 5; listeners = [] }) → ⊥
+a_listener_lost_with_another_is_refused answers o = let same : [] ≡ listener 2 3 ∷ [] = o.listeners in cc
 
 abbrev timer : ℕ → ℕ → TimerEntry
 timer number deadline = record { number = number; deadline = Some deadline; period = None; id = None; kept = None }
@@ -130,22 +92,8 @@ dated a b m n same first second =
     cc
 
 -- a set changes the deadline of another timer
-pub a_deadline_of_another_timer_is_refused :
-    OthersStand (record opening { timers = timer 1 5 ∷ timer 2 6 ∷ []; timers_made = 2 }) (step.SetAt 1 9)
+pub a_deadline_of_another_timer_is_refused : (answers : List PollerAnswer)
+    → OthersStand (record opening { timers = timer 1 5 ∷ timer 2 6 ∷ []; timers_made = 2 }) (step.SetAt 1 9) answers
     (record opening { pos = 1; timers = timer 1 9 ∷ timer 2 9 ∷ []; timers_made = 2 }) → ⊥
-a_deadline_of_another_timer_is_refused o =
+a_deadline_of_another_timer_is_refused answers o =
     apart 6 9 (omega arith) (sym (dated (timer 2 9) (timer 2 6) 9 6 o.timers refl refl))
-
--- a timer that is polled and told pending waits for another deadline then
-pub a_deadline_moved_by_a_pending_tick_is_refused :
-    KeepsItsOwn (record opening { timers = timer 1 5 ∷ []; timers_made = 1 }) (step.Tick 1 (record { 0 = 7 })) answer.Pending
-    (record opening { pos = 1; timers = timer 1 9 ∷ []; timers_made = 1 }) → ⊥
-a_deadline_moved_by_a_pending_tick_is_refused k =
-    ⊎_elim
-    (λ (wrong : false ≡ true). cc)
-    (λ (stood : StoodDated (record opening { timers = timer 1 5 ∷ []; timers_made = 1 }) (timer 1 9)).
-    ⊎_elim
-    (λ (same : timer 1 5 ≡ stood.old). apart 5 9 (omega arith) (some_number 5 9 (ap (λ (t : TimerEntry). t.deadline) same ∙ stood.deadline)))
-    (λ (none : Contains [] stood.old). none_is_in stood.old none)
-    (among_cases (timer 1 5) [] stood.old stood.among))
-    (k.timers (timer 1 9) (first_is_in (timer 1 9) []))

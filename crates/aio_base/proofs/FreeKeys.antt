@@ -67,3 +67,18 @@ free_from live (s ∷ fuel) key below enough =
 
 pub free_key-free : (live : List LiveSource) → is_live live (free_key live) ≡ false
 free_key-free live = free_from live live 0 (λ k below. absurd (omega arith)) (omega arith)
+
+-- and it is the least: every lesser key is live
+least_step : (live : List LiveSource) (key later : ℕ) (here : Bool) → is_live live key ≡ here → AllLive live key
+    → (here ≡ true → AllLive live later) → AllLive live (cond here later key)
+least_step live key later true e below rest = rest refl
+least_step live key later false e below rest = below
+
+least_from : (live fuel : List LiveSource) (key : ℕ) → AllLive live key → AllLive live (free_key_from key live fuel)
+least_from live [] key below = below
+least_from live (s ∷ fuel) key below =
+    least_step live key (free_key_from (key + 1) live fuel) (is_live live key) refl below
+    (λ here. least_from live fuel (key + 1) (more_live live key here below))
+
+pub free_key-least : (live : List LiveSource) (key : ℕ) → key < free_key live → is_live live key ≡ true
+free_key-least live = least_from live live 0 (λ k below. absurd (omega arith))

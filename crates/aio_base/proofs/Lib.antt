@@ -1,11 +1,13 @@
 pub mod Apart
 pub mod Awaiting
 pub mod Arming
+pub mod Asides
 pub mod BetweenSteps
 pub mod BookChanges
 pub mod BookLemmas
 pub mod Clearing
 pub mod Counting
+pub mod Breaking
 pub mod CoverReact
 pub mod CoverRounds
 pub mod CoverRuns
@@ -15,11 +17,16 @@ pub mod CoverWaiters
 pub mod FirstPolls
 pub mod Frames
 pub mod FiringOrder
+mod FalseAnswers
 mod FalseHistories
+mod FalseNotes
+mod FalseRounds
 mod FalseSteps
+mod FalseTimers
 pub mod Following
 pub mod FreeKeys
 pub mod FreshnessLemmas
+mod GivingUp
 pub mod HeldEvents
 pub mod HeldListeners
 pub mod HeldPolls
@@ -32,6 +39,7 @@ pub mod Kept
 pub mod Leaving
 pub mod LockSeats
 pub mod LockSteps
+pub mod Marking
 pub mod Membership
 pub mod NotesUnread
 pub mod Noting
@@ -39,12 +47,16 @@ pub mod OnceRuns
 pub mod Owning
 pub mod PassLemmas
 pub mod Places
+pub mod Readying
 pub mod Rearming
 pub mod RefusalLemmas
 mod RefusedLocks
 mod RefusedWorlds
 pub mod Registering
 pub mod Rewaiting
+pub mod RoundAnswers
+pub mod RoundFaults
+pub mod RoundHands
 pub mod RoundLemmas
 pub mod RoundSteps
 mod Rows
@@ -53,13 +65,15 @@ mod RunRows
 pub mod SeatLists
 pub mod Searching
 pub mod Singles
-pub mod Spellings
+pub mod Shapes
+pub mod Sourcing
 pub mod Standing
 pub mod StoringCounts
 pub mod Taking
 mod TimerRows
 pub mod UnmovedLemmas
 pub mod Untouched
+pub mod WaitedOut
 pub mod WaiterLemmas
 pub mod WordBits
 pub mod WordCounts
@@ -67,4 +81,3 @@ pub mod WordFrames
 pub mod WordMoves
 mod WordRows
 pub mod WordSteps
-pub mod Words

@@ -1,5 +1,6 @@
 -- Which elements a list has that was filtered, mapped, pushed to or searched.
-use Rattle.std.proofs.Common.{◌≡◌, ◌⊎◌, Bool, true, false, cond, List, [], ◌∷◌, map, Some, refl, ap, ◌∙◌, subst, inl, inr, ⊎_elim, arith}
+use Rattle.std.proofs.Common.{◌≡◌, ◌⊎◌, Bool, true, false, cond, List, [], ◌∷◌, map, Some, refl, ap, ◌∙◌, sym, subst, inl, inr, ⊎_elim, arith}
+use Rattle.std.specs.Prelude.{flat_map}
 use Rattle.std.specs.List.{All, Contains, filter, find, list_any}
 use Rattle.std.proofs.lemmas.List.Elements.{All-contains, All-contains_itself, All-filter, All-map, All-weaker, Contains-append_cases, Contains-append_left, Contains-append_right, Contains-push, Contains-push_cases, filter_passes}
 use Rattle.std.proofs.lemmas.List.Folds.{Any-from_list_any, list_any-from_Any}
@@ -64,6 +65,15 @@ image_is_in f (x ∷ xs) y among =
     (λ (same : x ≡ y). subst (λ z. Contains (map f (x ∷ xs)) (f z)) same (first_is_in (f x) (map f xs)))
     (λ (later : Contains xs y). later_is_in (f x) (map f xs) (f y) (image_is_in f xs y later))
     (among_cases x xs y among)
+
+-- what one element gives is in what all give
+pub piece_is_in : {X Y : Type 0} (f : X → List Y) (xs : List X) (x : X) (y : Y) → Contains xs x → Contains (f x) y → Contains (flat_map f xs) y
+piece_is_in f [] x y among within = none_is_in x among
+piece_is_in f (first ∷ xs) x y among within =
+    ⊎_elim
+    (λ (same : first ≡ x). Contains-append_left (f first) (flat_map f xs) y (subst (λ z. Contains (f z) y) (sym same) within))
+    (λ (later : Contains xs x). Contains-append_right (f first) (flat_map f xs) y (piece_is_in f xs x y later within))
+    (among_cases first xs x among)
 
 -- ## Searches
 

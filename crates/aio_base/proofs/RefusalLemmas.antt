@@ -11,7 +11,7 @@ use Rattle.aio_base.specs.declared.steps.Step.TheVariants as step
 use Rattle.aio_base.specs.declared.steps.Answer.{Answer}
 use Rattle.aio_base.specs.World.{PollerAnswer, Succeeds, Gives, IsInterrupted, Fails, ListenerEntry, TimerEntry, RoundState, World, serial_of, directions_of, poll_waiter, mark_of, is_empty_list, wanted}
 use Rattle.aio_base.specs.Machine.{Outcome, quiet, next_answer, later_answers, fails, world_taken, wakers_taken, pending, source_limit, is_fresh_since, is_waker, add, del_source, poll_source, new_listener, step_listener, drop_listener, tick_deadline, tick_timer, set_timer, end_timer, set_clock, begin_round, wait_answered, wait_in, rearmed, handle_source, handle_first, handle_in, finish_in, react, case_of, moved_on, step_result}
-use Rattle.aio_base.specs.Refusals.{is_refusal, only_counted}
+use Rattle.aio_base.specs.Refusals.{is_refusal, only_counted, RefusalLeaves}
 
 -- an answer that is no refusal
 record IsDone (a : Answer) : Type 0 where
@@ -185,3 +185,10 @@ pub refused_only_counts : (w : World) (s : Step) (answers : List PollerAnswer) �
     → step_result w s answers ≡ only_counted (step_result w s answers).answer w answers
 unfolding step_result
 refused_only_counts w s answers is_refused = ap moved_on ((case_refuses w s answers).unchanged is_refused)
+
+pub refusal_leaves : (w : World) (s : Step) (answers : List PollerAnswer)
+    → RefusalLeaves w (step_result w s answers).answer (step_result w s answers).wakes (step_result w s answers).world
+refusal_leaves w s answers = record {
+  world = λ is_refused. ap (λ (o : Outcome). o.world) (refused_only_counts w s answers is_refused);
+  woken = λ is_refused. ap (λ (o : Outcome). o.wakes) (refused_only_counts w s answers is_refused);
+}

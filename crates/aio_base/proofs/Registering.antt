@@ -10,7 +10,8 @@ use Rattle.aio_base.specs.declared.steps.Step.TheVariants as step
 use Rattle.aio_base.specs.World.{PollerAnswer, ListenerEntry, Registration, RoundState, World, serial_of, key_of, poll_waiter, mark_of, is_empty_list, is_idle, is_broken}
 use Rattle.aio_base.specs.Machine.{Outcome, fails, next_answer, pending, source_limit, add, del_source, is_fresh_since, is_waker, with_waiter, poll_source, new_listener, is_listener, with_listening, step_listener, drop_listener, gave_none, is_zero, ends_with_pass, finish_in, react, step_result}
 use Rattle.aio_base.specs.Timers.{after_pass}
-use Rattle.aio_base.specs.Between.{is_of_timer, makes_pass}
+use Rattle.aio_base.specs.Between.{is_of_timer, RegistrationsFollow}
+use Rattle.aio_base.proofs.WaitedOut.{makes_pass, pass_is_made, made_pass_is}
 use Rattle.aio_base.proofs.PassLemmas.{Timed, timed, Keeps, either_keeps, either_world, arm_keeps, wait_keeps, handle_keeps, react_passes}
 
 -- the outcome has these registrations
@@ -120,3 +121,15 @@ step_registers w step.Wait answers other = ap (λ (t : Timed). t.registrations) 
 step_registers w step.Handle answers other = ap (λ (t : Timed). t.registrations) (handle_keeps w w.round answers)
 step_registers w step.Finish answers other = finish_has w w.round answers
 step_registers w step.React answers other = react_has w answers
+
+pub step_leaves_registered : (w : World) (s : Step) (answers : List PollerAnswer) → is_of_timer s ≡ false → RegistrationsFollow w s (step_result w s answers).world
+step_leaves_registered w s answers other =
+    let leaves = step_registers w s answers other in
+    record {
+      pass = λ passes. leaves ∙ cond-true (makes_pass w s) (after_pass w.now w.registrations) w.registrations (pass_is_made w s passes);
+      none = λ quiet.
+          ⊎_elim
+          (λ (passes : makes_pass w s ≡ true). absurd (quiet (made_pass_is w s passes)))
+          (λ (none : makes_pass w s ≡ false). leaves ∙ cond-false (makes_pass w s) (after_pass w.now w.registrations) w.registrations none)
+          (cases_Bool (makes_pass w s));
+    }

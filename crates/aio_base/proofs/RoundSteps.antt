@@ -8,10 +8,11 @@ use Rattle.aio_base.specs.declared.steps.Answer.{Answer}
 use Rattle.aio_base.specs.declared.steps.Answer.TheVariants as answer
 use Rattle.aio_base.specs.World.{PollerAnswer, RoundState, World, serial_of, is_empty_list}
 use Rattle.aio_base.specs.Machine.{Outcome, is_listener, is_timer, set_clock, begin_round, wait_round, finish_in, finish_round, handle_each, hand_of, react, case_of, step_result}
-use Rattle.aio_base.specs.RoundCounts.{RoundName, name_of, begins_round, limit_told, running_after, TellsItsNumber, RoundsFollow}
+use Rattle.aio_base.specs.RoundCounts.{RoundName, name_of, begins_round, limit_told, running_after, RoundsFollow}
 use Rattle.aio_base.specs.Clock.{clock_after, TellsTheMoment, ClockIsSet}
+use Rattle.aio_base.proofs.RoundAnswers.{rounds_told}
 use Rattle.aio_base.proofs.RoundLemmas.{in_hand_of, round_begun, round_waited, all_handled, hand_is}
-use Rattle.aio_base.proofs.Frames.{Frame, frame, but_live, but_listeners, but_timers, but_handled, either, add_keeps, del_keeps, poll_keeps, new_keeps, step_keeps, drop_keeps, tick_keeps, set_keeps, end_keeps, wait_keeps, handle_keeps, each_keeps}
+use Rattle.aio_base.proofs.Frames.{Frame, frame, either, add_keeps, del_keeps, poll_keeps, new_keeps, step_keeps, drop_keeps, tick_keeps, set_keeps, end_keeps, wait_keeps, handle_keeps, each_keeps}
 
 -- the clock's moment and the rounds of a frame
 record Count : Type 0 where
@@ -34,7 +35,6 @@ expected w s told = record {
 
 record Counts (w : World) (s : Step) (o : Outcome) : Type 0 where
   count : count (frame o.world) ≡ expected w s o.answer
-  number : TellsItsNumber w s o.answer
   moment : TellsTheMoment w s o.answer
 
 -- an outcome by a test, with an expectation that speaks of the test
@@ -46,7 +46,7 @@ clock_counts : (w : World) (moment : ℕ) (answers : List PollerAnswer) → Coun
 clock_counts w moment answers =
     let C : Bool → Outcome → Type 0 = λ test o. (count (frame o.world) ≡ expected w (step.Now moment) o.answer) × (o.answer ≡ cond test (answer.Back w.now) (answer.At moment)) in
     let both = by_test C (nat_lt moment w.now) _ _ (λ back. (refl, refl)) (λ on. (refl, refl)) in
-    record { count = both.0; number = tt; moment = both.1 }
+    record { count = both.0; moment = both.1 }
 
 -- ## Rounds
 
@@ -61,9 +61,8 @@ begun_count w running told = record {
 
 begin_counts : (w : World) (given : Option ℕ) (answers : List PollerAnswer) → Counts w (step.Begin given) (begin_round w given answers)
 begin_counts w given answers =
-    let C : Bool → Outcome → Type 0 = λ running o. (count (frame o.world) ≡ begun_count w running o.answer) × TellsItsNumber w (step.Begin given) o.answer in
-    let both = by_test C (is_some w.round) _ _ (λ runs. (refl, tt)) (λ none. (refl, refl)) in
-    record { count = both.0; number = both.1; moment = tt }
+    let C : Bool → Outcome → Type 0 = λ running o. count (frame o.world) ≡ begun_count w running o.answer in
+    record { count = by_test C (is_some w.round) _ _ (λ runs. refl) (λ none. refl); moment = tt }
 
 -- with nothing in hand a round ends
 ends : (w : World) (round : Option RoundState) (answers : List PollerAnswer) → in_hand_of round ≡ Some []
@@ -116,53 +115,59 @@ reacted w answers none =
     ∙ begun_frame w None answers none
     ∙ ap (λ (name : Option RoundName). record { now = w.now; rounds = w.rounds + 1; begun = w.begun ++ w.pos ∷ []; name = name }) (none_named w.round none)
 
+-- a whole round leaves none that runs
+pub react_ends : (w : World) (answers : List PollerAnswer) → is_some w.round ≡ false
+    → let begun = begin_round w None answers in
+    let waited = wait_round begun.world begun.left in
+    let handled = handle_each (hand_of waited.world.round) waited.world waited.left in
+    name_of (finish_round handled.world handled.left).world.round ≡ name_of w.round
+react_ends w answers none = ap (λ (n : Count). n.name) (reacted w answers none)
+
 react_counts : (w : World) (answers : List PollerAnswer) → Counts w step.React (react w None answers)
 react_counts w answers =
     let C : Bool → Outcome → Type 0 = λ running o.
-    (count (frame o.world)
-    ≡ (record { now = w.now; rounds = cond (not running) (w.rounds + 1) w.rounds; begun = cond (not running) (w.begun ++ w.pos ∷ []) w.begun; name = name_of w.round }))
-    × TellsItsNumber w step.React o.answer in
-    let both = by_test C (is_some w.round) _ _ (λ runs. (refl, tt)) (λ none. (reacted w answers none, refl)) in
-    record { count = both.0; number = both.1; moment = tt }
+    count (frame o.world)
+    ≡ (record { now = w.now; rounds = cond (not running) (w.rounds + 1) w.rounds; begun = cond (not running) (w.begun ++ w.pos ∷ []) w.begun; name = name_of w.round }) in
+    record { count = by_test C (is_some w.round) _ _ (λ runs. refl) (λ none. reacted w answers none); moment = tt }
 
 -- ## A step
 
 step_counts : (w : World) (s : Step) (answers : List PollerAnswer) → Counts w s (case_of w s answers)
-step_counts w step.Add answers = record { count = ap count (add_keeps w answers); number = tt; moment = tt }
-step_counts w (step.Del key) answers = record { count = ap count (del_keeps w key.0 (serial_of w key.0) answers); number = tt; moment = tt }
+step_counts w step.Add answers = record { count = ap count (add_keeps w answers); moment = tt }
+step_counts w (step.Del key) answers = record { count = ap count (del_keeps w key.0 (serial_of w key.0) answers); moment = tt }
 step_counts w (step.Poll key dir waker) answers =
-    record { count = ap count (poll_keeps w key.0 dir waker (serial_of w key.0) answers); number = tt; moment = tt }
-step_counts w (step.New key dir) answers = record { count = ap count (new_keeps w dir (serial_of w key.0) answers); number = tt; moment = tt }
+    record { count = ap count (poll_keeps w key.0 dir waker (serial_of w key.0) answers); moment = tt }
+step_counts w (step.New key dir) answers = record { count = ap count (new_keeps w dir (serial_of w key.0) answers); moment = tt }
 step_counts w (step.StepEar number waker) answers =
-    record { count = ap count (step_keeps w waker (find (is_listener number) w.listeners) answers); number = tt; moment = tt }
+    record { count = ap count (step_keeps w waker (find (is_listener number) w.listeners) answers); moment = tt }
 step_counts w (step.DropEar number) answers =
-    record { count = ap count (drop_keeps w number (find (is_listener number) w.listeners) answers); number = tt; moment = tt }
-step_counts w (step.TimerAt deadline) answers = record { count = refl; number = tt; moment = tt }
-step_counts w (step.TimerEvery deadline period) answers = record { count = refl; number = tt; moment = tt }
-step_counts w step.TimerNever answers = record { count = refl; number = tt; moment = tt }
+    record { count = ap count (drop_keeps w number (find (is_listener number) w.listeners) answers); moment = tt }
+step_counts w (step.TimerAt deadline) answers = record { count = refl; moment = tt }
+step_counts w (step.TimerEvery deadline period) answers = record { count = refl; moment = tt }
+step_counts w step.TimerNever answers = record { count = refl; moment = tt }
 step_counts w (step.Tick number waker) answers =
-    record { count = ap count (tick_keeps w waker (find (is_timer number) w.timers) answers); number = tt; moment = tt }
+    record { count = ap count (tick_keeps w waker (find (is_timer number) w.timers) answers); moment = tt }
 step_counts w (step.SetAt number deadline) answers =
-    record { count = ap count (set_keeps w deadline None (find (is_timer number) w.timers) answers); number = tt; moment = tt }
+    record { count = ap count (set_keeps w deadline None (find (is_timer number) w.timers) answers); moment = tt }
 step_counts w (step.SetEvery number deadline period) answers =
-    record { count = ap count (set_keeps w deadline (Some period) (find (is_timer number) w.timers) answers); number = tt; moment = tt }
-step_counts w (step.End number) answers = record { count = ap count (end_keeps w (find (is_timer number) w.timers) answers); number = tt; moment = tt }
+    record { count = ap count (set_keeps w deadline (Some period) (find (is_timer number) w.timers) answers); moment = tt }
+step_counts w (step.End number) answers = record { count = ap count (end_keeps w (find (is_timer number) w.timers) answers); moment = tt }
 step_counts w (step.Now moment) answers = clock_counts w moment answers
-step_counts w (step.Note event) answers = record { count = refl; number = tt; moment = tt }
-step_counts w (step.Fault kind) answers = record { count = refl; number = tt; moment = tt }
-step_counts w step.Interrupt answers = record { count = refl; number = tt; moment = tt }
+step_counts w (step.Note event) answers = record { count = refl; moment = tt }
+step_counts w (step.Fault kind) answers = record { count = refl; moment = tt }
+step_counts w step.Interrupt answers = record { count = refl; moment = tt }
 step_counts w (step.Begin limit) answers = begin_counts w limit answers
-step_counts w step.Wait answers = record { count = ap count (wait_keeps w w.round answers refl); number = tt; moment = tt }
-step_counts w step.Handle answers = record { count = ap count (handle_keeps w w.round answers refl); number = tt; moment = tt }
-step_counts w step.Finish answers = record { count = finish_counts w w.round answers refl; number = tt; moment = tt }
+step_counts w step.Wait answers = record { count = ap count (wait_keeps w w.round answers refl); moment = tt }
+step_counts w step.Handle answers = record { count = ap count (handle_keeps w w.round answers refl); moment = tt }
+step_counts w step.Finish answers = record { count = finish_counts w w.round answers refl; moment = tt }
 step_counts w step.React answers = react_counts w answers
 
 pub rounds_follow : (w : World) (s : Step) (answers : List PollerAnswer)
-    → RoundsFollow w s (step_result w s answers).answer (step_result w s answers).world
+    → RoundsFollow w s answers (step_result w s answers).answer (step_result w s answers).world
 unfolding step_result
 rounds_follow w s answers =
     let c = step_counts w s answers in
-    record { rounds = ap (λ (n : Count). n.rounds) c.count; begun = ap (λ (n : Count). n.begun) c.count; running = ap (λ (n : Count). n.name) c.count; number = c.number }
+    record { rounds = ap (λ (n : Count). n.rounds) c.count; begun = ap (λ (n : Count). n.begun) c.count; running = ap (λ (n : Count). n.name) c.count; answered = rounds_told w s answers }
 
 pub clock_is_set : (w : World) (s : Step) (answers : List PollerAnswer)
     → ClockIsSet w s (step_result w s answers).answer (step_result w s answers).world

@@ -8,13 +8,15 @@ use Rattle.aio_base.specs.declared.names.Dir.{Dir}
 use Rattle.aio_base.specs.declared.names.Dir.TheVariants.{Read, Write}
 use Rattle.aio_base.specs.declared.names.Interest.{Interest}
 use Rattle.aio_base.specs.declared.outcomes.Which.TheVariants as which
+use Rattle.aio_base.specs.declared.steps.LineFault.TheVariants as fault
 use Rattle.aio_base.specs.declared.steps.Step.{Step}
 use Rattle.aio_base.specs.declared.steps.Step.TheVariants as step
 use Rattle.aio_base.specs.declared.steps.Reason.TheVariants as reason
 use Rattle.aio_base.specs.Machine.{step_result}
 use Rattle.aio_base.specs.Script.{script_step, reply_text, output}
 use Rattle.aio_base.specs.Text.{answer_line, ended_line}
-use Rattle.aio_base.specs.Trace.{trace_from, trace_of, written_step}
+use Rattle.aio_base.specs.Lines.{fault_of, step_read}
+use Rattle.aio_base.specs.Trace.{trace_from, trace_of}
 
 -- ## Words for steps
 
@@ -260,367 +262,395 @@ the_first_fault_of_a_round_is_the_one_that_its_end_tells = refl
 pub a_header_alone_says_no_step :
     trace_of (lines (codes "trace 1" ∷ []))
     ≡ record { steps = []; refusal = None }
-unfolding trace_of written_step digits
+unfolding trace_of step_read fault_of digits
 a_header_alone_says_no_step = refl
 
 -- the last line may lack its line feed
 pub a_header_without_a_line_feed_says_no_step :
     trace_of (codes "trace 1")
     ≡ record { steps = []; refusal = None }
-unfolding trace_of written_step digits
+unfolding trace_of step_read fault_of digits
 a_header_without_a_line_feed_says_no_step = refl
 
 -- it is refused at its first line
 pub an_empty_input_has_no_header :
     trace_of ([])
     ≡ record { steps = []; refusal = Some (record { line = 1; reason = reason.Header }) }
-unfolding trace_of written_step digits
+unfolding trace_of step_read fault_of digits
 an_empty_input_has_no_header = refl
 
 -- a line feed alone
 pub an_empty_first_line_is_no_header :
     trace_of (10 ∷ [])
     ≡ record { steps = []; refusal = Some (record { line = 1; reason = reason.Header }) }
-unfolding trace_of written_step digits
+unfolding trace_of step_read fault_of digits
 an_empty_first_line_is_no_header = refl
 
 -- a header has exactly the two words
 pub another_version_is_no_header :
     trace_of (lines (codes "trace 2" ∷ codes "add" ∷ []))
     ≡ record { steps = []; refusal = Some (record { line = 1; reason = reason.Header }) }
-unfolding trace_of written_step digits
+unfolding trace_of step_read fault_of digits
 another_version_is_no_header = refl
 
--- nothing but the written spelling is read
-pub a_header_with_a_carriage_return_is_refused :
+-- it counts as a space
+pub a_header_may_end_in_a_carriage_return :
     trace_of (codes "trace 1" ++ 13 ∷ 10 ∷ [])
+    ≡ record { steps = []; refusal = None }
+unfolding trace_of step_read fault_of digits
+a_header_may_end_in_a_carriage_return = refl
+
+-- words are parted by spaces and tabs
+pub a_header_may_have_blanks :
+    trace_of (codes "  trace " ++ 9 ∷ codes "1 " ++ 13 ∷ 10 ∷ codes "add")
+    ≡ record { steps = add ∷ []; refusal = None }
+unfolding trace_of step_read fault_of digits
+a_header_may_have_blanks = refl
+
+-- its second word is no number
+pub a_leading_zero_makes_no_header :
+    trace_of (codes "trace 01")
     ≡ record { steps = []; refusal = Some (record { line = 1; reason = reason.Header }) }
-unfolding trace_of written_step digits
-a_header_with_a_carriage_return_is_refused = refl
+unfolding trace_of step_read fault_of digits
+a_leading_zero_makes_no_header = refl
+
+-- a third word
+pub a_word_too_many_makes_no_header :
+    trace_of (codes "trace 1 2")
+    ≡ record { steps = []; refusal = Some (record { line = 1; reason = reason.Header }) }
+unfolding trace_of step_read fault_of digits
+a_word_too_many_makes_no_header = refl
+
+-- whatever the fault of such a line
+pub a_first_line_with_another_byte_is_no_header :
+    trace_of (codes "trace 1" ++ 0 ∷ [])
+    ≡ record { steps = []; refusal = Some (record { line = 1; reason = reason.Header }) }
+unfolding trace_of step_read fault_of digits
+a_first_line_with_another_byte_is_no_header = refl
 
 -- the ordinary path from its bytes
 pub an_input_says_its_steps_in_order :
     trace_of (lines (codes "trace 1" ∷ codes "add" ∷ codes "poll 0 r 7" ∷ codes "event 0 r" ∷ codes "react" ∷ codes "poll 0 r 7" ∷ []))
     ≡ record { steps = add ∷ poll 0 Read 7 ∷ event 0 reads ∷ step.React ∷ poll 0 Read 7 ∷ []; refusal = None }
-unfolding trace_of written_step digits
+unfolding trace_of step_read fault_of digits
 an_input_says_its_steps_in_order = refl
 
 -- a source with a listener, and a fault of its removal
 pub an_input_with_a_listener_says_its_steps_in_order :
     trace_of (lines (codes "trace 1" ∷ codes "add" ∷ codes "new 0 r" ∷ codes "step 1 11" ∷ codes "drop 1" ∷ codes "fault remove" ∷ codes "del 0" ∷ []))
     ≡ record { steps = add ∷ new 0 Read ∷ listen 1 11 ∷ forget 1 ∷ step.Fault which.Remove ∷ del 0 ∷ []; refusal = None }
-unfolding trace_of written_step digits
+unfolding trace_of step_read fault_of digits
 an_input_with_a_listener_says_its_steps_in_order = refl
 
 -- no line after it counts
-pub a_line_that_spells_no_step_is_refused_after_the_steps_before_it :
+pub a_line_that_reads_as_no_step_is_refused_after_the_steps_before_it :
     trace_of (lines (codes "trace 1" ∷ codes "add" ∷ codes "intermit" ∷ codes "react" ∷ []))
-    ≡ record { steps = add ∷ []; refusal = Some (record { line = 3; reason = reason.Stage }) }
-unfolding trace_of written_step digits
-a_line_that_spells_no_step_is_refused_after_the_steps_before_it = refl
+    ≡ record { steps = add ∷ []; refusal = Some (record { line = 3; reason = reason.Command }) }
+unfolding trace_of step_read fault_of digits
+a_line_that_reads_as_no_step_is_refused_after_the_steps_before_it = refl
 
--- one space between words and no other
-pub a_space_before_a_word_is_no_written_spelling :
-    trace_of (lines (codes "trace 1" ∷ codes " add" ∷ []))
-    ≡ record { steps = []; refusal = Some (record { line = 2; reason = reason.Stage }) }
-unfolding trace_of written_step digits
-a_space_before_a_word_is_no_written_spelling = refl
+-- before the first word and behind the last
+pub a_line_may_have_blanks_around_its_words :
+    trace_of (lines (codes "trace 1" ∷ codes " add" ∷ codes " poll  007 r 1 " ∷ []))
+    ≡ record { steps = add ∷ poll 7 Read 1 ∷ []; refusal = None }
+unfolding trace_of step_read fault_of digits
+a_line_may_have_blanks_around_its_words = refl
 
 -- two line feeds one after the other
-pub an_empty_line_is_no_written_spelling :
+pub an_empty_line_is_refused :
     trace_of (lines (codes "trace 1" ∷ codes "" ∷ codes "add" ∷ []))
-    ≡ record { steps = []; refusal = Some (record { line = 2; reason = reason.Stage }) }
-unfolding trace_of written_step digits
-an_empty_line_is_no_written_spelling = refl
+    ≡ record { steps = []; refusal = Some (record { line = 2; reason = reason.Empty }) }
+unfolding trace_of step_read fault_of digits
+an_empty_line_is_refused = refl
 
 -- it is refused as a line
 pub a_second_header_is_no_step :
     trace_of (lines (codes "trace 1" ∷ codes "trace 1" ∷ []))
-    ≡ record { steps = []; refusal = Some (record { line = 2; reason = reason.Stage }) }
-unfolding trace_of written_step digits
+    ≡ record { steps = []; refusal = Some (record { line = 2; reason = reason.Command }) }
+unfolding trace_of step_read fault_of digits
 a_second_header_is_no_step = refl
 
 -- as any other
 pub a_last_line_without_a_line_feed_is_read :
     trace_of (lines (codes "trace 1" ∷ codes "add" ∷ []) ++ codes "react")
     ≡ record { steps = add ∷ step.React ∷ []; refusal = None }
-unfolding trace_of written_step digits
+unfolding trace_of step_read fault_of digits
 a_last_line_without_a_line_feed_is_read = refl
 
 -- the header is among the million lines
 pub the_last_line_within_the_limit_is_read : trace_from 1000000 (codes "add" ∷ []) ≡ record { steps = add ∷ []; refusal = None }
-unfolding written_step digits
+unfolding step_read fault_of digits
 the_last_line_within_the_limit_is_read = refl
 
 -- whatever it holds
 pub a_line_past_the_limit_is_refused : trace_from 1000000 (codes "add" ∷ codes "none" ∷ []) ≡ record { steps = add ∷ []; refusal = Some (record { line = 1000001; reason = reason.Lines }) }
-unfolding written_step digits
+unfolding step_read fault_of digits
 a_line_past_the_limit_is_refused = refl
 
--- ## What a line spells
+-- ## What a line reads as
 
 -- three places
-pub a_poll_line_spells_a_poll : written_step (codes "poll 0 r 7") ≡ Some (poll 0 Read 7)
-unfolding written_step digits
-a_poll_line_spells_a_poll = refl
+pub a_poll_line_reads_as_a_poll : step_read (codes "poll 0 r 7") ≡ Some (poll 0 Read 7)
+unfolding step_read digits
+a_poll_line_reads_as_a_poll = refl
 
 -- 4,294,967,295 in both places
-pub the_greatest_number_is_read : written_step (codes "poll 4294967295 w 4294967295") ≡ Some (poll 4294967295 Write 4294967295)
-unfolding written_step digits
+pub the_greatest_number_is_read : step_read (codes "poll 4294967295 w 4294967295") ≡ Some (poll 4294967295 Write 4294967295)
+unfolding step_read digits
 the_greatest_number_is_read = refl
 
--- a number has one spelling
-pub a_leading_zero_is_no_written_spelling : written_step (codes "poll 007 r 1") ≡ None
-unfolding written_step digits
-a_leading_zero_is_no_written_spelling = refl
+-- a number may have more than one spelling
+pub leading_zeros_are_read : step_read (codes "poll 007 r 1") ≡ Some (poll 7 Read 1)
+unfolding step_read digits
+leading_zeros_are_read = refl
 
 -- 2^32 is above every key
-pub a_number_past_the_range_is_none : written_step (codes "poll 4294967296 r 1") ≡ None
-unfolding written_step digits
-a_number_past_the_range_is_none = refl
+pub a_number_past_the_range_is_refused : fault_of (codes "poll 4294967296 r 1") ≡ Some fault.Number
+unfolding fault_of digits
+a_number_past_the_range_is_refused = refl
 
 -- 2^32 is above every waker
-pub a_waker_past_the_range_is_none : written_step (codes "poll 1 r 4294967296") ≡ None
-unfolding written_step digits
-a_waker_past_the_range_is_none = refl
+pub a_waker_past_the_range_is_refused : fault_of (codes "poll 1 r 4294967296") ≡ Some fault.Number
+unfolding fault_of digits
+a_waker_past_the_range_is_refused = refl
 
 -- read comes first
-pub an_event_may_name_both_directions : written_step (codes "event 0 rw") ≡ Some (event 0 both)
-unfolding written_step digits
+pub an_event_may_name_both_directions : step_read (codes "event 0 rw") ≡ Some (event 0 both)
+unfolding step_read digits
 an_event_may_name_both_directions = refl
 
 -- a dash stands for none
-pub an_event_may_name_no_direction : written_step (codes "event 0 -") ≡ Some (event 0 neither)
-unfolding written_step digits
+pub an_event_may_name_no_direction : step_read (codes "event 0 -") ≡ Some (event 0 neither)
+unfolding step_read digits
 an_event_may_name_no_direction = refl
 
 -- write alone
-pub an_event_may_name_one_direction : written_step (codes "event 12 w") ≡ Some (event 12 writes)
-unfolding written_step digits
+pub an_event_may_name_one_direction : step_read (codes "event 12 w") ≡ Some (event 12 writes)
+unfolding step_read digits
 an_event_may_name_one_direction = refl
 
--- write before read is not written
-pub the_directions_of_an_event_have_one_order : written_step (codes "event 0 wr") ≡ None
-unfolding written_step digits
+-- read before write
+pub the_directions_of_an_event_have_one_order : fault_of (codes "event 0 wr") ≡ Some fault.Flags
+unfolding fault_of digits
 the_directions_of_an_event_have_one_order = refl
 
--- nothing follows the last word
-pub a_trailing_space_is_no_written_spelling : written_step (codes "add ") ≡ None
-unfolding written_step digits
-a_trailing_space_is_no_written_spelling = refl
+-- behind the last word
+pub a_trailing_space_is_read : step_read (codes "add ") ≡ Some add
+unfolding step_read digits
+a_trailing_space_is_read = refl
 
--- nothing but the words is written
-pub a_carriage_return_is_no_written_spelling : written_step (codes "add" ++ 13 ∷ []) ≡ None
-unfolding written_step digits
-a_carriage_return_is_no_written_spelling = refl
+-- it counts as a space
+pub a_carriage_return_at_the_end_is_read : step_read (codes "add" ++ 13 ∷ []) ≡ Some add
+unfolding step_read digits
+a_carriage_return_at_the_end_is_read = refl
 
 -- a poll without a waker
-pub a_missing_place_is_none : written_step (codes "poll 0 r") ≡ None
-unfolding written_step digits
-a_missing_place_is_none = refl
+pub a_missing_place_is_refused : fault_of (codes "poll 0 r") ≡ Some fault.Count
+unfolding fault_of digits
+a_missing_place_is_refused = refl
 
 -- a poll with an empty waker
-pub an_empty_place_is_none : written_step (codes "poll 0 r ") ≡ None
-unfolding written_step digits
-an_empty_place_is_none = refl
+pub an_empty_place_is_refused : fault_of (codes "poll 0 r ") ≡ Some fault.Count
+unfolding fault_of digits
+an_empty_place_is_refused = refl
 
 -- one step for a line
-pub a_word_too_many_is_none : written_step (codes "react react") ≡ None
-unfolding written_step digits
-a_word_too_many_is_none = refl
+pub a_word_too_many_is_refused : fault_of (codes "react react") ≡ Some fault.Count
+unfolding fault_of digits
+a_word_too_many_is_refused = refl
 
--- one space between words
-pub two_spaces_are_no_written_spelling : written_step (codes "poll  0 r 7") ≡ None
-unfolding written_step digits
-two_spaces_are_no_written_spelling = refl
+-- as one space does
+pub two_spaces_part_words : step_read (codes "poll  0 r 7") ≡ Some (poll 0 Read 7)
+unfolding step_read digits
+two_spaces_part_words = refl
 
 -- only r and w
-pub another_direction_is_none : written_step (codes "poll 0 x 1") ≡ None
-unfolding written_step digits
-another_direction_is_none = refl
+pub another_direction_is_refused : fault_of (codes "poll 0 x 1") ≡ Some fault.Direction
+unfolding fault_of digits
+another_direction_is_refused = refl
 
 -- not both
-pub a_poll_has_one_direction : written_step (codes "poll 0 rw 1") ≡ None
-unfolding written_step digits
+pub a_poll_has_one_direction : fault_of (codes "poll 0 rw 1") ≡ Some fault.Direction
+unfolding fault_of digits
 a_poll_has_one_direction = refl
 
 -- numbers have digits alone
-pub a_sign_is_no_digit : written_step (codes "poll +1 r 1") ≡ None
-unfolding written_step digits
+pub a_sign_is_no_digit : fault_of (codes "poll +1 r 1") ≡ Some fault.Number
+unfolding fault_of digits
 a_sign_is_no_digit = refl
 
 -- numbers have digits alone
-pub a_letter_is_no_digit : written_step (codes "poll a r 1") ≡ None
-unfolding written_step digits
+pub a_letter_is_no_digit : fault_of (codes "poll a r 1") ≡ Some fault.Number
+unfolding fault_of digits
 a_letter_is_no_digit = refl
 
 -- a slash stands right before the digits
-pub a_byte_below_the_digits_is_no_digit : written_step (codes "poll / r 1") ≡ None
-unfolding written_step digits
+pub a_byte_below_the_digits_is_no_digit : fault_of (codes "poll / r 1") ≡ Some fault.Number
+unfolding fault_of digits
 a_byte_below_the_digits_is_no_digit = refl
 
 -- as written
-pub commands_are_in_lower_case : written_step (codes "Add") ≡ None
-unfolding written_step digits
+pub commands_are_in_lower_case : fault_of (codes "Add") ≡ Some fault.Command
+unfolding fault_of digits
 commands_are_in_lower_case = refl
 
 -- a key
-pub a_del_line_spells_a_removal : written_step (codes "del 7") ≡ Some (del 7)
-unfolding written_step digits
-a_del_line_spells_a_removal = refl
+pub a_del_line_reads_as_a_removal : step_read (codes "del 7") ≡ Some (del 7)
+unfolding step_read digits
+a_del_line_reads_as_a_removal = refl
 
 -- 2^32 is above every key
-pub a_key_past_the_range_is_none : written_step (codes "del 4294967296") ≡ None
-unfolding written_step digits
-a_key_past_the_range_is_none = refl
+pub a_key_past_the_range_is_refused : fault_of (codes "del 4294967296") ≡ Some fault.Number
+unfolding fault_of digits
+a_key_past_the_range_is_refused = refl
 
 -- one key
-pub a_removal_names_one_source : written_step (codes "del 0 1") ≡ None
-unfolding written_step digits
+pub a_removal_names_one_source : fault_of (codes "del 0 1") ≡ Some fault.Count
+unfolding fault_of digits
 a_removal_names_one_source = refl
 
 -- a removal without a key
-pub a_removal_names_a_source : written_step (codes "del") ≡ None
-unfolding written_step digits
+pub a_removal_names_a_source : fault_of (codes "del") ≡ Some fault.Count
+unfolding fault_of digits
 a_removal_names_a_source = refl
 
 -- two places
-pub a_new_line_spells_a_new_listener : written_step (codes "new 0 r") ≡ Some (new 0 Read)
-unfolding written_step digits
-a_new_line_spells_a_new_listener = refl
+pub a_new_line_reads_as_a_new_listener : step_read (codes "new 0 r") ≡ Some (new 0 Read)
+unfolding step_read digits
+a_new_line_reads_as_a_new_listener = refl
 
 -- a listener has one direction
-pub a_listener_of_both_directions_is_none : written_step (codes "new 0 rw") ≡ None
-unfolding written_step digits
-a_listener_of_both_directions_is_none = refl
+pub a_listener_of_both_directions_is_refused : fault_of (codes "new 0 rw") ≡ Some fault.Direction
+unfolding fault_of digits
+a_listener_of_both_directions_is_refused = refl
 
 -- a listener without a direction
-pub a_missing_direction_is_none : written_step (codes "new 0") ≡ None
-unfolding written_step digits
-a_missing_direction_is_none = refl
+pub a_missing_direction_is_refused : fault_of (codes "new 0") ≡ Some fault.Count
+unfolding fault_of digits
+a_missing_direction_is_refused = refl
 
 -- two places
-pub a_step_line_spells_a_poll_of_a_listener : written_step (codes "step 1 11") ≡ Some (listen 1 11)
-unfolding written_step digits
-a_step_line_spells_a_poll_of_a_listener = refl
+pub a_step_line_reads_as_a_poll_of_a_listener : step_read (codes "step 1 11") ≡ Some (listen 1 11)
+unfolding step_read digits
+a_step_line_reads_as_a_poll_of_a_listener = refl
 
 -- 4,294,967,295 in both places
-pub the_greatest_listener_is_read : written_step (codes "step 4294967295 4294967295") ≡ Some (listen 4294967295 4294967295)
-unfolding written_step digits
+pub the_greatest_listener_is_read : step_read (codes "step 4294967295 4294967295") ≡ Some (listen 4294967295 4294967295)
+unfolding step_read digits
 the_greatest_listener_is_read = refl
 
 -- 2^32 is above every number of a listener
-pub a_listener_past_the_range_is_none : written_step (codes "step 4294967296 1") ≡ None
-unfolding written_step digits
-a_listener_past_the_range_is_none = refl
+pub a_listener_past_the_range_is_refused : fault_of (codes "step 4294967296 1") ≡ Some fault.Number
+unfolding fault_of digits
+a_listener_past_the_range_is_refused = refl
 
 -- 2^32 is above every waker
-pub a_listener_with_a_waker_past_the_range_is_none : written_step (codes "step 1 4294967296") ≡ None
-unfolding written_step digits
-a_listener_with_a_waker_past_the_range_is_none = refl
+pub a_listener_with_a_waker_past_the_range_is_refused : fault_of (codes "step 1 4294967296") ≡ Some fault.Number
+unfolding fault_of digits
+a_listener_with_a_waker_past_the_range_is_refused = refl
 
 -- a poll of a listener without a waker
-pub a_missing_waker_is_none : written_step (codes "step 1") ≡ None
-unfolding written_step digits
-a_missing_waker_is_none = refl
+pub a_missing_waker_is_refused : fault_of (codes "step 1") ≡ Some fault.Count
+unfolding fault_of digits
+a_missing_waker_is_refused = refl
 
 -- a number
-pub a_drop_line_spells_the_giving_up_of_a_listener : written_step (codes "drop 2") ≡ Some (forget 2)
-unfolding written_step digits
-a_drop_line_spells_the_giving_up_of_a_listener = refl
+pub a_drop_line_reads_as_the_giving_up_of_a_listener : step_read (codes "drop 2") ≡ Some (forget 2)
+unfolding step_read digits
+a_drop_line_reads_as_the_giving_up_of_a_listener = refl
 
--- a number has one spelling
-pub a_leading_zero_of_a_listener_is_no_written_spelling : written_step (codes "drop 02") ≡ None
-unfolding written_step digits
-a_leading_zero_of_a_listener_is_no_written_spelling = refl
+-- a number may have more than one spelling
+pub a_leading_zero_of_a_listener_is_read : step_read (codes "drop 02") ≡ Some (forget 2)
+unfolding step_read digits
+a_leading_zero_of_a_listener_is_read = refl
 
 -- one listener
-pub a_giving_up_names_one_listener : written_step (codes "drop 1 2") ≡ None
-unfolding written_step digits
+pub a_giving_up_names_one_listener : fault_of (codes "drop 1 2") ≡ Some fault.Count
+unfolding fault_of digits
 a_giving_up_names_one_listener = refl
 
 -- one of the calls of the poller
-pub a_fault_may_be_of_an_add : written_step (codes "fault add") ≡ Some (step.Fault which.Add)
-unfolding written_step digits
+pub a_fault_may_be_of_an_add : step_read (codes "fault add") ≡ Some (step.Fault which.Add)
+unfolding step_read digits
 a_fault_may_be_of_an_add = refl
 
 -- one of the calls of the poller
-pub a_fault_may_be_of_an_arm : written_step (codes "fault arm") ≡ Some (step.Fault which.Arm)
-unfolding written_step digits
+pub a_fault_may_be_of_an_arm : step_read (codes "fault arm") ≡ Some (step.Fault which.Arm)
+unfolding step_read digits
 a_fault_may_be_of_an_arm = refl
 
 -- one of the calls of the poller
-pub a_fault_may_be_of_a_remove : written_step (codes "fault remove") ≡ Some (step.Fault which.Remove)
-unfolding written_step digits
+pub a_fault_may_be_of_a_remove : step_read (codes "fault remove") ≡ Some (step.Fault which.Remove)
+unfolding step_read digits
 a_fault_may_be_of_a_remove = refl
 
 -- one of the calls of the poller
-pub a_fault_may_be_of_a_wait : written_step (codes "fault wait") ≡ Some (step.Fault which.Wait)
-unfolding written_step digits
+pub a_fault_may_be_of_a_wait : step_read (codes "fault wait") ≡ Some (step.Fault which.Wait)
+unfolding step_read digits
 a_fault_may_be_of_a_wait = refl
 
 -- ## Lines of a round in sections
 
-pub a_begin_line_may_have_no_limit : written_step (codes "begin none") ≡ Some (step.Begin None)
-unfolding written_step digits
+pub a_begin_line_may_have_no_limit : step_read (codes "begin none") ≡ Some (step.Begin None)
+unfolding step_read digits
 a_begin_line_may_have_no_limit = refl
 
-pub a_begin_line_may_have_the_limit_0 : written_step (codes "begin 0") ≡ Some (step.Begin (Some 0))
-unfolding written_step digits
+pub a_begin_line_may_have_the_limit_0 : step_read (codes "begin 0") ≡ Some (step.Begin (Some 0))
+unfolding step_read digits
 a_begin_line_may_have_the_limit_0 = refl
 
-pub the_greatest_limit_is_read : written_step (codes "begin 1000000000000000000") ≡ Some (step.Begin (Some 1000000000000000000))
-unfolding written_step digits
+pub the_greatest_limit_is_read : step_read (codes "begin 1000000000000000000") ≡ Some (step.Begin (Some 1000000000000000000))
+unfolding step_read digits
 the_greatest_limit_is_read = refl
 
-pub a_limit_past_the_greatest_is_none : written_step (codes "begin 1000000000000000001") ≡ None
-unfolding written_step digits
-a_limit_past_the_greatest_is_none = refl
+pub a_limit_past_the_greatest_is_refused : fault_of (codes "begin 1000000000000000001") ≡ Some fault.Number
+unfolding fault_of digits
+a_limit_past_the_greatest_is_refused = refl
 
-pub a_begin_line_has_a_limit : written_step (codes "begin") ≡ None
-unfolding written_step digits
+pub a_begin_line_has_a_limit : fault_of (codes "begin") ≡ Some fault.Count
+unfolding fault_of digits
 a_begin_line_has_a_limit = refl
 
-pub a_begin_line_has_one_limit : written_step (codes "begin none 0") ≡ None
-unfolding written_step digits
+pub a_begin_line_has_one_limit : fault_of (codes "begin none 0") ≡ Some fault.Count
+unfolding fault_of digits
 a_begin_line_has_one_limit = refl
 
-pub a_wait_line_spells_a_wait : written_step (codes "wait") ≡ Some step.Wait
-unfolding written_step digits
-a_wait_line_spells_a_wait = refl
+pub a_wait_line_reads_as_a_wait : step_read (codes "wait") ≡ Some step.Wait
+unfolding step_read digits
+a_wait_line_reads_as_a_wait = refl
 
-pub a_wait_line_has_one_word : written_step (codes "wait 0") ≡ None
-unfolding written_step digits
+pub a_wait_line_has_one_word : fault_of (codes "wait 0") ≡ Some fault.Count
+unfolding fault_of digits
 a_wait_line_has_one_word = refl
 
-pub a_handle_line_spells_the_handling_of_an_event : written_step (codes "handle") ≡ Some step.Handle
-unfolding written_step digits
-a_handle_line_spells_the_handling_of_an_event = refl
+pub a_handle_line_reads_as_the_handling_of_an_event : step_read (codes "handle") ≡ Some step.Handle
+unfolding step_read digits
+a_handle_line_reads_as_the_handling_of_an_event = refl
 
-pub a_finish_line_spells_the_end_of_a_round : written_step (codes "finish") ≡ Some step.Finish
-unfolding written_step digits
-a_finish_line_spells_the_end_of_a_round = refl
+pub a_finish_line_reads_as_the_end_of_a_round : step_read (codes "finish") ≡ Some step.Finish
+unfolding step_read digits
+a_finish_line_reads_as_the_end_of_a_round = refl
 
-pub an_interrupt_line_spells_an_interrupt : written_step (codes "interrupt") ≡ Some step.Interrupt
-unfolding written_step digits
-an_interrupt_line_spells_an_interrupt = refl
+pub an_interrupt_line_reads_as_an_interrupt : step_read (codes "interrupt") ≡ Some step.Interrupt
+unfolding step_read digits
+an_interrupt_line_reads_as_an_interrupt = refl
 
 -- only the calls of the poller
-pub a_fault_of_another_call_is_none : written_step (codes "fault del") ≡ None
-unfolding written_step digits
-a_fault_of_another_call_is_none = refl
+pub a_fault_of_another_call_is_refused : fault_of (codes "fault del") ≡ Some fault.Choice
+unfolding fault_of digits
+a_fault_of_another_call_is_refused = refl
 
 -- a fault without a call
-pub a_fault_names_a_call : written_step (codes "fault") ≡ None
-unfolding written_step digits
+pub a_fault_names_a_call : fault_of (codes "fault") ≡ Some fault.Count
+unfolding fault_of digits
 a_fault_names_a_call = refl
 
 -- one call
-pub a_fault_names_one_call : written_step (codes "fault add arm") ≡ None
-unfolding written_step digits
+pub a_fault_names_one_call : fault_of (codes "fault add arm") ≡ Some fault.Count
+unfolding fault_of digits
 a_fault_names_one_call = refl
 
 -- no word
-pub an_empty_line_spells_nothing : written_step (codes "") ≡ None
-unfolding written_step digits
-an_empty_line_spells_nothing = refl
+pub an_empty_line_has_no_word : fault_of (codes "") ≡ Some fault.Empty
+unfolding fault_of digits
+an_empty_line_has_no_word = refl

@@ -3,6 +3,7 @@ use Rattle.std.proofs.Common.{◌≡◌, ℕ, Bool, true, false, not, cond, ◌=
 use Rattle.std.specs.List.{Contains, filter, find}
 use Rattle.std.specs.Option.{option_or}
 use Rattle.std.proofs.lemmas.Bool.{eqb-true, eq-eqb}
+use Rattle.std.proofs.lemmas.List.Elements.{filter-append}
 use Rattle.std.proofs.lemmas.List.Folds.{find-append}
 use Rattle.aio_base.proofs.Membership.{first_is_in, later_is_in}
 
@@ -82,6 +83,19 @@ emptied_step q false x ys apart rest = rest
 pub filtered_empty : {X : Type 0} (q p : X → Bool) → ((x : X) → p x ≡ true → q x ≡ false) → (xs : List X) → filter q (filter p xs) ≡ []
 filtered_empty q p apart [] = refl
 filtered_empty q p apart (x ∷ xs) = emptied_step q (p x) x (filter p xs) (apart x) (filtered_empty q p apart xs)
+
+-- a filter does not see what was pushed and does not pass
+pub unseen_push : {X : Type 0} (q : X → Bool) (xs : List X) (x : X) → q x ≡ false → filter q (xs ++ x ∷ []) ≡ filter q xs
+unseen_push {X} q [] x out = ap (λ (t : Bool). cond t (x ∷ []) []) out
+unseen_push {X} q (y ∷ xs) x out = ap (λ (rest : List X). cond (q y) (y ∷ rest) rest) (unseen_push q xs x out)
+
+-- what alone passes of a list
+pub kept_push : {X : Type 0} (q : X → Bool) (xs : List X) (x : X) → filter q xs ≡ [] → q x ≡ true → filter q (xs ++ x ∷ []) ≡ x ∷ []
+kept_push q xs x none passes = rw (filter-append, none, passes) refl
+
+pub none_kept : {X : Type 0} (xs : List X) → filter (λ (x : X). false) xs ≡ []
+none_kept [] = refl
+none_kept (x ∷ xs) = none_kept xs
 
 -- ## Searches by a number
 

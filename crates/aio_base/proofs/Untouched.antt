@@ -9,12 +9,14 @@ use Rattle.aio_base.specs.declared.names.Dir.{Dir}
 use Rattle.aio_base.specs.declared.steps.Step.{Step}
 use Rattle.aio_base.specs.declared.steps.Step.TheVariants as step
 use Rattle.aio_base.specs.World.{PollerAnswer, LiveSource, ListenerEntry, TimerEntry, World, serial_of, key_of, is_idle, is_broken}
-use Rattle.aio_base.specs.Machine.{Outcome, fails, next_answer, source_limit, free_key, add, del_source, is_fresh_since, is_waker, pending, is_listener, with_listening, step_listener, drop_listener, new_listener, is_timer, with_timer, unregistered, registered, next_deadline, fired, tick_deadline, tick_timer, set_deadline, set_timer, end_timer, hand_of, begin_round, wait_round, handle_each, finish_round, react, case_of, step_result}
-use Rattle.aio_base.specs.Others.{is_own_source, is_own_listener, is_own_timer, but_waker, other_sources, other_listeners, other_timers, OthersStand}
+use Rattle.aio_base.specs.Machine.{Outcome, fails, next_answer, source_limit, free_key, add, del_source, is_fresh_since, is_waker, pending, is_listener, with_listening, step_listener, drop_listener, new_listener, is_timer, with_timer, unregistered, registered, next_deadline, fired, tick_deadline, tick_timer, set_deadline, set_timer, end_timer, hand_of, begin_round, wait_round, handle_each, react, case_of, step_result}
+use Rattle.aio_base.specs.Others.{is_own_source, but_waker, other_sources, other_listeners, other_timers, OthersStand}
+use Rattle.aio_base.proofs.Breaking.{broken_stand}
+use Rattle.aio_base.proofs.Marking.{marks_stand}
 use Rattle.aio_base.proofs.Membership.{found_is_in}
-use Rattle.aio_base.proofs.Searching.{refiltered}
+use Rattle.aio_base.proofs.Searching.{refiltered, unseen_push}
 use Rattle.aio_base.proofs.RoundLemmas.{unseen_change}
-use Rattle.aio_base.proofs.Frames.{Frame, frame, but_live, but_listeners, but_timers, but_handled, but_name, but_rounds, either, either_world, add_keeps, del_keeps, poll_keeps, new_keeps, step_keeps, drop_keeps, tick_keeps, set_keeps, end_keeps, begin_keeps, wait_keeps, handle_keeps, each_keeps, finish_keeps, pending_keeps, gone_keeps}
+use Rattle.aio_base.proofs.Frames.{Frame, frame, either, either_world, add_keeps, del_keeps, poll_keeps, new_keeps, step_keeps, drop_keeps, tick_keeps, set_keeps, end_keeps, begin_keeps, wait_keeps, handle_keeps, each_keeps, finish_keeps, gone_keeps}
 
 -- ## Filtered lists
 
@@ -22,11 +24,6 @@ use Rattle.aio_base.proofs.Frames.{Frame, frame, but_live, but_listeners, but_ti
 all_kept : {X : Type 0} (xs : List X) → filter (λ (x : X). not false) xs ≡ xs
 all_kept [] = refl
 all_kept (x ∷ xs) = ap (λ rest. x ∷ rest) (all_kept xs)
-
--- a filter does not see what was pushed and does not pass
-unseen_push : {X : Type 0} (q : X → Bool) (xs : List X) (x : X) → q x ≡ false → filter q (xs ++ x ∷ []) ≡ filter q xs
-unseen_push {X} q [] x out = ap (λ (t : Bool). cond t (x ∷ []) []) out
-unseen_push {X} q (y ∷ xs) x out = ap (λ (rest : List X). cond (q y) (y ∷ rest) rest) (unseen_push q xs x out)
 
 changed_step : {X : Type 0} (here there : Bool) (x y : X) (ys zs : List X) → (here ≡ true → (there ≡ true) × (y ≡ x)) → (here ≡ false → there ≡ false)
     → ys ≡ zs → cond there (y ∷ ys) ys ≡ cond here (x ∷ zs) zs
@@ -378,8 +375,14 @@ case_stands w step.React answers =
       timers = ap all_timers (react_keeps w answers);
     }
 
-pub others_stand : (w : World) (s : Step) (answers : List PollerAnswer) → OthersStand w s (step_result w s answers).world
+pub others_stand : (w : World) (s : Step) (answers : List PollerAnswer) → OthersStand w s answers (step_result w s answers).world
 unfolding step_result
 others_stand w s answers =
     let c = case_stands w s answers in
-    record { sources = c.sources; listeners = c.listeners; timers = c.timers }
+    record {
+      sources = c.sources;
+      marks = marks_stand w s answers;
+      broken = broken_stand w s answers;
+      listeners = c.listeners;
+      timers = c.timers;
+    }

@@ -1,10 +1,9 @@
 -- What stands between any two steps of a run.
-use Rattle.std.specs.Prelude.{◌≡◌, Bool, true, false, not, if◌then◌else◌, List, [], ◌∷◌, ◌++◌, is_some}
+use Rattle.std.specs.Prelude.{◌≡◌, ◌≢◌, ◌⊎◌, Bool, true, false, List, [], ◌∷◌, ◌++◌, None, Some}
 use Rattle.std.specs.List.{All}
 use Rattle.aio_base.specs.declared.steps.Step.{Step}
 use Rattle.aio_base.specs.declared.steps.Step.TheVariants as step
-use Rattle.aio_base.specs.World.{Registration, World, opening}
-use Rattle.aio_base.specs.Machine.{ends_with_pass}
+use Rattle.aio_base.specs.World.{Succeeds, Gives, RoundState, World, opening}
 use Rattle.aio_base.specs.Runs.{PolledStep, answers_of, outcome_of, scripted, wakes_of, world_of}
 use Rattle.aio_base.specs.Storings.{Once, storings_of}
 use Rattle.aio_base.specs.Succession.{StoringsFollow}
@@ -15,21 +14,35 @@ use Rattle.aio_base.specs.Counts.{CountsRise}
 use Rattle.aio_base.specs.Distinct.{IsOfTimer, NoDoubles}
 use Rattle.aio_base.specs.FirstPolls.{InPollOrder}
 use Rattle.aio_base.specs.Handling.{HandledIsNoted}
+use Rattle.aio_base.specs.Marks.{MarksFollow}
 use Rattle.aio_base.specs.Others.{OthersStand}
+use Rattle.aio_base.specs.Readiness.{ReadyIsTold}
+use Rattle.aio_base.specs.Sources.{SourcesFollow}
+use Rattle.aio_base.specs.Own.{KeepsItsOwn}
+use Rattle.aio_base.specs.Refusals.{RefusalLeaves}
 use Rattle.aio_base.specs.Registered.{TimersAreRegistered}
 use Rattle.aio_base.specs.RoundCounts.{RoundsFollow}
+use Rattle.aio_base.specs.RoundHands.{HandFollows}
 use Rattle.aio_base.specs.Timers.{AllAbove, after_pass}
 
--- whether a step makes a pass over the registered timers: where a round begins, where one ends with a second pass, and where a whole round is run
-abbrev pub makes_pass : World → Step → Bool
-makes_pass w (step.Begin limit) = not (is_some w.round)
-makes_pass w step.Finish = ends_with_pass w.round
-makes_pass w step.React = not (is_some w.round)
-makes_pass w _ = false
+-- A round is waited out: nothing is in hand, its last wait neither failed nor was interrupted and gave no event, and its limit, if it has one, is not 0.
+pub record IsWaitedOut (round : RoundState) : Type 0 where
+  pub hand : round.in_hand ≡ []
+  pub waited : (round.last_wait ≡ Some (Gives [])) ⊎ (round.last_wait ≡ Some Succeeds)
+  pub limit : round.limit ≢ Some 0
 
--- what stays registered where a step made its pass, if it makes one
-abbrev pub registrations_after : World → Step → List Registration
-registrations_after w s = if makes_pass w s then after_pass w.now w.registrations else w.registrations
+-- The steps that make a pass over the registered timers: one that begins a round, a whole round, and a `finish` of a round that is waited out, for
+-- timers may have come due meanwhile.
+abbrev pub MakesPass : World → Step → Type 0
+MakesPass w (step.Begin limit) = (w.round ≡ None)
+MakesPass w step.Finish = (round : RoundState) × (w.round ≡ Some round) × IsWaitedOut round
+MakesPass w step.React = (w.round ≡ None)
+MakesPass w _ = ⊥
+
+-- what a step that is not of a timer leaves registered: where it makes a pass what is not due, and else all
+pub record RegistrationsFollow (w : World) (s : Step) (v : World) : Type 0 where
+  pub pass : MakesPass w s → v.registrations ≡ after_pass w.now w.registrations
+  pub none : (MakesPass w s → ⊥) → v.registrations ≡ w.registrations
 
 -- the steps that register a timer or take its registration out
 abbrev pub is_of_timer : Step → Bool
@@ -56,11 +69,11 @@ pub record StandsBetween (run : List PolledStep) : Type 0 where
   pub follows : (before : List PolledStep) (last : PolledStep) → run ≡ before ++ last ∷ []
       → StoringsFollow (world_of opening before) last.step last.answers (storings_of opening before) (storings_of opening run)
   -- where the last step made a pass, no timer is registered that was due at it
-  pub passed : (before : List PolledStep) (last : PolledStep) → run ≡ before ++ last ∷ [] → makes_pass (world_of opening before) last.step ≡ true
+  pub passed : (before : List PolledStep) (last : PolledStep) → run ≡ before ++ last ∷ [] → MakesPass (world_of opening before) last.step
       → AllAbove (world_of opening before).now (world_of opening run).registrations
   -- a last step that was not of a timer took out what was due, where it made a pass, and no other registration
   pub others : (before : List PolledStep) (last : PolledStep) → run ≡ before ++ last ∷ [] → is_of_timer last.step ≡ false
-      → (world_of opening run).registrations ≡ registrations_after (world_of opening before) last.step
+      → RegistrationsFollow (world_of opening before) last.step (world_of opening run)
   -- the last step let no count fall and gave no number again
   pub counted : (before : List PolledStep) (last : PolledStep) → run ≡ before ++ last ∷ []
       → CountsRise (world_of opening before) (world_of opening run)
@@ -71,18 +84,36 @@ pub record StandsBetween (run : List PolledStep) : Type 0 where
   -- the last step left the source that it polled or handled armed, where its answer tells of no fault
   pub arms : (before : List PolledStep) (last : PolledStep) → run ≡ before ++ last ∷ []
       → ArmsAsTold (world_of opening before) last.step last.answers (outcome_of (world_of opening before) last).answer (world_of opening run)
-  -- the last step counted a round where it began one, and what ran ran on
+  -- the last step counted a round where it began one, what ran ran on, and it was told so
   pub rounds : (before : List PolledStep) (last : PolledStep) → run ≡ before ++ last ∷ []
-      → RoundsFollow (world_of opening before) last.step (outcome_of (world_of opening before) last).answer (world_of opening run)
+      → RoundsFollow (world_of opening before) last.step last.answers (outcome_of (world_of opening before) last).answer (world_of opening run)
+  -- it moved the hand of the running round as it was told
+  pub hand : (before : List PolledStep) (last : PolledStep) → run ≡ before ++ last ∷ []
+      → HandFollows (world_of opening before) last.step last.answers (outcome_of (world_of opening before) last).answer (world_of opening run)
   -- it moved the clock where it was a `now` that was answered so
   pub clock : (before : List PolledStep) (last : PolledStep) → run ≡ before ++ last ∷ []
       → ClockIsSet (world_of opening before) last.step (outcome_of (world_of opening before) last).answer (world_of opening run)
-  -- it noted each event that it handled
+  -- it noted each event that it handled, and nothing else
   pub noted : (before : List PolledStep) (last : PolledStep) → run ≡ before ++ last ∷ []
       → HandledIsNoted (world_of opening before) last.step last.answers (world_of opening run)
-  -- it left the sources, listeners and timers of others alone
+  -- it left the sources, marks, failed arms, listeners and timers of others alone
   pub alone : (before : List PolledStep) (last : PolledStep) → run ≡ before ++ last ∷ []
-      → OthersStand (world_of opening before) last.step (world_of opening run)
+      → OthersStand (world_of opening before) last.step last.answers (world_of opening run)
+  -- its own mark went where it was told ready, and is of this step where it stored a waker
+  pub marked : (before : List PolledStep) (last : PolledStep) → run ≡ before ++ last ∷ []
+      → MarksFollow (world_of opening before) last.step (outcome_of (world_of opening before) last).answer (world_of opening run)
+  -- it added a source where it told a key, the least that was free, and took one out where it told so
+  pub sources : (before : List PolledStep) (last : PolledStep) → run ≡ before ++ last ∷ []
+      → SourcesFollow (world_of opening before) last.step (outcome_of (world_of opening before) last).answer (world_of opening run)
+  -- it was told ready exactly where it polled what was ready
+  pub ready : (before : List PolledStep) (last : PolledStep) → run ≡ before ++ last ∷ []
+      → ReadyIsTold (world_of opening before) last.step (outcome_of (world_of opening before) last).answer
+  -- and its own listener and timer are as it says
+  pub own : (before : List PolledStep) (last : PolledStep) → run ≡ before ++ last ∷ []
+      → KeepsItsOwn (world_of opening before) last.step (outcome_of (world_of opening before) last).answer (world_of opening run)
+  -- where it was refused, it moved its position alone and woke nobody
+  pub refused : (before : List PolledStep) (last : PolledStep) → run ≡ before ++ last ∷ []
+      → RefusalLeaves (world_of opening before) (outcome_of (world_of opening before) last).answer (outcome_of (world_of opening before) last).wakes (world_of opening run)
 
 -- what stands after these steps of a trace over the poller in memory
 abbrev pub StandsAfter : List Step → Type 0

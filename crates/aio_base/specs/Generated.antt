@@ -22,11 +22,12 @@ next_state state = (state * 25214903917 + 11) % 2 ^ 48
 abbrev pub drawn : ℕ → ℕ
 drawn state = state / 65536
 
--- the draw of this place, from 0, that follows a state
+-- the state that so many draws leave of a state
 abbrev pub state_after : ℕ → ℕ → ℕ
 state_after zero state = state
 state_after (suc n) state = state_after n (next_state state)
 
+-- the draw of this place, from 0, that follows a state
 abbrev pub draw : ℕ → ℕ → ℕ
 draw n state = drawn (state_after (suc n) state)
 

@@ -11,10 +11,15 @@ pub mod Covered
 pub mod Arming
 pub mod Distinct
 pub mod Counts
+pub mod RoundAnswers
 pub mod RoundCounts
+pub mod RoundHands
 pub mod Clock
 pub mod Handling
 pub mod Others
+pub mod Marks
+pub mod Sources
+pub mod Readiness
 pub mod Own
 pub mod FirstPolls
 pub mod Registered

@@ -1,10 +1,14 @@
--- The language of a line, in words: which step a line reads as, in any of its spellings; the one spelling in which a step is written; and what
--- is wrong with a line that reads as none.
-use Rattle.std.specs.Prelude.{◌≡◌, ℕ, ◌^◌, ◌≤◌, Bool, true, false, ◌&&◌, ◌||◌, ◌==◌, nat_le, nat_lt, if◌then◌else◌, List, [], ◌∷◌, length, filter, find, Option, None, Some, codes, decimal, bytes_eq}
+-- The language of a line, in words: which step a line reads as, in any of its spellings; the one spelling in which a step is written; what is
+-- wrong with a line that reads as none; and the step of a line as a function.
+use Rattle.std.specs.Prelude.{◌≡◌, ℕ, ◌^◌, ◌≤◌, Bool, true, false, ◌&&◌, ◌||◌, ◌==◌, nat_le, nat_lt, if◌then◌else◌, List, [], ◌∷◌, length, filter, find, Option, None, Some, option_and_then, codes, decimal, bytes_eq}
 use Rattle.std.specs.List.{list_all, list_any, slice_split, join_with_byte}
-use Rattle.std.specs.Option.{option_map_or}
+use Rattle.std.specs.Option.{option_map, option_map_or, option_or}
 use Rattle.std.specs.Str.{all_ascii_digits}
 use Rattle.std.specs.Str.Parse.{digits_value}
+use Rattle.aio_base.specs.declared.names.Dir.{Dir}
+use Rattle.aio_base.specs.declared.names.Dir.TheVariants.{Read, Write}
+use Rattle.aio_base.specs.declared.names.Interest.{Interest}
+use Rattle.aio_base.specs.declared.outcomes.Which.TheVariants as which
 use Rattle.aio_base.specs.declared.steps.LineFault.{LineFault}
 use Rattle.aio_base.specs.declared.steps.LineFault.TheVariants as fault
 use Rattle.aio_base.specs.declared.steps.Step.{Step}
@@ -296,3 +300,107 @@ unfoldable pub fault_of : List ℕ → Option LineFault
 fault_of line =
     if nat_lt line_bytes (length line) then Some fault.Long
     else (if list_all is_allowed (body_of line) then fault_of_words (words_in (body_of line)) else Some fault.Byte)
+
+-- ## The step of a line
+
+-- what a word stands for in a place
+abbrev pub Value : Asked → Type 0
+Value ANumber = ℕ
+Value AMoment = ℕ
+Value APeriod = ℕ
+Value ALimit = Option ℕ
+Value ADirection = Dir
+Value SomeFlags = Interest
+
+-- a number, where it is in this range
+abbrev pub within : ℕ → ℕ → Option ℕ → Option ℕ
+within low high None = None
+within low high (Some n) = if is_from_to low high n then Some n else None
+
+abbrev pub directions : List Dir
+directions = Read ∷ Write ∷ []
+
+abbrev pub interests : List Interest
+interests =
+    record { read = false; write = false }
+    ∷ record { read = true; write = false }
+    ∷ record { read = false; write = true }
+    ∷ record { read = true; write = true }
+    ∷ []
+
+-- the value of a word that is what the place asks
+abbrev pub value_of : (place : Asked) → List ℕ → Option (Value place)
+value_of ANumber word = within 0 last_number (numeral word)
+value_of AMoment word = within 0 last_moment (numeral word)
+value_of APeriod word = within 1 last_moment (numeral word)
+value_of ALimit word = if bytes_eq word (codes "none") then Some None else option_map (λ n. Some n) (within 0 last_moment (numeral word))
+value_of ADirection word = find (λ (dir : Dir). bytes_eq word (dir_text dir)) directions
+value_of SomeFlags word = find (λ (on : Interest). bytes_eq word (flags_text on)) interests
+
+-- a part of a line: a word that stands there as it is, or a place
+pub data Part : Type 0 where
+  Said : List ℕ → Part
+  Place : Asked → Part
+
+-- a step for the values of the places among these parts
+abbrev pub StepBy : List Part → Type 0
+StepBy [] = Step
+StepBy (Said text ∷ parts) = StepBy parts
+StepBy (Place place ∷ parts) = Value place → StepBy parts
+
+-- the lines of one kind of step: their parts, and the step for the values of the places
+pub record Shape : Type 0 where
+  pub parts : List Part
+  pub step : StepBy parts
+
+abbrev pub shape : (parts : List Part) → StepBy parts → Shape
+shape parts step = record { parts = parts; step = step }
+
+-- the lines of the language, with the step of each
+abbrev pub shapes : List Shape
+shapes =
+    shape (Said (codes "add") ∷ []) step.Add
+    ∷ shape (Said (codes "del") ∷ Place ANumber ∷ []) (λ k. step.Del (record { 0 = k }))
+    ∷ shape (Said (codes "poll") ∷ Place ANumber ∷ Place ADirection ∷ Place ANumber ∷ []) (λ k d w. step.Poll (record { 0 = k }) d (record { 0 = w }))
+    ∷ shape (Said (codes "new") ∷ Place ANumber ∷ Place ADirection ∷ []) (λ k d. step.New (record { 0 = k }) d)
+    ∷ shape (Said (codes "step") ∷ Place ANumber ∷ Place ANumber ∷ []) (λ n w. step.StepEar n (record { 0 = w }))
+    ∷ shape (Said (codes "drop") ∷ Place ANumber ∷ []) (λ n. step.DropEar n)
+    ∷ shape (Said (codes "timer") ∷ Said (codes "at") ∷ Place AMoment ∷ []) (λ t. step.TimerAt t)
+    ∷ shape (Said (codes "timer") ∷ Said (codes "every") ∷ Place AMoment ∷ Place APeriod ∷ []) (λ t p. step.TimerEvery t p)
+    ∷ shape (Said (codes "timer") ∷ Said (codes "never") ∷ []) step.TimerNever
+    ∷ shape (Said (codes "tick") ∷ Place ANumber ∷ Place ANumber ∷ []) (λ n w. step.Tick n (record { 0 = w }))
+    ∷ shape (Said (codes "set") ∷ Place ANumber ∷ Said (codes "at") ∷ Place AMoment ∷ []) (λ n t. step.SetAt n t)
+    ∷ shape (Said (codes "set") ∷ Place ANumber ∷ Said (codes "every") ∷ Place AMoment ∷ Place APeriod ∷ []) (λ n t p. step.SetEvery n t p)
+    ∷ shape (Said (codes "end") ∷ Place ANumber ∷ []) (λ n. step.End n)
+    ∷ shape (Said (codes "now") ∷ Place AMoment ∷ []) (λ t. step.Now t)
+    ∷ shape (Said (codes "event") ∷ Place ANumber ∷ Place SomeFlags ∷ []) (λ k on. step.Note (record { key = record { 0 = k }; on = on }))
+    ∷ shape (Said (codes "fault") ∷ Said (codes "add") ∷ []) (step.Fault which.Add)
+    ∷ shape (Said (codes "fault") ∷ Said (codes "arm") ∷ []) (step.Fault which.Arm)
+    ∷ shape (Said (codes "fault") ∷ Said (codes "remove") ∷ []) (step.Fault which.Remove)
+    ∷ shape (Said (codes "fault") ∷ Said (codes "wait") ∷ []) (step.Fault which.Wait)
+    ∷ shape (Said (codes "interrupt") ∷ []) step.Interrupt
+    ∷ shape (Said (codes "begin") ∷ Place ALimit ∷ []) (λ l. step.Begin l)
+    ∷ shape (Said (codes "wait") ∷ []) step.Wait
+    ∷ shape (Said (codes "handle") ∷ []) step.Handle
+    ∷ shape (Said (codes "finish") ∷ []) step.Finish
+    ∷ shape (Said (codes "react") ∷ []) step.React
+    ∷ []
+
+-- the step of words that are these parts, one by one
+abbrev pub step_by : (parts : List Part) → StepBy parts → List (List ℕ) → Option Step
+step_by [] s [] = Some s
+step_by [] s (word ∷ words) = None
+step_by (Said text ∷ parts) s [] = None
+step_by (Said text ∷ parts) s (word ∷ words) = if bytes_eq word text then step_by parts s words else None
+step_by (Place place ∷ parts) s [] = None
+step_by (Place place ∷ parts) s (word ∷ words) = option_and_then (λ v. step_by parts (s v) words) (value_of place word)
+
+-- the step of words that have one of these shapes
+abbrev pub step_among : List Shape → List (List ℕ) → Option Step
+step_among [] words = None
+step_among (first ∷ others) words = option_or (step_by first.parts first.step words) (step_among others words)
+
+-- The step that a line without its line feed reads as, where there is one: that whose shape its words have.
+unfoldable pub step_read : List ℕ → Option Step
+step_read line =
+    if nat_le (length line) line_bytes && list_all is_allowed (body_of line) then step_among shapes (words_in (body_of line)) else None

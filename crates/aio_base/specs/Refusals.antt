@@ -1,5 +1,6 @@
 -- The answers of a step that was refused, and what such a step leaves.
-use Rattle.std.specs.Prelude.{◌+◌, Bool, true, false, List}
+use Rattle.std.specs.Prelude.{◌≡◌, ◌+◌, Bool, true, false, List, []}
+use Rattle.aio_base.specs.declared.names.Waker.{Waker}
 use Rattle.aio_base.specs.declared.steps.Answer.{Answer}
 use Rattle.aio_base.specs.declared.steps.Answer.TheVariants as answer
 use Rattle.aio_base.specs.World.{PollerAnswer, World}
@@ -23,3 +24,8 @@ is_refusal _ = false
 -- a step that did nothing but take its position: no wake, no call of the poller, and each answer of the poller is left
 abbrev pub only_counted : Answer → World → List PollerAnswer → Outcome
 only_counted answer w answers = quiet answer (record w { pos = w.pos + 1 }) answers
+
+-- What a step leaves where it is refused: the world is the one before it but for its position, one more, and it woke nobody.
+pub record RefusalLeaves (w : World) (told : Answer) (wakes : List Waker) (v : World) : Type 0 where
+  pub world : is_refusal told ≡ true → v ≡ record w { pos = w.pos + 1 }
+  pub woken : is_refusal told ≡ true → wakes ≡ []

@@ -1,11 +1,11 @@
 -- How rounds are counted: the number of each, the position at which it began, and which of them runs.
-use Rattle.std.specs.Prelude.{◌≡◌, ℕ, ◌+◌, Bool, true, false, not, if◌then◌else◌, List, [], ◌∷◌, ◌++◌, length, Option, None, Some, is_some}
-use Rattle.std.specs.List.{All}
+use Rattle.std.specs.Prelude.{◌≡◌, ℕ, ◌+◌, Bool, false, not, if◌then◌else◌, List, [], ◌∷◌, ◌++◌, Option, None, Some, is_some}
 use Rattle.aio_base.specs.declared.steps.Step.{Step}
 use Rattle.aio_base.specs.declared.steps.Step.TheVariants as step
 use Rattle.aio_base.specs.declared.steps.Answer.{Answer}
 use Rattle.aio_base.specs.declared.steps.Answer.TheVariants as answer
-use Rattle.aio_base.specs.World.{RoundState, World}
+use Rattle.aio_base.specs.World.{PollerAnswer, RoundState, World}
+use Rattle.aio_base.specs.RoundAnswers.{RoundsTold}
 
 -- what a round keeps from its begin to its end: its number, the position at which it began, and its limit
 pub record RoundName : Type 0 where
@@ -36,17 +36,12 @@ running_after w (step.Begin limit) told =
 running_after w step.Finish (answer.End word) = None
 running_after w _ told = name_of w.round
 
--- a round that begins is answered under the next number
-abbrev pub TellsItsNumber : World → Step → Answer → Type 0
-TellsItsNumber w (step.Begin limit) (answer.Begin number told) = (number ≡ w.rounds + 1)
-TellsItsNumber w step.React (answer.Round number events end) = (number ≡ w.rounds + 1)
-TellsItsNumber w _ told = Unit {0}
-
 -- what a step leaves of the rounds
-pub record RoundsFollow (w : World) (s : Step) (told : Answer) (v : World) : Type 0 where
+pub record RoundsFollow (w : World) (s : Step) (answers : List PollerAnswer) (told : Answer) (v : World) : Type 0 where
   -- where a round begins one more was given, and in no other step
   pub rounds : v.rounds ≡ (if begins_round w s then w.rounds + 1 else w.rounds)
   -- its position is recorded, behind those of the earlier rounds
   pub begun : v.begun ≡ (if begins_round w s then w.begun ++ w.pos ∷ [] else w.begun)
   pub running : name_of v.round ≡ running_after w s told
-  pub number : TellsItsNumber w s told
+  -- which steps of a round are refused, and what the others tell
+  pub answered : RoundsTold w s answers told

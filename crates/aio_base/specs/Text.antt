@@ -1,4 +1,4 @@
--- The trace language in writing: the line of each answer, and the one written spelling of a step.
+-- The trace language in writing: the line of each answer, and the words of a step's places.
 use Rattle.std.specs.Prelude.{ℕ, Bool, true, false, List, [], ◌∷◌, ◌++◌, Option, None, Some, codes, decimal}
 use Rattle.aio_base.specs.declared.names.Dir.{Dir}
 use Rattle.aio_base.specs.declared.names.Dir.TheVariants.{Read, Write}
@@ -7,8 +7,6 @@ use Rattle.aio_base.specs.declared.outcomes.EndWord.{EndWord}
 use Rattle.aio_base.specs.declared.outcomes.EndWord.TheVariants.{Clean, FaultWait, FaultArm}
 use Rattle.aio_base.specs.declared.outcomes.Which.{Which}
 use Rattle.aio_base.specs.declared.outcomes.Which.TheVariants as which
-use Rattle.aio_base.specs.declared.steps.Step.{Step}
-use Rattle.aio_base.specs.declared.steps.Step.TheVariants as step
 use Rattle.aio_base.specs.declared.steps.Answer.{Answer}
 use Rattle.aio_base.specs.declared.steps.Answer.TheVariants as answer
 use Rattle.aio_base.specs.declared.steps.Reason.{Reason}
@@ -83,9 +81,8 @@ reason_text reason.Flags = codes "flags"
 reason_text reason.Choice = codes "choice"
 reason_text reason.Header = codes "header"
 reason_text reason.Lines = codes "lines"
-reason_text reason.Stage = codes "stage"
 
--- ## Steps
+-- ## Words of a step
 
 abbrev pub dir_text : Dir → List ℕ
 dir_text Read = codes "r"
@@ -106,28 +103,3 @@ which_text which.Add = codes "add"
 which_text which.Arm = codes "arm"
 which_text which.Remove = codes "remove"
 which_text which.Wait = codes "wait"
-
--- the one written spelling of a step, without its line feed: one space between words, no leading zeros
-unfoldable pub spelling : Step → List ℕ
-spelling step.Add = codes "add"
-spelling (step.Del key) = codes "del " ++ decimal key.0
-spelling (step.Poll key dir waker) = codes "poll " ++ decimal key.0 ++ codes " " ++ dir_text dir ++ codes " " ++ decimal waker.0
-spelling (step.New key dir) = codes "new " ++ decimal key.0 ++ codes " " ++ dir_text dir
-spelling (step.StepEar number waker) = codes "step " ++ decimal number ++ codes " " ++ decimal waker.0
-spelling (step.DropEar number) = codes "drop " ++ decimal number
-spelling (step.TimerAt moment) = codes "timer at " ++ decimal moment
-spelling (step.TimerEvery moment period) = codes "timer every " ++ decimal moment ++ codes " " ++ decimal period
-spelling step.TimerNever = codes "timer never"
-spelling (step.Tick number waker) = codes "tick " ++ decimal number ++ codes " " ++ decimal waker.0
-spelling (step.SetAt number moment) = codes "set " ++ decimal number ++ codes " at " ++ decimal moment
-spelling (step.SetEvery number moment period) = codes "set " ++ decimal number ++ codes " every " ++ decimal moment ++ codes " " ++ decimal period
-spelling (step.End number) = codes "end " ++ decimal number
-spelling (step.Now moment) = codes "now " ++ decimal moment
-spelling (step.Note event) = codes "event " ++ decimal event.key.0 ++ codes " " ++ flags_text event.on
-spelling (step.Fault kind) = codes "fault " ++ which_text kind
-spelling step.Interrupt = codes "interrupt"
-spelling (step.Begin limit) = codes "begin " ++ limit_text limit
-spelling step.Wait = codes "wait"
-spelling step.Handle = codes "handle"
-spelling step.Finish = codes "finish"
-spelling step.React = codes "react"

@@ -3,44 +3,39 @@
 ghost use Rattle.std.specs.Prelude.{◌≡◌, ◌≢◌, ◌⊎◌, ◌&&◌, ◌↔◌, ℕ, ◌<◌, ◌≤◌, nat_le, filter, true, false, not, List, [], ◌∷◌, ◌++◌, length, map, Option, Some, None};
 ghost use Rattle.std.specs.List.{All, Contains};
 ghost use Rattle.aio_base.specs.Arming.{ArmsAsTold, IsArmedOrInHand};
-ghost use Rattle.aio_base.specs.Between.{StandsAfter, StandsBetween};
+ghost use Rattle.aio_base.specs.Between.{IsWaitedOut, RegistrationsFollow, StandsAfter, StandsBetween, is_of_timer};
 ghost use Rattle.aio_base.specs.Clock.{ClockIsSet};
 ghost use Rattle.aio_base.specs.Counts.{CountsRise};
 ghost use Rattle.aio_base.specs.Covered.{Covered, WaitsForLive};
 ghost use Rattle.aio_base.specs.Distinct.{IsOfTimer, NoDoubles};
 ghost use Rattle.aio_base.specs.FirstPolls.{InPollOrder};
 ghost use Rattle.aio_base.specs.Handling.{HandledIsNoted};
+ghost use Rattle.aio_base.specs.Lines.{Reads, step_read};
+ghost use Rattle.aio_base.specs.Marks.{MarksFollow};
 ghost use Rattle.aio_base.specs.Machine.{Outcome, begin_round, finish_round, makes_second_pass, react, step_result};
 ghost use Rattle.aio_base.specs.Others.{OthersStand};
 ghost use Rattle.aio_base.specs.Own.{KeepsItsOwn};
-ghost use Rattle.aio_base.specs.Refusals.{is_refusal, only_counted};
+ghost use Rattle.aio_base.specs.Readiness.{ReadyIsTold};
+ghost use Rattle.aio_base.specs.Refusals.{RefusalLeaves, is_refusal, only_counted};
 ghost use Rattle.aio_base.specs.Registered.{TimersAreRegistered};
 ghost use Rattle.aio_base.specs.Runs.{PolledStep, answers_of, outcome_without_notes, scripted, wakes_of, without_notes, world_of};
 ghost use Rattle.aio_base.specs.RoundCounts.{RoundsFollow};
+ghost use Rattle.aio_base.specs.RoundHands.{HandFollows};
 ghost use Rattle.aio_base.specs.Script.{outcomes_from, world_after};
+ghost use Rattle.aio_base.specs.Sources.{SourcesFollow};
 ghost use Rattle.aio_base.specs.Storings.{Once, Storings, step_ended, step_storings, storings_of};
 ghost use Rattle.aio_base.specs.Succession.{StoringsFollow};
-ghost use Rattle.aio_base.specs.Text.{spelling};
 ghost use Rattle.aio_base.specs.Timers.{AllAbove, BookChange, IsBook, IsFiringOrder, after_pass, changed, due_wakers, fires_before, in_order, pair_of};
-ghost use Rattle.aio_base.specs.Trace.{IsBuilt, written_step};
 ghost use Rattle.aio_base.specs.World.{PollerAnswer, Registration, RoundState, World, is_broken, opening, serial_of, waiters_of};
 ghost use Rattle.aio_base.specs.declared.names.Dir.{Dir};
 ghost use Rattle.aio_base.specs.declared.names.Waker.{Waker};
 ghost use Rattle.aio_base.specs.declared.steps.Answer.{Answer};
 ghost use Rattle.aio_base.specs.declared.steps.Step.{Step};
 
-/// A line spells at most one step: it spells a step exactly where it is the step's written spelling,
-/// with numbers that a line can hold.
-pub fn a_line_spells_one_step()
-    ensures reads { (line : List ℕ) (s : Step)
-        → written_step line ≡ Some s → IsBuilt s × (spelling s ≡ line) }
-    ensures spells { (line : List ℕ) (s : Step)
-        → IsBuilt s → spelling s ≡ line → written_step line ≡ Some s }
-{}
-
-/// A line of more than 256 bytes spells no step.
-pub fn a_long_line_spells_no_step()
-    ensures { (line : List ℕ) → 257 ≤ length line → written_step line ≡ None }
+/// A line reads as a step exactly where this is the step whose shape its words have (`step_read`). So a
+/// line reads as one step at most, and each step of an input is what its line reads as.
+pub fn a_line_reads_as_the_step_of_its_words()
+    ensures { (s : Step) (line : List ℕ) → Reads s line ↔ (step_read line ≡ Some s) }
 {}
 
 /// A pass at a moment leaves no registration that is due by then, and takes the waker of each that it
@@ -51,11 +46,13 @@ pub fn no_due_timer_outlives_a_pass()
         → AllAbove moment (after_pass moment registrations) }
     ensures taken { (moment : ℕ) (registrations : List Registration) (r : Registration)
         → Contains registrations r
-        → Contains (after_pass moment registrations) r ⊎ Contains (due_wakers moment registrations) r.waker }
+        → Contains (after_pass moment registrations) r
+        ⊎ Contains (due_wakers moment registrations) r.waker }
     ensures begin { (w : World) (given : Option ℕ) (answers : List PollerAnswer)
         → w.round ≡ None → AllAbove w.now (begin_round w given answers).world.registrations }
     ensures finish { (w : World) (round : RoundState) (answers : List PollerAnswer)
-        → w.round ≡ Some round → round.in_hand ≡ [] → makes_second_pass round.last_wait round.limit ≡ true
+        → w.round ≡ Some round → round.in_hand ≡ []
+        → makes_second_pass round.last_wait round.limit ≡ true
         → AllAbove w.now (finish_round w answers).world.registrations }
     ensures react { (w : World) (given : Option ℕ) (answers : List PollerAnswer)
         → w.round ≡ None → AllAbove w.now (react w given answers).world.registrations }
@@ -66,20 +63,25 @@ pub fn no_due_timer_outlives_a_pass()
 /// that are due at its moment, of all of them and of no other.
 pub fn registrations_fire_in_order()
     ensures before { (a b : Registration)
-        → (fires_before a b ≡ true) ↔ ((a.deadline < b.deadline) ⊎ ((a.deadline ≡ b.deadline) × (a.id < b.id))) }
+        → (fires_before a b ≡ true)
+        ↔ ((a.deadline < b.deadline) ⊎ ((a.deadline ≡ b.deadline) × (a.id < b.id))) }
     ensures ordered { (registrations : List Registration)
         → IsFiringOrder registrations (in_order registrations) }
     ensures taken { (moment : ℕ) (registrations : List Registration)
         → (fired : List Registration)
-        × IsFiringOrder (filter (λ (r : Registration). nat_le r.deadline moment) registrations) fired
+        × IsFiringOrder
+        (filter (λ (r : Registration). nat_le r.deadline moment) registrations) fired
         × (due_wakers moment registrations ≡ map (λ (r : Registration). r.waker) fired) }
 {}
 
 /// A step that is refused takes its position and changes nothing else: no wake, no call of the poller.
 pub fn a_refused_step_changes_nothing()
-    ensures { (w : World) (s : Step) (answers : List PollerAnswer)
+    ensures counted { (w : World) (s : Step) (answers : List PollerAnswer)
         → is_refusal (step_result w s answers).answer ≡ true
         → step_result w s answers ≡ only_counted (step_result w s answers).answer w answers }
+    ensures leaves { (w : World) (s : Step) (answers : List PollerAnswer)
+        → let after = step_result w s answers in
+        RefusalLeaves w after.answer after.wakes after.world }
 {}
 
 /// The book of registered timers stays in the order in which they fire, under each change and each
@@ -93,7 +95,8 @@ pub fn a_change_keeps_the_book()
     ensures ordered { (book : List Registration)
         → IsBook book → in_order book ≡ book }
     ensures commute { (a b : BookChange) (book : List Registration)
-        → pair_of a ≢ pair_of b → IsBook book → changed a (changed b book) ≡ changed b (changed a book) }
+        → pair_of a ≢ pair_of b → IsBook book
+        → changed a (changed b book) ≡ changed b (changed a book) }
 {}
 
 /// After every run, whatever the poller answered in it, each waiter of each live source is covered: its
@@ -101,7 +104,8 @@ pub fn a_change_keeps_the_book()
 /// step at which it broke told that. There are no other waiters: whoever waits waits for a live source.
 /// Since a run that is cut off at a step is a run, this holds between any two steps.
 pub fn every_waiter_is_covered()
-    ensures covered { (run : List PolledStep) → Covered (world_of opening run) (answers_of opening run) }
+    ensures covered { (run : List PolledStep)
+        → Covered (world_of opening run) (answers_of opening run) }
     ensures live { (run : List PolledStep) → WaitsForLive (world_of opening run) }
 {}
 
@@ -112,7 +116,8 @@ pub fn every_waiter_is_covered()
 /// step woke are its wakers, in order. Since a run that is cut off at a step is a run, this holds
 /// between any two steps.
 pub fn no_storing_is_lost_or_woken_twice()
-    ensures { (run : List PolledStep) → Once (world_of opening run) (wakes_of opening run) (storings_of opening run) }
+    ensures { (run : List PolledStep)
+        → Once (world_of opening run) (wakes_of opening run) (storings_of opening run) }
 {}
 
 /// How the storings of wakers follow from step to step (`StoringsFollow`): a storing keeps its number,
@@ -180,9 +185,40 @@ pub fn no_number_is_given_twice()
 /// number, which its answer tells, and the position at which it began is recorded. It keeps number,
 /// begin and limit until a `finish` tells its end, or its whole round is answered; no other round runs
 /// then.
+///
+/// While a round runs, `begin` and `react` are told `locked`, and where none runs `wait`, `handle` and
+/// `finish` are told `no round`. With events in hand `wait` and `finish` are told how many, and with an
+/// empty hand `handle` is told `empty`. No step is told so in another case. Else a `begin` tells the
+/// limit of its waits, in nanoseconds: the least of the given limit and of the times to the registered
+/// deadlines, 0 for one that has come, and none where there is neither. A `wait` tells what the poller
+/// answered, a `handle` the key of its event, a `finish` the first fault of its round, and a `react` how
+/// many events its wait gave, and that it failed where it did.
 pub fn each_round_has_a_number_of_its_own()
     ensures { (w : World) (s : Step) (answers : List PollerAnswer)
-        → RoundsFollow w s (step_result w s answers).answer (step_result w s answers).world }
+        → let after = step_result w s answers in
+        RoundsFollow w s answers after.answer after.world }
+{}
+
+/// A round begins with an empty hand. A `wait` that tells how many events were given takes just these in
+/// hand, and none where it was interrupted or failed; a `handle` takes out the first one, whose key it
+/// tells. No other step changes the hand. A round remembers what its last wait was answered, and its
+/// first fault, and nothing else changes those.
+pub fn a_round_has_in_hand_what_its_wait_gave()
+    ensures { (w : World) (s : Step) (answers : List PollerAnswer)
+        → let after = step_result w s answers in
+        HandFollows w s answers after.answer after.world }
+{}
+
+/// A step that begins a round makes a pass over the registered timers, a whole round makes one, and so
+/// does a `finish` of a round with nothing in hand whose limit is not 0 and whose last wait gave no
+/// event, and was neither interrupted nor failed. No other step does. Such a pass takes what is due at
+/// the clock's moment. Else a step that is not of a timer leaves each registration.
+pub fn a_waited_out_round_ends_with_a_pass()
+    ensures step { (w : World) (s : Step) (answers : List PollerAnswer)
+        → is_of_timer s ≡ false → RegistrationsFollow w s (step_result w s answers).world }
+    ensures test { (round : RoundState)
+        → (round.in_hand ≡ []) × (makes_second_pass round.last_wait round.limit ≡ true)
+        ↔ IsWaitedOut round }
 {}
 
 /// The clock is set by a `now` whose moment has not passed, to that moment, which the answer tells. A
@@ -192,27 +228,77 @@ pub fn only_now_sets_the_clock()
         → ClockIsSet w s (step_result w s answers).answer (step_result w s answers).world }
 {}
 
-/// An event that is handled, by `handle` or in a whole round, is noted: each of its directions is fresh
-/// for whoever waited before the round began, so a poll waiter or a listener that it wakes is ready at
-/// the next poll. What was fresh stays so, and no other step notes an event.
+/// What is noted as handled after a step is what was noted before, and behind it, for each event
+/// that the step handled and whose key is live, one entry for each direction that the event names,
+/// writability first, with the position at which the handling round began. A `handle` handles the
+/// first event in hand, for the running round; a whole round handles each event that its wait
+/// gives, and begins with its own step. No other step notes anything.
+///
+/// So each direction of a handled event is fresh for whoever was stored, or first polled, before
+/// the round began, and a poll waiter or a listener that it wakes is ready at the next poll. What
+/// was fresh stays so.
 pub fn a_handled_event_is_noted()
     ensures { (w : World) (s : Step) (answers : List PollerAnswer)
         → HandledIsNoted w s answers (step_result w s answers).world }
 {}
 
-/// A step leaves the sources, listeners and timers of others alone: all but its own stand after it as
-/// they stood, in the same order, so none is lost, none is changed and none joins. Of a listener this
-/// says all but its waker, which a handled event takes. A step's own are the source that it adds or
-/// takes out, the listener that it makes, polls or drops, and the timer that it makes, polls, sets or
-/// ends; a step of a round has none.
+/// A step leaves what is of others alone: of sources, marks, failed arms, listeners and timers all
+/// but its own stand after it as they stood, in the same order, so none is lost, none is changed
+/// and none joins. Of a listener this says all but its waker, which a handled event takes. A step's
+/// own are the source that it adds or takes out; the mark of the direction that it polls, or all
+/// marks of the source that it takes out; the failed arm of the source that it polls, takes out or
+/// handles an event of; the listener that it makes, polls or drops; and the timer that it makes,
+/// polls, sets or ends.
+///
+/// The wakers of others stand too: `storings_follow_from_step_to_step` says which of them a step
+/// may replace, take or give up.
 pub fn a_step_leaves_others_alone()
     ensures { (w : World) (s : Step) (answers : List PollerAnswer)
-        → OthersStand w s (step_result w s answers).world }
+        → OthersStand w s answers (step_result w s answers).world }
+{}
+
+/// The mark of a direction is the position at which its last poll waiter was stored. A poll that is
+/// told `ready` uses it up; one that has to wait leaves this position, or, where that very waker is
+/// the poll waiter already, the mark that stood. A `del` that takes its source out takes all marks
+/// of it along. No other step changes a mark.
+pub fn a_mark_is_of_the_last_storing()
+    ensures { (w : World) (s : Step) (answers : List PollerAnswer)
+        → MarksFollow w s (step_result w s answers).answer (step_result w s answers).world }
+{}
+
+/// An `add` that is told a key joins one source at the end of the list, under that key and the next
+/// serial. No source has the key before, and each lesser key is that of a source. A `del` that is
+/// told `gone` or `fault remove` takes out the source of its key, which was live, and no other. A
+/// step that is told anything else, and every other step, changes neither the sources nor the count
+/// of serials.
+pub fn only_add_and_del_change_the_sources()
+    ensures { (w : World) (s : Step) (answers : List PollerAnswer)
+        → SourcesFollow w s (step_result w s answers).answer (step_result w s answers).world }
+{}
+
+/// A `poll` is told `ready` exactly where its key is live, its direction has a mark, and an event
+/// of the direction was handled by a round that began after the marked position. A `step` of a
+/// listener is told so exactly where the listener is there and was polled, and such an event was
+/// handled by a round that began after its first poll. A `tick` is told `ready` with a deadline
+/// exactly where the timer is there with that deadline, and the clock's moment is not before it. No
+/// other step is told `ready`.
+///
+/// Which events were handled, and by a round of which begin, says `a_handled_event_is_noted`.
+pub fn a_step_is_ready_exactly_where_what_it_polls_is()
+    ensures { (w : World) (s : Step) (answers : List PollerAnswer)
+        → ReadyIsTold w s (step_result w s answers).answer }
 {}
 
 /// A listener is the same after a step, but for its waker, and but for its position where this is its
-/// first poll: that one it remembers, and no later one. A timer gets a deadline or a period where it is
-/// made, where it is set, and where its own `tick` is answered `ready`; in no other step do they change.
+/// first poll: that one it remembers, and no later one. One that is made has the source of its step's
+/// key and its step's direction, no position and no waker, and it stands under the number that is told.
+///
+/// A timer that is made has just the deadline and the period of its step, and stands under the number
+/// that is told. A `set` that is answered `set` gives its timer the deadline that it names, and keeps
+/// the period, or with `every` gives the one that it names. A `tick` that is told `ready` tells the
+/// timer's deadline, which has come, and the next is one period later where that is at most 10^18
+/// nanoseconds; else there is none. The period stays. No other step changes deadline or period, and no
+/// listener or timer is lost but the one that is given up, which is gone.
 pub fn a_position_and_a_deadline_have_their_steps()
     ensures { (w : World) (s : Step) (answers : List PollerAnswer)
         → KeepsItsOwn w s (step_result w s answers).answer (step_result w s answers).world }
@@ -226,14 +312,16 @@ pub fn a_script_is_a_run()
     ensures steps { (w : World) (steps : List Step)
         → map (λ (s : PolledStep). s.step) (scripted w steps) ≡ steps }
     ensures answers { (w : World) (steps : List Step)
-        → answers_of w (scripted w steps) ≡ map (λ (o : Outcome). o.answer) (outcomes_from w steps) }
+        → answers_of w (scripted w steps)
+        ≡ map (λ (o : Outcome). o.answer) (outcomes_from w steps) }
     ensures wakes { (w : World) (steps : List Step)
         → wakes_of w (scripted w steps) ≡ map (λ (o : Outcome). o.wakes) (outcomes_from w steps) }
     ensures world { (w : World) (steps : List Step)
         → without_notes (world_of w (scripted w steps)) ≡ without_notes (world_after w steps) }
     ensures unread { (w v : World) (s : Step) (answers : List PollerAnswer)
         → without_notes w ≡ without_notes v
-        → outcome_without_notes (step_result w s answers) ≡ outcome_without_notes (step_result v s answers) }
+        → outcome_without_notes (step_result w s answers)
+        ≡ outcome_without_notes (step_result v s answers) }
 {}
 
 /// After every run, whatever the poller answered in it, each waiter of each live source is covered and
@@ -247,8 +335,12 @@ pub fn a_script_is_a_run()
 ///
 /// Listeners that were polled stand in the order of their first polls. A last step that was told pending,
 /// or that handled an event without a fault, left its source unbroken where a waiter is left.
-/// The last step counted a round where it began one, noted each event that it handled, moved the clock
-/// where it was a `now` that was answered so, and left the things of others alone.
+/// The last step counted a round where it began one, told what a step of a round tells, moved the hand as
+/// it told, noted each event that it handled and nothing else, moved the clock where it was a `now` that
+/// was answered so, and left the things of others alone. Its own mark went where it was told ready, it
+/// changed the sources as its answer tells and its own listener or timer as such a step may, and it was
+/// told ready exactly where it polled what was ready. Where it was refused it took its position and did
+/// nothing else.
 pub fn a_run_stands_between_its_steps()
     ensures run { (run : List PolledStep) → StandsBetween run }
     ensures trace { (steps : List Step) → StandsAfter steps }

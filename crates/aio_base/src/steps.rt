@@ -166,9 +166,8 @@ pub enum LineFault {
     Choice,
 }
 
-/// Why a trace is refused at a line: a fault of the line; no header in the first line; a line past
-/// the millionth; or, while the whole language is not read yet, a line that is not the written
-/// spelling of a line that is built (`Stage`).
+/// Why a trace is refused at a line: a fault of the line; no header in the first line; or a line past
+/// the millionth.
 #[derive(Clone, Copy, Debug, PartialEq, Eq)]
 pub enum Reason {
     /// `long`: more than 256 bytes.
@@ -193,6 +192,26 @@ pub enum Reason {
     Header,
     /// `lines`: the line is past the millionth.
     Lines,
-    /// `stage`: the line is not the written spelling of a line that is built.
-    Stage,
+}
+
+impl From<LineFault> for Reason {
+    ghost use Rattle.std.specs.Prelude.{◌≡◌};
+    ghost use Rattle.aio_base.specs.Trace.{reason_of};
+
+    ghost from_gives = { λ fault reason. reason ≡ reason_of fault };
+
+    /// The reason for which a line with this fault is refused.
+    fn from(fault: LineFault) -> Reason {
+        match fault {
+            LineFault::Long => Reason::Long,
+            LineFault::Byte => Reason::Byte,
+            LineFault::Empty => Reason::Empty,
+            LineFault::Command => Reason::Command,
+            LineFault::Count => Reason::Count,
+            LineFault::Number => Reason::Number,
+            LineFault::Direction => Reason::Direction,
+            LineFault::Flags => Reason::Flags,
+            LineFault::Choice => Reason::Choice,
+        }
+    }
 }

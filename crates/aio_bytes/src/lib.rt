@@ -22,4 +22,4 @@ pub use lines::{LONGEST, LineReader};
 pub use memory::{MemSink, MemSource};
 pub use sure::{SureSink, SureSource};
 pub use traits::{Sink, SinkRefusal, Source};
-pub use writing::write_all;
+pub use writing::{BLOCK, flush, write_all};

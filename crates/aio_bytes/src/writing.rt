@@ -1,10 +1,14 @@
-//! Writing all of some bytes to a sink, however few it takes a call.
+//! Writing all of some bytes to a sink, however few it takes a call; and writing a text that was
+//! gathered in a block.
 
-ghost use Rattle.std.specs.Prelude.{◌≡◌, ℕ, [], List, IfErr, IsOk};
+ghost use Rattle.std.specs.Prelude.{◌≡◌, ℕ, [], IsTrue, List, IfErr, IsOk, OnErr, OnOk};
 ghost use Rattle.aio_base.specs.Devices.{TellsFaults};
-ghost use Rattle.aio_bytes.specs.Sinks.{EndsWith, HasFailed, InTurn, RefusedBy, Writes};
+ghost use Rattle.aio_bytes.specs.Sinks.{EndsWith, HasFailed, InTurn, RefusedBy, Writes, is_failed};
 
 use crate::traits::{Sink, SinkRefusal};
+
+/// How many bytes of output are gathered in a block before they are written.
+pub const BLOCK: usize = 65_536;
 
 /// Writes all of `bytes` at the end of `out`, in as many calls as that takes; without a call where
 /// there are none. Each call is handed all the bytes that are left. A refusal is the answer of the
@@ -23,4 +27,21 @@ pub fn write_all<K: Sink>(out: &mut K, bytes: &[u8]) -> Result<(), SinkRefusal>
         rest = &rest[taken..];
     }
     Ok(())
+}
+
+/// Writes the text that was gathered, and is left with none of it; where the output refuses some of
+/// it, the text stays, and what the output took of it before stands there.
+pub fn flush<K: Sink>(text: &mut Vec<u8>, out: &mut K) -> Result<(), SinkRefusal>
+    ensures written { Writes result (K.contents out.old) (K.contents out.new) text.old.items }
+    ensures empty { OnOk result (text.new.items ≡ []) }
+    ensures kept { OnErr result (text.new.items ≡ text.old.items) }
+    ensures refused { IfErr result (RefusedBy K.write_step out.new) }
+    ensures cause { TellsFaults K.fault_count K.is_sure
+        out.old out.new (IsTrue (is_failed result)) }
+{
+    let result = write_all(out, text.as_slice());
+    if result.is_ok() {
+        text.clear();
+    }
+    result
 }

@@ -18,6 +18,10 @@ module _ {W : Type 0} where
   pub Seen-start : (s : Slab (Node W)) (first last : Option ℕ) (keys : List ℕ) (waiting : ℕ) → IsOrder s first last keys → waiting ≡ length (wakers_of (entries_at s keys)) → Seen s keys last None waiting 0
   Seen-start s first last keys waiting h w = record { front = keys; back = []; parts = sym (append-nil keys); before = h.last_is; behind = refl; waiting = w; size = refl }
 
+  -- or all at once
+  pub Seen-whole : (s : Slab (Node W)) (first last : Option ℕ) (keys : List ℕ) (steps : ℕ) → IsOrder s first last keys → steps ≡ length keys → Seen s keys None first 0 steps
+  Seen-whole s first last keys steps h all = record { front = []; back = keys; parts = refl; before = refl; behind = h.first_is; waiting = refl; size = all }
+
   -- one node further back
   pub record Back (s : Slab (Node W)) (keys : List ℕ) (k left steps : ℕ) : Type 0 where
     pub here : IsSome (get s k)

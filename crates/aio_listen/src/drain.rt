@@ -1,8 +1,9 @@
 //! The drain of a list of listeners, which visits what waits and little else.
 //!
 //! A drain leaves no waker behind, and who was woken seldom waits again in its old place. So what
-//! waits stands at the end of the order, but for rare cases: the walk goes back from there until it
-//! has seen as many wakers as there are, and then forward to take them in the order of arrival.
+//! waits stands at the end of the order, but for rare cases: where some wait and some do not, the
+//! walk goes back from there until it has seen as many wakers as there are, and then forward to take
+//! them in the order of arrival.
 
 ghost use Rattle.std.specs.Prelude.{ℕ, List, Option, ◌≡◌, ◌+◌, ◌≤◌, ◌++◌, length, option_to_list, vec_capacity};
 ghost use Rattle.aio_listen.specs.Listening.{wakers_of};
@@ -25,7 +26,7 @@ pub(crate) fn left_behind<W: Copy>(left: usize, waker: Option<W>) -> usize
 
 /// Goes back from the last node until all wakers were seen: the link to the node where it stands
 /// then, and how many nodes there are from it on.
-pub(crate) fn go_back<W: Copy>(nodes: &Slab<Node<W>>, last: Link, waiting: usize) -> (Link, usize)
+fn go_back<W: Copy>(nodes: &Slab<Node<W>>, last: Link, waiting: usize) -> (Link, usize)
     requires { (first : Option ℕ) × (keys : List ℕ) × IsOrder nodes.now first last keys × (waiting ≡ length (wakers_of (entries_at nodes.now keys))) }
     ensures { (first : Option ℕ) (keys : List ℕ) → IsOrder nodes.now first last keys → waiting ≡ length (wakers_of (entries_at nodes.now keys))
         → (at : Option ℕ) × Seen nodes.now keys at result.0 0 result.1 }
@@ -48,6 +49,24 @@ pub(crate) fn go_back<W: Copy>(nodes: &Slab<Node<W>>, last: Link, waiting: usize
         }
     }
     (start, nodes.len())
+}
+
+/// Where a drain begins, before which no node has a waker: the link to it, and how many nodes there
+/// are from it on. Where all wait that is the first node, and none is looked at.
+pub(crate) fn drain_start<W: Copy>(
+    nodes: &Slab<Node<W>>,
+    first: Link,
+    last: Link,
+    waiting: usize,
+) -> (Link, usize)
+    requires { (keys : List ℕ) × IsOrder nodes.now first last keys × (waiting ≡ length (wakers_of (entries_at nodes.now keys))) }
+    ensures { (keys : List ℕ) → IsOrder nodes.now first last keys → waiting ≡ length (wakers_of (entries_at nodes.now keys))
+        → (at : Option ℕ) × Seen nodes.now keys at result.0 0 result.1 }
+{
+    if waiting == nodes.len() {
+        return (first, waiting);
+    }
+    go_back(nodes, last, waiting)
 }
 
 /// Adds a waker at the end of `out`, if there is one.

@@ -3,7 +3,7 @@
 ghost use Rattle.std.specs.Prelude.{◌≡◌, ◌+◌, ◌-◌, ◌^◌, ◌<◌, ◌≤◌, ◌==◌, ◌↔◌, [], ◌∷◌, ◌++◌, None, length, option_to_list, IfOk, OnOk, OnErr, IsErrOf, vec_len, vec_capacity};
 ghost use Rattle.aio_listen.specs.Listening.{Holds, SerialsRise, has_ticket, wakers_of, with_waker, without, emptied};
 
-use crate::drain::{go_back, left_behind, take_on};
+use crate::drain::{drain_start, left_behind, take_on};
 use crate::link::Link;
 use crate::node::{Node, store};
 use crate::order::{append, unlink};
@@ -173,14 +173,15 @@ impl<W: Copy> Listeners<W> {
 
     /// Moves the wakers that listeners wait with to the end of `out`, in order; the listeners stay,
     /// with no waker. It takes no memory, and the time of two walks between the last listener and
-    /// the first one that waits: those before that one, which have no waker, are not visited.
+    /// the first one that waits, or of one where all wait: those before that one, which have no
+    /// waker, are not visited.
     pub fn drain_into(&mut self, out: &mut Vec<W>)
         requires { vec_len out.old + length (wakers_of self.old.entries) ≤ vec_capacity out.old }
         ensures drained { self.new ≡ record self.old { entries = emptied self.old.entries } }
         ensures items { out.new.items ≡ out.old.items ++ wakers_of self.old.entries }
         ensures capacity { vec_capacity out.new ≡ vec_capacity out.old }
     {
-        let (start, steps) = go_back(&self.nodes, self.last, self.waiting);
+        let (start, steps) = drain_start(&self.nodes, self.first, self.last, self.waiting);
         take_on(&mut self.nodes, start, steps, out);
         self.waiting = 0;
     }

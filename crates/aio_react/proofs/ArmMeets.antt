@@ -28,7 +28,8 @@ use Rattle.aio_react.specs.Meeting.{kind_of, Comes, WaitsWithin}
 use Rattle.aio_react.specs.Standing.{serial_in, is_in_hand, StandsWithin}
 use Rattle.aio_react.proofs.DirectionFacts.{wanted_stands}
 use Rattle.aio_react.proofs.Rearming.{armed_here, armed_aside, tells_armed, tells_unarmed}
-use Rattle.aio_react.proofs.SourceChanges.{with_state, with_source, source_found, source_changes, stands_moved, placed_again}
+use Rattle.aio_react.proofs.Later.{stands_moved}
+use Rattle.aio_react.proofs.SourceChanges.{with_state, with_source, source_found, source_changes, placed_again}
 
 -- ## Inside a step
 

@@ -24,8 +24,7 @@ use Rattle.aio_react.specs.Rounds.{RoundValue, begun}
 use Rattle.aio_react.specs.Sections.{core_begun}
 use Rattle.aio_react.specs.Standing.{PlaceStands, DirectionStands, ListenerStands, Remembers, RoundStands, IsBefore, serial_in, numbers_in, AreAsked, Stands, StandsWithin}
 use Rattle.aio_react.proofs.BookPasses.{due_of_book, limit_of_book, ids_filter}
-use Rattle.aio_react.proofs.Later.{tickets_later, past_later, quiet_comes}
-use Rattle.aio_react.proofs.SourceChanges.{stands_moved}
+use Rattle.aio_react.proofs.Later.{tickets_later, past_later, quiet_comes, stands_moved}
 use Rattle.aio_react.proofs.WaitMeets.{none_runs}
 use Rattle.aio_react.proofs.RoundPast.{found_holds, rounds_last, last_has_begun, all_begun_longer, tick_longer, since_longer}
 

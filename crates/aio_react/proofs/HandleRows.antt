@@ -12,9 +12,9 @@ use Rattle.aio_base.specs.Machine.{Outcome, handle_each, handle_round, step_resu
 use Rattle.aio_base.specs.Moves.{answer_of}
 use Rattle.aio_base.specs.World.{PollerAnswer, World}
 use Rattle.aio_react.specs.Cores.{CoreValue}
-use Rattle.aio_react.specs.Meeting.{Comes, Meets, kind_of}
+use Rattle.aio_react.specs.Meeting.{Meets, kind_of}
 use Rattle.aio_react.specs.Parts.{ComesWithin, MeetsPart}
-use Rattle.aio_react.specs.Reacting.{Section, Handles}
+use Rattle.aio_react.specs.Reacting.{Handles}
 use Rattle.aio_react.specs.Standing.{Stands}
 use Rattle.aio_react.proofs.PartRows.{runs_both, waits_both, answers_both, mapped_both}
 use Rattle.aio_react.proofs.PartMeets.{quiet_part}

@@ -11,7 +11,7 @@ use Rattle.aio_source.specs.Rules.{direction_of}
 use Rattle.aio_react.specs.declared.entries.SourceEntry.{SourceEntry}
 use Rattle.aio_react.specs.Cores.{CoreValue, entry_at}
 use Rattle.aio_react.specs.Meeting.{Comes}
-use Rattle.aio_react.specs.Standing.{AreFewTickets, IsBefore, PastSound, Stands}
+use Rattle.aio_react.specs.Standing.{AreFewTickets, IsBefore, PastSound, StandsWithin, Stands}
 
 tickets_at : (place : Option SourceEntry) (bound later : ℕ) (dir : Dir) → bound ≤ later
     → IfSome place (λ (e : SourceEntry). (direction_of e.source.directions dir).listeners.drawn ≤ bound)
@@ -36,9 +36,9 @@ past_later bound later w less past = record {
   of_rounds = past.of_rounds;
 }
 
--- the world a position later
-pub stands_later : (told : Option Interests) (core : CoreValue) (w : World) → Stands told core w → Stands told core (record w { pos = w.pos + 1 })
-stands_later told core w stands = record {
+-- inside the step at a position, whose own marks are allowed
+pub stands_inside : (told : Option Interests) (core : CoreValue) (w : World) → Stands told core w → StandsWithin (w.pos + 1) told core w
+stands_inside told core w stands = record {
   sources = stands.sources;
   count = stands.count;
   tickets = tickets_later core.sources w.pos (w.pos + 1) (omega arith) stands.tickets;
@@ -57,6 +57,32 @@ stands_later told core w stands = record {
     timers = stands.sound.timers;
   };
 }
+
+-- and once the step is over
+pub stands_moved : (told : Option Interests) (core : CoreValue) (w : World) → StandsWithin (w.pos + 1) told core w → Stands told core (record w { pos = w.pos + 1 })
+stands_moved told core w stands = record {
+  sources = stands.sources;
+  count = stands.count;
+  tickets = stands.tickets;
+  listeners = stands.listeners;
+  ticker_is = stands.ticker_is;
+  book = stands.book;
+  tells = stands.tells;
+  asked = stands.asked;
+  round = stands.round;
+  sound = record {
+    live = stands.sound.live;
+    unused = stands.sound.unused;
+    listeners = stands.sound.listeners;
+    past = stands.sound.past;
+    running = stands.sound.running;
+    timers = stands.sound.timers;
+  };
+}
+
+-- the world a position later
+pub stands_later : (told : Option Interests) (core : CoreValue) (w : World) → Stands told core w → Stands told core (record w { pos = w.pos + 1 })
+stands_later told core w stands = stands_moved told core w (stands_inside told core w stands)
 
 -- a step that is refused
 pub quiet_comes : (told : Option Interests) (core : CoreValue) (w : World) (s : Step) (answer : Answer) (later : List PollerAnswer)

@@ -46,3 +46,4 @@ mod Asked
 mod FreshCores
 mod PastKept
 mod SoundRuns
+mod SeatLemmas

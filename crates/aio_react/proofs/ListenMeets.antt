@@ -18,10 +18,10 @@ use Rattle.aio_react.specs.Numbers.{value_of}
 use Rattle.aio_react.specs.Standing.{serial_in}
 use Rattle.aio_react.proofs.ArmMeets.{Within, step_comes}
 use Rattle.aio_react.proofs.HeldSources.{Keeps, heard_again}
-use Rattle.aio_react.proofs.Later.{quiet_comes}
+use Rattle.aio_react.proofs.Later.{quiet_comes, stands_inside}
 use Rattle.aio_react.proofs.NewListeners.{counted, new_listener_of, with_new_listener, listen_stands, pushed_length, new_value, old_value}
 use Rattle.aio_react.proofs.PollMeets.{serial_by, no_serial_by}
-use Rattle.aio_react.proofs.SourceChanges.{place_here, place_aside, stands_inside}
+use Rattle.aio_react.proofs.SourceChanges.{place_here, place_aside}
 
 pub listen_meets : {P : Type 0} (poller_step : P → PollerMove → P → Type 0) (tells : P → Option Interests) (poller : P) (core : CoreValue) (key : Key) (dir : Dir) (e : SourceEntry) (number : ℕ)
     → entry_at core.sources key.0 ≡ Some e → number ≡ length core.listeners + 1

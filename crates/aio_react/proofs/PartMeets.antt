@@ -12,7 +12,7 @@ use Rattle.aio_react.specs.Meeting.{Meets}
 use Rattle.aio_react.specs.Parts.{ComesWithin, MeetsPart}
 use Rattle.aio_react.specs.Standing.{StandsWithin}
 use Rattle.aio_react.proofs.ArmMeets.{step_comes}
-use Rattle.aio_react.proofs.SourceChanges.{stands_inside}
+use Rattle.aio_react.proofs.Later.{stands_inside}
 
 pub part_steps : {P : Type 0} (poller_step : P → PollerMove → P → Type 0) (tells : P → Option Interests) (s : Step) (now : Option ℕ) (answer : Answer) (wakes : List Waker) (limit : Option ℕ)
     (old new : P × CoreValue) → MeetsPart poller_step tells (λ w answers. case_of w s answers) now answer wakes limit old new → Meets poller_step tells s now answer wakes limit old new

@@ -3,7 +3,7 @@ use Rattle.std.proofs.Common.{◌≡◌, List, [], ◌∷◌, ◌++◌, map, Opt
 use Rattle.aio_base.specs.Devices.{PollerMove, Armed, Awaited, RunOf}
 use Rattle.aio_base.specs.Moves.{answer_of}
 use Rattle.aio_base.specs.World.{PollerAnswer}
-use Rattle.aio_react.specs.Meeting.{kind_of, WaitsWithin}
+use Rattle.aio_react.specs.Meeting.{WaitsWithin}
 
 pub runs_both : {S M : Type 0} (step : S → M → S → Type 0) (xs ys : List M) (a b c : S) → RunOf step a xs b → RunOf step b ys c → RunOf step a (xs ++ ys) c
 runs_both {S = S} step [] ys a b c first second = subst (λ (s : S). RunOf step s ys c) first second

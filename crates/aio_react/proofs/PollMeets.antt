@@ -32,8 +32,8 @@ use Rattle.aio_react.specs.Polls.{waiting_reply}
 use Rattle.aio_react.specs.Standing.{serial_in, AreAsked, is_in_hand, DirectionStands, PlaceStands, Stands, StandsWithin}
 use Rattle.aio_react.proofs.ArmMeets.{Within, step_comes, arm_moves, arm_waits, arm_runs, unasked, arm_reply, arm_within}
 use Rattle.aio_react.proofs.DirectionFacts.{fresh_is_ready, idle_stands}
-use Rattle.aio_react.proofs.Later.{quiet_comes}
-use Rattle.aio_react.proofs.SourceChanges.{IsAsked, with_state, with_source, source_found, source_changes, stands_inside, direction_changes, keeps_listeners, place_here, placed_twice}
+use Rattle.aio_react.proofs.Later.{quiet_comes, stands_inside}
+use Rattle.aio_react.proofs.SourceChanges.{IsAsked, with_state, with_source, source_found, source_changes, direction_changes, keeps_listeners, place_here, placed_twice}
 use Rattle.aio_react.proofs.Waiting.{waiter_here, mark_gone, mark_here, serial_apart, dir_apart, seen_aside, stored_aside, all_begun}
 
 abbrev pub poll_told : Bool → Result (Unit {0}) Failed → Answer

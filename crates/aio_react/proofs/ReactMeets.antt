@@ -1,5 +1,5 @@
 -- A whole round of a core meets the machine's, whatever the poller answered; and what is left of one that was stopped.
-use Rattle.std.proofs.Common.{◌≡◌, ℕ, ◌+◌, ◌-◌, ◌^◌, ◌==◌, Bool, true, false, if◌then◌else◌, List, [], ◌∷◌, ◌++◌, map, length, Option, None, Some, is_some, IfSome, unwrap_or, Err, refl, sym, ap, ◌∙◌, subst, append-nil}
+use Rattle.std.proofs.Common.{◌≡◌, ℕ, ◌+◌, ◌-◌, ◌^◌, ◌==◌, Bool, true, false, if◌then◌else◌, List, [], ◌++◌, map, length, Option, None, Some, is_some, IfSome, unwrap_or, Err, refl, sym, ap, ◌∙◌, subst, append-nil}
 use Rattle.aio_base.specs.declared.names.Event.{Event}
 use Rattle.aio_base.specs.declared.names.Waker.{Waker}
 use Rattle.aio_base.specs.declared.outcomes.EndWord.{EndWord}
@@ -17,15 +17,14 @@ use Rattle.aio_react.specs.declared.refusals.CoreRefusal.TheVariants as refusal
 use Rattle.aio_react.specs.declared.round.RoundFault.{RoundFault}
 use Rattle.aio_react.specs.Cores.{CoreValue}
 use Rattle.aio_react.specs.Meeting.{Comes, Meets, kind_of}
-use Rattle.aio_react.specs.Parts.{ComesWithin, MeetsPart}
+use Rattle.aio_react.specs.Parts.{MeetsPart}
 use Rattle.aio_react.specs.Reacting.{react_reply, MeetsRound, Handles, Stopped}
 use Rattle.aio_react.specs.Sections.{begin_refusal, core_begun}
 use Rattle.aio_react.specs.Standing.{StandsWithin, end_word}
 use Rattle.aio_react.proofs.BeginMeets.{world_begun, begun_stands, begin_is_made, begin_meets, busy_world}
 use Rattle.aio_react.proofs.HandleRows.{steps_stand}
-use Rattle.aio_react.proofs.Later.{stands_later}
+use Rattle.aio_react.proofs.Later.{stands_later, stands_moved}
 use Rattle.aio_react.proofs.PartRows.{runs_both, waits_both, answers_both, mapped_both}
-use Rattle.aio_react.proofs.SourceChanges.{stands_moved}
 use Rattle.aio_react.proofs.WaitMeets.{none_runs, one_runs}
 
 -- ## The machine
@@ -155,11 +154,24 @@ react_meets {P = P} poller_step tells given now number events fault waits wakes 
     (whole_meets poller_step tells given now events fault waits wakes old.0 old.1 mid far new idle running still events_are fault_is begun (handled limit) (finished limit))
 
 -- with no given limit it is a step of its own
-pub round_is_react : {P : Type 0} (poller_step : P → PollerMove → P → Type 0) (tells : P → Option Interests) (now : ℕ) (answer : Answer) (wakes : List Waker) (old new : P × CoreValue)
+round_is_react : {P : Type 0} (poller_step : P → PollerMove → P → Type 0) (tells : P → Option Interests) (now : ℕ) (answer : Answer) (wakes : List Waker) (old new : P × CoreValue)
     → MeetsRound poller_step tells None now answer wakes old new → Meets poller_step tells step.React (Some now) answer wakes (limit_of now old.1.book None) old new
 unfolding step_result
 round_is_react {P = P} poller_step tells now answer wakes old new met =
     record { moves = met.moves; run = met.run; waits = met.waits; comes = λ w later stands at. met.comes w later stands at }
+
+round_alone_by : {P : Type 0} (poller_step : P → PollerMove → P → Type 0) (tells : P → Option Interests) (now : ℕ) (reply : Option Answer) (wakes : List Waker) (old new : P × CoreValue)
+    → IfSome reply (λ answer. MeetsRound poller_step tells None now answer wakes old new)
+    → IfSome reply (λ answer. Meets poller_step tells step.React (Some now) answer wakes (limit_of now old.1.book None) old new)
+round_alone_by {P = P} poller_step tells now None wakes old new met = tt
+round_alone_by {P = P} poller_step tells now (Some answer) wakes old new met = round_is_react poller_step tells now answer wakes old new met
+
+pub round_alone : {P : Type 0} (poller_step : P → PollerMove → P → Type 0) (tells : P → Option Interests) (given : Option ℕ) (now : ℕ) (reply : Option Answer) (wakes : List Waker) (old new : P × CoreValue)
+    → given ≡ None → IfSome reply (λ answer. MeetsRound poller_step tells given now answer wakes old new)
+    → IfSome reply (λ answer. Meets poller_step tells step.React (Some now) answer wakes (limit_of now old.1.book None) old new)
+round_alone {P = P} poller_step tells given now reply wakes old new none met =
+    round_alone_by poller_step tells now reply wakes old new
+    (subst (λ (limit : Option ℕ). IfSome reply (λ answer. MeetsRound poller_step tells limit now answer wakes old new)) none met)
 
 -- ## A round while another runs
 

@@ -1,16 +1,14 @@
 -- The faults of a poller over the sections of a round, of which the first is kept.
-use Rattle.std.proofs.Common.{◌≡◌, ℕ, ◌≤◌, Bool, IsTrue, Option, None, Some, IfSome, IsSome, option_map, Result, Ok, Err, IfOk, refl, sym, ap, ◌∙◌, subst, arith}
+use Rattle.std.proofs.Common.{◌≡◌, ℕ, ◌≤◌, Bool, Option, None, Some, IfSome, IsSome, option_map, refl, sym, ap, ◌∙◌, subst, arith}
 use Rattle.std.specs.Option.{option_or}
 use Rattle.aio_base.specs.declared.names.Key.{Key}
 use Rattle.aio_base.specs.declared.outcomes.ArmFault.{ArmFault}
 use Rattle.aio_base.specs.declared.outcomes.CountFault.{CountFault}
 use Rattle.aio_base.specs.Devices.{Rose, TellsFaults}
 use Rattle.aio_react.specs.declared.outcomes.Handled.{Handled}
-use Rattle.aio_react.specs.declared.refusals.CoreRefusal.{CoreRefusal}
 use Rattle.aio_react.specs.declared.round.RoundFault.{RoundFault}
 use Rattle.aio_react.specs.declared.round.RoundFault.TheVariants.{Wait, Arm}
 use Rattle.aio_react.specs.Reacting.{RisesWithin, FaultsSince}
-use Rattle.aio_react.specs.Sections.{handle_fault}
 
 rises_wider : (a b c d : ℕ) (fault : RoundFault) → a ≤ b → c ≤ d → RisesWithin b c fault → RisesWithin a d fault
 rises_wider a b c d (Wait fault) low high rises = (omega (arith, rises.0), rises.1, omega (arith, rises.2))

@@ -16,8 +16,7 @@ use Rattle.aio_react.specs.declared.entries.Listener.{Listener}
 use Rattle.aio_react.specs.declared.entries.SourceEntry.{SourceEntry}
 use Rattle.aio_react.specs.Cores.{CoreValue, entry_at}
 use Rattle.aio_react.specs.Facts.{Facts, facts_in}
-use Rattle.aio_react.specs.Standing.{DirectionStands, SourceStands, PlaceStands, SourcesStand, serial_in, count_entries, AreFewTickets, Tells, is_in_hand, LiveSound, StandsWithin, Stands}
-use Rattle.aio_react.proofs.Later.{tickets_later, past_later}
+use Rattle.aio_react.specs.Standing.{DirectionStands, SourceStands, PlaceStands, SourcesStand, serial_in, count_entries, AreFewTickets, Tells, is_in_hand, LiveSound, StandsWithin}
 
 -- ## Places
 
@@ -231,52 +230,6 @@ source_changes bound told told' core w key serial e new waiters marks broken arm
         timers = stands.sound.timers;
       };
     }
-
--- ## Positions
-
--- inside the step at a position, whose own marks are allowed
-pub stands_inside : (told : Option Interests) (core : CoreValue) (w : World) → Stands told core w → StandsWithin (w.pos + 1) told core w
-stands_inside told core w stands = record {
-  sources = stands.sources;
-  count = stands.count;
-  tickets = tickets_later core.sources w.pos (w.pos + 1) (omega arith) stands.tickets;
-  listeners = stands.listeners;
-  ticker_is = stands.ticker_is;
-  book = stands.book;
-  tells = stands.tells;
-  asked = stands.asked;
-  round = stands.round;
-  sound = record {
-    live = stands.sound.live;
-    unused = stands.sound.unused;
-    listeners = stands.sound.listeners;
-    past = past_later w.pos (w.pos + 1) w (omega arith) stands.sound.past;
-    running = stands.sound.running;
-    timers = stands.sound.timers;
-  };
-}
-
--- and once the step is over
-pub stands_moved : (told : Option Interests) (core : CoreValue) (w : World) → StandsWithin (w.pos + 1) told core w → Stands told core (record w { pos = w.pos + 1 })
-stands_moved told core w stands = record {
-  sources = stands.sources;
-  count = stands.count;
-  tickets = stands.tickets;
-  listeners = stands.listeners;
-  ticker_is = stands.ticker_is;
-  book = stands.book;
-  tells = stands.tells;
-  asked = stands.asked;
-  round = stands.round;
-  sound = record {
-    live = stands.sound.live;
-    unused = stands.sound.unused;
-    listeners = stands.sound.listeners;
-    past = stands.sound.past;
-    running = stands.sound.running;
-    timers = stands.sound.timers;
-  };
-}
 
 -- ## One direction
 

@@ -32,7 +32,8 @@ use Rattle.aio_react.proofs.HeardListeners.{Known, is_its, is_mine, unpolled_oth
 use Rattle.aio_react.proofs.ListenerChanges.{Hears, with_entries, numbered_aside, entries_aside}
 use Rattle.aio_react.proofs.NewListeners.{listener_same, numbers_differ, pushed_all, pushed_out}
 use Rattle.aio_react.proofs.PolledEntries.{mapped_filter, mapped_through, mapped_same_all, pushed_in}
-use Rattle.aio_react.proofs.SourceChanges.{source_found, stands_inside}
+use Rattle.aio_react.proofs.Later.{stands_inside}
+use Rattle.aio_react.proofs.SourceChanges.{source_found}
 use Rattle.aio_react.proofs.Waiting.{all_begun}
 
 pub number_is : (w : World) (number : ℕ) (l : Listener) (k : Known w number l) → k.entry.number ≡ number

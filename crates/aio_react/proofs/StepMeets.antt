@@ -35,10 +35,10 @@ use Rattle.aio_react.specs.Standing.{numbers_in, serial_in, LiveSound, Stands, S
 use Rattle.aio_react.proofs.ArmMeets.{Within, step_comes, arm_moves, arm_waits, arm_runs, unasked, arm_reply, arm_within}
 use Rattle.aio_react.proofs.DirectionFacts.{idle_stands, remembered_fresh}
 use Rattle.aio_react.proofs.HeardListeners.{Known, known, unknown, unpolled}
-use Rattle.aio_react.proofs.Later.{quiet_comes}
+use Rattle.aio_react.proofs.Later.{quiet_comes, stands_inside}
 use Rattle.aio_react.proofs.ListenerChanges.{with_entries, with_heard, listener_changes}
 use Rattle.aio_react.proofs.PollMeets.{poll_told, Finds, finds_either, reply_is}
-use Rattle.aio_react.proofs.SourceChanges.{lives, same_source, source_found, stands_inside, with_state, with_source, place_here, placed_again, placed_twice}
+use Rattle.aio_react.proofs.SourceChanges.{lives, same_source, source_found, with_state, with_source, place_here, placed_again, placed_twice}
 use Rattle.aio_react.proofs.StepEntries.{number_is, woken, polled_there, again_hears, begun_at, polled_last, polled_listener, first_hears}
 
 -- ## The machine

@@ -1,5 +1,5 @@
 -- What a world has of the directions once the waiters of one were taken.
-use Rattle.std.proofs.Common.{◌≡◌, ◌≢◌, ℕ, Bool, true, false, not, ◌&&◌, cond, max, if◌then◌else◌, List, [], ◌∷◌, ◌++◌, map, filter, Option, None, Some, is_some, option_map, refl, sym, ap, ◌∙◌, arith}
+use Rattle.std.proofs.Common.{◌≡◌, ℕ, Bool, true, false, not, ◌&&◌, cond, max, if◌then◌else◌, List, [], ◌∷◌, ◌++◌, map, filter, Option, None, Some, is_some, option_map, refl, sym, ap, ◌∙◌, arith}
 use Rattle.std.proofs.lemmas.Bool.{and_parts, true≢false}
 use Rattle.aio_base.specs.declared.names.Dir.{Dir}
 use Rattle.aio_base.specs.declared.names.Waker.{Waker}
@@ -13,7 +13,7 @@ use Rattle.aio_listen.specs.Listening.{emptied}
 use Rattle.aio_source.specs.Rules as source
 use Rattle.aio_source.specs.Values.{DirectionValue}
 use Rattle.aio_react.specs.declared.entries.Listener.{Listener}
-use Rattle.aio_react.specs.Facts.{Facts, facts_in, is_polled_of}
+use Rattle.aio_react.specs.Facts.{facts_in, is_polled_of}
 use Rattle.aio_react.specs.Numbers.{value_of}
 use Rattle.aio_react.specs.Standing.{DirectionStands, polled_entry, ticket_in}
 use Rattle.aio_react.proofs.Waiting.{of_other, not_true, facts_are}

@@ -10,6 +10,7 @@
 mod entries;
 pub mod hosts;
 pub mod laws;
+mod listener_table;
 mod numbered;
 mod outcomes;
 mod reactor;

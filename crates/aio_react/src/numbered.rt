@@ -12,7 +12,8 @@ use std::marker::Model;
 /// Values under numbers from 1, in the order in which they came. A number stays given where its
 /// value was taken out.
 ///
-/// Contracts see a place for each number that was given. Every call takes constant time.
+/// Contracts see a place for each number that was given. Every call takes constant time, but for the
+/// growth of `add`, which is amortised.
 #[derive(Drop)]
 pub struct Numbered<T> {
     places: Vec<Option<T>>,

@@ -14,9 +14,9 @@ mod reacting;
 mod rounds;
 mod sources;
 
-use crate::entries::{Listener, SourceEntry};
+use crate::entries::SourceEntry;
 use crate::hosts::{InsertRefusal, TimerHost};
-use crate::numbered::Numbered;
+use crate::listener_table::ListenerTable;
 use crate::refusals::CoreRefusal;
 use crate::round::Round;
 use aio_base::{EventWait, Key, Later, Moment, OutOfMemory, Poller, TimerId, Waited, Waker};
@@ -41,7 +41,7 @@ pub struct Core<P> {
     sources: Vec<Option<SourceEntry>>,
     /// Every key below this one is live.
     first_free: usize,
-    listeners: Numbered<Listener>,
+    listeners: ListenerTable,
     ticker: u64,
     book: TimerBook,
     ids_drawn: u64,
@@ -106,7 +106,7 @@ impl<P: Poller> Core<P> {
             poller,
             sources,
             first_free: 0,
-            listeners: Numbered::new(alloc),
+            listeners: ListenerTable::new(alloc),
             ticker: 0,
             book: TimerBook::new(alloc),
             ids_drawn: 0,

@@ -77,24 +77,27 @@ impl Model for Round {
 }
 
 impl Round {
-    /// An idle round before the first begin, with room for 1,024 events. Its wakers take their
-    /// memory from `alloc` too.
+    /// An idle round before the first begin, with room for 1,024 events and as many wakers. More
+    /// wakers take their memory from `alloc` too.
     pub fn new(alloc: Global) -> Result<Round, OutOfMemory>
         ensures { IfOk result (λ round. round ≡ new_round) }
     {
-        match Vec::with_capacity(alloc, WAIT_ROOM as usize) {
-            Ok(events) => Ok(Round {
-                events,
-                done: 0,
-                taken: Vec::new(alloc),
-                number: 0,
-                limit: None,
-                last: None,
-                fault: None,
-                running: false,
-            }),
-            Err(_) => Err(OutOfMemory),
-        }
+        let Ok(events) = Vec::with_capacity(alloc, WAIT_ROOM as usize) else {
+            return Err(OutOfMemory);
+        };
+        let Ok(taken) = Vec::with_capacity(alloc, WAIT_ROOM as usize) else {
+            return Err(OutOfMemory);
+        };
+        Ok(Round {
+            events,
+            done: 0,
+            taken,
+            number: 0,
+            limit: None,
+            last: None,
+            fault: None,
+            running: false,
+        })
     }
 
     /// Begins the round of this number: a pass over the timers at the moment `now`. Answers the
@@ -344,6 +347,9 @@ fn make_room(taken: &mut Vec<Waker>, s: &SourceState) -> Result<(), OutOfMemory>
     ensures room { OnOk result (vec_len taken.new
         + length (waiters_in directions s.now.directions) ≤ vec_capacity taken.new) }
 {
+    if s.is_only_polled() && taken.capacity() - taken.len() >= 2 {
+        return Ok(());
+    }
     match count_waiters(s) {
         Some(waiting) => taken.reserve(waiting as usize).map_err(|_| OutOfMemory),
         None => Err(OutOfMemory),

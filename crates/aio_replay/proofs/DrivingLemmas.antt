@@ -184,8 +184,8 @@ pub record BeginsRefused (l : Language) (unread : List ℕ) : Type 0 where
   pub first : List ℕ
   pub others : List (List ℕ)
   pub lines : lines_of unread ≡ first ∷ others
-  pub no_step : l.reads first ≡ Err l.long
-  pub no_header : bytes_eq first l.header ≡ false
+  pub no_step : l.refusal first ≡ Some l.long
+  pub no_header : l.is_header first ≡ false
 
 long_first : (l : Language) (unread front more : List ℕ) → SaysByLines l → unread ≡ front ++ more → length front ≡ 257 → HasNoLineFeed front → BeginsRefused l unread
 long_first l unread [] more says whole full none = absurd (omega (arith, full))

@@ -1,12 +1,11 @@
 -- Numbers, rounds and ids are not spent while few steps were run.
-use Rattle.std.proofs.Common.{◌≡◌, ℕ, ◌≤◌, ◌-◌, ◌^◌, Bool, true, false, not, ◌==◌, nat_eq, ◌&&◌, if◌then◌else◌, List, length, Option, None, Some, is_none, is_some, IfSome, unwrap_or, Result, Ok, Err, refl, sym, ◌∙◌, subst, arith}
+use Rattle.std.proofs.Common.{◌≡◌, ℕ, ◌≤◌, ◌-◌, ◌^◌, Bool, true, false, not, ◌==◌, nat_eq, ◌&&◌, if◌then◌else◌, List, length, Option, None, Some, is_none, is_some, IfSome, unwrap_or, Result, Ok, Err, refl, sym, subst, arith}
 use Rattle.std.proofs.lemmas.Bool.{ne_eqb}
 use Rattle.aio_base.specs.declared.names.Dir.{Dir}
 use Rattle.aio_base.specs.declared.outcomes.ArmFault.{ArmFault}
 use Rattle.aio_base.specs.declared.outcomes.Poll.{Poll}
 use Rattle.aio_base.specs.World.{is_empty_list}
 use Rattle.aio_source.specs.Rules.{direction_of}
-use Rattle.aio_react.specs.declared.entries.Listener.{Listener}
 use Rattle.aio_react.specs.declared.entries.SourceEntry.{SourceEntry}
 use Rattle.aio_react.specs.declared.outcomes.Handled.{Handled}
 use Rattle.aio_react.specs.declared.outcomes.Reacted.{Reacted}
@@ -88,7 +87,7 @@ unspent (Some e) dir few =
     let drawn = (direction_of e.source.directions dir).listeners.drawn in
     ne_eqb drawn (2 ^ 64 - 1) (omega (arith, few))
 
-stepped_at : (sources : List (Option SourceEntry)) (l : Option Listener) (answered : Result (Poll (Result (Unit {0}) ArmFault)) CoreRefusal) → AreFewTickets 1000000 sources
+stepped_at : (sources : List (Option SourceEntry)) (l : Option _) (answered : Result (Poll (Result (Unit {0}) ArmFault)) CoreRefusal) → AreFewTickets 1000000 sources
     → IsRefusedBy (step_refusal_of sources l) answered → IsTold step_reply answered
 stepped_at sources l (Ok polled) few cause = λ ample. refl
 stepped_at sources None (Err r) few cause = subst (λ (x : CoreRefusal). IsTold step_reply (Err x)) (sym cause) (λ ample. refl)

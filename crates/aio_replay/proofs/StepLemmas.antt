@@ -1,5 +1,5 @@
 -- From what stands before a line to what stands after it, or to what an end says.
-use Rattle.std.proofs.Common.{◌≡◌, ℕ, ◌+◌, ◌-◌, ◌*◌, ◌≤◌, ◌<◌, Bool, true, false, List, [], ◌∷◌, ◌++◌, length, length-append, take, Option, None, Some, Result, Ok, Err, refl, sym, ap, ◌∙◌, subst, append_assoc, append-nil, arith, bytes_eq}
+use Rattle.std.proofs.Common.{◌≡◌, ℕ, ◌+◌, ◌-◌, ◌*◌, ◌≤◌, true, false, List, [], ◌∷◌, ◌++◌, length, length-append, take, Option, None, Some, Result, Ok, Err, refl, sym, ap, ◌∙◌, subst, append_assoc, append-nil, arith, bytes_eq}
 use Rattle.std.proofs.lemmas.List.{take_at}
 use Rattle.std.specs.Io.KnownBytes.{Appends}
 use Rattle.std.proofs.KnownBytes.{Appends-trans, Appends-nil}
@@ -14,13 +14,13 @@ use Rattle.aio_base.specs.Trace.{Trace, Refusal, lines_of, with_step, refused}
 use Rattle.aio_bytes.specs.declared.traits.SinkRefusal.{SinkRefusal}
 use Rattle.aio_bytes.specs.Sinks.{AppendsPart, Writes}
 use Rattle.aio_replay.specs.declared.ends.Stop.{Stop}
-use Rattle.aio_replay.specs.declared.ends.Stop.TheVariants as stop
 use Rattle.aio_replay.specs.declared.ends.End.{End}
 use Rattle.aio_replay.specs.declared.ends.End.TheVariants as ends
 use Rattle.aio_replay.specs.declared.replayer.Replayer.{Replayer}
 use Rattle.aio_replay.specs.Language.{Language, SaysByLines}
 use Rattle.aio_replay.specs.Replaying.{Replays, StandsFor}
 use Rattle.aio_replay.specs.Driving.{Sends, Unread, LeavesAllBut, BeginsLong, TakesLine, StoppedBehind, EndsSo, UnlessMemory, is_of_memory, sink_answer, length_of_lines, bytes_before, bytes_of_end, most_bytes}
+use Rattle.aio_replay.specs.Ends.{StandsOnTheWay}
 use Rattle.aio_replay.specs.Steps.{Opens, Answers, TakesLines, Standing, LineTaken, Closes, Closing, after_steps, refusal_of, IsRead}
 use Rattle.aio_replay.proofs.DrivingLemmas.{long_is_refused}
 
@@ -136,7 +136,7 @@ takes l input told now first old new line ahead bytes left text kept_text r s t 
 }
 
 pub goes_on : (l : Language) (input : List ℕ) (told first out : Option (List ℕ)) (line : ℕ) (bytes ahead text new : List ℕ) (r after : Replayer) (s : Step)
-    → SaysByLines l → LineTaken l input told first out line bytes ahead text r → line ≤ l.limit → l.reads bytes ≡ Ok s → Answers s r after text new
+    → SaysByLines l → LineTaken l input told first out line bytes ahead text r → line ≤ l.limit → l.step bytes ≡ Some s → Answers s r after text new
     → Standing l input told first out (line + 1) ahead new after
 goes_on l input told first out line bytes ahead text new r after s laws t le read answers =
     let done = t.done ++ s ∷ [] in
@@ -184,6 +184,10 @@ written_behind (Err refusal) first old new sent text whole p q e = record {
   appended = Appends-trans first old new sent q.added p q.appended;
 }
 
+written_part : (r : Result (Unit {0}) SinkRefusal) (old new : Option (List ℕ)) (bytes : List ℕ) → Writes r old new bytes → AppendsPart old new bytes
+written_part (Ok done) old new bytes q = record { added = bytes; rest = []; whole = sym (append-nil bytes); appended = q }
+written_part (Err refusal) old new bytes q = q
+
 written_of_more : (r : Result (Unit {0}) SinkRefusal) (old new : Option (List ℕ)) (bytes more : List ℕ) → Writes r old new bytes → AppendsPart old new (bytes ++ more)
 written_of_more (Ok done) old new bytes more q = record { added = bytes; rest = more; whole = refl; appended = q }
 written_of_more (Err refusal) old new bytes more q = record {
@@ -200,6 +204,17 @@ stopped_part l s input old new r b =
     subst (AppendsPart old new) (sym (ap output b.steps ∙ output-append opening b.done b.more))
     (written_of_more (sink_answer s) old new (output b.done) (output_from (world_after opening b.done) b.more) b.written)
 
+-- where memory did not run out, the core stands for the world after steps among which are all those that the output tells of
+pub stands_on_the_way : (l : Language) (s : Stop) (input : List ℕ) (old new : Option (List ℕ)) (r : Replayer) → is_of_memory s ≡ false
+    → StoppedBehind l s input old new r → StandsOnTheWay r.core (l.trace input).steps old new
+stands_on_the_way l s input old new r other b = record {
+  done = b.done;
+  more = b.more;
+  whole = b.steps;
+  written = written_part (sink_answer s) old new (output b.done) b.written;
+  stands = (b.world other).core;
+}
+
 pub stops : (l : Language) (input : List ℕ) (now first old new : Option (List ℕ)) (sent text : List ℕ) (done : List Step) (t : Trace) (s : Stop) (r : Replayer)
     → l.trace input ≡ after_steps done t → Appends first old sent → sent ++ text ≡ output done → Writes (sink_answer s) old new text
     → UnlessMemory s (StandsFor r (world_after opening done)) → LeavesAllBut (most_bytes l) now input → EndsSo l (ends.Stopped s) input now first new r
@@ -212,6 +227,7 @@ stops l input now first old new sent text done t s r says appended whole written
     world = world;
   };
   taken = taken;
+  few = taken;
 }
 
 -- it was stopped while a line was looked for
@@ -253,6 +269,7 @@ closes l ends.Done wanted input told first old new text r c e =
         stands_after r c.done (l.trace input).steps steps c.world,
       );
       taken = subst (λ (x : End). LeavesAllBut (bytes_of_end l x input) told input) same c.taken;
+      few = c.taken_few;
     }
 closes l (ends.Refused line why) wanted input told first old new text r c e =
     let same : wanted ≡ ends.Refused line why = e.0 in
@@ -264,6 +281,7 @@ closes l (ends.Refused line why) wanted input told first old new text r c e =
         stands_after r c.done (l.trace input).steps steps c.world,
       );
       taken = subst (λ (x : End). LeavesAllBut (bytes_of_end l x input) told input) same c.taken;
+      few = c.taken_few;
     }
 closes l (ends.Stopped s) wanted input told first old new text r c e =
     stops l input told first old new c.sent text c.done (record { steps = []; refusal = refusal_of wanted }) s r
@@ -271,7 +289,7 @@ closes l (ends.Stopped s) wanted input told first old new text r c e =
 
 -- a line that reads as no step is refused
 pub refuses_line : (l : Language) (input : List ℕ) (told first out : Option (List ℕ)) (line : ℕ) (bytes ahead text : List ℕ) (r : Replayer) (why : Reason)
-    → SaysByLines l → LineTaken l input told first out line bytes ahead text r → line ≤ l.limit → l.reads bytes ≡ Err why
+    → SaysByLines l → LineTaken l input told first out line bytes ahead text r → line ≤ l.limit → l.refusal bytes ≡ Some why
     → Closing l (ends.Refused line why) input told first out text r
 refuses_line l input told first out line bytes ahead text r why laws t le none = record {
   done = t.done;
@@ -347,7 +365,7 @@ opens_unread input ahead text told r o is = record { left = input; is_left = is;
 
 -- the first line is the header
 pub header_read : (l : Language) (input ahead text kept_text bytes left : List ℕ) (now first new : Option (List ℕ)) (r : Replayer) → SaysByLines l → Opens ahead text r
-    → TakesLine now bytes left input → bytes_eq bytes l.header ≡ true → Sends first new text kept_text
+    → TakesLine now bytes left input → l.is_header bytes ≡ true → Sends first new text kept_text
     → Standing l input now first new 2 left kept_text r
 header_read l input ahead text kept_text bytes left now first new r laws o t is sends = record {
   done = [];
@@ -378,7 +396,7 @@ header_closing l input ahead text kept_text now first new r laws o says h sends 
 
 -- the first line is no header
 pub header_refused : (l : Language) (input ahead text kept_text bytes left : List ℕ) (now first new : Option (List ℕ)) (r : Replayer) → SaysByLines l → Opens ahead text r
-    → TakesLine now bytes left input → bytes_eq bytes l.header ≡ false → Sends first new text kept_text
+    → TakesLine now bytes left input → l.is_header bytes ≡ false → Sends first new text kept_text
     → Closing l (ends.Refused 1 reason.Header) input now first new kept_text r
 header_refused l input ahead text kept_text bytes left now first new r laws o t other sends =
     header_closing l input ahead text kept_text now first new r laws o (laws.headless input bytes (lines_of t.rest) t.lines other) t.held sends

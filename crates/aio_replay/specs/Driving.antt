@@ -179,6 +179,7 @@ Says l (ends.Stopped s) input told out_old out_new r = StoppedBehind l s input o
 pub record EndsSo (l : Language) (result : End) (input : List ℕ) (told out_old out_new : Option (List ℕ)) (r : Replayer) : Type 0 where
   pub says : Says l result input told out_old out_new r
   pub taken : LeavesAllBut (bytes_of_end l result input) told input
+  pub few : LeavesAllBut (most_bytes l) told input
 
 -- where an end is a stop, this holds of it
 abbrev pub IfStopped : End → (Stop → Type 0) → Type 0

@@ -49,19 +49,20 @@ bytes_taken _ input = 257000257
 abbrev pub StandsAt : Script × CoreValue → World → Type 0
 StandsAt core w = Stands (Some (interests_of core.0)) core.1 w
 
--- it stands for the world after some of these steps, from the first on
-pub record StandsOnTheWay (core : Script × CoreValue) (steps : List Step) : Type 0 where
+-- It stands for the world after a front part of these steps, in which are all those of whose answers and wakes a byte was written.
+pub record StandsOnTheWay (core : Script × CoreValue) (steps : List Step) (out_old out_new : Option (List ℕ)) : Type 0 where
   pub done : List Step
   pub more : List Step
   pub whole : steps ≡ done ++ more
+  pub written : AppendsPart out_old out_new (output done)
   pub stands : StandsAt core (world_after opening done)
 
--- Where all steps of an input were run, its core is handed back and stands for the world in which their run ends; at a fault, for the world
--- after the first of them, as far as they were run; and where memory ran out there is none.
-abbrev pub HandsBack : ReplayEnd → List ℕ → Option (Script × CoreValue) → Type 0
-HandsBack ends.Done input (Some core) = StandsAt core (world_after opening (trace_of input).steps)
-HandsBack (ends.Refused line reason) input (Some core) = StandsAt core (world_after opening (trace_of input).steps)
-HandsBack (ends.ReadFault fault) input (Some core) = StandsOnTheWay core (trace_of input).steps
-HandsBack (ends.WriteFault fault) input (Some core) = StandsOnTheWay core (trace_of input).steps
-HandsBack ends.OutOfMemory input None = ⊤
-HandsBack _ input core = ⊥
+-- Where the input is read to its end or a line of it is refused, the core is handed back and stands for the world in which the run of the steps
+-- ends; at a fault, for the world after a front part of them, in which are all those whose answers were written; where memory ran out there is none.
+abbrev pub HandsBack : ReplayEnd → List ℕ → Option (Script × CoreValue) → Option (List ℕ) → Option (List ℕ) → Type 0
+HandsBack ends.Done input (Some core) out_old out_new = StandsAt core (world_after opening (trace_of input).steps)
+HandsBack (ends.Refused line reason) input (Some core) out_old out_new = StandsAt core (world_after opening (trace_of input).steps)
+HandsBack (ends.ReadFault fault) input (Some core) out_old out_new = StandsOnTheWay core (trace_of input).steps out_old out_new
+HandsBack (ends.WriteFault fault) input (Some core) out_old out_new = StandsOnTheWay core (trace_of input).steps out_old out_new
+HandsBack ends.OutOfMemory input None out_old out_new = ⊤
+HandsBack _ input core out_old out_new = ⊥

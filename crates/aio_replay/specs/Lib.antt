@@ -1,9 +1,8 @@
 pub mod Driving
 pub mod Ends
 pub mod Language
-pub mod Reading
 pub mod Replaying
 pub mod Replies
 pub mod Steps
+pub mod Summing
 pub mod Timers
-pub mod Writing

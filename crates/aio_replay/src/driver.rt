@@ -1,6 +1,7 @@
 //! The driver of lines: they are read, their steps run, and the answers gathered in a block of text.
 
-ghost use Rattle.std.specs.Prelude.{◌≡◌, ℕ, ◌+◌, ◌-◌, ◌<◌, ◌≤◌, ◌≢◌, [], List, Option, drop, length, vec_len, IfErr, OnOk, OnErr, false, true, bytes_eq};
+ghost use Rattle.std.specs.Prelude.{◌≡◌, ℕ, ◌+◌, ◌-◌, ◌<◌, ◌≤◌, ◌≢◌, [], List, Option};
+ghost use Rattle.std.specs.Prelude.{drop, length, vec_len, IfErr, OnOk, OnErr, false, true};
 ghost use Rattle.aio_bytes.specs.Held.{HasNoLineFeed, may_wait};
 ghost use Rattle.aio_bytes.specs.Sinks.{RefusedBy, Writes, is_failed};
 ghost use Rattle.aio_replay.specs.Driving.{ends_with, Causes, is_read_fault, is_write_fault};
@@ -11,15 +12,12 @@ ghost use Rattle.aio_replay.specs.Steps.{Closes};
 use crate::ends::{End, Next, Stop};
 use crate::replayer::Replayer;
 use crate::version::Version;
-use crate::writing::push_reply;
 use aio_base::{Reason, Step, Waker};
-use aio_bytes::{LineReader, Sink, SinkRefusal, Source, write_all};
+use aio_bytes::{BLOCK, LineReader, Sink, Source, flush};
 use aio_react::Core;
 use aio_script::ScriptPoller;
+use aio_trace::write_reply;
 use std::alloc::{AllocError, Global};
-
-/// How many bytes of answers are gathered before they are written.
-const BLOCK: usize = 65_536;
 
 /// Room for the reply that fills a block: an answer and the wakes of a round.
 const REPLY_ROOM: usize = 32_768;
@@ -81,8 +79,10 @@ impl Driver {
         ensures reader { self.new.reader ≡ self.old.reader }
     {
         let answer = self.replayer.step(step, &mut self.wakes)?;
-        push_reply(&mut self.text, answer, self.wakes.as_slice())?;
-        Ok(())
+        match write_reply(answer, self.wakes.as_slice(), &mut self.text) {
+            Ok(()) => Ok(()),
+            Err(_) => Err(AllocError),
+        }
     }
 
     /// Replays a trace, from its header to its end.
@@ -144,7 +144,7 @@ impl Driver {
         };
         match next {
             Next::Line => {
-                if is_header(self.reader.line(), version.header()) {
+                if version.is_header(self.reader.line()) {
                     return None;
                 }
                 Some(refuse(&mut self.text, out, 1, Reason::Header))
@@ -271,19 +271,15 @@ impl Driver {
     }
 }
 
-/// Whether a line is the header.
-fn is_header(line: &[u8], header: &[u8]) -> bool
-    ensures { result ≡ bytes_eq line.now header.now }
-{
-    line == header
-}
-
 /// Writes what is left of the text, and ends so; or with what stopped that.
 fn close<K: Sink>(text: &mut Vec<u8>, out: &mut K, end: End) -> End
     ensures closes { Closes result end (K.contents out.old) (K.contents out.new) text.old.items }
-    ensures reads { ends_with is_read_fault end ≡ false → ends_with is_read_fault result ≡ false }
-    ensures cause { ends_with is_write_fault end ≡ false → Causes K.fault_count K.is_sure out.old out.new (ends_with is_write_fault result) }
-    ensures refused { IfStopped end (λ stop. ⊥) → IfStopped result (StopsBy K.write_step out.new) }
+    ensures reads { ends_with is_read_fault end ≡ false
+        → ends_with is_read_fault result ≡ false }
+    ensures cause { ends_with is_write_fault end ≡ false → Causes K.fault_count K.is_sure
+        out.old out.new (ends_with is_write_fault result) }
+    ensures refused { IfStopped end (λ stop. ⊥)
+        → IfStopped result (StopsBy K.write_step out.new) }
 {
     match flush(text, out) {
         Ok(()) => end,
@@ -293,27 +289,14 @@ fn close<K: Sink>(text: &mut Vec<u8>, out: &mut K, end: End) -> End
 
 /// Refuses a line after the text is written.
 fn refuse<K: Sink>(text: &mut Vec<u8>, out: &mut K, line: u64, reason: Reason) -> End
-    ensures closes { Closes result (End.Refused line reason) (K.contents out.old) (K.contents out.new) text.old.items }
+    ensures closes { Closes result (End.Refused line reason)
+        (K.contents out.old) (K.contents out.new) text.old.items }
     ensures reads { ends_with is_read_fault result ≡ false }
-    ensures cause { Causes K.fault_count K.is_sure out.old out.new (ends_with is_write_fault result) }
+    ensures cause { Causes K.fault_count K.is_sure
+        out.old out.new (ends_with is_write_fault result) }
     ensures refused { IfStopped result (StopsBy K.write_step out.new) }
 {
     close(text, out, End::Refused { line, reason })
-}
-
-/// Writes the text, and is left with none of it; where the output refuses some of it, the text stays.
-fn flush<K: Sink>(text: &mut Vec<u8>, out: &mut K) -> Result<(), SinkRefusal>
-    ensures written { Writes result (K.contents out.old) (K.contents out.new) text.old.items }
-    ensures empty { OnOk result (text.new.items ≡ []) }
-    ensures kept { OnErr result (text.new.items ≡ text.old.items) }
-    ensures refused { IfErr result (RefusedBy K.write_step out.new) }
-    ensures cause { Causes K.fault_count K.is_sure out.old out.new (is_failed result) }
-{
-    let result = write_all(out, text.as_slice());
-    if result.is_ok() {
-        text.clear();
-    }
-    result
 }
 
 /// Reads more of the input. Where the read may have to wait for it, the text is written before, and
@@ -328,17 +311,22 @@ fn read_more<S: Source, K: Sink>(
     out: &mut K,
 ) -> Result<usize, Stop>
     requires { length reader.old.ahead < 257 }
-    ensures read { ReadsMore result (S.remaining input.old) (S.remaining input.new) reader.old.ahead reader.new.ahead }
+    ensures read { ReadsMore result (S.remaining input.old) (S.remaining input.new)
+        reader.old.ahead reader.new.ahead }
     ensures bound { length reader.new.ahead ≤ 257 }
-    ensures sends { SendsOrStops result (K.contents out.old) (K.contents out.new) text.old.items text.new.items }
-    ensures sent_before_waiting { may_wait reader.old ≡ true → OnOk result (text.new.items ≡ []) }
+    ensures sends { SendsOrStops result (K.contents out.old) (K.contents out.new)
+        text.old.items text.new.items }
+    ensures sent_before_waiting { may_wait reader.old ≡ true
+        → OnOk result (text.new.items ≡ []) }
     ensures gathers { may_wait reader.old ≡ false
         → OnOk result ((text.new.items ≡ text.old.items) × (out.new ≡ out.old)) }
     ensures call { ReadsOnce S.read_step input.old (257 - length reader.old.ahead) result
         (drop (length reader.old.ahead) reader.new.ahead) input.new }
     ensures refused { IfErr result (StopsBy K.write_step out.new) }
-    ensures read_cause { Causes S.fault_count S.is_sure input.old input.new (stops_with is_read_fault result) }
-    ensures write_cause { Causes K.fault_count K.is_sure out.old out.new (stops_with is_write_fault result) }
+    ensures read_cause { Causes S.fault_count S.is_sure
+        input.old input.new (stops_with is_read_fault result) }
+    ensures write_cause { Causes K.fault_count K.is_sure
+        out.old out.new (stops_with is_write_fault result) }
 {
     if reader.may_wait() {
         match flush(text, out) {
@@ -362,11 +350,15 @@ fn next_line<S: Source, K: Sink>(
     out: &mut K,
 ) -> Result<Next, Stop>
     requires { length reader.old.ahead ≤ 257 }
-    ensures found { (unread : List ℕ) → Unread (S.remaining input.old) reader.old.ahead unread → FindsNext result (S.remaining input.new) reader.new.line reader.new.ahead unread }
+    ensures found { (unread : List ℕ) → Unread (S.remaining input.old) reader.old.ahead unread
+        → FindsNext result (S.remaining input.new) reader.new.line reader.new.ahead unread }
     ensures bound { length reader.new.ahead ≤ 257 }
-    ensures sends { SendsOrStops result (K.contents out.old) (K.contents out.new) text.old.items text.new.items }
-    ensures read_cause { Causes S.fault_count S.is_sure input.old input.new (stops_with is_read_fault result) }
-    ensures write_cause { Causes K.fault_count K.is_sure out.old out.new (stops_with is_write_fault result) }
+    ensures sends { SendsOrStops result (K.contents out.old) (K.contents out.new)
+        text.old.items text.new.items }
+    ensures read_cause { Causes S.fault_count S.is_sure
+        input.old input.new (stops_with is_read_fault result) }
+    ensures write_cause { Causes K.fault_count K.is_sure
+        out.old out.new (stops_with is_write_fault result) }
     ensures refused { IfErr result (StopsBy K.write_step out.new) }
 {
     if reader.find_line() {
@@ -386,11 +378,15 @@ fn read_line<S: Source, K: Sink>(
 ) -> Result<Next, Stop>
     requires bound { length reader.old.ahead ≤ 257 }
     requires no_line { HasNoLineFeed reader.old.ahead }
-    ensures found { (unread : List ℕ) → Unread (S.remaining input.old) reader.old.ahead unread → FindsNext result (S.remaining input.new) reader.new.line reader.new.ahead unread }
+    ensures found { (unread : List ℕ) → Unread (S.remaining input.old) reader.old.ahead unread
+        → FindsNext result (S.remaining input.new) reader.new.line reader.new.ahead unread }
     ensures bound { length reader.new.ahead ≤ 257 }
-    ensures sends { SendsOrStops result (K.contents out.old) (K.contents out.new) text.old.items text.new.items }
-    ensures read_cause { Causes S.fault_count S.is_sure input.old input.new (stops_with is_read_fault result) }
-    ensures write_cause { Causes K.fault_count K.is_sure out.old out.new (stops_with is_write_fault result) }
+    ensures sends { SendsOrStops result (K.contents out.old) (K.contents out.new)
+        text.old.items text.new.items }
+    ensures read_cause { Causes S.fault_count S.is_sure
+        input.old input.new (stops_with is_read_fault result) }
+    ensures write_cause { Causes K.fault_count K.is_sure
+        out.old out.new (stops_with is_write_fault result) }
     ensures refused { IfErr result (StopsBy K.write_step out.new) }
 {
     loop {
@@ -411,7 +407,8 @@ fn read_line<S: Source, K: Sink>(
 
 /// What is found at the end of the input: the rest of it as a line, where there is a rest.
 fn last_line(reader: &mut LineReader) -> Next
-    ensures line { reader.old.ahead ≢ [] → (result ≡ Next.Line) × (reader.new.line ≡ reader.old.ahead) }
+    ensures line { reader.old.ahead ≢ []
+        → (result ≡ Next.Line) × (reader.new.line ≡ reader.old.ahead) }
     ensures end { reader.old.ahead ≡ [] → result ≡ Next.End }
     ensures ahead { reader.new.ahead ≡ [] }
 {

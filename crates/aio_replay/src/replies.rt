@@ -1,6 +1,6 @@
 //! What the calls of a core and of a timer answered, as answers of the trace language.
 
-ghost use Rattle.std.specs.Prelude.{◌≡◌, [], Some, IfOk};
+ghost use Rattle.std.specs.Prelude.{◌≡◌, [], Some, IfOk, OnOk, option_to_list};
 ghost use Rattle.aio_future.specs.Timers.{poll_fault, set_fault};
 ghost use Rattle.aio_react.specs.Listeners.{listen_reply, step_reply, drop_reply};
 ghost use Rattle.aio_react.specs.Polls.{poll_reply, poll_wakes};
@@ -53,14 +53,33 @@ pub(crate) fn told_poll(
     let Ok(polled) = called else {
         return Ok(Answer::NoSource);
     };
-    if let Some(replaced) = polled.replaced {
-        wakes.push(replaced)?;
-    }
+    // Each answer has its own way on, which the compiler then joins to the writing of its line.
     match polled.answer {
-        Poll::Ready(Ok(())) => Ok(Answer::Ready),
-        Poll::Ready(Err(_)) => Ok(Answer::FaultArm),
-        Poll::Pending => Ok(Answer::Pending),
+        Poll::Ready(Ok(())) => {
+            add_replaced(polled.replaced, wakes)?;
+            Ok(Answer::Ready)
+        }
+        Poll::Ready(Err(_)) => {
+            add_replaced(polled.replaced, wakes)?;
+            Ok(Answer::FaultArm)
+        }
+        Poll::Pending => {
+            add_replaced(polled.replaced, wakes)?;
+            Ok(Answer::Pending)
+        }
     }
+}
+
+/// Puts the waker that lost its place into `wakes`, which is empty.
+#[inline(always)]
+fn add_replaced(replaced: Option<Waker>, wakes: &mut Vec<Waker>) -> Result<(), AllocError>
+    requires { wakes.old.items ≡ [] }
+    ensures { OnOk result (wakes.new.items ≡ option_to_list replaced) }
+{
+    if let Some(waker) = replaced {
+        wakes.push(waker)?;
+    }
+    Ok(())
 }
 
 /// Of a new listener. `AllocError` where memory ran out.

@@ -21,13 +21,16 @@ use std::alloc::Global;
 /// - `ReplayEnd::Done`: the input was read to its end, no line of it is refused, and `out` grew by
 ///   exactly the output of its steps.
 /// - `ReplayEnd::Refused`: exactly the first refused line and its reason, unless a fault came before;
-///   `out` grew by the output of the steps before it.
+///   `out` grew by the output of the steps before it. A line is refused for the first of its faults,
+///   `Long`, `Byte`, `Empty`, `Command`, `Count`, `Number`, `Direction`, `Flags` or `Choice`; the first
+///   line where it is no header, and the one past the millionth, whatever it holds.
 /// - `ReplayEnd::ReadFault`, `ReplayEnd::WriteFault`: only where the count of faults of `input`, or of
 ///   `out`, rose in this call, by the two counts. `out` grew by a front part of the output.
 /// - `ReplayEnd::OutOfMemory`: at any time. `out` grew by a front part of the output.
 ///
-/// What is taken of `input` is the front of what it has left: at most 257 bytes of a refused line,
-/// behind the lines before it, and at most 257,000,257 bytes otherwise.
+/// What is taken of `input` is the front of what it has left, at most 257,000,257 bytes: 257 times the
+/// lines that a trace may have, and one line more. Of a refused line it is at most 257 bytes, behind
+/// the lines before it.
 pub fn replay<S: Source, K: Sink>(
     alloc: Global,
     input: &mut S,
@@ -39,10 +42,13 @@ pub fn replay<S: Source, K: Sink>(
         (K.contents out.old) (K.contents out.new) }
     ensures taken { (bytes : List ℕ) → S.remaining input.old ≡ Some bytes
         → LeavesAllBut (bytes_taken result.0 bytes) (S.remaining input.new) bytes }
+    ensures most { (bytes : List ℕ) → S.remaining input.old ≡ Some bytes
+        → LeavesAllBut 257000257 (S.remaining input.new) bytes }
 
-    // The core stands for the world in which the run of the steps ends, or for one on the way there.
+    // The core stands for the world in which the run of the steps ends; at a fault, for one on the way
+    // there, behind all steps that the output tells of.
     ensures core { (bytes : List ℕ) → S.remaining input.old ≡ Some bytes
-        → HandsBack result.0 bytes result.1 }
+        → HandsBack result.0 bytes result.1 (K.contents out.old) (K.contents out.new) }
     ensures none { (result.1 ≡ None) ↔ (result.0 ≡ ReplayEnd.OutOfMemory) }
 
     // A fault comes only of a device that failed, and is told by its counts.

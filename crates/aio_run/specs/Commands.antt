@@ -1,11 +1,20 @@
--- What a status says: its number, its text, and what became of input and output.
-use Rattle.std.specs.Prelude.{◌≡◌, ℕ, Bool, false, List, [], ◌∷◌, ◌++◌, Option, None, Some, MatchOption, Result, IfErr, codes, decimal, ⊤}
+-- Which words name a command; and what a status says: its number, its text, and what became of input and output.
+use Rattle.std.specs.Prelude.{◌≡◌, ℕ, ◌-◌, ◌^◌, ◌≤◌, Bool, false, List, [], ◌∷◌, ◌++◌, flat_map, Option, None, Some, MatchOption, Result, Ok, Err, IfErr, codes, decimal, ⊤}
+use Rattle.std.specs.Io.KnownBytes.{Appends}
 use Rattle.std.specs.Option.{option_map_or}
+use Rattle.aio_base.specs.declared.outcomes.CountFault.{CountFault}
+use Rattle.aio_base.specs.declared.steps.Step.{Step}
+use Rattle.aio_base.specs.Generated.{counts_line, run_counts}
+use Rattle.aio_base.specs.Lines.{numeral, written_line}
+use Rattle.aio_base.specs.Trace.{header_text}
 use Rattle.aio_base.specs.declared.steps.Reason.{Reason}
 use Rattle.aio_base.specs.Text.{ended_line, reason_text}
 use Rattle.aio_base.specs.Devices.{TellsFaults}
-use Rattle.aio_bytes.specs.Sinks.{HasFailed, RefusedBy, Writes}
+use Rattle.aio_bytes.specs.Sinks.{AppendsPart, HasFailed, RefusedBy, Writes}
 use Rattle.aio_bytes.specs.declared.traits.SinkRefusal.{SinkRefusal}
+use Rattle.aio_bytes.specs.declared.traits.SinkRefusal.TheVariants as refused
+use Rattle.aio_run.specs.declared.commands.Command.{Command}
+use Rattle.aio_run.specs.declared.commands.Command.TheVariants as command
 use Rattle.aio_run.specs.declared.status.Why.{Why}
 use Rattle.aio_run.specs.declared.status.Why.TheVariants as why
 use Rattle.aio_replay.specs.declared.ends.ReplayEnd.{ReplayEnd}
@@ -13,9 +22,36 @@ use Rattle.aio_replay.specs.declared.ends.ReplayEnd.TheVariants as ends
 use Rattle.aio_replay.specs.Ends as replay_ends
 use Rattle.aio_replay.specs.Ends.{Replayed, tells_read_fault, tells_write_fault}
 
+-- ## The words of commands
+
 -- the words of the command that replays a trace
 abbrev pub IsReplay : List (List ℕ) → Type 0
 IsReplay words = words ≡ codes "replay" ∷ []
+
+-- a word spells this number, in decimal digits, and the number is at most so great
+abbrev pub SpellsUpTo : ℕ → ℕ → List ℕ → Type 0
+SpellsUpTo most n word = (numeral word ≡ Some n) × (n ≤ most)
+
+-- the words are a name, a number of steps and a seed
+abbrev pub IsOfSteps : List ℕ → ℕ → ℕ → List (List ℕ) → Type 0
+IsOfSteps name n seed (word ∷ steps ∷ from ∷ []) = (word ≡ name) × SpellsUpTo 999999 n steps × SpellsUpTo (2 ^ 48 - 1) seed from
+IsOfSteps name n seed _ = ⊥
+
+-- the words of the command that writes the trace of so many steps from a seed
+abbrev pub IsGen : ℕ → ℕ → List (List ℕ) → Type 0
+IsGen n seed words = IsOfSteps (codes "gen") n seed words
+
+-- the words of the command that writes what a run of these steps comes to
+abbrev pub IsSum : ℕ → ℕ → List (List ℕ) → Type 0
+IsSum n seed words = IsOfSteps (codes "sum") n seed words
+
+-- the words of each command that is built
+abbrev pub Names : Command → List (List ℕ) → Type 0
+Names command.Replay words = IsReplay words
+Names (command.Gen n seed) words = IsGen n seed words
+Names (command.Sum n seed) words = IsSum n seed words
+
+-- ## The ends of the program
 
 -- the line that tells which line of a trace is refused, and why
 abbrev pub refusal_text : ℕ → Reason → List ℕ
@@ -82,6 +118,32 @@ TellsCounts w reads_old reads_new writes_old writes_new =
 -- the bytes that are taken of a source at most
 abbrev pub bytes_taken : Why → List ℕ → ℕ
 bytes_taken w input = option_map_or (λ end. replay_ends.bytes_taken end input) (end_of w) 0
+
+-- ## A text that is written
+
+-- the text of the trace of some steps: the header, and the line of each
+abbrev pub trace_text : List Step → List ℕ
+trace_text steps = ended_line header_text ++ flat_map (λ s. ended_line (written_line s)) steps
+
+-- the line of what the run of some steps comes to
+abbrev pub summary_text : List Step → List ℕ
+summary_text steps = ended_line (counts_line (run_counts steps))
+
+-- What was written of a text by a command that writes one, where the program ended so: all of it; or a front part, where the output failed or memory
+-- ran out. No other cause comes of such a command.
+abbrev pub WritesText : Why → Option (List ℕ) → Option (List ℕ) → List ℕ → Type 0
+WritesText why.Done out_old out_new text = Appends out_old out_new text
+WritesText (why.WriteFault fault) out_old out_new text = AppendsPart out_old out_new text
+WritesText why.OutOfMemory out_old out_new text = AppendsPart out_old out_new text
+WritesText _ out_old out_new text = ⊥
+
+-- why the program ends where the output answered so to a text, with what its counts of faults tell
+abbrev pub why_written : Result (Unit {0}) SinkRefusal → CountFault → Why
+why_written (Ok done) fault = why.Done
+why_written (Err refused.Failed) fault = why.WriteFault fault
+why_written (Err refused.OutOfMemory) fault = why.OutOfMemory
+
+-- ## What the user is told
 
 -- The text for the user was written to a sink: whole, or a front part of it where a call of the sink was answered by a refusal; being sure stays.
 pub record IsTold {S : Type 0} (contents : S → Option (List ℕ)) (write_step : S → List ℕ → Result ℕ SinkRefusal → S → Type 0)

@@ -1,18 +1,24 @@
 //! The top call of the program.
 
-ghost use Rattle.std.specs.Prelude.{◌≡◌, ◌≢◌, ℕ, ◌<◌, ◌↔◌, ◌++◌, List, Some, IfErr, true, false, codes, string_bytes, map, take};
+ghost use Rattle.std.specs.Prelude.{◌≡◌, ◌≢◌, ℕ, ◌<◌, ◌≤◌, ◌^◌, ◌↔◌, ◌++◌, List, Some, IfErr, codes, string_bytes, map, take};
 ghost use Rattle.aio_base.specs.Between.{StandsAfter};
+ghost use Rattle.aio_base.specs.Generated.{generated_steps};
 ghost use Rattle.aio_base.specs.Trace.{trace_of};
 ghost use Rattle.aio_base.specs.Devices.{TellsFaults};
 ghost use Rattle.aio_bytes.specs.Sinks.{HasFailed, RefusedBy, Writes};
 ghost use Rattle.aio_replay.specs.Driving.{Causes, LeavesAllBut};
-ghost use Rattle.aio_run.specs.Commands.{IsReplay, IsTold, exit_of, text_of, refusal_text};
-ghost use Rattle.aio_run.specs.Commands.{Replays, TellsCounts, bytes_taken, why_of};
+ghost use Rattle.aio_run.specs.Commands.{IsGen, IsReplay, IsSum, IsTold, Names, exit_of};
+ghost use Rattle.aio_run.specs.Commands.{text_of, refusal_text, summary_text, trace_text};
+ghost use Rattle.aio_run.specs.Commands.{Replays, TellsCounts, WritesText, bytes_taken, why_of};
+ghost use Rattle.aio_run.specs.Commands.{why_written};
 ghost use Rattle.aio_run.specs.Commands.{is_read_fault, is_write_fault};
+ghost use Rattle.aio_run.specs.declared.commands.Command.{Command};
 ghost use Rattle.aio_base.specs.Text.{ended_line, reason_text};
 
+use crate::commands::{Command, command_of};
 use crate::status::{Status, Why};
-use aio_base::Reason;
+use crate::texts::{write_summary, write_trace};
+use aio_base::{CountFault, Reason};
 use aio_bytes::{Sink, SinkRefusal, Source, write_all};
 use aio_replay::{ReplayEnd, replay};
 use itoa::Buffer;
@@ -25,21 +31,34 @@ const USAGE: &[u8] =
     b"usage: replay; gen N SEED; sum N SEED; relay PORT WORKERS IDLE PAIRS; stress CALLS SEED\n";
 
 /// Runs the command that the words name, over an input, an output and a sink for what is told to the
-/// user. The one command that is built is `replay`: it reads a trace from `input` and writes the
-/// answers and wakes of its steps to `out`.
+/// user.
 ///
-/// - `Why::Done`: the input was read to its end, no line of it is refused, and `out` grew by exactly
-///   the output of its steps.
-/// - `Why::Usage`: exactly where the words are not the one word `replay`; nothing was touched.
-/// - `Why::Refused`: exactly the first refused line and its reason, unless a fault came before; `out`
-///   grew by the output of the steps before it.
-/// - `Why::ReadFault`, `Why::WriteFault`: only where the count of faults of `input`, or of `out`, rose in
-///   this call, by the two counts. `out` grew by a front part of the output.
+/// - `replay` reads a trace from `input` and writes the answers and wakes of its steps to `out`.
+/// - `gen N SEED` writes the trace of the first N steps that SEED gives to `out`, the header before
+///   them. N is 0 to 999,999 and SEED 0 to 281,474,976,710,655, each in decimal digits, with leading
+///   zeros or without, and no sign. It reads nothing of `input`.
+/// - `sum N SEED` runs these steps on a core over the poller in memory, and writes one line to `out`:
+///   how many there were, how many answers told ready and how many pending, how many wakers were
+///   woken, how many whole rounds were run and how many steps were refused. The line is the same each
+///   time. It reads nothing of `input`.
+///
+/// How it ends:
+///
+/// - `Why::Done`: the command was done, and `out` grew by exactly its output. Of `replay`: the input was
+///   read to its end, and no line of it is refused.
+/// - `Why::Usage`: exactly where the words name none of these commands; nothing was touched.
+/// - `Why::Refused`, of `replay` alone: exactly the first refused line and its reason, unless a fault
+///   came before; `out` grew by the output of the steps before it. A line is refused for the first of
+///   its faults, `Long`, `Byte`, `Empty`, `Command`, `Count`, `Number`, `Direction`, `Flags` or
+///   `Choice`; the first line where it is no header, and the one past the millionth, whatever it holds.
+/// - `Why::ReadFault`, of `replay` alone, `Why::WriteFault`: only where the count of faults of `input`, or
+///   of `out`, rose in this call, by the two counts. `out` grew by a front part of the output.
 /// - `Why::OutOfMemory`: at any time. `out` grew by a front part of the output.
 ///
 /// The text for the user is written to `err` as far as that takes it; a refusal of `err` changes no
-/// status. What is taken of `input` is the front of what it has left: at most 257 bytes of a refused
-/// line, behind the lines before it, and at most 257,000,257 bytes otherwise.
+/// status. What `replay` takes of `input` is the front of what it has left, at most 257,000,257 bytes:
+/// 257 times the lines that a trace may have, and one line more. Of a refused line it is at most 257
+/// bytes, behind the lines before it.
 ///
 /// The parts below that are handed no runtime are proved to return. Of this call itself no clause
 /// says so, since what is handed a runtime may wait: it is seen from its body, which makes no use of
@@ -55,8 +74,9 @@ pub fn run<R: Wait + Threads + Sync + Send + Copy, S: Source, K: Sink, E: Sink>(
     ensures exit { result.exit ≡ exit_of result.why }
     ensures no_device { result.exit < 6 }
 
-    // The words are no command that is built exactly where they are not the one word `replay`.
-    ensures usage { (result.why ≡ Why.Usage) ↔ (IsReplay (map string_bytes words.now) → ⊥) }
+    // The words are refused exactly where they name no command.
+    ensures usage { (result.why ≡ Why.Usage)
+        ↔ ((command : Command) → Names command (map string_bytes words.now) → ⊥) }
     ensures untouched { result.why ≡ Why.Usage → (input.new ≡ input.old) × (out.new ≡ out.old) }
 
     // For every list of bytes that the source has left, `out` grows by the machine's output.
@@ -64,6 +84,17 @@ pub fn run<R: Wait + Threads + Sync + Send + Copy, S: Source, K: Sink, E: Sink>(
         → Replays result.why bytes (S.remaining input.new) (K.contents out.old) (K.contents out.new) }
     ensures taken { (bytes : List ℕ) → S.remaining input.old ≡ Some bytes
         → LeavesAllBut (bytes_taken result.why bytes) (S.remaining input.new) bytes }
+    ensures most { (bytes : List ℕ) → S.remaining input.old ≡ Some bytes
+        → LeavesAllBut 257000257 (S.remaining input.new) bytes }
+
+    // For all numbers, the trace that they describe is written, or what its run comes to.
+    ensures generates { (n seed : ℕ) → IsGen n seed (map string_bytes words.now)
+        → WritesText result.why (K.contents out.old) (K.contents out.new)
+        (trace_text (generated_steps n seed)) }
+    ensures sums { (n seed : ℕ) → IsSum n seed (map string_bytes words.now)
+        → WritesText result.why (K.contents out.old) (K.contents out.new)
+        (summary_text (generated_steps n seed)) }
+    ensures idle_input { (IsReplay (map string_bytes words.now) → ⊥) → input.new ≡ input.old }
 
     // After any steps of the trace each waiter is covered, no storing of a waker is lost or woken twice and
     // the last step moved storings as it may, and right after a pass no timer is left that was due.
@@ -79,24 +110,17 @@ pub fn run<R: Wait + Threads + Sync + Send + Copy, S: Source, K: Sink, E: Sink>(
     ensures told { IsTold E.contents E.write_step E.fault_count E.is_sure err.old err.new
         (text_of result.why) }
 {
-    let why = if is_replay(words) {
-        run_replay(alloc, input, out)
-    } else {
-        Why::Usage
+    let why = match command_of(words) {
+        Some(Command::Replay) => run_replay(alloc, input, out),
+        Some(Command::Gen { n, seed }) => run_gen(alloc, n, seed, out),
+        Some(Command::Sum { n, seed }) => run_sum(alloc, n, seed, out),
+        None => Why::Usage,
     };
     let _ = tell(err, why);
     Status {
         exit: exit_status(why),
         why,
     }
-}
-
-/// Whether the words are those of the command that replays a trace.
-fn is_replay(words: &[String]) -> bool
-    ensures yes { result ≡ true → IsReplay (map string_bytes words.now) }
-    ensures no { result ≡ false → IsReplay (map string_bytes words.now) → ⊥ }
-{
-    words.len() == 1 && words[0].as_str() == "replay"
 }
 
 /// Replays the trace of an input, and lets go of the core that ran it.
@@ -107,6 +131,8 @@ fn run_replay<S: Source, K: Sink>(alloc: Global, input: &mut S, out: &mut K) -> 
         → Replays result bytes (S.remaining input.new) (K.contents out.old) (K.contents out.new) }
     ensures taken { (bytes : List ℕ) → S.remaining input.old ≡ Some bytes
         → LeavesAllBut (bytes_taken result bytes) (S.remaining input.new) bytes }
+    ensures most { (bytes : List ℕ) → S.remaining input.old ≡ Some bytes
+        → LeavesAllBut 257000257 (S.remaining input.new) bytes }
     ensures counts { TellsCounts result (S.fault_count input.old) (S.fault_count input.new) (K.fault_count out.old) (K.fault_count out.new) }
     ensures read_cause { Causes S.fault_count S.is_sure input.old input.new (is_read_fault result) }
     ensures write_cause { Causes K.fault_count K.is_sure out.old out.new (is_write_fault result) }
@@ -125,6 +151,48 @@ fn cause_of(end: ReplayEnd) -> Why
         ReplayEnd::ReadFault(fault) => Why::ReadFault(fault),
         ReplayEnd::WriteFault(fault) => Why::WriteFault(fault),
         ReplayEnd::OutOfMemory => Why::OutOfMemory,
+    }
+}
+
+/// Writes the trace of the first `n` steps that the seed gives.
+fn run_gen<K: Sink>(alloc: Global, n: u32, seed: u64, out: &mut K) -> Why
+    requires few { n ≤ 999999 }
+    requires seed { seed < 2 ^ 48 }
+    ensures writes { WritesText result (K.contents out.old) (K.contents out.new)
+        (trace_text (generated_steps n seed)) }
+    ensures counts { (reads : ℕ) → TellsCounts result reads reads
+        (K.fault_count out.old) (K.fault_count out.new) }
+    ensures cause { Causes K.fault_count K.is_sure out.old out.new (is_write_fault result) }
+{
+    let before = out.faults();
+    let sent = write_trace(alloc, n, seed, out);
+    cause_of_text(sent, before, out.faults())
+}
+
+/// Runs the first `n` steps that the seed gives, and writes what their run comes to.
+fn run_sum<K: Sink>(alloc: Global, n: u32, seed: u64, out: &mut K) -> Why
+    requires few { n ≤ 999999 }
+    requires seed { seed < 2 ^ 48 }
+    ensures writes { WritesText result (K.contents out.old) (K.contents out.new)
+        (summary_text (generated_steps n seed)) }
+    ensures counts { (reads : ℕ) → TellsCounts result reads reads
+        (K.fault_count out.old) (K.fault_count out.new) }
+    ensures cause { Causes K.fault_count K.is_sure out.old out.new (is_write_fault result) }
+{
+    let before = out.faults();
+    let sent = write_summary(alloc, n, seed, out);
+    cause_of_text(sent, before, out.faults())
+}
+
+/// Why the program ends, where the output answered so to a text and had these counts of faults before
+/// and after it.
+fn cause_of_text(sent: Result<(), SinkRefusal>, before: u64, after: u64) -> Why
+    ensures { result ≡ why_written sent (record { before = before; after = after }) }
+{
+    match sent {
+        Ok(()) => Why::Done,
+        Err(SinkRefusal::Failed) => Why::WriteFault(CountFault { before, after }),
+        Err(SinkRefusal::OutOfMemory) => Why::OutOfMemory,
     }
 }
 
@@ -196,6 +264,5 @@ fn refusal_end(reason: Reason) -> &'static [u8]
         Reason::Choice => b": choice\n",
         Reason::Header => b": header\n",
         Reason::Lines => b": lines\n",
-        Reason::Stage => b": stage\n",
     }
 }

@@ -43,7 +43,8 @@ impl ScriptClock {
     /// `t` is earlier; then the clock stays. It takes no memory.
     pub fn set(&mut self, t: Moment) -> Result<(), Back>
         ensures set { OnOk result (self.old ≤ t × (self.new ≡ t)) }
-        ensures back { IfErr result (λ back. (t < self.old) × (back.0 ≡ self.old) × (self.new ≡ self.old)) }
+        ensures back { IfErr result (λ back. (t < self.old) × (back.0 ≡ self.old)
+            × (self.new ≡ self.old)) }
         ensures later { self.old ≤ self.new }
     {
         if t < self.moment {

@@ -49,20 +49,23 @@ impl NotedEvents {
         ensures ok { OnOk result (self.new ≡ self.old ++ event ∷ []) }
         ensures err { OnErr result (self.new ≡ self.old) }
     {
-        self.make_room();
+        if self.events.len() == self.events.capacity() {
+            self.make_room();
+        }
         match self.events.push(event) {
             Ok(()) => Ok(()),
             Err(_) => Err(OutOfMemory),
         }
     }
 
-    /// Moves the events to the front where the vector is full and at least half of it is given.
+    /// Moves the events of the full vector to the front, where at least half of it is given.
+    #[inline(never)]
     fn make_room(&mut self)
         ensures { self.new ≡ self.old }
     {
         let given = self.given;
         let left = self.events.len() - given;
-        if self.events.len() == self.events.capacity() && given >= left {
+        if given >= left {
             self.events.copy_within(given.., 0);
             self.events.truncate(left);
             self.given = 0;

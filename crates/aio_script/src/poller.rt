@@ -42,7 +42,13 @@ impl Model for ScriptPoller {
 
     ghost Value = { Script };
 
-    ghost view = { λ p. record { armed = p.armed.items; noted = p.noted; due = p.due; faults = p.faults; waits = p.waits } };
+    ghost view = { λ p. record {
+      armed = p.armed.items;
+      noted = p.noted;
+      due = p.due;
+      faults = p.faults;
+      waits = p.waits;
+    } };
 
     ghost invariant = { λ p. vec_len p.armed ≡ 4096 };
 }
@@ -78,7 +84,8 @@ impl ScriptPoller {
     /// Notes an event of any key and any directions behind those that are noted. `OutOfMemory`
     /// leaves the poller as it was.
     pub fn give(&mut self, event: Event) -> Result<(), OutOfMemory>
-        ensures ok { OnOk result (self.new ≡ record self.old { noted = self.old.noted ++ event ∷ [] }) }
+        ensures ok { OnOk result
+            (self.new ≡ record self.old { noted = self.old.noted ++ event ∷ [] }) }
         ensures err { OnErr result (self.new ≡ self.old) }
     {
         self.noted.push(event)
@@ -217,8 +224,8 @@ impl EventWait for ScriptPoller {
         let noted = self.noted.as_slice();
         let count = noted.len().min(room as usize);
         let given = &noted[..count];
-        out.extend_from_slice(given).unwrap();
         clear_interests(&mut self.armed, given);
+        out.extend_from_slice(given).unwrap();
         self.noted.skip(count);
         Ok(Waited::Given(count as u32))
     }

@@ -1,6 +1,6 @@
 //! One direction of a source.
 
-ghost use Rattle.std.specs.Prelude.{◌≡◌, ◌+◌, ◌-◌, ◌^◌, ◌<◌, ◌≤◌, ◌++◌, ◌↔◌, not, length, max, IfOk, OnErr, IsErrOf, None, if◌then◌else◌, vec_len, vec_capacity};
+ghost use Rattle.std.specs.Prelude.{◌≡◌, ◌+◌, ◌-◌, ◌^◌, ◌<◌, ◌≤◌, ◌++◌, ◌↔◌, true, not, length, max, IfOk, OnErr, IsErrOf, None, if◌then◌else◌, vec_len, vec_capacity};
 ghost use Rattle.aio_base.specs.Machine.{is_waker};
 ghost use Rattle.aio_listen.specs.Listening.{Holds, has_ticket};
 ghost use Rattle.aio_source.specs.Rules.{new_direction, is_above, is_ready, waiters_of, is_idle, seen, stored, listening, listening_again, without_listener, handled};
@@ -30,7 +30,12 @@ impl Model for Direction {
 
     ghost Value = { DirectionValue };
 
-    ghost view = { λ d. record { tick = d.tick; ticks = d.ticks; waiter = d.waiter; listeners = d.listeners } };
+    ghost view = { λ d. record {
+      tick = d.tick;
+      ticks = d.ticks;
+      waiter = d.waiter;
+      listeners = d.listeners;
+    } };
 }
 
 impl Direction {
@@ -69,22 +74,22 @@ impl Direction {
         }
     }
 
-    /// Whether this waker is the poll waiter.
-    pub(crate) fn is_held(&self, waker: Waker) -> bool
-        ensures { result ≡ is_waker waker self.now.waiter }
-    {
-        match self.waiter {
-            None => false,
-            Some(held) => held.0 == waker.0,
-        }
-    }
-
     /// Whether the direction has no waiter.
     #[tactic(auto, using(crate::proofs::WaiterLemmas::empty_by_length))]
     pub(crate) fn is_idle(&self) -> bool
         ensures { result ≡ is_idle self.now }
     {
-        self.waiter.is_none() && self.listeners.is_empty()
+        match self.waiter {
+            None => self.listeners.is_empty(),
+            Some(_) => false,
+        }
+    }
+
+    /// Whether the direction has had no listener yet. Its poll waiter alone may wait then.
+    pub(crate) fn is_only_polled(&self) -> bool
+        ensures { result ≡ true → length (waiters_of self.now) ≤ 1 }
+    {
+        self.listeners.is_new()
     }
 
     /// How many waiters the direction has.
@@ -110,11 +115,22 @@ impl Direction {
         ensures replaced { result
             ≡ (if is_waker waker self.old.waiter then None else self.old.waiter) }
     {
-        if self.is_held(waker) {
-            return None;
+        match &mut self.waiter {
+            None => {
+                self.ticks = Some((ticker, self.tick));
+                self.waiter = Some(waker);
+                None
+            }
+            Some(held) => {
+                let before = *held;
+                if before.0 == waker.0 {
+                    return None;
+                }
+                *held = waker;
+                self.ticks = Some((ticker, self.tick));
+                Some(before)
+            }
         }
-        self.ticks = Some((ticker, self.tick));
-        self.waiter.replace(waker)
     }
 
     /// Whether a listener has this ticket.
@@ -164,8 +180,9 @@ impl Direction {
         ensures taken { taken.new.items ≡ taken.old.items ++ waiters_of self.old }
         ensures capacity { vec_capacity taken.new ≡ vec_capacity taken.old }
     {
-        if let Some(waker) = self.waiter.take() {
-            taken.push_reserved(waker);
+        match self.waiter.take() {
+            None => {}
+            Some(waker) => taken.push_reserved(waker),
         }
         self.listeners.drain_into(taken);
         self.tick = self.tick.max(round);

@@ -1,6 +1,6 @@
 //! The directions of a source.
 
-ghost use Rattle.std.specs.Prelude.{◌≡◌, ◌+◌, ◌≤◌, ◌++◌, length, vec_len, vec_capacity};
+ghost use Rattle.std.specs.Prelude.{◌≡◌, ◌+◌, ◌≤◌, ◌++◌, true, length, vec_len, vec_capacity};
 ghost use Rattle.std.specs.Borrow.{sem};
 ghost use Rattle.aio_base.specs.World.{directions, has_dir};
 ghost use Rattle.aio_source.specs.Rules.{new_directions, direction_of, wanted, has_any, waiters_in, handled_along, taken_along};
@@ -65,6 +65,20 @@ impl Directions {
         }
     }
 
+    /// Whether any direction has a waiter.
+    pub(crate) fn has_waiter(&self) -> bool
+        ensures { result ≡ has_any (wanted self.now) }
+    {
+        !self.write.is_idle() || !self.read.is_idle()
+    }
+
+    /// Whether no direction has had a listener yet. Each has its poll waiter at most then.
+    pub(crate) fn are_only_polled(&self) -> bool
+        ensures { result ≡ true → length (waiters_in directions self.now) ≤ 2 }
+    {
+        self.write.is_only_polled() && self.read.is_only_polled()
+    }
+
     /// Moves the waiters of the directions that an event of this round names to the end of `taken`,
     /// direction by direction in the order of `DIRS`.
     #[inline(always)]
@@ -92,11 +106,4 @@ pub(crate) fn names(on: Interest, dir: Dir) -> bool
         Dir::Read => on.read,
         Dir::Write => on.write,
     }
-}
-
-/// Whether an interest has any direction.
-pub(crate) fn names_any(on: Interest) -> bool
-    ensures { result ≡ has_any on }
-{
-    DIRS.iter().any(|dir| names(on, *dir))
 }

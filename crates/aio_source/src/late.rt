@@ -1,6 +1,6 @@
 //! The listeners of a direction, out of line: few directions ever have one.
 
-ghost use Rattle.std.specs.Prelude.{◌≡◌, ◌+◌, ◌-◌, ◌^◌, ◌<◌, ◌≤◌, ◌==◌, ◌↔◌, [], ◌∷◌, ◌++◌, None, length, IfOk, OnErr, IsErrOf, vec_len, vec_capacity};
+ghost use Rattle.std.specs.Prelude.{◌≡◌, ◌+◌, ◌-◌, ◌^◌, ◌<◌, ◌≤◌, ◌==◌, ◌↔◌, [], ◌∷◌, ◌++◌, true, None, length, IfOk, OnErr, IsErrOf, vec_len, vec_capacity};
 ghost use Rattle.aio_listen.specs.Listening.{Holds, has_ticket, wakers_of, with_waker, without, emptied};
 
 use aio_base::Waker;
@@ -33,6 +33,16 @@ impl LateListeners {
         ensures { result ≡ record { entries = []; drawn = 0 } }
     {
         LateListeners { held: None, alloc }
+    }
+
+    /// Whether no listener has come yet.
+    pub(crate) fn is_new(&self) -> bool
+        ensures { result ≡ true → self.now.entries ≡ [] }
+    {
+        match &self.held {
+            None => true,
+            Some(_) => false,
+        }
     }
 
     /// Whether no listener holds a waker.
@@ -119,8 +129,9 @@ impl LateListeners {
         ensures items { out.new.items ≡ out.old.items ++ wakers_of self.old.entries }
         ensures capacity { vec_capacity out.new ≡ vec_capacity out.old }
     {
-        if let Some(listeners) = &mut self.held {
-            listeners.drain_into(out);
+        match &mut self.held {
+            None => {}
+            Some(listeners) => listeners.drain_into(out),
         }
     }
 }

@@ -1,6 +1,6 @@
 //! The state of a source and its calls.
 
-ghost use Rattle.std.specs.Prelude.{◌≡◌, ◌+◌, ◌-◌, ◌^◌, ◌<◌, ◌≤◌, ◌++◌, ◌↔◌, false, length, IfSome, IsErrOf, vec_len, vec_capacity};
+ghost use Rattle.std.specs.Prelude.{◌≡◌, ◌+◌, ◌-◌, ◌^◌, ◌<◌, ◌≤◌, ◌++◌, ◌↔◌, false, true, length, IfSome, IsErrOf, vec_len, vec_capacity};
 ghost use Rattle.aio_base.specs.World.{directions};
 ghost use Rattle.aio_listen.specs.Listening.{Holds, has_ticket};
 ghost use Rattle.aio_source.specs.Rules.{new_source, is_above, waiters_of, waiters_in, direction_of, taken_along, polling, listening_first, polling_again, unlistened, handling, Covered};
@@ -9,7 +9,7 @@ ghost use Rattle.aio_source.specs.Answers.{poll_answer, armed_in, armed_first, l
 
 use crate::answers::{ListenRefusal, Listened, Polled};
 use crate::arming::Arming;
-use crate::directions::{Directions, names_any};
+use crate::directions::Directions;
 use aio_base::{Arm, ArmFault, Dir, Event, Interest, Key, Poll, Waker};
 use aio_listen::{AddRefusal, Ticket};
 use std::alloc::Global;
@@ -34,9 +34,15 @@ impl Model for SourceState {
 
     ghost Value = { SourceValue };
 
-    ghost view = { λ s. record { key = s.key; directions = s.directions; asked = s.arming.asked; broken = s.arming.broken } };
+    ghost view = { λ s. record {
+      key = s.key;
+      directions = s.directions;
+      asked = s.arming.asked;
+      broken = s.arming.broken;
+    } };
 
-    ghost invariant = { λ s. (s.key.0 < 4096) × Covers s.directions s.arming.asked s.arming.broken };
+    ghost invariant = { λ s. (s.key.0 < 4096)
+        × Covers s.directions s.arming.asked s.arming.broken };
 }
 
 /// A source beside the object that is armed for it.
@@ -77,6 +83,13 @@ impl SourceState {
         ensures bound { result ≤ 2 ^ 63 }
     {
         self.directions.get(dir).waiting()
+    }
+
+    /// Whether the source has had no listener yet. Two waiters wait at most then.
+    pub fn is_only_polled(&self) -> bool
+        ensures { result ≡ true → length (waiters_in directions self.now.directions) ≤ 2 }
+    {
+        self.directions.are_only_polled()
     }
 
     /// Whether the last round that handled an event of a direction is above both numbers.
@@ -270,7 +283,7 @@ impl SourceState {
     {
         self.directions.take_waiters(e.on, round, taken);
         self.arming.asked = Interest::NONE;
-        let left = names_any(self.directions.wanted());
+        let left = self.directions.has_waiter();
         self.arming.arm_where(left, arm, self.key, &self.directions)
     }
 }

@@ -22,22 +22,22 @@ const ORDINARY_ANSWERS: &[u8] = b"key 0\npending\nnoted\nround 1 events 1 ok\nwa
 
 /// What a call answered, and what it wrote.
 #[derive(Drop)]
-struct Ran {
-    status: Status,
-    out: MemSink,
-    err: MemSink,
+pub(crate) struct Ran {
+    pub(crate) status: Status,
+    pub(crate) out: MemSink,
+    pub(crate) err: MemSink,
 }
 
 /// The numbers of the calls that fail, from 1: the reads of the input, and the writes of the output
 /// and of what is told to the user.
 #[derive(Clone, Copy)]
-struct Failing {
-    reads: &'static [u64],
-    writes: &'static [u64],
-    tells: &'static [u64],
+pub(crate) struct Failing {
+    pub(crate) reads: &'static [u64],
+    pub(crate) writes: &'static [u64],
+    pub(crate) tells: &'static [u64],
 }
 
-const NOTHING_FAILS: Failing = Failing {
+pub(crate) const NOTHING_FAILS: Failing = Failing {
     reads: &[],
     writes: &[],
     tells: &[],
@@ -45,7 +45,7 @@ const NOTHING_FAILS: Failing = Failing {
 
 /// Runs the command of these words over an input in memory, of which a read gives at most `piece`
 /// bytes, and one where that is 0.
-fn run_over<R: Wait + Threads + Sync + Send + Copy + AllocGlobal>(
+pub(crate) fn run_over<R: Wait + Threads + Sync + Send + Copy + AllocGlobal>(
     rt: &R,
     words: &[&str],
     input: &[u8],
@@ -68,194 +68,116 @@ fn run_over<R: Wait + Threads + Sync + Send + Copy + AllocGlobal>(
     Ok(Ran { status, out, err })
 }
 
-/// Traces, and what comes of each: its output, its exit status and the text for the user.
-const TRACES: [(&[u8], &[u8], u8, &[u8]); 29] = [
-    (b"trace 1\n", b"", 0, b""),
-    (b"trace 1", b"", 0, b""),
-    (ORDINARY, ORDINARY_ANSWERS, 0, b""),
+/// Traces, and the answers to each; all lines of each are read.
+const TRACES: [(&[u8], &[u8]); 15] = [
+    (b"trace 1\n", b""),
+    (b"trace 1", b""),
+    (ORDINARY, ORDINARY_ANSWERS),
     // A second waker replaces the first, which is woken.
     (
         b"trace 1\nadd\npoll 0 r 1\npoll 0 r 2\n",
         b"key 0\npending\npending\nwake 1\n",
-        0,
-        b"",
     ),
     // A direction that is left waiting is armed again; one event wakes Write before Read.
     (
         b"trace 1\nadd\npoll 0 r 1\npoll 0 w 2\nevent 0 r\nreact\npoll 0 r 1\npoll 0 r 1\nevent 0 rw\nreact\n",
         b"key 0\npending\npending\nnoted\nround 1 events 1 ok\nwake 1\nready\npending\nnoted\nround 2 events 1 ok\nwake 2\nwake 1\n",
-        0,
-        b"",
     ),
     // An event of an unknown key is counted and wakes nobody.
     (
         b"trace 1\nevent 9 rw\nreact\n",
         b"noted\nround 1 events 1 ok\n",
-        0,
-        b"",
     ),
     // A due fault shows which polls arm: the same waker does not, unless its source is broken.
     (
         b"trace 1\nadd\npoll 0 r 1\nfault arm\npoll 0 r 1\npoll 0 w 2\npoll 0 r 1\n",
         b"key 0\npending\nnoted\npending\nfault arm\npending\n",
-        0,
-        b"",
     ),
     // An arm that fails in a round stops nothing; the next poll arms again.
     (
         b"trace 1\nadd\npoll 0 r 1\npoll 0 w 2\nfault arm\nevent 0 r\nreact\npoll 0 w 2\nevent 0 w\nreact\n",
         b"key 0\npending\npending\nnoted\nnoted\nround 1 events 1 fault arm\nwake 1\npending\nnoted\nround 2 events 1 ok\nwake 2\n",
-        0,
-        b"",
     ),
     // Listeners are woken in the order of their first poll; one that is ready stays so.
     (
         b"trace 1\nadd\nnew 0 r\nnew 0 r\nnew 0 r\nstep 1 11\nstep 2 12\nstep 3 13\ndrop 2\nnew 0 r\nstep 4 14\nevent 0 r\nreact\nstep 4 14\nstep 4 14\n",
         b"key 0\nlistener 1\nlistener 2\nlistener 3\npending\npending\npending\ndropped\nlistener 4\npending\nnoted\nround 1 events 1 ok\nwake 11\nwake 13\nwake 14\nready\nready\n",
-        0,
-        b"",
     ),
     // The order is that of the first polls, and not that of the numbers.
     (
         b"trace 1\nadd\nnew 0 r\nnew 0 r\nstep 2 12\nstep 1 11\nevent 0 r\nreact\n",
         b"key 0\nlistener 1\nlistener 2\npending\npending\nnoted\nround 1 events 1 ok\nwake 12\nwake 11\n",
-        0,
-        b"",
     ),
     // Each kind of call fails once where it was told to.
     (
         b"trace 1\nfault add\nadd\nadd\nfault remove\ndel 0\nadd\nfault arm\npoll 0 r 3\npoll 0 r 3\nevent 0 r\nreact\n",
         b"noted\nfault add\nkey 0\nnoted\nfault remove\nkey 0\nnoted\nfault arm\npending\nnoted\nround 1 events 1 ok\nwake 3\n",
-        0,
-        b"",
     ),
     // What is not there, or is in use, is told.
     (
         b"trace 1\nadd\nnew 0 w\ndel 0\ndrop 1\ndel 0\npoll 0 r 1\ndel 0\nnew 0 r\nstep 1 5\ndrop 1\nstep 0 5\ndrop 0\n",
         b"key 0\nlistener 1\nin use\ndropped\ngone\nno source\nno source\nno source\nno listener\nno listener\nno listener\nno listener\n",
-        0,
-        b"",
     ),
     // A waker that is given up with its source or its listener is not woken; a key is used again.
     (
         b"trace 1\nadd\nadd\npoll 0 r 1\nnew 1 r\nstep 1 2\ndrop 1\ndel 0\nadd\nevent 0 r\nevent 1 r\nreact\npoll 0 r 3\n",
         b"key 0\nkey 1\npending\nlistener 1\npending\ndropped\ngone\nkey 0\nnoted\nnoted\nround 1 events 2 ok\npending\n",
-        0,
-        b"",
     ),
-    (b"trace 1\nadd\nadd", b"key 0\nkey 1\n", 0, b""),
-    (
-        b"trace 1\npoll 4294967295 w 4294967295\n",
-        b"no source\n",
-        0,
-        b"",
-    ),
-    (b"", b"", 2, b"line 1: header\n"),
-    (b"\ntrace 1\n", b"", 2, b"line 1: header\n"),
-    (b"trace 1\r\n", b"", 2, b"line 1: header\n"),
-    (b"trace 2\nadd\n", b"", 2, b"line 1: header\n"),
-    (
-        b"trace 1\nadd\ninterrupts\nadd\n",
-        b"key 0\n",
-        2,
-        b"line 3: stage\n",
-    ),
-    (b"trace 1\n add\n", b"", 2, b"line 2: stage\n"),
-    (b"trace 1\nadd \n", b"", 2, b"line 2: stage\n"),
-    (b"trace 1\nadd\r\n", b"", 2, b"line 2: stage\n"),
-    (b"trace 1\nadd\x00\n", b"", 2, b"line 2: stage\n"),
-    (b"trace 1\n\x7f\xff\n", b"", 2, b"line 2: stage\n"),
-    (b"trace 1\n\nadd\n", b"", 2, b"line 2: stage\n"),
-    (b"trace 1\ntrace 1\n", b"", 2, b"line 2: stage\n"),
-    (b"trace 1\npoll 00 r 1\n", b"", 2, b"line 2: stage\n"),
-    (b"trace 1\nevent 4294967296 r", b"", 2, b"line 2: stage\n"),
+    (b"trace 1\nadd\nadd", b"key 0\nkey 1\n"),
+    (b"trace 1\npoll 4294967295 w 4294967295\n", b"no source\n"),
 ];
 
-/// Traces with timers, and what comes of each in the same way.
-const TIMER_TRACES: [(&[u8], &[u8], u8, &[u8]); 13] = [
+/// Traces with timers, and the answers to each in the same way.
+const TIMER_TRACES: [(&[u8], &[u8]); 10] = [
     // Timers of one deadline fire in the order in which they were registered.
     (
         b"trace 1\ntimer at 150\ntimer at 150\ntick 1 5\ntick 2 4\nnow 150\nreact\n",
         b"timer 1\ntimer 2\npending\npending\nat 150\nround 1 events 0 ok\nwake 5\nwake 4\n",
-        0,
-        b"",
     ),
     // A poll fires one period at most, also where several were missed.
     (
         b"trace 1\ntimer every 10 10\nnow 35\ntick 1 5\ntick 1 5\ntick 1 5\ntick 1 5\n",
         b"timer 1\nat 35\nready 10\nready 20\nready 30\npending\n",
-        0,
-        b"",
     ),
     // A period that ends past the last moment is the last one.
     (
         b"trace 1\ntimer every 1000000000000000000 1\nnow 1000000000000000000\ntick 1 5\ntick 1 5\n",
         b"timer 1\nat 1000000000000000000\nready 1000000000000000000\npending\n",
-        0,
-        b"",
     ),
     // A timer that is given up fires no more, and its number stays taken.
     (
         b"trace 1\ntimer at 50\ntick 1 5\nend 1\nnow 60\nreact\ntick 1 5\n",
         b"timer 1\npending\nended\nat 60\nround 1 events 0 ok\nno timer\n",
-        0,
-        b"",
     ),
     // A timer that is set fires at its new deadline, for the task that waits; the clock stays.
     (
         b"trace 1\ntimer at 50\ntick 1 5\nset 1 at 20\ntimer never\ntick 2 6\nset 2 at 20\nnow 20\nreact\ntick 2 6\nnow 19\n",
         b"timer 1\npending\nset\ntimer 2\npending\nset\nat 20\nround 1 events 0 ok\nwake 5\nready 20\nback 20\n",
-        0,
-        b"",
     ),
     // A timer that is set gets a period too.
     (
         b"trace 1\ntimer at 50\ntick 1 1\nset 1 every 10 10\nnow 25\ntick 1 1\ntick 1 1\ntick 1 1\n",
         b"timer 1\npending\nset\nat 25\nready 10\nready 20\npending\n",
-        0,
-        b"",
     ),
     // A round wakes for its timers before it wakes for its events; numbers of timers and of listeners
     // are counted apart.
     (
         b"trace 1\nadd\nnew 0 r\nstep 1 1\ntimer at 10\ntick 1 2\nnow 10\nevent 0 r\nreact\n",
         b"key 0\nlistener 1\npending\ntimer 1\npending\nat 10\nnoted\nround 1 events 1 ok\nwake 2\nwake 1\n",
-        0,
-        b"",
     ),
     // The task that polled last is woken, once.
     (
         b"trace 1\ntimer at 5\ntick 1 1\ntick 1 2\ntick 1 2\nnow 5\nreact\nreact\ntick 1 3\ntick 1 3\n",
         b"timer 1\npending\npending\npending\nat 5\nround 1 events 0 ok\nwake 2\nround 2 events 0 ok\nready 5\npending\n",
-        0,
-        b"",
     ),
     // A number that no timer has.
     (
         b"trace 1\ntick 1 1\nset 0 at 1\nset 4294967295 every 1 1\nend 1\n",
         b"no timer\nno timer\nno timer\nno timer\n",
-        0,
-        b"",
     ),
     (
         b"trace 1\nnow 1000000000000000000",
         b"at 1000000000000000000\n",
-        0,
-        b"",
-    ),
-    // Numbers out of their range.
-    (
-        b"trace 1\nnow 1000000000000000001\n",
-        b"",
-        2,
-        b"line 2: stage\n",
-    ),
-    (b"trace 1\ntimer every 1 0\n", b"", 2, b"line 2: stage\n"),
-    (
-        b"trace 1\ntimer never\nset 1 never\n",
-        b"timer 1\n",
-        2,
-        b"line 3: stage\n",
     ),
 ];
 
@@ -306,11 +228,11 @@ const SECTION_TRACES: [(&[u8], &[u8]); 8] = [
 #[test]
 fn traces_are_answered_however_they_are_read(rt: HostRuntime) -> Result<(), Fail> {
     for piece in [1, 7, 4096] {
-        for (trace, out, exit, err) in TRACES {
+        for (trace, out) in TRACES {
             let ran = run_over(&rt, &["replay"], trace, piece, NOTHING_FAILS)?;
             assert_eq!(rt; ran.out.bytes(), out, "output of {trace:?}");
-            assert_eq!(rt; ran.err.bytes(), err, "text for {trace:?}");
-            assert_eq!(rt; ran.status.exit, exit, "exit of {trace:?}");
+            assert!(rt; ran.err.bytes().is_empty(), "text for {trace:?}");
+            assert_eq!(rt; ran.status.exit, 0, "exit of {trace:?}");
         }
     }
     Ok(())
@@ -319,11 +241,11 @@ fn traces_are_answered_however_they_are_read(rt: HostRuntime) -> Result<(), Fail
 #[test]
 fn timers_fire_in_order_and_once(rt: HostRuntime) -> Result<(), Fail> {
     for piece in [1, 4096] {
-        for (trace, out, exit, err) in TIMER_TRACES {
+        for (trace, out) in TIMER_TRACES {
             let ran = run_over(&rt, &["replay"], trace, piece, NOTHING_FAILS)?;
             assert_eq!(rt; ran.out.bytes(), out, "output of {trace:?}");
-            assert_eq!(rt; ran.err.bytes(), err, "text for {trace:?}");
-            assert_eq!(rt; ran.status.exit, exit, "exit of {trace:?}");
+            assert!(rt; ran.err.bytes().is_empty(), "text for {trace:?}");
+            assert_eq!(rt; ran.status.exit, 0, "exit of {trace:?}");
         }
     }
     Ok(())
@@ -344,12 +266,33 @@ fn rounds_are_answered_section_by_section(rt: HostRuntime) -> Result<(), Fail> {
 
 #[test]
 fn other_words_are_no_command(rt: HostRuntime) -> Result<(), Fail> {
-    let lists: [&[&str]; 5] = [
+    let lists: [&[&str]; 26] = [
         &[],
-        &["replay", "x"],
-        &["gen", "2", "0"],
-        &["Replay"],
         &[""],
+        &["replay", "x"],
+        &["Replay"],
+        &["gen"],
+        &["gen", "1"],
+        &["gen", "1", "2", "3"],
+        &["Gen", "1", "0"],
+        &["gen ", "1", "0"],
+        &["gen", "1000000", "0"],
+        &["gen", "4294967296", "0"],
+        &["gen", "1", "281474976710656"],
+        &["gen", "18446744073709551616", "0"],
+        &["gen", "-1", "0"],
+        &["gen", "+1", "0"],
+        &["gen", "1", "+0"],
+        &["gen", "x", "0"],
+        &["gen", "1x", "0"],
+        &["gen", "", "0"],
+        &["gen", "1", ""],
+        &["gen 1 0"],
+        &["sum", " 0", "1"],
+        &["sum", "1000000", "1"],
+        &["sum", "replay"],
+        &["relay", "4000", "1", "1", "1"],
+        &["stress", "1", "1"],
     ];
     for words in lists {
         let ran = run_over(&rt, words, ORDINARY, 4096, NOTHING_FAILS)?;
@@ -357,21 +300,6 @@ fn other_words_are_no_command(rt: HostRuntime) -> Result<(), Fail> {
         assert_eq!(rt; ran.status.why, Why::Usage);
         assert_eq!(rt; ran.err.bytes(), USAGE);
         assert!(rt; ran.out.bytes().is_empty());
-    }
-    Ok(())
-}
-
-#[test]
-fn a_line_of_any_length_is_refused(rt: HostRuntime) -> Result<(), Fail> {
-    for len in [255, 256, 257, 258, 300, 100_000] {
-        let mut trace = b"trace 1\nadd\n".to_vec(rt.alloc())?;
-        for _ in 0..len {
-            trace.push(b'a')?;
-        }
-        let ran = run_over(&rt, &["replay"], trace.as_slice(), 4096, NOTHING_FAILS)?;
-        assert_eq!(rt; ran.out.bytes(), b"key 0\n".as_slice());
-        assert_eq!(rt; ran.err.bytes(), b"line 3: stage\n".as_slice());
-        assert_eq!(rt; ran.status.exit, 2);
     }
     Ok(())
 }

@@ -1,5 +1,6 @@
 -- The walk of the count: where it goes from a node, and what it has passed.
-use Rattle.std.proofs.Common.{inl, inr, ◌≡◌, ◌≢◌, ℕ, suc, ◌+◌, ◌<◌, ◌≤◌, Bool, true, false, cond, List, [], ◌∷◌, length, map, Option, None, Some, IfSome, arith, refl, sym, ap, ◌∙◌}
+use Rattle.std.proofs.Common.{inl, inr, ◌≡◌, ◌≢◌, ℕ, suc, ◌+◌, ◌<◌, ◌≤◌, Bool, true, false, cond, List, [], ◌∷◌, ◌++◌, length, length-append, map, Option, None, Some, IfSome, arith, refl, sym, ap, ◌∙◌}
+use Rattle.std.specs.Prelude.{MatchOption}
 use Rattle.std.proofs.lemmas.Bool.{cases_eq}
 use Rattle.std.proofs.lemmas.Bool.Decides.{nat_tests}
 use Rattle.std.proofs.lemmas.List.{length-map}
@@ -10,7 +11,7 @@ use Rattle.aio_timers.specs.Rows.{one_if, times_in, IsRun, IsRow, IsRunOnce, ste
 use Rattle.aio_timers.specs.Writes.{leads_to}
 use Rattle.aio_timers.specs.Family.{Family, IsFamily, IsParent, IsTop}
 use Rattle.aio_timers.specs.Heap.{IsHeap, IsRoot}
-use Rattle.aio_timers.specs.Due.{is_due, due_in, led_by, IsLast, Down, Trail, IsOnTrail, ahead, GoesTo, GoesOn}
+use Rattle.aio_timers.specs.Due.{is_due, due_in, led_by, NoneDue, IsLastDueAt, IsLastDue, Down, Trail, IsOnTrail, ahead, GoesTo, GoesOn, GoesPast}
 use Rattle.aio_timers.proofs.CountLemmas.{one_if-same, one_if-other, one_if-le, some_or_none}
 use Rattle.aio_timers.proofs.RunLemmas.{used-within, times-append, once-le, run-within, row-run, steps-of-run, by-order}
 use Rattle.aio_timers.proofs.WriteLemmas.{leads-same, leads-other}
@@ -37,61 +38,94 @@ led-row : (ns : List Node) (b : ℕ) (l : Option ℕ) (xs ks : List ℕ) → IsR
 led-row ns b l [] ks r = r
 led-row ns b l (x ∷ xs) ks r = let h : IsRow ns (nearest b xs) (link_on ns l xs) (x ∷ ks) = led-row ns b l xs (x ∷ ks) r in h.3
 
--- ## The last of a row
-
--- a node of a row, with what is before it and behind it
-pub record Reaches (ns : List Node) (ks : List ℕ) (i : ℕ) : Type 0 where
-  pub before : List ℕ
-  pub back : List ℕ
-  pub is : ks ≡ led_by before (i ∷ back)
-  pub run : IsRun ns (Some i) (i ∷ back)
-
-pub reach-start : (ns : List Node) (i : ℕ) (ks : List ℕ) → IsRunOnce ns (Some i) ks → Reaches ns ks i
-reach-start ns i ks r = go ks r.run
-  where
-    go : (xs : List ℕ) → IsRun ns (Some i) xs → Reaches ns xs i
-    go [] h = cc
-    go (x ∷ xs) h = let same : i ≡ x = cc (h.0) in rw same (record { before = []; back = xs; is = refl; run = (refl, h.1, h.2) })
-
-pub reach-within : (ns : List Node) (ks : List ℕ) (i : ℕ) → Reaches ns ks i → i < length ns
-reach-within ns ks i r = let h : IsRun ns (Some i) (i ∷ r.back) = r.run in h.1
-
-pub reach-next : (ns : List Node) (ks : List ℕ) (i j : ℕ) → Reaches ns ks i → (node_at ns i).next ≡ Some j → Reaches ns ks j
-reach-next ns ks i j r e = go r.back r.is r.run
-  where
-    go : (back : List ℕ) → ks ≡ led_by r.before (i ∷ back) → IsRun ns (Some i) (i ∷ back) → Reaches ns ks j
-    go [] is h = cc
-    go (x ∷ xs) is h =
-        let same : j ≡ x = cc (sym e ∙ h.2.0) in
-        rw same (record { before = i ∷ r.before; back = xs; is = is; run = (refl, h.2.1, h.2.2) })
-
-pub reach-last : (ns : List Node) (ks : List ℕ) (i : ℕ) → Reaches ns ks i → (node_at ns i).next ≡ None → IsLast ks i
-reach-last ns ks i r e = go r.back r.is r.run
-  where
-    go : (back : List ℕ) → ks ≡ led_by r.before (i ∷ back) → IsRun ns (Some i) (i ∷ back) → IsLast ks i
-    go [] is h = record { before = r.before; is = is }
-    go (x ∷ xs) is h = cc
+-- ## The last of a row that is due
 
 led-length : (xs ks : List ℕ) → length (led_by xs ks) ≡ length xs + length ks
 led-length [] ks = omega arith
 led-length (x ∷ xs) ks = omega (arith, led-length xs (x ∷ ks))
 
--- behind the next node there are fewer
-pub reach-less : (ns : List Node) (first : ℕ) (ks : List ℕ) (i j : ℕ) → IsRunOnce ns (Some first) ks → Reaches ns ks i → (node_at ns i).next ≡ Some j
-    → steps_from (length ns) ns (node_at ns j).next < steps_from (length ns) ns (node_at ns i).next
-reach-less ns first ks i j whole r e = go r.back r.is r.run
+led-both : (xs ys ks : List ℕ) → led_by (xs ++ ys) ks ≡ led_by ys (led_by xs ks)
+led-both [] ys ks = refl
+led-both (x ∷ xs) ys ks = led-both xs ys (x ∷ ks)
+
+-- of the nodes of a row that were looked at, the nearest first, the last one that is due
+pub record Nearest (held : ℕ → Held) (now : ℕ) (seen : List ℕ) (i : ℕ) : Type 0 where
+  pub near : List ℕ
+  pub far : List ℕ
+  pub is : seen ≡ near ++ i ∷ far
+  pub others : NoneDue held now near
+
+-- a row was looked at up to a link
+pub record Sees (ns : List Node) (now : ℕ) (ks : List ℕ) (link last : Option ℕ) : Type 0 where
+  pub seen : List ℕ
+  pub left : List ℕ
+  pub is : ks ≡ led_by seen left
+  pub run : IsRun ns link left
+  pub found : MatchOption last (NoneDue (held_at ns) now seen) (λ i. Nearest (held_at ns) now seen i)
+
+pub sees-start : (ns : List Node) (now : ℕ) (ks : List ℕ) (first : Option ℕ) → IsRunOnce ns first ks → Sees ns now ks first None
+sees-start ns now ks first r = record { seen = []; left = ks; is = refl; run = r.run; found = λ j more. absurd (omega (arith, more)) }
+
+pub sees-end : (ns : List Node) (now : ℕ) (ks : List ℕ) (link last : Option ℕ) → link ≡ None → Sees ns now ks link last → IsLastDue (held_at ns) now ks last
+sees-end ns now ks link last none s = go s.left s.is s.run last s.found
+  where
+    go : (left : List ℕ) → ks ≡ led_by s.seen left → IsRun ns link left → (last : Option ℕ) → MatchOption last (NoneDue (held_at ns) now s.seen) (λ i. Nearest (held_at ns) now s.seen i) → IsLastDue (held_at ns) now ks last
+    go (x ∷ xs) is r last found = cc (sym none ∙ r.0)
+    go [] is r None found = λ j more. found j (omega (arith, more, ap (times_in j) is, led-times j s.seen []))
+    go [] is r (Some i) found = record {
+      before = found.far;
+      back = led_by found.near [];
+      is = is ∙ ap (λ (xs : List ℕ). led_by xs []) found.is ∙ led-both found.near (i ∷ found.far) [];
+      others = λ j more. found.others j (omega (arith, more, led-times j found.near []));
+    }
+
+-- one node more
+pub record SeesOn (ns : List Node) (now : ℕ) (ks : List ℕ) (i : ℕ) (last : Option ℕ) : Type 0 where
+  pub within : i < length ns
+  pub shorter : steps_from (length ns) ns (node_at ns i).next < steps_from (length ns) ns (Some i)
+  pub due : is_due now (held_at ns i) ≡ true → Sees ns now ks (node_at ns i).next (Some i)
+  pub other : is_due now (held_at ns i) ≡ false → Sees ns now ks (node_at ns i).next last
+
+pub sees-on : (ns : List Node) (now : ℕ) (ks : List ℕ) (first link last : Option ℕ) (i : ℕ) → IsRunOnce ns first ks → link ≡ Some i → Sees ns now ks link last → SeesOn ns now ks i last
+sees-on ns now ks first link last i whole here s = go s.left s.is s.run
   where
     le : length ks ≤ length ns
-    le = once-le (length ns) ks whole.once (λ k more. run-within ns (Some first) ks k whole.run more)
+    le = once-le (length ns) ks whole.once (λ k more. run-within ns first ks k whole.run more)
 
-    go : (back : List ℕ) → ks ≡ led_by r.before (i ∷ back) → IsRun ns (Some i) (i ∷ back) → steps_from (length ns) ns (node_at ns j).next < steps_from (length ns) ns (node_at ns i).next
-    go [] is h = cc
-    go (x ∷ xs) is h =
-        let same : j ≡ x = cc (sym e ∙ h.2.0) in
-        let len : length ks ≡ length r.before + suc (suc (length xs)) = ap length is ∙ led-length r.before (i ∷ x ∷ xs) in
-        let more : steps_from (length ns) ns (node_at ns i).next ≡ suc (length xs) = steps-of-run (length ns) ns (node_at ns i).next (x ∷ xs) h.2 (omega (arith, le, len)) in
-        let fewer : steps_from (length ns) ns (node_at ns x).next ≡ length xs = steps-of-run (length ns) ns (node_at ns x).next xs h.2.2 (omega (arith, le, len)) in
-        omega (arith, more, fewer, ap (λ (k : ℕ). steps_from (length ns) ns (node_at ns k).next) same)
+    further : (o : Option ℕ) → is_due now (held_at ns i) ≡ false → MatchOption o (NoneDue (held_at ns) now s.seen) (λ k. Nearest (held_at ns) now s.seen k)
+        → MatchOption o (NoneDue (held_at ns) now (i ∷ s.seen)) (λ k. Nearest (held_at ns) now (i ∷ s.seen) k)
+    further None miss found = also s.seen miss found
+      where
+        also : (xs : List ℕ) → is_due now (held_at ns i) ≡ false → NoneDue (held_at ns) now xs → NoneDue (held_at ns) now (i ∷ xs)
+        also xs miss none j more = elim (cases_eq j i) as (λ _. is_due now (held_at ns j) ≡ false) [
+          | inl e ↦ rw e miss
+          | inr ne ↦ none j (omega (arith, more, one_if-other j i ne))
+        ]
+    further (Some k) miss found = record {
+      near = i ∷ found.near;
+      far = found.far;
+      is = ap (λ (xs : List ℕ). i ∷ xs) found.is;
+      others = λ j more. elim (cases_eq j i) as (λ _. is_due now (held_at ns j) ≡ false) [
+        | inl e ↦ rw e miss
+        | inr ne ↦ found.others j (omega (arith, more, one_if-other j i ne))
+      ];
+    }
+
+    go : (left : List ℕ) → ks ≡ led_by s.seen left → IsRun ns link left → SeesOn ns now ks i last
+    go [] is r = cc (sym here ∙ r)
+    go (x ∷ xs) is r =
+        let same : x ≡ i = cc (sym r.0 ∙ here) in
+        let len : length ks ≡ length s.seen + suc (length xs) = ap length is ∙ led-length s.seen (x ∷ xs) in
+        let more : steps_from (length ns) ns (Some x) ≡ suc (length xs) = steps-of-run (length ns) ns (Some x) (x ∷ xs) (refl, r.1, r.2) (omega (arith, le, len)) in
+        let fewer : steps_from (length ns) ns (node_at ns x).next ≡ length xs = steps-of-run (length ns) ns (node_at ns x).next xs r.2 (omega (arith, le, len)) in
+        let is_i : ks ≡ led_by (i ∷ s.seen) xs = is ∙ ap (λ (k : ℕ). led_by s.seen (k ∷ xs)) same in
+        let run_i : IsRun ns (node_at ns i).next xs = rw (← same) r.2 in
+        record {
+          within = rw (← same) r.1;
+          shorter = rw (← same) (omega (arith, more, fewer));
+          due = λ yes. record { seen = i ∷ s.seen; left = xs; is = is_i; run = run_i; found = record { near = []; far = s.seen; is = refl; others = λ j h. absurd (omega (arith, h)) } };
+          other = λ miss. record { seen = i ∷ s.seen; left = xs; is = is_i; run = run_i; found = further last miss s.found };
+        }
 
 -- ## The way up
 
@@ -241,34 +275,43 @@ back ns root free i (d ∷ t) h on = go d.before on.0
 
 -- ## Down to the children
 
-pub goes-down : (ns : List Node) (f : Family) (i c : ℕ) (t : Trail) → IsFamily ns f → IsOnTrail ns f i t → IsLast (f.below i) c → GoesTo ns f (f.below i) t c
-goes-down ns f i c t h on last = record {
-  trail = record { parent = i; before = last.before; back = [] } ∷ t;
-  is = (last.is, below-has ns f i c h (on-used ns f i t h on) (omega (arith, parts c, one_if-same c)), on);
-  same = λ j. omega (arith, parts j, times-append j last.before (ahead t));
+pub goes-down : (ns : List Node) (f : Family) (now i c : ℕ) (t : Trail) → IsFamily ns f → IsOnTrail ns f i t → IsLastDueAt (held_at ns) now (f.below i) c → GoesPast ns f now (f.below i) t (Some c)
+goes-down ns f now i c t h on last = record {
+  kept = led_by last.before (c ∷ []);
+  others = last.back;
+  parts = λ j. omega (arith, parts j, led-times j last.before (c ∷ []));
+  used = λ j more. child-used j (omega (arith, more, parts j));
+  idle = last.others;
+  goes = record {
+    trail = record { parent = i; before = last.before; back = last.back } ∷ t;
+    is = (last.is, below-has ns f i c h (on-used ns f i t h on) (omega (arith, parts c, one_if-same c)), on);
+    same = λ j. omega (arith, led-times j last.before (c ∷ []), times-append j last.before (ahead t));
+  };
 }
   where
-    parts : (j : ℕ) → times_in j (f.below i) ≡ times_in j last.before + (one_if j c + 0)
-    parts j = ap (times_in j) last.is ∙ led-times j last.before (c ∷ [])
+    parts : (j : ℕ) → times_in j (f.below i) ≡ times_in j last.before + (one_if j c + times_in j last.back)
+    parts j = ap (times_in j) last.is ∙ led-times j last.before (c ∷ last.back)
 
-pub children : (ns : List Node) (f : Family) (i c : ℕ) → IsFamily ns f → IsUsed (held_at ns i) → (node_at ns i).child ≡ Some c → IsRunOnce ns (Some c) (f.below i)
-children ns f i c h u e = record { run = rw e at whole; once = λ j. once-below ns f i j h u }
-  where
-    whole : IsRun ns (node_at ns i).child (f.below i)
-    whole = row-run ns i (node_at ns i).child (f.below i) (h.linked i u)
+    child-used : (j : ℕ) → 0 < times_in j (f.below i) → IsUsed (held_at ns j)
+    child-used j more = let p : IsParent ns i j = h.order i j (below-has ns f i j h (on-used ns f i t h on) more) in p.child
 
-pub childless : (ns : List Node) (f : Family) (i : ℕ) → IsFamily ns f → IsUsed (held_at ns i) → (node_at ns i).child ≡ None → f.below i ≡ []
-childless ns f i h u e = go (f.below i) refl (h.linked i u)
-  where
-    go : (ks : List ℕ) → f.below i ≡ ks → IsRow ns i (node_at ns i).child ks → f.below i ≡ []
-    go [] is r = is
-    go (x ∷ xs) is r = absurd (differ (sym e ∙ r.0))
-      where
-        differ : ◌≡◌ {A = Option ℕ} None (Some x) → ⊥
-        differ d = cc
+pub children : (ns : List Node) (f : Family) (i : ℕ) → IsFamily ns f → IsUsed (held_at ns i) → IsRunOnce ns (node_at ns i).child (f.below i)
+children ns f i h u = record { run = row-run ns i (node_at ns i).child (f.below i) (h.linked i u); once = λ j. once-below ns f i j h u }
 
-pub goes-on : (ns : List Node) (f : Family) (i : ℕ) (t : Trail) (to : Option ℕ) → IsFamily ns f → IsUsed (held_at ns i) → (node_at ns i).child ≡ None → GoesOn ns f [] t to → GoesOn ns f (f.below i) t to
-goes-on ns f i t to h u e g = rw (childless ns f i h u e) g
+-- no child is due
+pub goes-by : (ns : List Node) (f : Family) (now i : ℕ) (t : Trail) (to : Option ℕ) → IsFamily ns f → IsUsed (held_at ns i) → NoneDue (held_at ns) now (f.below i) → GoesOn ns f [] t to → GoesPast ns f now (f.below i) t to
+goes-by ns f now i t to h u none g = record {
+  kept = [];
+  others = f.below i;
+  parts = λ j. omega arith;
+  used = λ j more. let p : IsParent ns i j = h.order i j (below-has ns f i j h u more) in p.child;
+  idle = none;
+  goes = g;
+}
+
+-- there are no children to go to
+pub goes-back : (ns : List Node) (f : Family) (now : ℕ) (t : Trail) (to : Option ℕ) → GoesOn ns f [] t to → GoesPast ns f now [] t to
+goes-back ns f now t to g = record { kept = []; others = []; parts = λ j. refl; used = λ j more. absurd (omega (arith, more)); idle = λ j more. absurd (omega (arith, more)); goes = g }
 
 -- ## What was passed
 
@@ -343,6 +386,30 @@ passed-on ns f now at rest next visited h u same p = record {
       counted (is_due now (held_at ns at)) j (e ∙ ap (λ (k : ℕ). Some k) is),
     )
 
+-- some that are not due are passed by, and with them all below them
+pub passed-over : (ns : List Node) (f : Family) (now : ℕ) (coming rest others visited : List ℕ) → ((j : ℕ) → times_in j coming ≡ times_in j rest + times_in j others) → ((j : ℕ) → 0 < times_in j others → IsUsed (held_at ns j))
+    → NoneDue (held_at ns) now others → Passed ns f now coming visited → Passed ns f now rest (others ++ visited)
+passed-over ns f now coming rest others visited parts used idle p = record {
+  used = λ j more. elim (some_or_none (times_in j others)) as (λ _. IsUsed (held_at ns j)) [
+    | inl some ↦ used j some
+    | inr none ↦ p.used j (omega (arith, more, none, times-append j others visited))
+  ];
+  top = λ j t. omega (arith, p.top j t, parts j, times-append j others visited);
+  child = λ j d e. omega (arith, p.child j d e, parts j, times-append j others visited, as_before d);
+}
+  where
+    clash : (d : ℕ) → is_due now (held_at ns d) ≡ true → times_in d others ≡ 0
+    clash d due = elim (some_or_none (times_in d others)) as (λ _. times_in d others ≡ 0) [
+      | inl some ↦ cc (sym due ∙ idle d some)
+      | inr none ↦ none
+    ]
+
+    as_before : (d : ℕ) → cond (is_due now (held_at ns d)) (times_in d (others ++ visited)) 0 ≡ cond (is_due now (held_at ns d)) (times_in d visited) 0
+    as_before d = elim (is_due now (held_at ns d)) as (λ b. is_due now (held_at ns d) ≡ b → cond b (times_in d (others ++ visited)) 0 ≡ cond b (times_in d visited) 0) [
+      | true ↦ λ due. omega (arith, clash d due, times-append d others visited)
+      | false ↦ λ _. refl
+    ] refl
+
 -- no node is passed twice, nor passed and still to come
 pub passed-both : (ns : List Node) (f : Family) (now : ℕ) (coming visited : List ℕ) → IsFamily ns f → Passed ns f now coming visited → (j : ℕ) → IsUsed (held_at ns j) → times_in j visited + times_in j coming ≤ 1
 passed-both ns f now coming visited h p = by-order (held_at ns) (λ j. IsUsed (held_at ns j) → times_in j visited + times_in j coming ≤ 1) (λ j earlier u. go j (f.above j) refl earlier u)
@@ -357,12 +424,6 @@ passed-both ns f now coming visited h p = by-order (held_at ns) (λ j. IsUsed (h
     go j (Some i) e earlier u =
         let q : IsParent ns i j = h.order i j e in
         omega (arith, p.child j i e, fewer (is_due now (held_at ns i)) (times_in i visited) (omega (arith, earlier i q.before q.parent)))
-
-pub passed-once : (ns : List Node) (f : Family) (now : ℕ) (coming visited : List ℕ) → IsFamily ns f → Passed ns f now coming visited → (j : ℕ) → times_in j visited ≤ 1
-passed-once ns f now coming visited h p j = elim (some_or_none (times_in j visited)) as (λ _. times_in j visited ≤ 1) [
-  | inl more ↦ omega (arith, passed-both ns f now coming visited h p j (p.used j more))
-  | inr none ↦ omega (arith, none)
-]
 
 -- while one is to come, fewer were passed than there are
 pub passed-short : (ns : List Node) (f : Family) (now at : ℕ) (rest visited : List ℕ) → IsFamily ns f → IsUsed (held_at ns at) → Passed ns f now (at ∷ rest) visited → length visited < length ns
@@ -434,14 +495,14 @@ steps ns root free t i n h c =
       here = used-within ns i (on-used ns h.family i c.trail h.rows c.is);
     }
 
--- the walk stands at a node, and what it passed was counted
+-- the walk stands at a node after so many steps, and what it passed was counted
 pub record Walked (ns : List Node) (f : Family) (now i count n : ℕ) : Type 0 where
   pub trail : Trail
   pub is : IsOnTrail ns f i trail
   pub visited : List ℕ
   pub passed : Passed ns f now (i ∷ ahead trail) visited
   pub count_is : count ≡ due_among (held_at ns) now visited
-  pub len : length visited ≡ n
+  pub len : n ≤ length visited
 
 pub walk-start : (ns : List Node) (root free : Option ℕ) (now top : ℕ) (h : IsHeap ns root free) → root ≡ Some top → Walked ns h.family now top 0 0
 walk-start ns root free now top h e = record {
@@ -450,7 +511,7 @@ walk-start ns root free now top h e = record {
   visited = [];
   passed = passed-start ns root free now top h e;
   count_is = refl;
-  len = refl;
+  len = omega arith;
 }
 
 pub walk-used : (ns : List Node) (f : Family) (now i count n : ℕ) → IsFamily ns f → Walked ns f now i count n → i < length ns
@@ -459,8 +520,17 @@ walk-used ns f now i count n h w = used-within ns i (on-used ns f i w.trail h w.
 pub walk-short : (ns : List Node) (f : Family) (now i count n : ℕ) → IsFamily ns f → Walked ns f now i count n → n < length ns
 walk-short ns f now i count n h w = omega (arith, w.len, passed-short ns f now i (ahead w.trail) w.visited h (on-used ns f i w.trail h w.is) w.passed)
 
-pub walk-few : (ns : List Node) (f : Family) (now i count n : ℕ) → Walked ns f now i count n → count ≤ n
-walk-few ns f now i count n w = omega (arith, w.count_is, w.len, due_among-le (held_at ns) now w.visited)
+pub walk-few : (ns : List Node) (f : Family) (now i count n : ℕ) → IsFamily ns f → Walked ns f now i count n → count < length ns
+walk-few ns f now i count n h w = omega (arith, w.count_is, due_among-le (held_at ns) now w.visited, passed-short ns f now i (ahead w.trail) w.visited h (on-used ns f i w.trail h w.is) w.passed)
+
+-- those that are passed by are not counted
+uncounted : (held : ℕ → Held) (now : ℕ) (others visited : List ℕ) → NoneDue held now others → due_among held now (others ++ visited) ≡ due_among held now visited
+uncounted held now [] visited idle = refl
+uncounted held now (i ∷ others) visited idle = omega (arith, none (is_due now (held i)) (idle i (omega (arith, one_if-same i))), uncounted held now others visited (λ j more. idle j (omega (arith, more))))
+  where
+    none : (b : Bool) → b ≡ false → ◌≡◌ {A = ℕ} (cond b 1 0) 0
+    none true k = cc
+    none false k = refl
 
 -- one more is counted where the node is due
 pub count-due : (now : ℕ) (h : Held) (due : Bool) (count : ℕ) → due ≡ is_due now h → due ≡ true → count + 1 ≡ one_due now h + count
@@ -478,26 +548,29 @@ count-other now h due count e no_ = omega (arith, none (is_due now h) (sym e ∙
     none false k = refl
 
 pub walk-on : (ns : List Node) (f : Family) (now i next count more n : ℕ) (due : Bool) (to : Option ℕ) → IsFamily ns f → (w : Walked ns f now i count n) → due ≡ is_due now (held_at ns i)
-    → more ≡ one_due now (held_at ns i) + count → to ≡ Some next → GoesOn ns f (cond due (f.below i) []) w.trail to → Walked ns f now next more (n + 1)
-walk-on ns f now i next count more n due to h w e counted on goes =
-    let g : GoesTo ns f (cond due (f.below i) []) w.trail next = rw on at goes in
+    → more ≡ one_due now (held_at ns i) + count → to ≡ Some next → GoesPast ns f now (cond due (f.below i) []) w.trail to → Walked ns f now next more (n + 1)
+walk-on ns f now i next count more n due to h w e counted on past =
+    let g : GoesTo ns f past.kept w.trail next = rw on at past.goes in
+    let through : Passed ns f now ((next ∷ ahead g.trail) ++ past.others) (i ∷ w.visited) = passed-on ns f now i (ahead w.trail) ((next ∷ ahead g.trail) ++ past.others) w.visited h (on-used ns f i w.trail h w.is)
+    (λ j. omega (arith, ap (λ (b : Bool). times_in j (cond b (f.below i) [])) (sym e), past.parts j, g.same j, times-append j (next ∷ ahead g.trail) past.others)) w.passed in
     record {
       trail = g.trail;
       is = g.is;
-      visited = i ∷ w.visited;
-      passed = passed-on ns f now i (ahead w.trail) (next ∷ ahead g.trail) w.visited h (on-used ns f i w.trail h w.is)
-          (λ j. ap (λ (b : Bool). times_in j (cond b (f.below i) []) + times_in j (ahead w.trail)) (sym e) ∙ g.same j) w.passed;
-      count_is = counted ∙ ap (λ (k : ℕ). one_due now (held_at ns i) + k) w.count_is;
-      len = omega (arith, w.len);
+      visited = past.others ++ i ∷ w.visited;
+      passed = passed-over ns f now ((next ∷ ahead g.trail) ++ past.others) (next ∷ ahead g.trail) past.others (i ∷ w.visited) (λ j. times-append j (next ∷ ahead g.trail) past.others) past.used past.idle through;
+      count_is = omega (arith, counted, w.count_is, uncounted (held_at ns) now past.others (i ∷ w.visited) past.idle);
+      len = omega (arith, w.len, length-append past.others (i ∷ w.visited));
     }
 
 pub walk-end : (ns : List Node) (f : Family) (now i count more n : ℕ) (due : Bool) (to : Option ℕ) → IsFamily ns f → (w : Walked ns f now i count n) → due ≡ is_due now (held_at ns i)
-    → more ≡ one_due now (held_at ns i) + count → to ≡ None → GoesOn ns f (cond due (f.below i) []) w.trail to → more ≡ due_in now (helds ns)
-walk-end ns f now i count more n due to h w e counted on goes =
-    let none : (j : ℕ) → times_in j (cond due (f.below i) []) + times_in j (ahead w.trail) ≡ 0 = rw on at goes in
-    let p : Passed ns f now [] (i ∷ w.visited) = passed-on ns f now i (ahead w.trail) [] w.visited h (on-used ns f i w.trail h w.is)
-    (λ j. ap (λ (b : Bool). times_in j (cond b (f.below i) []) + times_in j (ahead w.trail)) (sym e) ∙ none j) w.passed in
-    counted ∙ ap (λ (k : ℕ). one_due now (held_at ns i) + k) w.count_is ∙ count-all ns now (i ∷ w.visited) p.used (passed-all ns f now (i ∷ w.visited) h p)
+    → more ≡ one_due now (held_at ns i) + count → to ≡ None → GoesPast ns f now (cond due (f.below i) []) w.trail to → more ≡ due_in now (helds ns)
+walk-end ns f now i count more n due to h w e counted on past =
+    let none : (j : ℕ) → times_in j past.kept + times_in j (ahead w.trail) ≡ 0 = rw on at past.goes in
+    let through : Passed ns f now past.others (i ∷ w.visited) = passed-on ns f now i (ahead w.trail) past.others w.visited h (on-used ns f i w.trail h w.is)
+    (λ j. omega (arith, ap (λ (b : Bool). times_in j (cond b (f.below i) [])) (sym e), past.parts j, none j)) w.passed in
+    let p : Passed ns f now [] (past.others ++ i ∷ w.visited) = passed-over ns f now past.others [] past.others (i ∷ w.visited) (λ j. omega arith) past.used past.idle through in
+    let all : due_among (held_at ns) now (past.others ++ i ∷ w.visited) ≡ due_in now (helds ns) = count-all ns now (past.others ++ i ∷ w.visited) p.used (passed-all ns f now (past.others ++ i ∷ w.visited) h p) in
+    omega (arith, counted, w.count_is, uncounted (held_at ns) now past.others (i ∷ w.visited) past.idle, all)
 
 -- without a root no node is due
 pub none-due : (ns : List Node) (free : Option ℕ) (now : ℕ) → IsHeap ns None free → 0 ≡ due_in now (helds ns)

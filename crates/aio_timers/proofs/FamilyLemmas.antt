@@ -287,9 +287,6 @@ module _ (old new : List Node) (f : Family) (i : ℕ) (free : Option ℕ) (h : I
         once = λ j. once-below old f i j h top.used;
       }
 
-pub family-released : (ns : List Node) (f : Family) (i : ℕ) (free : Option ℕ) → IsFamily ns f → IsTop ns f i → IsFamily (released ns i free) (orphaned f i)
-family-released ns f i free h top = family-freed ns (released ns i free) f i free h top (frees ns i free (used-within ns i top.used))
-
 pub orphans : (ns : List Node) (f : Family) (i : ℕ) (free : Option ℕ) → IsFamily ns f → IsTop ns f i → AreTops (released ns i free) (orphaned f i) (node_at ns i).child (f.below i)
 orphans ns f i free h top = orphans-freed ns (released ns i free) f i free h top (frees ns i free (used-within ns i top.used))
 

@@ -15,7 +15,7 @@ use Rattle.aio_timers.specs.Family.{Family, IsFamily, IsParent, IsTop}
 use Rattle.aio_timers.specs.Heap.{IsHeap}
 use Rattle.aio_timers.specs.Sound.{registrations, IsAbsent}
 use Rattle.aio_timers.proofs.BookLemmas.{Follows, All-placed, placed-front}
-use Rattle.aio_timers.proofs.AnyOrderLemmas.{All-of_placed, GivesUp, gives_up}
+use Rattle.aio_timers.proofs.WeightLemmas.{placed-own, placed-rest, Leaves, goes}
 use Rattle.aio_timers.proofs.AlikeLemmas.{held-read}
 use Rattle.aio_timers.proofs.RunLemmas.{used-within, by-order}
 
@@ -63,8 +63,8 @@ each-of-all P (h ∷ hs) all j r e = go (live_of h) refl all j e (λ rest k. eac
         → (All P (registrations hs) → (k : ℕ) → live_of (get_or hs k vacant) ≡ Some r → P r) → P r
     go None is all zero e behind = cc
     go None is all (suc j) e behind = behind all j e
-    go (Some x) is all zero e behind = let both : P x × All P (registrations hs) = All-of_placed P x (registrations hs) all in let same : x ≡ r = cc in rw (← same) both.0
-    go (Some x) is all (suc j) e behind = let both : P x × All P (registrations hs) = All-of_placed P x (registrations hs) all in behind both.1 j e
+    go (Some x) is all zero e behind = let same : x ≡ r = cc in rw (← same) (placed-own P x (registrations hs) all)
+    go (Some x) is all (suc j) e behind = behind (placed-rest P x (registrations hs) all) j e
 
 -- a pair that no registration has stands at no node in use
 pub absent-each : (ns : List Node) (d i j : ℕ) → IsAbsent d i (helds ns) → IsUsed (held_at ns j) → (held_at ns j).deadline ≡ d → (held_at ns j).id ≡ i → ⊥
@@ -116,7 +116,7 @@ least-first ns root free r h book is =
     let g : Held = gone (held_at ns root) in
     let own : OfNode (held_at ns root) r = of-node (held_at ns root) r is in
     let lt : root < length (helds ns) = omega (arith, used-within ns root own.used, length-map ns held_of) in
-    let l : GivesUp live_of (registrations (helds ns)) (registrations (set (helds ns) root (gone (held_at ns root)))) r = gives_up live_of hs root vacant g r lt (ap live_of (held-read ns root) ∙ is) refl book in
+    let l : Leaves live_of (registrations (helds ns)) (registrations (set (helds ns) root (gone (held_at ns root)))) r = goes live_of hs root vacant g r lt (ap live_of (held-read ns root) ∙ is) refl book in
     l.placed_is ∙ placed-front r (registrations (set hs root g)) (all-of-each (Follows r) (set hs root g) (λ j x e.
     let ne : j ≢ root = λ d. vacated x (sym (ap live_of (ap (λ (k : ℕ). get_or (set hs root g) k vacant) d ∙ get_or-set_same hs root g vacant lt)) ∙ e) in
     let its : OfNode (held_at ns j) x = of-node (held_at ns j) x (sym (ap live_of (get_or-set_other hs root j g vacant ne ∙ held-read ns j)) ∙ e) in

@@ -2,7 +2,6 @@ pub mod OrderLemmas
 pub mod BookLemmas
 pub mod PassLemmas
 pub mod OpLemmas
-mod PrecedesLemmas
 mod CountLemmas
 mod RunLemmas
 mod WriteLemmas
@@ -16,7 +15,7 @@ mod SeekLemmas
 mod ChainLemmas
 mod BucketLemmas
 mod AlikeLemmas
-mod AnyOrderLemmas
+mod WeightLemmas
 mod SoundLemmas
 mod GrowthLemmas
 mod LentLemmas

@@ -9,7 +9,7 @@ use Rattle.aio_base.specs.World.{Registration}
 use Rattle.aio_base.specs.Timers.{fires_before, placed, is_pair, without_pair, due_wakers, after_pass, IsBook}
 use Rattle.aio_timers.specs.Book.{is_first_due}
 use Rattle.aio_timers.proofs.BookLemmas.{Follows, IsOther, IsBook-filter, in_order-book, without_pair-others}
-use Rattle.aio_timers.proofs.AnyOrderLemmas.{without_pair-placed}
+use Rattle.aio_timers.proofs.WeightLemmas.{without_pair-placed}
 
 abbrev pub is_due : ℕ → Registration → Bool
 is_due now r = nat_le r.deadline now

@@ -6,7 +6,7 @@ use Rattle.std.proofs.lemmas.Bool.Decides.{nat_tests}
 use Rattle.aio_timers.specs.declared.node.Node.{Node}
 use Rattle.aio_timers.specs.Held.{Held, IsUsed, held_at, node_at, blank_node}
 use Rattle.aio_timers.specs.Precedes.{precedes}
-use Rattle.aio_timers.specs.Rows.{one_if, times_in, IsRun, IsRow, IsRunOnce, steps_from}
+use Rattle.aio_timers.specs.Rows.{one_if, times_in, IsRun, IsRow, steps_from}
 use Rattle.aio_timers.proofs.CountLemmas.{one_if-same, one_if-other, some_or_none}
 
 -- what is read behind the last node is free
@@ -94,9 +94,6 @@ steps-of-run zero ns l [] r h = refl
 steps-of-run zero ns l (i ∷ ks) r h = absurd (omega (arith, h))
 steps-of-run (suc fuel) ns l [] r h = rw r refl
 steps-of-run (suc fuel) ns l (i ∷ ks) r h = rw r.0 (omega (arith, steps-of-run fuel ns (node_at ns i).next ks r.2 (omega (arith, h))))
-
-pub steps-of-once : (ns : List Node) (l : Option ℕ) (ks : List ℕ) → IsRunOnce ns l ks → steps_from (length ns) ns l ≡ length ks
-steps-of-once ns l ks r = steps-of-run (length ns) ns l ks r.run (once-le (length ns) ks r.once (λ j h. run-within ns l ks j r.run h))
 
 -- ## Induction along the order in which nodes fire
 

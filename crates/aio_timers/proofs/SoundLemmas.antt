@@ -16,7 +16,7 @@ use Rattle.aio_timers.specs.Heap.{Holds, one_free}
 use Rattle.aio_timers.specs.Chains.{IsTable, IsBucket, IsWithout, IsFound, ChainsChange, used_of, bucket_in}
 use Rattle.aio_timers.specs.Sound.{registrations, IsSound, IsAbsent, IsPairAt, Gains, Drops}
 use Rattle.aio_timers.proofs.BookLemmas.{IsOther, IsBook-placed}
-use Rattle.aio_timers.proofs.AnyOrderLemmas.{gains, GivesUp, gives_up, without_pair-placed}
+use Rattle.aio_timers.proofs.WeightLemmas.{comes, Leaves, goes, without_pair-placed}
 use Rattle.aio_timers.proofs.AlikeLemmas.{held-read, Alike, IsHeap-alike, Alike-chains, live-chains}
 use Rattle.aio_timers.proofs.CountLemmas.{one_if-same, one_if-other}
 use Rattle.aio_timers.proofs.ChainLemmas.{IsTable-frame, joins, in-chain, in-use, cond-le}
@@ -82,7 +82,7 @@ added ns ms bs root top free head at k used d i w s is kt first absent c =
     let read : Reads ns ms at (record { deadline = d; id = i; waker = Some w; chain = head }) = reads ns ms at (record { deadline = d; id = i; waker = Some w; chain = head }) lt c.helds_are in
     let empty : live_of (get_or (helds ns) at vacant) ≡ None = ap live_of (held-read ns at) ∙ ap (registered (held_at ns at).deadline (held_at ns at).id) is_free in
     let entries : registrations (helds ms) ≡ placed (record { id = i; deadline = d; waker = w }) (registrations (helds ns)) =
-    rw c.helds_are (gains live_of (helds ns) at vacant (record { deadline = d; id = i; waker = Some w; chain = head }) (record { id = i; deadline = d; waker = w }) (omega (arith, lt, old)) empty refl absent) in
+    rw c.helds_are (comes live_of (helds ns) at vacant (record { deadline = d; id = i; waker = Some w; chain = head }) (record { id = i; deadline = d; waker = w }) (omega (arith, lt, old)) empty refl s.book absent) in
     let its_id : (held_at ms at).id ≡ i = ap Held.id read.here in
     record {
       entries = entries;
@@ -116,7 +116,7 @@ dropped ns us ms bs ds root top free at used r s change row table is_live lt c =
     let read : Reads us ms at (gone (held_at us at)) = reads us ms at (gone (held_at us at)) lt_us c.helds_are in
     let is_live_us : live_of (held_at us at) ≡ Some r = ap (λ (x : Node). live_of (held_of x)) (change.same at) ∙ is_live in
     let own : OfNode (held_at ns at) r = of-node (held_at ns at) r is_live in
-    let l : GivesUp live_of (registrations (helds us)) (registrations (helds ms)) r = rw c.helds_are (gives_up live_of (helds us) at vacant (gone (held_at us at)) r (omega (arith, lt_us, old)) (ap live_of (held-read us at) ∙ is_live_us) refl (rw regs s.book)) in
+    let l : Leaves live_of (registrations (helds us)) (registrations (helds ms)) r = rw c.helds_are (goes live_of (helds us) at vacant (gone (held_at us at)) r (omega (arith, lt_us, old)) (ap live_of (held-read us at) ∙ is_live_us) refl (rw regs s.book)) in
     let one_used : used_of (held_at ns at) ≡ 1 = used-yes (held_at ns at) own.used in
     let none_left : used_of (held_at ms at) ≡ 0 = used-no (held_at ms at) (ap Held.waker read.here) in
     let same_used : (j : ℕ) → used_of (held_at us j) ≡ used_of (held_at ns j) = λ j. ap (λ (b : Bool). cond b 1 0) (a.used j) in
@@ -209,14 +209,14 @@ rewoken ns ms bs root free used d i at w s p e =
       used = λ j. elim (cases_eq j at) as (λ _. is_some (held_at ms j).waker ≡ is_some (held_at ns j).waker) [ inl k ↦ rw k (ap (λ (x : Node). is_some x.waker) here ∙ sym own.used) | inr ne ↦ ap (λ (x : Node). is_some x.waker) (there j ne) ];
     } in
     let chain : (j : ℕ) → (held_at ms j).chain ≡ (held_at ns j).chain = λ j. elim (cases_eq j at) as (λ _. (held_at ms j).chain ≡ (held_at ns j).chain) [ inl k ↦ rw k (ap Node.chain here) | inr ne ↦ ap Node.chain (there j ne) ] in
-    let l : GivesUp live_of (registrations (helds ns)) (registrations (set (helds ns) at (gone (held_at ns at)))) p.registration =
-    gives_up live_of (helds ns) at vacant (gone (held_at ns at)) p.registration lt (ap live_of (held-read ns at) ∙ p.live) refl s.book in
+    let l : Leaves live_of (registrations (helds ns)) (registrations (set (helds ns) at (gone (held_at ns at)))) p.registration =
+    goes live_of (helds ns) at vacant (gone (held_at ns at)) p.registration lt (ap live_of (held-read ns at) ∙ p.live) refl s.book in
     let d_is : (held_at ns at).deadline ≡ d = sym own.deadline_is ∙ p.deadline_is in
     let i_is : (held_at ns at).id ≡ i = sym own.id_is ∙ p.id_is in
     let others : All (IsOther d i) (registrations (set (helds ns) at (gone (held_at ns at)))) = rw (← p.deadline_is, ← p.id_is) l.others in
     let empty : live_of (get_or (set (helds ns) at (gone (held_at ns at))) at vacant) ≡ None = ap live_of (get_or-set_same (helds ns) at (gone (held_at ns at)) vacant lt) in
     let now : live_of (record (held_at ns at) { waker = Some w }) ≡ Some (record { id = i; deadline = d; waker = w }) = ap (λ (x : ℕ). Some (record { id = x; deadline = (held_at ns at).deadline; waker = w })) i_is ∙ ap (λ (x : ℕ). Some (record { id = i; deadline = x; waker = w })) d_is in
-    let got = gains live_of (set (helds ns) at (gone (held_at ns at))) at vacant (record (held_at ns at) { waker = Some w }) (record { id = i; deadline = d; waker = w }) (omega (arith, lt, length-set (helds ns) at (gone (held_at ns at)))) empty now others in
+    let got = comes live_of (set (helds ns) at (gone (held_at ns at))) at vacant (record (held_at ns at) { waker = Some w }) (record { id = i; deadline = d; waker = w }) (omega (arith, lt, length-set (helds ns) at (gone (held_at ns at)))) empty now l.book others in
     let now_helds : helds ms ≡ set (helds ns) at (record (held_at ns at) { waker = Some w }) = ap helds e ∙ map-set held_of ns at _ in
     let regs : registrations (helds ms) ≡ placed (record { id = i; deadline = d; waker = w }) (registrations (set (helds ns) at (gone (held_at ns at)))) =
     ap registrations (now_helds ∙ sym (set-twice (helds ns) at (gone (held_at ns at)) (record (held_at ns at) { waker = Some w }))) ∙ got in

@@ -8,7 +8,8 @@ use Rattle.aio_timers.specs.declared.op.TimerOp.TheVariants.{Insert, Remove}
 
 -- the change of the book that an operation is
 abbrev pub change_of : TimerOp → BookChange
-change_of (Insert deadline id waker) = Registers (record { id = id.0; deadline = deadline; waker = waker })
+change_of (Insert deadline id waker) =
+    Registers (record { id = id.0; deadline = deadline; waker = waker })
 change_of (Remove deadline id) = Unregisters deadline id.0
 
 -- for how many more timers there has to be room

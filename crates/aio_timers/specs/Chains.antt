@@ -31,23 +31,29 @@ bucket_in id buckets = id % buckets
 pub record IsTable (f : ℕ → Held) (n : ℕ) (buckets : List (Option ℕ)) (used : ℕ → ℕ) : Type 0 where
   pub chains : ℕ → List ℕ
   pub linked : (b : ℕ) → b < length buckets → IsChain f n (slice_index_or buckets b None) (chains b)
-  pub members : (b j : ℕ) → b < length buckets → times_in j (chains b) ≡ (if (bucket_in (f j).id (length buckets)) == b then used j else 0)
+  pub members : (b j : ℕ) → b < length buckets
+      → times_in j (chains b) ≡ (if (bucket_in (f j).id (length buckets)) == b then used j else 0)
   pub single : (j : ℕ) → used j ≤ 1
 
 -- a search of a chain: it found the pair, or none of the nodes has it
 abbrev pub IsFound : (ℕ → Held) → ℕ → ℕ → List ℕ → Option ℕ → Type 0
 IsFound f deadline id ks answer =
-    MatchOption answer ((j : ℕ) → 0 < times_in j ks → is_pair_of deadline id (f j) ≡ false) (λ at. (0 < times_in at ks) × (is_pair_of deadline id (f at) ≡ true))
+    MatchOption answer ((j : ℕ) → 0 < times_in j ks → is_pair_of deadline id (f j) ≡ false)
+    (λ at. (0 < times_in at ks) × (is_pair_of deadline id (f at) ≡ true))
 
--- a search under way: none of the nodes that it passed has the pair
-pub record IsSought (f : ℕ → Held) (n deadline id : ℕ) (ks : List ℕ) (link : Option ℕ) : Type 0 where
+-- A search along a chain, under way: each node that it passed is one of these, and those from this
+-- link on are still to come.
+pub record IsSearched (f : ℕ → Held) (n : ℕ) (P : ℕ → Type 0) (ks : List ℕ) (link : Option ℕ)
+    : Type 0 where
+  pub passed : List ℕ
   pub left : List ℕ
+  pub parts : ks ≡ passed ++ left
   pub chain : IsChain f n link left
-  pub within : (j : ℕ) → times_in j left ≤ times_in j ks
-  pub others : (j : ℕ) → 0 < times_in j ks → times_in j left ≡ 0 → is_pair_of deadline id (f j) ≡ false
+  pub missed : (j : ℕ) → 0 < times_in j passed → P j
 
 -- a node in a chain, behind these and before those
-pub record IsAmong (f : ℕ → Held) (n : ℕ) (head : Option ℕ) (at : ℕ) (front back : List ℕ) : Type 0 where
+pub record IsAmong (f : ℕ → Held) (n : ℕ) (head : Option ℕ) (at : ℕ) (front back : List ℕ)
+    : Type 0 where
   pub chain : IsChain f n head (front ++ at ∷ back)
   pub once : (j : ℕ) → times_in j (front ++ at ∷ back) ≤ 1
 
@@ -58,18 +64,12 @@ pub record IsJustBefore (f : ℕ → Held) (n : ℕ) (front : List ℕ) (before 
   pub within : before < n
   pub leads : (f before).chain ≡ Some at
 
--- the way to a node of a chain, at some time
-pub record Nears (f : ℕ → Held) (n at : ℕ) (front back : List ℕ) (here : ℕ) : Type 0 where
-  pub passed : List ℕ
-  pub left : List ℕ
-  pub is : front ≡ passed ++ here ∷ left
-  pub chain : IsChain f n (Some here) (here ∷ left ++ at ∷ back)
-
 -- only links of chains were written
 pub record ChainsChange (old new : List Node) : Type 0 where
   pub len : length new ≡ length old
   pub same : (j : ℕ) → node_at new j ≡ record (node_at old j) { chain = (node_at new j).chain }
 
--- nodes and buckets after a change of the chains, where this node was in use before and now only the others are
+-- nodes and buckets after a change of the chains, where this node was in use before and now only
+-- the others are
 abbrev pub IsWithout : (ℕ → ℕ) → (ℕ → ℕ) → ℕ → Type 0
 IsWithout used left at = (j : ℕ) → left j + one_if j at ≡ used j

@@ -29,11 +29,14 @@ pub record Extends (old new : List Node) (free first : Option ℕ) : Type 0 wher
   pub same : (j : ℕ) → 0 < used_of (held_at old j) → held_at new j ≡ held_at old j
 
 -- the registrations stand, and there are so many nodes; or, where memory ran out, as many as before
-pub record GrowsTo (old new : List Node) (buckets : List (Option ℕ)) (root first : Option ℕ) (used total : ℕ) : Type 0 where
+pub record GrowsTo (old new : List Node) (buckets : List (Option ℕ)) (root first : Option ℕ)
+    (used total : ℕ) : Type 0 where
   pub sound : IsSound new buckets root first used
   pub entries : registrations (helds new) ≡ registrations (helds old)
   pub len : length new ≡ total
 
-abbrev pub Grows : List Node → List Node → List (Option ℕ) → Option ℕ → Option ℕ → ℕ → ℕ → {E : Type 0} → Result (Option ℕ) E → Type 0
+abbrev pub Grows : List Node → List Node → List (Option ℕ) → Option ℕ → Option ℕ → ℕ → ℕ
+    → {E : Type 0} → Result (Option ℕ) E → Type 0
 Grows old new buckets root free used total answer =
-    MatchResult answer (λ first. GrowsTo old new buckets root first used total) (λ _. GrowsTo old new buckets root free used (length old))
+    MatchResult answer (λ first. GrowsTo old new buckets root first used total)
+    (λ _. GrowsTo old new buckets root free used (length old))

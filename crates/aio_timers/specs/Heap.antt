@@ -15,8 +15,9 @@ pub record IsRoot (nodes : List Node) (f : Family) (r : ℕ) : Type 0 where
 abbrev pub one_free : Held → ℕ
 one_free h = if is_some h.waker then 0 else 1
 
--- Each node in use is the root or stands once in the list of children of one other, and each free node stands once in the free list. The links of all
--- these lists agree in both directions, and no child fires before its parent.
+-- Each node in use is the root or stands once among the children of one other, and the links of
+-- children agree in both directions; no child fires before its parent. Each free node stands once
+-- in the free list, which is linked forward alone.
 pub record IsHeap (nodes : List Node) (root free : Option ℕ) : Type 0 where
   pub family : Family
   pub spare : List ℕ
@@ -33,4 +34,5 @@ pub record Holds (old new : List Node) (at : ℕ) (held : Held) (root free : Opt
 
 -- no node in use has this deadline and this id
 abbrev pub IsNewPair : List Node → Held → Type 0
-IsNewPair nodes h = (j : ℕ) → IsUsed (held_at nodes j) → (held_at nodes j).deadline ≡ h.deadline → (held_at nodes j).id ≡ h.id → ⊥
+IsNewPair nodes h = (j : ℕ) → IsUsed (held_at nodes j) → (held_at nodes j).deadline ≡ h.deadline
+    → (held_at nodes j).id ≡ h.id → ⊥

@@ -14,7 +14,8 @@ times_in j (i ∷ more) = one_if j i + times_in j more
 -- nodes from this link on, along the links forward
 abbrev pub IsRun : List Node → Option ℕ → List ℕ → Type 0
 IsRun nodes link [] = link ≡ None
-IsRun nodes link (i ∷ more) = (link ≡ Some i) × (i < length nodes) × IsRun nodes (node_at nodes i).next more
+IsRun nodes link (i ∷ more) = (link ≡ Some i) × (i < length nodes)
+    × IsRun nodes (node_at nodes i).next more
 
 -- a run in which no node stands twice
 pub record IsRunOnce (nodes : List Node) (link : Option ℕ) (ks : List ℕ) : Type 0 where
@@ -30,7 +31,8 @@ steps_from (suc fuel) nodes (Some i) = steps_from fuel nodes (node_at nodes i).n
 -- nodes from this link on, where each leads back to the one before it, and the first to this one
 abbrev pub IsRow : List Node → ℕ → Option ℕ → List ℕ → Type 0
 IsRow nodes before link [] = link ≡ None
-IsRow nodes before link (i ∷ more) = (link ≡ Some i) × (i < length nodes) × ((node_at nodes i).prev ≡ Some before) × IsRow nodes i (node_at nodes i).next more
+IsRow nodes before link (i ∷ more) = (link ≡ Some i) × (i < length nodes)
+    × ((node_at nodes i).prev ≡ Some before) × IsRow nodes i (node_at nodes i).next more
 
 -- the index of a node, whose first child is a node too
 pub record IsInside (nodes : List Node) (i : ℕ) : Type 0 where

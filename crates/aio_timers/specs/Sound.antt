@@ -13,7 +13,8 @@ use Rattle.aio_timers.specs.Chains.{IsTable, used_of}
 abbrev pub registrations : List Held → List Registration
 registrations hs = in_order (filter_map live_of hs)
 
-pub record IsSound (nodes : List Node) (buckets : List (Option ℕ)) (root free : Option ℕ) (used : ℕ) : Type 0 where
+pub record IsSound (nodes : List Node) (buckets : List (Option ℕ)) (root free : Option ℕ)
+    (used : ℕ) : Type 0 where
   pub heap : IsHeap nodes root free
   -- no deadline and id stand at two nodes in use
   pub book : IsBook (registrations (helds nodes))
@@ -25,7 +26,8 @@ pub record IsSound (nodes : List Node) (buckets : List (Option ℕ)) (root free 
 
 -- no registration has this deadline and this id
 abbrev pub IsAbsent : ℕ → ℕ → List Held → Type 0
-IsAbsent deadline id hs = All (λ (r : Registration). is_pair deadline id r ≡ false) (registrations hs)
+IsAbsent deadline id hs =
+    All (λ (r : Registration). is_pair deadline id r ≡ false) (registrations hs)
 
 -- the node in use with this deadline and this id
 pub record IsPairAt (nodes : List Node) (deadline id at : ℕ) : Type 0 where
@@ -36,14 +38,16 @@ pub record IsPairAt (nodes : List Node) (deadline id at : ℕ) : Type 0 where
   pub id_is : registration.id ≡ id
 
 -- a registration came
-pub record Gains (old new : List Node) (buckets : List (Option ℕ)) (root free : Option ℕ) (used : ℕ) (r : Registration) : Type 0 where
+pub record Gains (old new : List Node) (buckets : List (Option ℕ)) (root free : Option ℕ)
+    (used : ℕ) (r : Registration) : Type 0 where
   pub sound : IsSound new buckets root free (used + 1)
   pub entries : registrations (helds new) ≡ placed r (registrations (helds old))
   pub len : length new ≡ length old
 
 -- a registration went
-pub record Drops (old new : List Node) (buckets : List (Option ℕ)) (root free : Option ℕ) (used : ℕ) (r : Registration) : Type 0 where
+pub record Drops (old new : List Node) (buckets : List (Option ℕ)) (root free : Option ℕ)
+    (used : ℕ) (r : Registration) : Type 0 where
   pub sound : (left : ℕ) → left + 1 ≡ used → IsSound new buckets root free left
   pub entries : registrations (helds old) ≡ placed r (registrations (helds new))
-  pub others : All (λ (x : Registration). is_pair r.deadline r.id x ≡ false) (registrations (helds new))
+  pub others : IsAbsent r.deadline r.id (helds new)
   pub len : length new ≡ length old

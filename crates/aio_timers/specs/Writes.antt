@@ -49,7 +49,8 @@ lower nodes a b = if precedes (held_at nodes b) (held_at nodes a) then a else b
 abbrev pub joined : List Node → ℕ → ℕ → List Node
 joined nodes a b = under nodes (upper nodes a b) (lower nodes a b)
 
--- a root is joined with its next sibling, if there is one, and the upper one of the two leads to these roots
+-- a root is joined with its next sibling, if there is one, and the upper one of the two leads to
+-- these roots
 abbrev pub upper_of_pair : List Node → ℕ → Option ℕ → ℕ
 upper_of_pair nodes a None = a
 upper_of_pair nodes a (Some b) = upper nodes a b
@@ -74,11 +75,13 @@ leads_to (Some j) i = j == i
 -- what leads to a node, its parent or the sibling before it, leads to the node behind it
 abbrev pub skips : List Node → ℕ → Option ℕ → List Node
 skips nodes i None = nodes
-skips nodes i (Some p) = if leads_to (node_at nodes p).child i then with_child nodes p (node_at nodes i).next else with_next nodes p (node_at nodes i).next
+skips nodes i (Some p) = if leads_to (node_at nodes p).child i
+    then with_child nodes p (node_at nodes i).next else with_next nodes p (node_at nodes i).next
 
 -- a node leaves its row
 abbrev pub without : List Node → ℕ → List Node
-without nodes i = with_back (skips nodes i (node_at nodes i).prev) (node_at nodes i).next (node_at nodes i).prev
+without nodes i =
+    with_back (skips nodes i (node_at nodes i).prev) (node_at nodes i).next (node_at nodes i).prev
 
 -- a node without its timer, at the head of the free list
 abbrev pub released : List Node → ℕ → Option ℕ → List Node

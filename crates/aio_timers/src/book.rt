@@ -44,7 +44,10 @@ impl Model for TimerBook {
 
     ghost Value = { Book };
 
-    ghost view = { λ b. record { entries = registrations (helds b.nodes.items); spare = length b.nodes.items - b.used } };
+    ghost view = { λ b. record {
+      entries = registrations (helds b.nodes.items);
+      spare = length b.nodes.items - b.used;
+    } };
 
     ghost invariant = { λ b. IsSound b.nodes.items b.buckets.items b.root b.free b.used };
 }
@@ -107,7 +110,8 @@ impl TimerBook {
     /// Registers a timer, in place of the one with its deadline and id.
     fn insert(&mut self, deadline: Moment, id: TimerId, waker: Waker)
         requires { 1 ≤ self.old.spare }
-        ensures entries { self.new.entries ≡ fold_changes self.old.entries (change_of (TimerOp.Insert deadline id waker) ∷ []) }
+        ensures entries { self.new.entries
+            ≡ fold_changes self.old.entries (change_of (TimerOp.Insert deadline id waker) ∷ []) }
         ensures spare { self.old.spare ≤ self.new.spare + 1 }
     {
         match find(&self.nodes, &self.buckets, deadline, id) {
@@ -130,7 +134,8 @@ impl TimerBook {
 
     /// Unregisters the timer with this deadline and this id, if there is one.
     fn remove(&mut self, deadline: Moment, id: TimerId)
-        ensures entries { self.new.entries ≡ fold_changes self.old.entries (change_of (TimerOp.Remove deadline id) ∷ []) }
+        ensures entries { self.new.entries
+            ≡ fold_changes self.old.entries (change_of (TimerOp.Remove deadline id) ∷ []) }
         ensures spare { self.old.spare ≤ self.new.spare }
     {
         if let Some(at) = find(&self.nodes, &self.buckets, deadline, id) {
@@ -145,7 +150,8 @@ impl TimerBook {
     /// order in which they fire; the timers go. Due are those with a deadline at most `now`. It takes
     /// no memory, and logarithmic time on the average for each of them.
     pub fn pass(&mut self, now: Moment, taken: &mut Vec<Waker>)
-        requires { vec_len taken.old + length (due_wakers now self.old.entries) ≤ vec_capacity taken.old }
+        requires { vec_len taken.old + length (due_wakers now self.old.entries)
+            ≤ vec_capacity taken.old }
         ensures taken { taken.new.items ≡ taken.old.items ++ due_wakers now self.old.entries }
         ensures capacity { vec_capacity taken.new ≡ vec_capacity taken.old }
         ensures entries { self.new.entries ≡ after_pass now self.old.entries }
@@ -175,7 +181,8 @@ impl TimerBook {
     /// Unregisters the timer that fires first. The answer is its waker.
     fn take_first(&mut self) -> Waker
         requires { 0 < length self.old.entries }
-        ensures entries { (r : Registration) × (self.old.entries ≡ r ∷ self.new.entries) × (result ≡ r.waker) }
+        ensures entries { (r : Registration)
+            × (self.old.entries ≡ r ∷ self.new.entries) × (result ≡ r.waker) }
         ensures spare { self.old.spare ≤ self.new.spare }
     {
         match self.root {
@@ -211,7 +218,8 @@ impl TimerBook {
     /// registered. No timer has an earlier deadline. It takes constant time.
     pub fn first(&self) -> Option<(Moment, TimerId)>
         ensures value { result ≡ first_pair self.now.entries }
-        ensures deadline { option_map (λ (pair : ℕ × TimerId). pair.0) result ≡ first_deadline self.now.entries }
+        ensures deadline { option_map (λ (pair : ℕ × TimerId). pair.0) result
+            ≡ first_deadline self.now.entries }
         ensures order { IsBook self.now.entries }
     {
         match self.root {

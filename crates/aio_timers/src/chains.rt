@@ -56,7 +56,8 @@ fn set_chain(nodes: &mut [Node], at: usize, link: Link)
 /// Searches a chain for the node with this deadline and this id.
 pub(crate) fn seek(nodes: &[Node], head: Link, deadline: Moment, id: TimerId) -> Option<usize>
     requires { (ks : List ℕ) × IsBucket (held_at nodes.now) (length nodes.now) head ks }
-    ensures { (ks : List ℕ) → IsBucket (held_at nodes.now) (length nodes.now) head ks → IsFound (held_at nodes.now) deadline id.0 ks result }
+    ensures { (ks : List ℕ) → IsBucket (held_at nodes.now) (length nodes.now) head ks
+        → IsFound (held_at nodes.now) deadline id.0 ks result }
 {
     let mut link = head;
     while let Some(at) = link.get() {
@@ -80,8 +81,11 @@ fn is_pair_at(nodes: &[Node], at: usize, deadline: Moment, id: TimerId) -> bool
 fn before(nodes: &[Node], first: usize, at: usize) -> usize
     requires within { first < length nodes.now }
     requires other { first ≢ at }
-    requires among { (front : List ℕ) × (back : List ℕ) × IsAmong (held_at nodes.now) (length nodes.now) (Some first) at front back }
-    ensures { (front back : List ℕ) → IsAmong (held_at nodes.now) (length nodes.now) (Some first) at front back → IsJustBefore (held_at nodes.now) (length nodes.now) front result at }
+    requires among { (front : List ℕ) × (back : List ℕ)
+        × IsAmong (held_at nodes.now) (length nodes.now) (Some first) at front back }
+    ensures { (front back : List ℕ)
+        → IsAmong (held_at nodes.now) (length nodes.now) (Some first) at front back
+        → IsJustBefore (held_at nodes.now) (length nodes.now) front result at }
 {
     let mut here = first;
     while let Some(next) = chain_of(nodes, here).get() {
@@ -97,8 +101,11 @@ fn before(nodes: &[Node], first: usize, at: usize) -> usize
 pub(crate) fn leave(nodes: &mut [Node], buckets: &mut [Link], at: usize)
     requires within { at < length nodes.old }
     requires power { IsPowerOfTwo (length buckets.old) }
-    requires table { (used : ℕ → ℕ) × IsTable (held_at nodes.old) (length nodes.old) buckets.old used × (used at ≡ 1) }
-    ensures table { (used left : ℕ → ℕ) → IsTable (held_at nodes.old) (length nodes.old) buckets.old used → used at ≡ 1 → IsWithout used left at
+    requires table { (used : ℕ → ℕ)
+        × IsTable (held_at nodes.old) (length nodes.old) buckets.old used × (used at ≡ 1) }
+    ensures table { (used left : ℕ → ℕ)
+        → IsTable (held_at nodes.old) (length nodes.old) buckets.old used
+        → used at ≡ 1 → IsWithout used left at
         → IsTable (held_at nodes.new) (length nodes.new) buckets.new left }
     ensures nodes { ChainsChange nodes.old nodes.new }
 {
@@ -122,7 +129,9 @@ pub(crate) fn join(nodes: &mut [Node], buckets: &mut [Link], at: usize)
     requires few { length nodes.old < 2 ^ 32 }
     requires within { at < length nodes.old }
     requires power { IsPowerOfTwo (length buckets.old) }
-    ensures table { (used more : ℕ → ℕ) → IsTable (held_at nodes.old) (length nodes.old) buckets.old used → used at ≡ 0 → IsWithout more used at
+    ensures table { (used more : ℕ → ℕ)
+        → IsTable (held_at nodes.old) (length nodes.old) buckets.old used
+        → used at ≡ 0 → IsWithout more used at
         → IsTable (held_at nodes.new) (length nodes.new) buckets.new more }
     ensures nodes { ChainsChange nodes.old nodes.new }
 {

@@ -1,33 +1,40 @@
-//! The count of the timers that are due: a walk over the heap that goes from a node that is due, and
-//! from no other, to its children, from the last child on, and back by the links.
+//! The count of the timers that are due: a walk over the heap that goes from a node that is due,
+//! and from no other, to its children, from the last one that is due on, and back by the links.
 
 ghost use Rattle.std.specs.Prelude.{◌≡◌, ◌<◌, ℕ, List, [], length, Option, None, Some, if◌then◌else◌};
 ghost use Rattle.aio_timers.specs.Held.{held_at, helds};
 ghost use Rattle.aio_timers.specs.Rows.{IsRunOnce};
-ghost use Rattle.aio_timers.specs.Family.{Family};
 ghost use Rattle.aio_timers.specs.Heap.{IsHeap};
-ghost use Rattle.aio_timers.specs.Due.{due_in, is_due, IsLast, Trail, IsOnTrail, GoesOn};
+ghost use Rattle.aio_timers.specs.Due.{due_in, is_due, IsLastDue, Trail, IsOnTrail, GoesOn, GoesPast};
 
+use crate::link::Link;
 use crate::node::Node;
 use crate::siblings::{child_of, is_link_to, next_of, prev_of};
 use aio_base::Moment;
 
-/// The last node of a row, from its first.
-fn last_of(nodes: &[Node], first: usize) -> usize
-    requires { (ks : List ℕ) × IsRunOnce nodes.now (Some first) ks }
-    ensures { (ks : List ℕ) → IsRunOnce nodes.now (Some first) ks → IsLast ks result }
+/// The last node of a row that is due. A row of which none is due is not walked back.
+fn last_due_of(nodes: &[Node], first: Link, now: Moment) -> Link
+    requires { (ks : List ℕ) × IsRunOnce nodes.now first ks }
+    ensures { (ks : List ℕ) → IsRunOnce nodes.now first ks
+        → IsLastDue (held_at nodes.now) now ks result }
 {
-    let mut at = first;
-    while let Some(next) = next_of(nodes, at).get() {
-        at = next;
+    let mut last = Link::none();
+    let mut link = first;
+    while let Some(at) = link.get() {
+        if is_due_at(nodes, at, now) {
+            last = link;
+        }
+        link = next_of(nodes, at);
     }
-    at
+    last
 }
 
 /// The sibling before a node, or before the nearest node above that has one.
 fn retreat(nodes: &[Node], from: usize) -> Option<usize>
-    requires { (root : Option ℕ) × (free : Option ℕ) × (h : IsHeap nodes.now root free) × (t : Trail) × IsOnTrail nodes.now h.family from t }
-    ensures { (root free : Option ℕ) (h : IsHeap nodes.now root free) (t : Trail) → IsOnTrail nodes.now h.family from t → GoesOn nodes.now h.family [] t result }
+    requires { (root : Option ℕ) × (free : Option ℕ) × (h : IsHeap nodes.now root free)
+        × (t : Trail) × IsOnTrail nodes.now h.family from t }
+    ensures { (root free : Option ℕ) (h : IsHeap nodes.now root free) (t : Trail)
+        → IsOnTrail nodes.now h.family from t → GoesOn nodes.now h.family [] t result }
 {
     let mut at = from;
     for _ in 0..nodes.len() {
@@ -44,19 +51,21 @@ fn retreat(nodes: &[Node], from: usize) -> Option<usize>
     unreachable!()
 }
 
-/// Where the walk goes from a node: to its last child where the node is due and has one, else on to
-/// what is before it.
-fn step(nodes: &[Node], at: usize, due: bool) -> Option<usize>
-    requires { (root : Option ℕ) × (free : Option ℕ) × (h : IsHeap nodes.now root free) × (t : Trail) × IsOnTrail nodes.now h.family at t }
-    ensures { (root free : Option ℕ) (h : IsHeap nodes.now root free) (t : Trail) → IsOnTrail nodes.now h.family at t
-        → GoesOn nodes.now h.family (if due then h.family.below at else []) t result }
+/// Where the walk goes from a node: to its last child that is due, where the node is due and has
+/// one, else on to what is before it.
+fn step(nodes: &[Node], at: usize, due: bool, now: Moment) -> Option<usize>
+    requires { (root : Option ℕ) × (free : Option ℕ) × (h : IsHeap nodes.now root free)
+        × (t : Trail) × IsOnTrail nodes.now h.family at t }
+    ensures { (root free : Option ℕ) (h : IsHeap nodes.now root free) (t : Trail)
+        → IsOnTrail nodes.now h.family at t
+        → GoesPast nodes.now h.family now (if due then h.family.below at else []) t result }
 {
     if !due {
         return retreat(nodes, at);
     }
-    match child_of(nodes, at).get() {
+    match last_due_of(nodes, child_of(nodes, at), now).get() {
         None => retreat(nodes, at),
-        Some(first) => Some(last_of(nodes, first)),
+        Some(last) => Some(last),
     }
 }
 
@@ -75,7 +84,7 @@ pub(crate) fn count_due(nodes: &[Node], root: Option<usize>, now: Moment) -> usi
         if due {
             count += 1;
         }
-        match step(nodes, at, due) {
+        match step(nodes, at, due, now) {
             None => return count,
             Some(next) => at = next,
         }

@@ -19,7 +19,8 @@ pub(crate) fn place(nodes: &mut [Node], root: Option<usize>, at: usize, node: No
     requires used { IsUsed (held_of node) }
     requires lone { node ≡ lone_node (held_of node) }
     requires pair { IsNewPair nodes.old (held_of node) }
-    ensures { Holds nodes.old nodes.new at (held_of node) (Some result) (Node.next (node_at nodes.old at)) }
+    ensures { Holds nodes.old nodes.new at (held_of node) (Some result)
+        (Node.next (node_at nodes.old at)) }
 {
     nodes[at] = node;
     match root {

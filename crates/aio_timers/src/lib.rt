@@ -4,9 +4,9 @@
 //! timers stand in the order in which they fire, by deadline and then by id, a change is that of one
 //! pair of a deadline and an id, and a pass takes exactly the wakers that are due, in order.
 //!
-//! The list is kept as a pairing heap in one vector of nodes (`siblings`, `merge`, `heap`, `due`), with chains of
-//! nodes by id (`chains`) and a list of free nodes (`room`). That is the matter of the book's
-//! invariant: no clause above speaks of it.
+//! The list is kept as a pairing heap in one vector of nodes (`siblings`, `merge`, `heap`, `due`),
+//! with chains of nodes by id (`chains`) and a list of free nodes (`room`). That is the matter of
+//! the book's invariant: no clause above speaks of it.
 #![tactic(auto)]
 
 mod book;

@@ -70,7 +70,8 @@ fn pair_step(nodes: &mut [Node], a: usize, done: Link) -> (Link, Link)
 fn pair(nodes: &mut [Node], first: Link) -> Link
     requires few { length nodes.old < 2 ^ 32 }
     requires tops { (f : Family) × (ks : List ℕ) × AreTops nodes.old f first ks }
-    ensures { (f : Family) (ks : List ℕ) → AreTops nodes.old f first ks → Pairs nodes.old nodes.new f ks None result }
+    ensures { (f : Family) (ks : List ℕ) → AreTops nodes.old f first ks
+        → Pairs nodes.old nodes.new f ks None result }
 {
     let mut rest = first;
     let mut done = Link::none();
@@ -84,7 +85,8 @@ fn pair(nodes: &mut [Node], first: Link) -> Link
 fn gather(nodes: &mut [Node], first: Link) -> Option<usize>
     requires few { length nodes.old < 2 ^ 32 }
     requires tops { (f : Family) × (ks : List ℕ) × AreTops nodes.old f first ks }
-    ensures { (f : Family) (ks : List ℕ) → AreTops nodes.old f first ks → Gathers nodes.old nodes.new f ks None result }
+    ensures { (f : Family) (ks : List ℕ) → AreTops nodes.old f first ks
+        → Gathers nodes.old nodes.new f ks None result }
 {
     let mut top = first.get()?;
     let mut rest = next_of(nodes, top);
@@ -100,7 +102,8 @@ fn gather(nodes: &mut [Node], first: Link) -> Option<usize>
 pub(crate) fn merge(nodes: &mut [Node], first: Link) -> Option<usize>
     requires few { length nodes.old < 2 ^ 32 }
     requires tops { (f : Family) × (ks : List ℕ) × AreTops nodes.old f first ks }
-    ensures { (f : Family) (ks : List ℕ) → AreTops nodes.old f first ks → Merges nodes.old nodes.new f ks result }
+    ensures { (f : Family) (ks : List ℕ) → AreTops nodes.old f first ks
+        → Merges nodes.old nodes.new f ks result }
 {
     let pairs = pair(nodes, first);
     let top = gather(nodes, pairs)?;

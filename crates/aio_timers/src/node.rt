@@ -29,7 +29,8 @@ pub(crate) struct Node {
 impl Node {
     /// A node in use that no other node of the heap knows, in front of `chain` in its bucket.
     pub(crate) fn lone(deadline: Moment, id: TimerId, waker: Waker, chain: Link) -> Node
-        ensures { result ≡ lone_node (record { deadline = deadline; id = id.0; waker = Some waker; chain = chain }) }
+        ensures { result ≡ lone_node
+            (record { deadline = deadline; id = id.0; waker = Some waker; chain = chain }) }
     {
         Node {
             deadline,
@@ -63,7 +64,10 @@ impl Node {
     {
         let own = self.deadline.get();
         let limit = other.deadline.get();
-        own < limit || (own == limit && self.id.0 < other.id.0)
+        if own == limit {
+            return self.id.0 < other.id.0;
+        }
+        own < limit
     }
 
     /// Whether it has this deadline and this id.

@@ -2,7 +2,7 @@
 
 ghost use Rattle.std.specs.Prelude.{◌≡◌, ◌<◌, ℕ, Some, length, nat_le};
 ghost use Rattle.aio_base.specs.World.{Registration};
-ghost use Rattle.aio_timers.specs.Held.{Held, held_at, live_of};
+ghost use Rattle.aio_timers.specs.Held.{Held, held_at, live_of, pair_of};
 
 use crate::node::Node;
 use aio_base::{Moment, TimerId, Waker};
@@ -10,7 +10,7 @@ use aio_base::{Moment, TimerId, Waker};
 /// The deadline and the id of a node.
 pub(crate) fn pair_at(nodes: &Vec<Node>, at: usize) -> (Moment, TimerId)
     requires { at < length nodes.now.items }
-    ensures { result ≡ (Held.deadline (held_at nodes.now.items at), record { 0 = Held.id (held_at nodes.now.items at) }) }
+    ensures { result ≡ pair_of (held_at nodes.now.items at) }
 {
     let node = nodes[at];
     (node.deadline, node.id)
@@ -28,7 +28,8 @@ pub(crate) fn is_due_at(nodes: &Vec<Node>, at: usize, now: Moment) -> bool
 pub(crate) fn waker_at(nodes: &Vec<Node>, at: usize) -> Waker
     requires within { at < length nodes.now.items }
     requires live { (r : Registration) × (live_of (held_at nodes.now.items at) ≡ Some r) }
-    ensures { (r : Registration) → live_of (held_at nodes.now.items at) ≡ Some r → result ≡ r.waker }
+    ensures { (r : Registration) → live_of (held_at nodes.now.items at) ≡ Some r
+        → result ≡ r.waker }
 {
     match nodes[at].waker {
         Some(waker) => waker,

@@ -36,10 +36,13 @@ pub(crate) fn grow(
     free: Link,
     total: usize,
 ) -> Result<Link, OutOfMemory>
-    requires sound { (root : Option ℕ) × (used : ℕ) × IsSound nodes.old.items buckets.old.items root free used }
+    requires sound { (root : Option ℕ) × (used : ℕ)
+        × IsSound nodes.old.items buckets.old.items root free used }
     requires more { length nodes.old.items < total }
     requires few { total < 2 ^ 32 }
-    ensures { (root : Option ℕ) (used : ℕ) → IsSound nodes.old.items buckets.old.items root free used → Grows nodes.old.items nodes.new.items buckets.new.items root free used total result }
+    ensures { (root : Option ℕ) (used : ℕ)
+        → IsSound nodes.old.items buckets.old.items root free used
+        → Grows nodes.old.items nodes.new.items buckets.new.items root free used total result }
 {
     let more = total - nodes.len();
     match nodes.reserve_exact(more) {
@@ -57,7 +60,8 @@ fn widen(nodes: &mut Vec<Node>, buckets: &mut Vec<Link>, total: usize) -> Result
     requires some { 0 < total }
     requires bound { total < 2 ^ 32 }
     requires few { length nodes.old.items < 2 ^ 32 }
-    requires table { IsTable (held_at nodes.old.items) (length nodes.old.items) buckets.old.items (λ j. used_of (held_at nodes.old.items j)) }
+    requires table { IsTable (held_at nodes.old.items) (length nodes.old.items) buckets.old.items
+        (λ j. used_of (held_at nodes.old.items j)) }
     requires power { 0 < length buckets.old.items → IsPowerOfTwo (length buckets.old.items) }
     ensures table { Rehashes nodes.old.items nodes.new.items buckets.new.items }
     ensures row { OnOk result (total ≤ length buckets.new.items) }

@@ -20,9 +20,12 @@ pub(crate) fn find(
     deadline: Moment,
     id: TimerId,
 ) -> Option<usize>
-    requires { (root : Option ℕ) × (free : Option ℕ) × (used : ℕ) × IsSound nodes.now.items buckets.now.items root free used }
-    ensures { (root free : Option ℕ) (used : ℕ) → IsSound nodes.now.items buckets.now.items root free used
-        → MatchOption result (IsAbsent deadline id.0 (helds nodes.now.items)) (λ at. IsPairAt nodes.now.items deadline id.0 at) }
+    requires { (root : Option ℕ) × (free : Option ℕ) × (used : ℕ)
+        × IsSound nodes.now.items buckets.now.items root free used }
+    ensures { (root free : Option ℕ) (used : ℕ)
+        → IsSound nodes.now.items buckets.now.items root free used
+        → MatchOption result (IsAbsent deadline id.0 (helds nodes.now.items))
+        (λ at. IsPairAt nodes.now.items deadline id.0 at) }
 {
     find_in(nodes.as_slice(), buckets.as_slice(), deadline, id)
 }
@@ -40,7 +43,8 @@ pub(crate) fn add(
     requires room { is_some free ≡ true }
     requires absent { IsAbsent timer.0 timer.1.0 (helds nodes.old.items) }
     ensures { (used : ℕ) → IsSound nodes.old.items buckets.old.items root free used
-        → Gains nodes.old.items nodes.new.items buckets.new.items (Some result.0) result.1 used (record { id = timer.1.0; deadline = timer.0; waker = timer.2 }) }
+        → Gains nodes.old.items nodes.new.items buckets.new.items (Some result.0) result.1 used
+        (record { id = timer.1.0; deadline = timer.0; waker = timer.2 }) }
 {
     add_to(
         nodes.as_mut_slice(),
@@ -63,7 +67,9 @@ pub(crate) fn take(
     requires within { at < length nodes.old.items }
     requires sound { (used : ℕ) × IsSound nodes.old.items buckets.old.items root free used }
     requires live { (r : Registration) × (live_of (held_at nodes.old.items at) ≡ Some r) }
-    ensures { (used : ℕ) (r : Registration) → IsSound nodes.old.items buckets.old.items root free used → live_of (held_at nodes.old.items at) ≡ Some r
+    ensures { (used : ℕ) (r : Registration)
+        → IsSound nodes.old.items buckets.old.items root free used
+        → live_of (held_at nodes.old.items at) ≡ Some r
         → Drops nodes.old.items nodes.new.items buckets.new.items result.0 result.1 used r }
 {
     take_from(nodes.as_mut_slice(), buckets.as_mut_slice(), root, free, at)
@@ -80,9 +86,11 @@ pub(crate) fn set_waker(nodes: &mut Vec<Node>, at: usize, waker: Waker)
 
 /// The node in use with this deadline and this id, along the chain of one bucket.
 fn find_in(nodes: &[Node], buckets: &[Link], deadline: Moment, id: TimerId) -> Option<usize>
-    requires { (root : Option ℕ) × (free : Option ℕ) × (used : ℕ) × IsSound nodes.now buckets.now root free used }
+    requires { (root : Option ℕ) × (free : Option ℕ) × (used : ℕ)
+        × IsSound nodes.now buckets.now root free used }
     ensures { (root free : Option ℕ) (used : ℕ) → IsSound nodes.now buckets.now root free used
-        → MatchOption result (IsAbsent deadline id.0 (helds nodes.now)) (λ at. IsPairAt nodes.now deadline id.0 at) }
+        → MatchOption result (IsAbsent deadline id.0 (helds nodes.now))
+        (λ at. IsPairAt nodes.now deadline id.0 at) }
 {
     if buckets.is_empty() {
         return None;
@@ -105,7 +113,8 @@ fn add_to(
     requires room { is_some free ≡ true }
     requires absent { IsAbsent timer.0 timer.1.0 (helds nodes.old) }
     ensures { (used : ℕ) → IsSound nodes.old buckets.old root free used
-        → Gains nodes.old nodes.new buckets.new (Some result.0) result.1 used (record { id = timer.1.0; deadline = timer.0; waker = timer.2 }) }
+        → Gains nodes.old nodes.new buckets.new (Some result.0) result.1 used
+        (record { id = timer.1.0; deadline = timer.0; waker = timer.2 }) }
 {
     let (deadline, id, waker) = timer;
     match free.get() {
@@ -134,7 +143,8 @@ fn take_from(
     requires within { at < length nodes.old }
     requires sound { (used : ℕ) × IsSound nodes.old buckets.old root free used }
     requires live { (r : Registration) × (live_of (held_at nodes.old at) ≡ Some r) }
-    ensures { (used : ℕ) (r : Registration) → IsSound nodes.old buckets.old root free used → live_of (held_at nodes.old at) ≡ Some r
+    ensures { (used : ℕ) (r : Registration) → IsSound nodes.old buckets.old root free used
+        → live_of (held_at nodes.old at) ≡ Some r
         → Drops nodes.old nodes.new buckets.new result.0 result.1 used r }
 {
     leave(nodes, buckets, at);

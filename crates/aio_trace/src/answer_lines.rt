@@ -1,45 +1,102 @@
-//! The lines of answers.
+//! The lines of answers and wakes.
 
-ghost use Rattle.std.specs.Prelude.{◌≡◌, ◌≤◌, ◌++◌, codes, decimal, MatchOption, OnErr, OnOk, vec_capacity};
+ghost use Rattle.std.specs.Prelude.{◌≡◌, ◌≤◌, ◌++◌, codes, decimal, flat_map, MatchOption};
+ghost use Rattle.std.specs.Prelude.{OnErr, OnOk, vec_capacity};
+ghost use Rattle.aio_base.specs.Script.{reply_text};
 ghost use Rattle.aio_base.specs.Text.{answer_line, end_text, ended_line, fault_text, limit_text};
 ghost use Rattle.aio_trace.specs.Writing.{HasNumbers, KeepsFront, LacksRoom};
 
 use crate::writing::{push_number, push_numbered};
-use aio_base::{Answer, EndWord, Key};
+use aio_base::{Answer, EndWord, Key, Waker};
+use itoa::write_digits;
 use std::alloc::AllocError;
+
+/// Writes an answer's line and then one line for each wake, maybe a part of them where memory runs
+/// out.
+#[inline]
+#[tactic(auto, unfolding(aio_base::specs::Script::reply_text))]
+pub(crate) fn push_reply(
+    answer: Answer,
+    wakes: &[Waker],
+    out: &mut Vec<u8>,
+) -> Result<(), AllocError>
+    ensures ok { OnOk result (out.new.items ≡ out.old.items ++ reply_text answer wakes.now) }
+    ensures kept { OnErr result (KeepsFront out.old.items out.new.items) }
+    ensures full { OnErr result (LacksRoom (vec_capacity out.old) out.old.items
+        (reply_text answer wakes.now)) }
+{
+    push_answer(answer, out)?;
+    if wakes.is_empty() {
+        return Ok(());
+    }
+    push_wakes(wakes, out)
+}
+
+/// Writes one line for each wake.
+#[inline(never)]
+#[tactic(auto, unfolding(aio_base::specs::Text::answer_line))]
+fn push_wakes(wakes: &[Waker], out: &mut Vec<u8>) -> Result<(), AllocError>
+    ensures ok { OnOk result (out.new.items ≡ out.old.items
+        ++ flat_map (λ waker. ended_line (answer_line (Answer.Wake waker))) wakes.now) }
+    ensures kept { OnErr result (KeepsFront out.old.items out.new.items) }
+    ensures full { OnErr result (LacksRoom (vec_capacity out.old) out.old.items
+        (flat_map (λ waker. ended_line (answer_line (Answer.Wake waker))) wakes.now)) }
+    ensures grown { vec_capacity out.old ≤ vec_capacity out.new }
+{
+    for waker in wakes {
+        push_wake(out, *waker)?;
+    }
+    Ok(())
+}
+
+/// Writes the line of a wake by one copy. It is made from its end: the digits go before the line feed,
+/// and the word before them.
+#[inline]
+fn push_wake(out: &mut Vec<u8>, waker: Waker) -> Result<(), AllocError>
+    ensures ok { OnOk result (out.new.items
+        ≡ out.old.items ++ ended_line (codes "wake " ++ decimal waker.0)) }
+    ensures kept { OnErr result (KeepsFront out.old.items out.new.items) }
+    ensures full { OnErr result (LacksRoom (vec_capacity out.old) out.old.items
+        (ended_line (codes "wake " ++ decimal waker.0))) }
+    ensures grown { vec_capacity out.old ≤ vec_capacity out.new }
+{
+    let mut line = [b'\n'; 32];
+    let digits = write_digits(u64::from(waker.0), &mut line, 31);
+    let start = digits - 5;
+    line[start..digits].copy_from_slice(b"wake ");
+    out.extend_from_slice(&line[start..])
+}
 
 /// Writes an answer's line. The answers that most lines of a trace have come first.
 #[inline]
 #[tactic(auto, unfolding(aio_base::specs::Text::answer_line))]
-pub(crate) fn push_answer(answer: &Answer, out: &mut Vec<u8>) -> Result<(), AllocError>
-    ensures ok { OnOk result (out.new.items ≡ out.old.items
-        ++ ended_line (answer_line answer.now)) }
+pub(crate) fn push_answer(answer: Answer, out: &mut Vec<u8>) -> Result<(), AllocError>
+    ensures ok { OnOk result (out.new.items ≡ out.old.items ++ ended_line (answer_line answer)) }
     ensures kept { OnErr result (KeepsFront out.old.items out.new.items) }
     ensures full { OnErr result (LacksRoom (vec_capacity out.old) out.old.items
-        (ended_line (answer_line answer.now))) }
+        (ended_line (answer_line answer))) }
     ensures grown { vec_capacity out.old ≤ vec_capacity out.new }
 {
-    match *answer {
+    match answer {
         Answer::Pending => out.extend_from_slice(b"pending\n"),
         Answer::Noted => out.extend_from_slice(b"noted\n"),
         Answer::Ready => out.extend_from_slice(b"ready\n"),
-        _ => push_other_answer(out, answer),
+        other => push_other_answer(out, other),
     }
 }
 
 /// Writes an answer's line, whichever it is: the general case behind the common ones.
 #[inline(never)]
-fn push_other_answer(out: &mut Vec<u8>, answer: &Answer) -> Result<(), AllocError>
-    ensures ok { OnOk result (out.new.items ≡ out.old.items
-        ++ ended_line (answer_line answer.now)) }
+fn push_other_answer(out: &mut Vec<u8>, answer: Answer) -> Result<(), AllocError>
+    ensures ok { OnOk result (out.new.items ≡ out.old.items ++ ended_line (answer_line answer)) }
     ensures kept { OnErr result (KeepsFront out.old.items out.new.items) }
     ensures full { OnErr result (LacksRoom (vec_capacity out.old) out.old.items
-        (ended_line (answer_line answer.now))) }
+        (ended_line (answer_line answer))) }
     ensures grown { vec_capacity out.old ≤ vec_capacity out.new }
 {
-    match fixed_line(answer) {
+    match fixed_line(&answer) {
         Some(line) => out.extend_from_slice(line),
-        None => push_with_numbers(out, answer),
+        None => push_with_numbers(out, &answer),
     }
 }
 

@@ -20,5 +20,5 @@ mod writing;
 
 pub use aio_base::LineFault;
 pub use generating::{Steps, gen_steps};
-pub use reading::read_line;
-pub use writing::{write_answer, write_line};
+pub use reading::{is_header, read_line};
+pub use writing::{write_answer, write_line, write_reply};

@@ -5,6 +5,7 @@
 ghost use Rattle.std.specs.Prelude.{◌≡◌, ◌↔◌, None, Some, Ok, Err, MatchResult, IfOk, if◌then◌else◌, ◌≤◌, ◌^◌};
 ghost use Rattle.std.specs.List.{list_all};
 ghost use Rattle.aio_base.specs.Lines.{Reads, body_of, fault_of, is_allowed, last_moment, last_number, words_in};
+ghost use Rattle.aio_base.specs.Trace.{is_header};
 ghost use Rattle.aio_base.specs.declared.steps.LineFault.{LineFault};
 ghost use Rattle.aio_base.specs.declared.steps.Step.{Step};
 ghost use Rattle.aio_trace.specs.Reading.{begin_of, command_named, del_of, dir_of, drop_of, end_of, event_of, fault_chosen, fault_line_of, flags_of_word, limit_of, listener_poll_of, new_of, now_of, poll_of, set_chosen, set_of, step_of, step_of_words, take_direction, take_flags, take_limit, take_number, take_period, tick_of, timer_chosen, timer_of};
@@ -63,6 +64,23 @@ pub fn read_line(line: &[u8]) -> Result<Step, LineFault>
         Ok(step) => Ok(step),
         Err(fault) => Err(byte_before(body, fault)),
     }
+}
+
+/// Whether a line, given without its line feed, is the header of a trace: it has at most 256 bytes,
+/// and its words are `trace` and `1`. It takes no memory.
+pub fn is_header(line: &[u8]) -> bool
+    ensures { result ≡ is_header line.now }
+{
+    if line.len() > LINE_BYTES {
+        return false;
+    }
+    let Some((first, rest)) = next_word(body_of(line)) else {
+        return false;
+    };
+    let Some((second, rest)) = next_word(rest) else {
+        return false;
+    };
+    first == b"trace".as_slice() && second == b"1".as_slice() && next_word(rest).is_none()
 }
 
 /// A line without the one carriage return that may stand at its end.

@@ -3,7 +3,7 @@
 ghost use Rattle.std.specs.Prelude.{◌≡◌, true};
 ghost use Rattle.aio_base.specs.Lines.{IsInRange};
 
-use crate::{LineFault, gen_steps, read_line, write_answer, write_line};
+use crate::{LineFault, gen_steps, read_line, write_answer, write_line, write_reply};
 use aio_base::{Answer, Dir, EndWord, Event, Interest, Key, Moment, Step, Waker, Which};
 use std::test::Fail;
 
@@ -210,6 +210,20 @@ fn each_answer_is_written(rt: HostRuntime) -> Result<(), Fail> {
         assert_eq!(rt; &out[..6], b"noted\n".as_slice());
         assert_eq!(rt; &out[6..], line.as_bytes(), "{line}");
     }
+    Ok(())
+}
+
+#[test]
+fn replies_follow_what_was_written(rt: HostRuntime) -> Result<(), Fail> {
+    let mut out = Vec::new(rt.alloc());
+    let wakes = [Waker(2), Waker(0), Waker(4_294_967_295)];
+    assert_eq!(rt; write_reply(Answer::Noted, &[], &mut out), Ok(()));
+    assert_eq!(rt;
+        write_reply(whole(EndWord::FaultArm), &wakes, &mut out),
+        Ok(())
+    );
+    let want = "noted\nround 1 events 2 fault arm\nwake 2\nwake 0\nwake 4294967295\n";
+    assert_eq!(rt; out.as_slice(), want.as_bytes());
     Ok(())
 }
 

@@ -1,13 +1,15 @@
-//! Writing the line of a step, and the line of an answer, at the end of a block of output.
+//! Writing the line of a step, the line of an answer, and what a whole step gives, at the end of a
+//! block of output.
 
 ghost use Rattle.std.specs.Prelude.{◌≡◌, ◌≤◌, ◌++◌, decimal, OnErr, OnOk, vec_capacity};
 ghost use Rattle.aio_base.specs.Lines.{IsInRange, written_line};
+ghost use Rattle.aio_base.specs.Script.{reply_text};
 ghost use Rattle.aio_base.specs.Text.{answer_line, ended_line};
 ghost use Rattle.aio_trace.specs.Writing.{KeepsFront, LacksRoom};
 
-use crate::answer_lines::push_answer;
+use crate::answer_lines::{push_answer, push_reply};
 use crate::step_lines::push_step;
-use aio_base::{Answer, OutOfMemory, Step};
+use aio_base::{Answer, OutOfMemory, Step, Waker};
 use itoa::Buffer;
 use std::alloc::AllocError;
 
@@ -46,7 +48,30 @@ pub fn write_answer(answer: &Answer, out: &mut Vec<u8>) -> Result<(), OutOfMemor
         (ended_line (answer_line answer.now))) }
 {
     let written = out.len();
-    match push_answer(answer, out) {
+    match push_answer(*answer, out) {
+        Ok(()) => Ok(()),
+        Err(_) => {
+            out.truncate(written);
+            Err(OutOfMemory)
+        }
+    }
+}
+
+/// Writes what a step gives: the line of its answer, and then one line for each of its wakes, in
+/// order. All of them or none.
+///
+/// # Errors
+///
+/// `OutOfMemory` only where there was no room for them all, and then `out` holds what it held.
+#[inline]
+pub fn write_reply(answer: Answer, wakes: &[Waker], out: &mut Vec<u8>) -> Result<(), OutOfMemory>
+    ensures ok { OnOk result (out.new.items ≡ out.old.items ++ reply_text answer wakes.now) }
+    ensures err { OnErr result (out.new.items ≡ out.old.items) }
+    ensures full { OnErr result (LacksRoom (vec_capacity out.old) out.old.items
+        (reply_text answer wakes.now)) }
+{
+    let written = out.len();
+    match push_reply(answer, wakes, out) {
         Ok(()) => Ok(()),
         Err(_) => {
             out.truncate(written);

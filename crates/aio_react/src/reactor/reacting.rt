@@ -1,9 +1,12 @@
 //! A whole round of a core (`async-io` 2, `reactor.rs`, `ReactorLock::react`).
 
-ghost use Rattle.std.specs.Prelude.{◌≡◌, ℕ, [], true, false, Option, None, IsSome, IfSome, OnOk, OnErr};
+ghost use Rattle.std.specs.Prelude.{◌≡◌, ℕ, [], true, false, Option, None, Some, IsSome, IfSome, OnOk, OnErr};
 ghost use Rattle.aio_base.specs.declared.steps.Answer.TheVariants.{Empty};
+ghost use Rattle.aio_base.specs.declared.steps.Step.TheVariants as step;
 ghost use Rattle.aio_base.specs.Devices.{PollerStep, TellsFaults};
 ghost use Rattle.aio_base.specs.Machine.{handle_each};
+ghost use Rattle.aio_base.specs.Timers.{limit_of};
+ghost use Rattle.aio_react.specs.Meeting.{Meets};
 ghost use Rattle.aio_react.specs.Parts.{MeetsPart};
 ghost use Rattle.aio_react.specs.Reacting.{react_reply, react_wakes, react_fault, RisesWithin, FaultsSince, MeetsRound, Handles, Stopped};
 ghost use Rattle.aio_react.specs.Sections.{IsRefusedBy, begin_refusal};
@@ -15,16 +18,20 @@ use aio_base::{Moment, OutOfMemory, Poller, Waited};
 
 impl<P: Poller> Core<P> {
     /// A whole round at the moment `now`, all in one step of the machine: a begin with the given
-    /// limit, one wait, the handling of each event that it gave, and a finish. `woken` has the wakers
-    /// that are to be woken then. A wait or an arm that fails stops nothing, and the first fault is
+    /// limit, one wait, the handling of each event that it gave, and a finish. With no limit it is the
+    /// machine's step of that name. `woken` has the wakers that are to be woken then. A wait or an arm that fails stops nothing, and the first fault is
     /// answered at the end. `Locked` exactly where a round runs, and then `RoundsSpent` exactly where
     /// 2^64 - 1 rounds have begun; all is as before then. `OutOfMemory` where memory ran out: before
-    /// the begin all is as before, and no round runs; after it the round runs on with its events and
-    /// wakers, for `handle` and `finish`.
+    /// the begin all is as before, and no round runs; after it the round runs on with its events,
+    /// wakers and first fault, which this call met, for `handle` and `finish`.
     pub fn react(&mut self, now: Moment, given: Option<u64>) -> Result<Reacted, CoreRefusal>
         ensures meets { IfSome (react_reply result) (λ reply. MeetsRound
             (PollerStep P.arm_step P.wait_step) P.interests given now
             reply (react_wakes result self.new.1.round) self.old self.new) }
+        ensures alone { given ≡ None → IfSome (react_reply result) (λ reply. Meets
+            (PollerStep P.arm_step P.wait_step) P.interests step.React (Some now)
+            reply (react_wakes result self.new.1.round) (limit_of now self.old.1.book None)
+            self.old self.new) }
         ensures cause { IsRefusedBy (begin_refusal self.old.1) result }
         ensures refused { IsSome (begin_refusal self.old.1) → self.new ≡ self.old }
         ensures unbegun { OnErr result
@@ -32,6 +39,9 @@ impl<P: Poller> Core<P> {
         ensures stopped { OnErr result (begin_refusal self.old.1 ≡ None
             → self.new.1.round.running ≡ true → Stopped
             (PollerStep P.arm_step P.wait_step) P.interests given now self.old self.new) }
+        ensures kept { OnErr result (begin_refusal self.old.1 ≡ None
+            → self.new.1.round.running ≡ true → IfSome self.new.1.round.fault
+            (RisesWithin (P.fault_count self.old.0) (P.fault_count self.new.0))) }
         ensures idle { OnOk result (self.new.1.round.running ≡ false) }
         ensures faults { TellsFaults P.fault_count P.is_sure self.old.0 self.new.0
             (IsSome (react_fault result)) }

@@ -20,7 +20,7 @@ is_due_at-due-requires c =
 pub overflow_add-count : goal.overflow_add-count
 overflow_add-count c =
     let h = c.requires.1 in
-    omega (arith, walk-few c.args.nodes.now h.family c.args.now c.loop.at c.loop.count c.loop.counter (c.loop.invariant c.requires.0 h), c.loop-test.true)
+    omega (arith, walk-few c.args.nodes.now h.family c.args.now c.loop.at c.loop.count c.loop.counter h.rows (c.loop.invariant c.requires.0 h))
 
 pub step-requires : goal.step-requires
 step-requires c =

@@ -12,9 +12,9 @@ pub take_on-requires : goal.take_on-requires
 take_on-requires g c =
     let i = c.self.inside in
     let h = c.self.invariant in
-    let seen = c.go_back-start.ensures i.first h.keys h.order h.sound.counted in (
+    let seen = c.drain_start-start.ensures h.keys h.order h.sound.counted in (
       seen.1.back,
-      Seen-tail i.nodes i.first i.last h.keys seen.0 c.go_back-start.result.0 0 c.go_back-start.result.1 h.order seen.1,
+      Seen-tail i.nodes i.first i.last h.keys seen.0 c.drain_start-start.result.0 0 c.drain_start-start.result.1 h.order seen.1,
       omega (
         arith,
         c.requires,
@@ -31,24 +31,24 @@ pub invariant_of-self : goal.invariant_of-self
 invariant_of-self g c =
     let i = c.self.inside in
     let h = c.self.invariant in
-    let seen = c.go_back-start.ensures i.first h.keys h.order h.sound.counted in
-    let tail = Seen-tail i.nodes i.first i.last h.keys seen.0 c.go_back-start.result.0 0 c.go_back-start.result.1 h.order seen.1 in
-    (drained i.nodes c.take_on.new.nodes i.first i.last i.drawn i.waiting seen.0 c.go_back-start.result.0 c.go_back-start.result.1 c.args.out.now.items c.take_on.new.out.items h seen.1 (c.take_on.ensures.taken seen.1.back tail)).listed
+    let seen = c.drain_start-start.ensures h.keys h.order h.sound.counted in
+    let tail = Seen-tail i.nodes i.first i.last h.keys seen.0 c.drain_start-start.result.0 0 c.drain_start-start.result.1 h.order seen.1 in
+    (drained i.nodes c.take_on.new.nodes i.first i.last i.drawn i.waiting seen.0 c.drain_start-start.result.0 c.drain_start-start.result.1 c.args.out.now.items c.take_on.new.out.items h seen.1 (c.take_on.ensures.taken seen.1.back tail)).listed
 
 pub returns-clause-drained : goal.returns-clause-drained
 returns-clause-drained g c =
     let i = c.self.inside in
     let h = c.self.invariant in
-    let seen = c.go_back-start.ensures i.first h.keys h.order h.sound.counted in
-    let tail = Seen-tail i.nodes i.first i.last h.keys seen.0 c.go_back-start.result.0 0 c.go_back-start.result.1 h.order seen.1 in
-    let d = drained i.nodes c.take_on.new.nodes i.first i.last i.drawn i.waiting seen.0 c.go_back-start.result.0 c.go_back-start.result.1 c.args.out.now.items c.take_on.new.out.items h seen.1 (c.take_on.ensures.taken seen.1.back tail) in
+    let seen = c.drain_start-start.ensures h.keys h.order h.sound.counted in
+    let tail = Seen-tail i.nodes i.first i.last h.keys seen.0 c.drain_start-start.result.0 0 c.drain_start-start.result.1 h.order seen.1 in
+    let d = drained i.nodes c.take_on.new.nodes i.first i.last i.drawn i.waiting seen.0 c.drain_start-start.result.0 c.drain_start-start.result.1 c.args.out.now.items c.take_on.new.out.items h seen.1 (c.take_on.ensures.taken seen.1.back tail) in
     rw (← c.self.view_is) (ap (λ es. listed es i.drawn) d.entries)
 
 pub returns-clause-items : goal.returns-clause-items
 returns-clause-items g c =
     let i = c.self.inside in
     let h = c.self.invariant in
-    let seen = c.go_back-start.ensures i.first h.keys h.order h.sound.counted in
-    let tail = Seen-tail i.nodes i.first i.last h.keys seen.0 c.go_back-start.result.0 0 c.go_back-start.result.1 h.order seen.1 in
-    let d = drained i.nodes c.take_on.new.nodes i.first i.last i.drawn i.waiting seen.0 c.go_back-start.result.0 c.go_back-start.result.1 c.args.out.now.items c.take_on.new.out.items h seen.1 (c.take_on.ensures.taken seen.1.back tail) in
+    let seen = c.drain_start-start.ensures h.keys h.order h.sound.counted in
+    let tail = Seen-tail i.nodes i.first i.last h.keys seen.0 c.drain_start-start.result.0 0 c.drain_start-start.result.1 h.order seen.1 in
+    let d = drained i.nodes c.take_on.new.nodes i.first i.last i.drawn i.waiting seen.0 c.drain_start-start.result.0 c.drain_start-start.result.1 c.args.out.now.items c.take_on.new.out.items h seen.1 (c.take_on.ensures.taken seen.1.back tail) in
     rw (← c.self.view_is) d.pushed

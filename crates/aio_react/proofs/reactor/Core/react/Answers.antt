@@ -1,10 +1,10 @@
-use Rattle.std.proofs.Common.{◌≡◌, ◌∙◌, None, Ok, sym, ap, subst}
+use Rattle.std.proofs.Common.{◌≡◌, ◌∙◌, None, Some, Ok, sym, ap, subst}
 use Rattle.aio_base.specs.declared.outcomes.Waited.{Waited}
 use Rattle.aio_base.specs.Devices.{PollerStep}
 use Rattle.aio_react.specs.Cores.{CoreValue}
 use Rattle.aio_react.specs.Reacting.{Handles}
 use Rattle.aio_react.specs.Replies.{empty_hand_refusal, wait_phase, wait_given}
-use Rattle.aio_react.proofs.ReactMeets.{react_meets, react_refused, react_stopped, not_busy}
+use Rattle.aio_react.proofs.ReactMeets.{react_meets, round_alone, react_refused, react_stopped, not_busy}
 use Rattle.aio_react.proofs.reactor.Core.react.Goals as goal
 use Rattle.aio_react.proofs.reactor.Core.react.Goals.{in-Ok-Given, in-Ok-Interrupted, in-Err-wait}
 
@@ -12,6 +12,10 @@ pub returns-in-Err-clause-meets : goal.returns-in-Err-clause-meets
 returns-in-Err-clause-meets g c =
     react_refused (PollerStep g.P.Arm.arm_step g.P.EventWait.wait_step) g.P.Arm.interests c.args.given c.args.now c.args.self.now c.begin.new.self c.in-Err.refusal
     c.in-Err.ensures.cause c.in-Err.ensures.refused
+
+pub returns-in-Err-clause-alone : goal.returns-in-Err-clause-alone
+returns-in-Err-clause-alone g c none =
+    round_alone (PollerStep g.P.Arm.arm_step g.P.EventWait.wait_step) g.P.Arm.interests c.args.given c.args.now _ _ c.args.self.now c.begin.new.self none (returns-in-Err-clause-meets g c)
 
 pub returns-in-Err-handle_all-clause-stopped : goal.returns-in-Err-handle_all-clause-stopped
 returns-in-Err-handle_all-clause-stopped g c = λ none running.
@@ -31,6 +35,10 @@ returns-in-Ok-finish-clause-meets g c =
     (not_busy c.args.self.now.1 c.in-Ok.ensures.cause) c.in-Ok.ensures.poller c.in-Ok.ensures.begun
     (c.wait.ensures.runs ∙ ap (λ (core : CoreValue). core.round.running) c.in-Ok.ensures.begun) c.in-Ok-handle_all.ensures.runs c.in-Ok.ensures.number
     (c.wait.ensures.given phase ∙ sym events) (sym c.in-Ok-finish.ensures.fault) c.wait.ensures.part c.in-Ok-handle_all.ensures.part c.in-Ok-finish.ensures.part
+
+pub returns-in-Ok-finish-clause-alone : goal.returns-in-Ok-finish-clause-alone
+returns-in-Ok-finish-clause-alone g c none =
+    round_alone (PollerStep g.P.Arm.arm_step g.P.EventWait.wait_step) g.P.Arm.interests c.args.given c.args.now (Some _) _ c.args.self.now c.finish.new.self none (returns-in-Ok-finish-clause-meets g c)
 
 pub returns-in-Err-finish-clause-stopped : goal.returns-in-Err-finish-clause-stopped
 returns-in-Err-finish-clause-stopped g c = λ none running.

@@ -8,6 +8,7 @@ use Rattle.aio_react.proofs.Asked.{first_asked}
 use Rattle.aio_react.proofs.HeardAgain.{keyed_changed, source_read}
 use Rattle.aio_react.proofs.HeldSources.{key_is}
 use Rattle.aio_react.proofs.Places.{live_again}
+use Rattle.aio_react.proofs.SeatLemmas.{within-sources}
 use Rattle.aio_react.proofs.StepKeeps.{again_key, listed_again_polled, listed_first_polled, listed_unpolled, first_key, drew, drew_none, source_unchanged}
 use Rattle.aio_react.proofs.StepMeets.{again_meets, first_meets, step_misses}
 use Rattle.aio_react.proofs.reactor.Core.step.Goals as goal
@@ -64,6 +65,15 @@ invariant_of-self-in-Err g c =
       omega arith,
       live_again i.sources.items _ l.key.0 e _ there c.self.invariant.5,
     )
+
+pub set-requires : goal.set-requires
+set-requires g c =
+    let i = c.self.inside in
+    let l = c.in-Some.heard in
+    let e = c.in-Some-index_mut-2.entry in
+    let is : value_of i.listeners c.args.listener ≡ Some l = sym c.in-Some.ensures in
+    let there = source_read i.sources.items i.listeners c.args.listener l _ e c.self.invariant.3 is c.index_mut-2.ensures.value c.in-Some-index_mut-2.is in
+    omega (arith, within-sources i.sources.items l.key.0 e there, c.self.invariant.0)
 
 pub invariant_of-self-2 : goal.invariant_of-self-2
 invariant_of-self-2 g c =

@@ -1,5 +1,4 @@
 use Rattle.std.proofs.Common.{◌≡◌, ◌+◌, arith}
-use Rattle.aio_replay.proofs.Counting.{within_more}
 use Rattle.aio_replay.proofs.driver.Driver.drive.Goals as goal
 
 pub returns-in-Some-drive_line-clause-ends : goal.returns-in-Some-drive_line-clause-ends

@@ -1,4 +1,4 @@
-use Rattle.std.proofs.Common.{◌≡◌, true, false, bytes_eq, ap, sym, ◌∙◌}
+use Rattle.std.proofs.Common.{ap, sym, ◌∙◌}
 use Rattle.aio_replay.proofs.StepLemmas.{closes, header_stopped, header_read, header_refused, header_long, header_missing, opens_unread}
 use Rattle.aio_replay.proofs.driver.Driver.header.Goals as goal
 
@@ -10,15 +10,13 @@ pub returns-then-is_header-clause-goes_on : goal.returns-then-is_header-clause-g
 returns-then-is_header-clause-goes_on g c = λ all told.
     let found = rw c.in-Line.is at (c.in-Ok.ensures.found all (opens_unread all _ _ _ _ c.requires.opens told)) in
     header_read _ all _ _ _ _ _ _ _ _ _ c.requires.says c.requires.opens found
-    (ap (λ line. bytes_eq line g.V.Version.language.header) (sym c.line.ensures.value) ∙ ap (λ header. bytes_eq c.line.result.now header) (sym c.header.ensures)
-    ∙ sym c.is_header.ensures ∙ c.if-is_header.true) c.in-Ok.ensures.sends
+    (ap g.V.Version.language.is_header (sym c.line.ensures.value) ∙ sym c.is_header.ensures ∙ c.if-is_header.true) c.in-Ok.ensures.sends
 
 pub returns-else-is_header-clause-goes_on : goal.returns-else-is_header-clause-goes_on
 returns-else-is_header-clause-goes_on g c = λ all told.
     let found = rw c.in-Line.is at (c.in-Ok.ensures.found all (opens_unread all _ _ _ _ c.requires.opens told)) in
     closes _ _ _ all _ _ _ _ _ _ (header_refused _ all _ _ _ _ _ _ _ _ _ c.requires.says c.requires.opens found
-    (ap (λ line. bytes_eq line g.V.Version.language.header) (sym c.line.ensures.value) ∙ ap (λ header. bytes_eq c.line.result.now header) (sym c.header.ensures)
-    ∙ sym c.is_header.ensures ∙ c.if-is_header.false) c.in-Ok.ensures.sends) c.refuse.ensures.closes
+    (ap g.V.Version.language.is_header (sym c.line.ensures.value) ∙ sym c.is_header.ensures ∙ c.if-is_header.false) c.in-Ok.ensures.sends) c.refuse.ensures.closes
 
 pub returns-in-Long-clause-goes_on : goal.returns-in-Long-clause-goes_on
 returns-in-Long-clause-goes_on g c = λ all told.

@@ -1,0 +1,97 @@
+-- What is read and written of seats and first polls, as the list of listeners that they are.
+use Rattle.std.proofs.Common.{◌≡◌, ℕ, zero, suc, ◌<◌, ◌≤◌, List, [], ◌∷◌, ◌++◌, length, slice_set, slice_index_or, get_or, Option, None, Some, refl, sym, ap, arith}
+use Rattle.aio_react.specs.declared.entries.Listener.{Listener}
+use Rattle.aio_react.specs.declared.listener_table.Seat.{Seat}
+use Rattle.aio_react.specs.declared.listener_table.Seat.TheVariants as seat
+use Rattle.aio_react.specs.declared.listener_table.FirstPoll.{FirstPoll}
+use Rattle.aio_source.specs.declared.answers.Listened.{Listened}
+use Rattle.aio_react.specs.Numbers.{value_of, with_value}
+use Rattle.aio_react.specs.Seats.{listener_in, listeners_in, seat_for, first_poll_of}
+
+pub listeners-length : (seats : List Seat) (polls : List FirstPoll) → length (listeners_in seats polls) ≡ length seats
+listeners-length [] polls = refl
+listeners-length (s ∷ seats) [] = ap suc (listeners-length seats [])
+listeners-length (s ∷ seats) (p ∷ polls) = ap suc (listeners-length seats polls)
+
+-- what stands at a place
+pub listener-at : (seats : List Seat) (polls : List FirstPoll) (at : ℕ) (s : Seat) (p : FirstPoll) → at < length seats → length polls ≡ length seats → s ≡ get_or seats at s → p ≡ get_or polls at p
+    → slice_index_or (listeners_in seats polls) at None ≡ listener_in s p
+listener-at [] polls at s p within same is_s is_p = absurd (omega arith)
+listener-at (t ∷ seats) [] at s p within same is_s is_p = absurd (omega arith)
+listener-at (t ∷ seats) (q ∷ polls) zero s p within same is_s is_p = sym (λ j. listener_in (is_s j) (is_p j))
+listener-at (t ∷ seats) (q ∷ polls) (suc at) s p within same is_s is_p = listener-at seats polls at s p (omega arith) (omega arith) is_s is_p
+
+pub no-listener-past : (seats : List Seat) (polls : List FirstPoll) (at : ℕ) → length seats ≤ at → slice_index_or (listeners_in seats polls) at None ≡ None
+no-listener-past [] polls at past = refl
+no-listener-past (s ∷ seats) polls zero past = absurd (omega arith)
+no-listener-past (s ∷ seats) [] (suc at) past = no-listener-past seats [] at (omega arith)
+no-listener-past (s ∷ seats) (p ∷ polls) (suc at) past = no-listener-past seats polls at (omega arith)
+
+-- a new last one
+pub listeners-more : (seats : List Seat) (polls : List FirstPoll) (s : Seat) (p : FirstPoll) → length polls ≡ length seats
+    → listeners_in (seats ++ s ∷ []) (polls ++ p ∷ []) ≡ listeners_in seats polls ++ listener_in s p ∷ []
+listeners-more [] [] s p same = refl
+listeners-more [] (q ∷ polls) s p same = absurd (omega arith)
+listeners-more (t ∷ seats) [] s p same = absurd (omega arith)
+listeners-more (t ∷ seats) (q ∷ polls) s p same = ap (λ (ls : List (Option Listener)). listener_in t q ∷ ls) (listeners-more seats polls s p (omega arith))
+
+-- another one at a place
+pub listener-set : (seats : List Seat) (polls : List FirstPoll) (at : ℕ) (s : Seat) (p : FirstPoll) → length polls ≡ length seats
+    → listeners_in (slice_set seats at s) (slice_set polls at p) ≡ slice_set (listeners_in seats polls) at (listener_in s p)
+listener-set [] [] at s p same = refl
+listener-set [] (q ∷ polls) at s p same = absurd (omega arith)
+listener-set (t ∷ seats) [] at s p same = absurd (omega arith)
+listener-set (t ∷ seats) (q ∷ polls) zero s p same = refl
+listener-set (t ∷ seats) (q ∷ polls) (suc at) s p same = ap (λ (ls : List (Option Listener)). listener_in t q ∷ ls) (listener-set seats polls at s p (omega arith))
+
+pub listener-gone : (seats : List Seat) (polls : List FirstPoll) (at : ℕ) → listeners_in (slice_set seats at seat.Gone) polls ≡ slice_set (listeners_in seats polls) at None
+listener-gone [] polls at = refl
+listener-gone (t ∷ seats) [] zero = refl
+listener-gone (t ∷ seats) (q ∷ polls) zero = refl
+listener-gone (t ∷ seats) [] (suc at) = ap (λ (ls : List (Option Listener)). listener_in t (first_poll_of None) ∷ ls) (listener-gone seats [] at)
+listener-gone (t ∷ seats) (q ∷ polls) (suc at) = ap (λ (ls : List (Option Listener)). listener_in t q ∷ ls) (listener-gone seats polls at)
+
+-- what is put for a listener is that listener
+pub listener-again : (l : Listener) (first : Option Listened) → listener_in (seat_for l first) (first_poll_of first) ≡ Some (record l { first = first })
+listener-again l None = refl
+listener-again l (Some first) = refl
+
+-- ## By number
+
+pub value-there : (seats : List Seat) (polls : List FirstPoll) (number at : ℕ) (s : Seat) (p : FirstPoll) → number ≡ suc at → at < length seats → length polls ≡ length seats
+    → s ≡ get_or seats at s → p ≡ get_or polls at p → value_of (listeners_in seats polls) number ≡ listener_in s p
+value-there seats polls number at s p is within same is_s is_p = rw is (listener-at seats polls at s p within same is_s is_p)
+
+pub value-past : (seats : List Seat) (polls : List FirstPoll) (number : ℕ) → length seats < number → value_of (listeners_in seats polls) number ≡ None
+value-past seats polls zero past = refl
+value-past seats polls (suc at) past = no-listener-past seats polls at (omega arith)
+
+pub value-set : (seats : List Seat) (polls : List FirstPoll) (number at : ℕ) (s : Seat) (p : FirstPoll) → number ≡ suc at → length polls ≡ length seats
+    → listeners_in (slice_set seats at s) (slice_set polls at p) ≡ with_value (listeners_in seats polls) number (listener_in s p)
+value-set seats polls number at s p is same = rw is (listener-set seats polls at s p same)
+
+pub value-gone : (seats : List Seat) (polls : List FirstPoll) (number at : ℕ) → number ≡ suc at → listeners_in (slice_set seats at seat.Gone) polls ≡ with_value (listeners_in seats polls) number None
+value-gone seats polls number at is = rw is (listener-gone seats polls at)
+
+not-set : {X : Type 0} (xs : List X) (at : ℕ) (x : X) → length xs ≤ at → slice_set xs at x ≡ xs
+not-set [] at x past = refl
+not-set (y ∷ xs) zero x past = absurd (omega arith)
+not-set (y ∷ xs) (suc at) x past = ap (λ (ys : List _). y ∷ ys) (not-set xs at x (omega arith))
+
+-- nothing is put under a number that was not given
+pub value-unset : (seats : List Seat) (polls : List FirstPoll) (number : ℕ) (l : Option Listener) → length seats < number → with_value (listeners_in seats polls) number l ≡ listeners_in seats polls
+value-unset seats polls zero l past = refl
+value-unset seats polls (suc at) l past = not-set (listeners_in seats polls) at l (omega (arith, listeners-length seats polls, past))
+
+-- no number that was not given has a listener, nor gets one
+pub value-zero : (seats : List Seat) (polls : List FirstPoll) (number : ℕ) → number ≡ 0 → value_of (listeners_in seats polls) number ≡ None
+value-zero seats polls number is = rw is refl
+
+pub value-zero-unset : (seats : List Seat) (polls : List FirstPoll) (number : ℕ) (l : Option Listener) → number ≡ 0 → with_value (listeners_in seats polls) number l ≡ listeners_in seats polls
+value-zero-unset seats polls number l is = rw is refl
+
+-- a key with a source is within the sources
+pub within-sources : {X : Type 0} (xs : List (Option X)) (at : ℕ) (x : X) → slice_index_or xs at None ≡ Some x → at < length xs
+within-sources [] at x is = absurd cc
+within-sources (y ∷ xs) zero x is = omega arith
+within-sources (y ∷ xs) (suc at) x is = omega (arith, within-sources xs at x is)

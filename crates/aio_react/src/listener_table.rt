@@ -1,0 +1,197 @@
+//! The listeners of a core by their numbers.
+
+ghost use Rattle.std.specs.Prelude.{◌≡◌, ◌+◌, ◌<◌, ◌^◌, ◌++◌, [], ◌∷◌, length, None, Some, IfOk, OnErr};
+ghost use Rattle.aio_react.specs.Numbers.{value_of, with_value};
+ghost use Rattle.aio_react.specs.Seats.{listener_in, seat_of, first_poll_of};
+
+use crate::entries::Listener;
+use aio_base::{Dir, Key, OutOfMemory};
+use aio_listen::Ticket;
+use aio_source::Listened;
+use std::alloc::Global;
+use std::marker::Model;
+
+/// Which direction of which source a listener is of, and where that direction keeps it once it was
+/// polled. It takes eight bytes, since a key is below 4,096.
+#[derive(Clone, Copy)]
+pub(crate) enum Seat {
+    /// The listener was given up.
+    Gone,
+    /// It was not polled yet.
+    Unpolled { dir: Dir, key: u16 },
+    /// It was polled: `place` is that of its ticket.
+    Polled { dir: Dir, key: u16, place: u32 },
+}
+
+/// What a listener remembers of its first poll beside its place.
+#[derive(Clone, Copy)]
+pub(crate) struct FirstPoll {
+    pub(crate) serial: u64,
+    pub(crate) a: u64,
+    pub(crate) b: u64,
+}
+
+/// The listeners of a core under numbers from 1, in the order in which they came. A number stays
+/// given where its listener was given up.
+///
+/// A poll of one listener among many waits for memory, not for the processor. So what leads to a
+/// listener's source and its place there lies apart, as small as it can be: more of it stays in the
+/// cache, and the rest is read while the place is on its way.
+///
+/// Contracts see a place for each number that was given. Every call takes constant time.
+#[derive(Drop)]
+pub(crate) struct ListenerTable {
+    seats: Vec<Seat>,
+    /// The first poll of each number that has one, beside its seat.
+    first_polls: Vec<FirstPoll>,
+}
+
+impl Model for ListenerTable {
+    ghost use Rattle.std.specs.Prelude.{◌≡◌, List, Option, length};
+    ghost use Rattle.aio_react.specs.declared.entries.Listener.{Listener};
+    ghost use Rattle.aio_react.specs.Seats.{listeners_in};
+
+    ghost Value = { List (Option Listener) };
+
+    ghost view = { λ t. listeners_in t.seats.items t.first_polls.items };
+
+    ghost invariant = { λ t. length t.first_polls.items ≡ length t.seats.items };
+}
+
+impl ListenerTable {
+    /// No number was given. It takes no memory; `add` takes it from `alloc`.
+    pub(crate) fn new(alloc: Global) -> ListenerTable
+        ensures { result ≡ [] }
+    {
+        ListenerTable {
+            seats: Vec::new(alloc),
+            first_polls: Vec::new(alloc),
+        }
+    }
+
+    /// Puts a listener under the next number. `OutOfMemory` where memory ran out; no number is given
+    /// then.
+    pub(crate) fn add(&mut self, listener: Listener) -> Result<u64, OutOfMemory>
+        requires { listener.key.0 < 2 ^ 16 }
+        ensures number { IfOk result (λ number. number ≡ length self.new) }
+        ensures added { IfOk result (λ number. self.new ≡ self.old ++ Some listener ∷ []) }
+        ensures refused { OnErr result (self.new ≡ self.old) }
+    {
+        if self.seats.reserve(1).is_err() || self.first_polls.reserve(1).is_err() {
+            return Err(OutOfMemory);
+        }
+        self.seats.push_reserved(seat_of(listener));
+        self.first_polls
+            .push_reserved(first_poll_of(listener.first));
+        Ok(self.seats.len() as u64)
+    }
+
+    /// How many numbers were given.
+    pub(crate) fn given(&self) -> u64
+        ensures value { result ≡ length self.now }
+        ensures bound { result < 2 ^ 63 }
+    {
+        self.seats.len() as u64
+    }
+
+    /// The listener under a number. `None` where the number was not given, or its listener was given
+    /// up.
+    pub(crate) fn get(&self, number: u64) -> Option<Listener>
+        ensures { result ≡ value_of self.now number }
+    {
+        if number == 0 || number > self.seats.len() as u64 {
+            return None;
+        }
+        let at = number as usize - 1;
+        listener_in(self.seats[at], self.first_polls[at])
+    }
+
+    /// Puts a listener under a number that was given, in place of its own. Under another number
+    /// nothing is put.
+    pub(crate) fn set(&mut self, number: u64, listener: Listener)
+        requires { listener.key.0 < 2 ^ 16 }
+        ensures { self.new ≡ with_value self.old number (Some listener) }
+    {
+        if number == 0 || number > self.seats.len() as u64 {
+            return;
+        }
+        let at = number as usize - 1;
+        self.seats[at] = seat_of(listener);
+        self.first_polls[at] = first_poll_of(listener.first);
+    }
+
+    /// Takes the listener under a number out, where there is one.
+    pub(crate) fn take(&mut self, number: u64) -> Option<Listener>
+        ensures value { result ≡ value_of self.old number }
+        ensures after { self.new ≡ with_value self.old number None }
+    {
+        if number == 0 || number > self.seats.len() as u64 {
+            return None;
+        }
+        let at = number as usize - 1;
+        let taken = listener_in(self.seats[at], self.first_polls[at]);
+        self.seats[at] = Seat::Gone;
+        taken
+    }
+}
+
+/// The listener of a seat, if it is not gone, with its first poll.
+fn listener_in(seat: Seat, first_poll: FirstPoll) -> Option<Listener>
+    ensures { result ≡ listener_in seat first_poll }
+{
+    match seat {
+        Seat::Gone => None,
+        Seat::Unpolled { dir, key } => Some(Listener {
+            key: Key(u32::from(key)),
+            dir,
+            first: None,
+        }),
+        Seat::Polled { dir, key, place } => Some(Listener {
+            key: Key(u32::from(key)),
+            dir,
+            first: Some(Listened {
+                ticket: Ticket {
+                    serial: first_poll.serial,
+                    place,
+                },
+                a: first_poll.a,
+                b: first_poll.b,
+            }),
+        }),
+    }
+}
+
+/// The seat of a listener.
+fn seat_of(listener: Listener) -> Seat
+    requires { listener.key.0 < 2 ^ 16 }
+    ensures { result ≡ seat_of listener }
+{
+    let dir = listener.dir;
+    let key = listener.key.0 as u16;
+    match listener.first {
+        None => Seat::Unpolled { dir, key },
+        Some(first) => Seat::Polled {
+            dir,
+            key,
+            place: first.ticket.place,
+        },
+    }
+}
+
+/// What a listener remembers of its first poll beside its place, and zeros where it was not polled.
+fn first_poll_of(first: Option<Listened>) -> FirstPoll
+    ensures { result ≡ first_poll_of first }
+{
+    match first {
+        None => FirstPoll {
+            serial: 0,
+            a: 0,
+            b: 0,
+        },
+        Some(first) => FirstPoll {
+            serial: first.ticket.serial,
+            a: first.a,
+            b: first.b,
+        },
+    }
+}

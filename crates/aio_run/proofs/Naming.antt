@@ -1,0 +1,91 @@
+-- Which command words name: one at most; and words that name none.
+use Rattle.std.proofs.Common.{◌≡◌, ◌≢◌, ℕ, ◌-◌, ◌^◌, List, [], ◌∷◌, length, map, get_or, sym, ap, ◌∙◌, refl, arith}
+use Rattle.std.specs.Prelude.{codes}
+use Rattle.aio_run.specs.declared.commands.Command.{Command}
+use Rattle.aio_run.specs.declared.commands.Command.TheVariants as command
+use Rattle.aio_run.specs.Commands.{IsGen, IsOfSteps, IsReplay, IsSum, Names, SpellsUpTo}
+
+-- ## The words as a list
+
+pub one_word : {X : Type 0} (f : X → List ℕ) (xs : List X) (x : X) → length xs ≡ 1 → x ≡ get_or xs 0 x → map f xs ≡ f x ∷ []
+one_word f [] x one is = absurd (omega (arith, one))
+one_word f (y ∷ []) x one is = ap (λ z. f z ∷ []) (sym is)
+one_word f (y ∷ z ∷ xs) x one is = absurd (omega (arith, one))
+
+pub three_words : {X : Type 0} (f : X → List ℕ) (xs : List X) (x y z : X) → length xs ≡ 3 → x ≡ get_or xs 0 x → y ≡ get_or xs 1 y → z ≡ get_or xs 2 z
+    → map f xs ≡ f x ∷ f y ∷ f z ∷ []
+three_words f [] x y z three first second third = absurd (omega (arith, three))
+three_words f (a ∷ []) x y z three first second third = absurd (omega (arith, three))
+three_words f (a ∷ b ∷ []) x y z three first second third = absurd (omega (arith, three))
+three_words f (a ∷ b ∷ c ∷ []) x y z three first second third = rw (first, second, third) refl
+three_words f (a ∷ b ∷ c ∷ d ∷ xs) x y z three first second third = absurd (omega (arith, three))
+
+-- ## Words that name none
+
+no_replay : (a b : List ℕ) (words : List (List ℕ)) → IsReplay (a ∷ b ∷ words) → ⊥
+no_replay a b words is = absurd cc
+
+-- so many words name no command
+pub no_such_count : (words : List (List ℕ)) → length words ≢ 1 → length words ≢ 3 → (c : Command) → Names c words → ⊥
+no_such_count [] one three command.Replay is = absurd cc
+no_such_count [] one three (command.Gen n seed) is = is
+no_such_count [] one three (command.Sum n seed) is = is
+no_such_count (a ∷ []) one three c is = one refl
+no_such_count (a ∷ b ∷ []) one three command.Replay is = no_replay a b [] is
+no_such_count (a ∷ b ∷ []) one three (command.Gen n seed) is = is
+no_such_count (a ∷ b ∷ []) one three (command.Sum n seed) is = is
+no_such_count (a ∷ b ∷ c ∷ []) one three d is = three refl
+no_such_count (a ∷ b ∷ c ∷ d ∷ words) one three command.Replay is = no_replay a b (c ∷ d ∷ words) is
+no_such_count (a ∷ b ∷ c ∷ d ∷ words) one three (command.Gen n seed) is = is
+no_such_count (a ∷ b ∷ c ∷ d ∷ words) one three (command.Sum n seed) is = is
+
+pub not_alone : (a : List ℕ) → a ≢ codes "replay" → (c : Command) → Names c (a ∷ []) → ⊥
+not_alone a other command.Replay is = other (ap (λ words. get_or words 0 a) is)
+not_alone a other (command.Gen n seed) is = is
+not_alone a other (command.Sum n seed) is = is
+
+module _ (a steps from : List ℕ) where
+  -- the second word spells no number of steps
+  pub no_steps : ((n : ℕ) → SpellsUpTo 999999 n steps → ⊥) → (c : Command) → Names c (a ∷ steps ∷ from ∷ []) → ⊥
+  no_steps none command.Replay is = no_replay a steps (from ∷ []) is
+  no_steps none (command.Gen n seed) is = none n is.1
+  no_steps none (command.Sum n seed) is = none n is.1
+
+  -- the third word spells no seed
+  pub no_seed : ((seed : ℕ) → SpellsUpTo (2 ^ 48 - 1) seed from → ⊥) → (c : Command) → Names c (a ∷ steps ∷ from ∷ []) → ⊥
+  no_seed none command.Replay is = no_replay a steps (from ∷ []) is
+  no_seed none (command.Gen n seed) is = none seed is.2
+  no_seed none (command.Sum n seed) is = none seed is.2
+
+  -- the first word is the name of neither
+  pub no_name : a ≢ codes "gen" → a ≢ codes "sum" → (c : Command) → Names c (a ∷ steps ∷ from ∷ []) → ⊥
+  no_name gen sum command.Replay is = no_replay a steps (from ∷ []) is
+  no_name gen sum (command.Gen n seed) is = gen is.0
+  no_name gen sum (command.Sum n seed) is = sum is.0
+
+-- ## One command at most
+
+-- the name and the numbers of a command of steps
+pub same_numbers : (name other : List ℕ) (n seed m from : ℕ) (words : List (List ℕ)) → IsOfSteps name n seed words → IsOfSteps other m from words
+    → (name ≡ other) × (n ≡ m) × (seed ≡ from)
+same_numbers name other n seed m from [] p q = absurd p
+same_numbers name other n seed m from (a ∷ []) p q = absurd p
+same_numbers name other n seed m from (a ∷ b ∷ []) p q = absurd p
+same_numbers name other n seed m from (a ∷ b ∷ c ∷ []) p q =
+    let first = p.1.0 in let second = q.1.0 in let third = p.2.0 in let fourth = q.2.0 in
+    (sym p.0 ∙ q.0, cc, cc)
+same_numbers name other n seed m from (a ∷ b ∷ c ∷ d ∷ words) p q = absurd p
+
+-- the words of a command of steps are not those of a replay
+pub steps_no_replay : (name : List ℕ) (n seed : ℕ) (words : List (List ℕ)) → IsOfSteps name n seed words → IsReplay words → ⊥
+steps_no_replay name n seed [] p is = p
+steps_no_replay name n seed (a ∷ []) p is = p
+steps_no_replay name n seed (a ∷ b ∷ []) p is = p
+steps_no_replay name n seed (a ∷ b ∷ c ∷ []) p is = no_replay a b (c ∷ []) is
+steps_no_replay name n seed (a ∷ b ∷ c ∷ d ∷ words) p is = p
+
+-- no words are those of both
+pub gen_no_sum : (n seed m from : ℕ) (words : List (List ℕ)) → IsGen n seed words → IsSum m from words → ⊥
+gen_no_sum n seed m from words p q =
+    let first : 103 ≡ 115 = ap (λ name. get_or name 0 0) (same_numbers (codes "gen") (codes "sum") n seed m from words p q).0 in
+    absurd (omega (arith, first))

@@ -1,0 +1,86 @@
+//! The commands of the program, read from its words.
+
+ghost use Rattle.std.specs.Prelude.{◌≡◌, ◌==◌, ℕ, [], ◌∷◌, MatchOption, map, slice_index, string_bytes};
+ghost use Rattle.aio_run.specs.Commands.{Names, SpellsUpTo};
+ghost use Rattle.aio_run.specs.declared.commands.Command.{Command};
+
+/// The most steps of a trace that a number describes.
+const MOST_STEPS: u64 = 999_999;
+
+/// The greatest seed, 2^48 - 1.
+const GREATEST_SEED: u64 = (1 << 48) - 1;
+
+/// A command of the program, with what its words say.
+#[derive(Clone, Copy, Debug, PartialEq, Eq)]
+pub enum Command {
+    /// `replay`: runs the steps of a trace, and writes their answers.
+    Replay,
+    /// `gen N SEED`: writes the trace of the first `n` steps, at most 999,999, that a seed below 2^48
+    /// gives.
+    Gen { n: u32, seed: u64 },
+    /// `sum N SEED`: runs these steps, and writes what they came to.
+    Sum { n: u32, seed: u64 },
+}
+
+/// The command that the words name; `None` where they name none that is built.
+pub(crate) fn command_of(words: &[String]) -> Option<Command>
+    ensures { MatchOption result
+        ((command : Command) → Names command (map string_bytes words.now) → ⊥)
+        (λ command. Names command (map string_bytes words.now)) }
+{
+    match words {
+        [name] => named_alone(name.as_str()),
+        [name, steps, seed] => named_with_steps(name.as_str(), steps.as_str(), seed.as_str()),
+        _ => None,
+    }
+}
+
+/// The command that one word names.
+fn named_alone(name: &str) -> Option<Command>
+    ensures { MatchOption result
+        ((command : Command) → Names command (name.now ∷ []) → ⊥)
+        (λ command. Names command (name.now ∷ [])) }
+{
+    match name {
+        "replay" => Some(Command::Replay),
+        _ => None,
+    }
+}
+
+/// The command that a name, a number of steps and a seed name. Numbers are decimal digits, with
+/// leading zeros or without, and no sign.
+fn named_with_steps(name: &str, steps: &str, seed: &str) -> Option<Command>
+    ensures { MatchOption result
+        ((command : Command) → Names command (name.now ∷ steps.now ∷ seed.now ∷ []) → ⊥)
+        (λ command. Names command (name.now ∷ steps.now ∷ seed.now ∷ [])) }
+{
+    let n = number_up_to(steps, MOST_STEPS)? as u32;
+    let seed = number_up_to(seed, GREATEST_SEED)?;
+    match name {
+        "gen" => Some(Command::Gen { n, seed }),
+        "sum" => Some(Command::Sum { n, seed }),
+        _ => None,
+    }
+}
+
+/// The number that a word spells, where it is at most `most`.
+fn number_up_to(word: &str, most: u64) -> Option<u64>
+    ensures { MatchOption result ((n : ℕ) → SpellsUpTo most n word.now → ⊥)
+        (λ n. SpellsUpTo most n word.now) }
+{
+    // `parse` would take a plus before the digits.
+    if has_plus(word) {
+        return None;
+    }
+    match word.parse::<u64>() {
+        Ok(number) if number <= most => Some(number),
+        _ => None,
+    }
+}
+
+/// Whether a word begins with a plus.
+fn has_plus(word: &str) -> bool
+    ensures { result ≡ (slice_index word.now 0 == 43) }
+{
+    word.as_bytes().first() == Some(&b'+')
+}

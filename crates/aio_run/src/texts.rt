@@ -1,0 +1,125 @@
+//! The commands that write a text of their own: the trace that a number describes, and what its run
+//! comes to. They read no input.
+
+ghost use Rattle.std.specs.Prelude.{◌≡◌, ℕ, ◌<◌, ◌≤◌, ◌^◌, ◌++◌, IfOk, OnOk, decimal};
+ghost use Rattle.aio_base.specs.Devices.{TellsFaults};
+ghost use Rattle.aio_base.specs.Generated.{counts_line, generated_steps};
+ghost use Rattle.aio_base.specs.Lines.{IsInRange, written_line};
+ghost use Rattle.aio_base.specs.Text.{ended_line};
+ghost use Rattle.aio_base.specs.Trace.{header_text};
+ghost use Rattle.aio_bytes.specs.Sinks.{HasFailed, Writes};
+ghost use Rattle.aio_replay.specs.Summing.{counts_told};
+ghost use Rattle.aio_run.specs.Commands.{summary_text, trace_text};
+ghost use Rattle.aio_run.specs.Texts.{Gathers};
+
+use aio_base::Step;
+use aio_bytes::{BLOCK, Sink, SinkRefusal, flush, write_all};
+use aio_replay::{Summary, summary};
+use aio_trace::{gen_steps, write_line};
+use itoa::Buffer;
+use std::alloc::{AllocError, Global};
+
+/// Room for the line that fills a block, and for the one line of a summary.
+const LINE_ROOM: usize = 256;
+
+/// Writes the trace of the first `n` steps that the seed gives, a block at a time. A refusal of the
+/// output, or want of memory, leaves a front part of it.
+pub(crate) fn write_trace<K: Sink>(
+    alloc: Global,
+    n: u32,
+    seed: u64,
+    out: &mut K,
+) -> Result<(), SinkRefusal>
+    requires few { n ≤ 999999 }
+    requires seed { seed < 2 ^ 48 }
+    ensures written { Writes result (K.contents out.old) (K.contents out.new)
+        (trace_text (generated_steps n seed)) }
+    ensures cause { TellsFaults K.fault_count K.is_sure out.old out.new (HasFailed result) }
+{
+    let mut text = match header(alloc) {
+        Ok(text) => text,
+        Err(_) => return Err(SinkRefusal::OutOfMemory),
+    };
+    for step in gen_steps(n, seed) {
+        match gather(&step, &mut text, out) {
+            Ok(()) => {}
+            Err(refusal) => return Err(refusal),
+        }
+    }
+    flush(&mut text, out)
+}
+
+/// A block of output that holds the header of a trace, with room for the lines that fill it.
+fn header(alloc: Global) -> Result<Vec<u8>, AllocError>
+    ensures { IfOk result (λ text. text.items ≡ ended_line header_text) }
+{
+    let mut text = Vec::with_capacity(alloc, BLOCK + LINE_ROOM)?;
+    text.extend_from_slice(b"trace 1\n")?;
+    Ok(text)
+}
+
+/// Writes the line of a step at the end of the text, and the text to the output where it fills a
+/// block. Where memory runs out, the text before is written as far as the output takes it.
+fn gather<K: Sink>(step: &Step, text: &mut Vec<u8>, out: &mut K) -> Result<(), SinkRefusal>
+    requires { IsInRange step.now }
+    ensures gathers { Gathers result (K.contents out.old) (K.contents out.new)
+        text.old.items text.new.items (ended_line (written_line step.now)) }
+    ensures cause { TellsFaults K.fault_count K.is_sure out.old out.new (HasFailed result) }
+{
+    if write_line(step, text).is_err() {
+        let _ = flush(text, out);
+        return Err(SinkRefusal::OutOfMemory);
+    }
+    if text.len() < BLOCK {
+        return Ok(());
+    }
+    flush(text, out)
+}
+
+/// Runs the first `n` steps that the seed gives, and writes the line of what their run comes to. A
+/// refusal of the output, or want of memory, leaves a front part of it.
+pub(crate) fn write_summary<K: Sink>(
+    alloc: Global,
+    n: u32,
+    seed: u64,
+    out: &mut K,
+) -> Result<(), SinkRefusal>
+    requires few { n ≤ 999999 }
+    requires seed { seed < 2 ^ 48 }
+    ensures written { Writes result (K.contents out.old) (K.contents out.new)
+        (summary_text (generated_steps n seed)) }
+    ensures cause { TellsFaults K.fault_count K.is_sure out.old out.new (HasFailed result) }
+{
+    let counts = match summary(alloc, n, seed) {
+        Ok(counts) => counts,
+        Err(_) => return Err(SinkRefusal::OutOfMemory),
+    };
+    match line_of(alloc, &counts) {
+        Ok(line) => write_all(out, line.as_slice()),
+        Err(_) => Err(SinkRefusal::OutOfMemory),
+    }
+}
+
+/// The line of a summary, with its line feed.
+fn line_of(alloc: Global, counts: &Summary) -> Result<Vec<u8>, AllocError>
+    ensures { IfOk result (λ line. line.items ≡ ended_line (counts_line (counts_told counts.now))) }
+{
+    let mut line = Vec::with_capacity(alloc, LINE_ROOM)?;
+    push_count(&mut line, b"steps ", counts.steps)?;
+    push_count(&mut line, b" ready ", counts.ready)?;
+    push_count(&mut line, b" pending ", counts.pending)?;
+    push_count(&mut line, b" wakes ", counts.wakes)?;
+    push_count(&mut line, b" rounds ", counts.rounds)?;
+    push_count(&mut line, b" refused ", counts.refused)?;
+    line.push(b'\n')?;
+    Ok(line)
+}
+
+/// Writes a word and a count in decimal digits at the end of a line.
+fn push_count(line: &mut Vec<u8>, word: &[u8], count: u64) -> Result<(), AllocError>
+    ensures { OnOk result (line.new.items ≡ line.old.items ++ (word.now ++ decimal count)) }
+{
+    let mut digits = Buffer::new();
+    line.extend_from_slice(word)?;
+    line.extend_from_slice(digits.format(count).as_bytes())
+}
