@@ -1,0 +1,65 @@
+-- What contracts see of a pass, and what its calls do.
+use Rattle.std.specs.Prelude.{◌≡◌, ◌⊎◌, ℕ, ◌+◌, ◌-◌, ◌^◌, ◌≤◌, List, [], ◌∷◌, ◌++◌, length, map, min, Option, None, Some}
+use Rattle.atomic_table.specs.Seated.{TableId}
+use Rattle.aio_base.specs.Timers.{fold_changes}
+use Rattle.aio_base.specs.World.{Registration}
+use Rattle.aio_timers.specs.Book.{change_of}
+use Rattle.aio_timers.specs.Room.{Book}
+use Rattle.aio_timers.specs.declared.op.TimerOp.{TimerOp}
+use Rattle.aio_ops.specs.declared.queue.Entry.{Entry}
+use Rattle.aio_ops.specs.declared.queue.Pushed.{Pushed}
+
+-- A pass: the queue that it belongs to, and its number there; the entries that it pushed, each with how many it had popped by then; the entries
+-- that it popped; how many of its pushes found the queue full, and how many of its pops found it empty; and, of the first pass alone, how many
+-- passes were made, itself among them.
+pub record PassView : Type 0 where
+  pub queue : TableId
+  pub number : ℕ
+  pub own : List Pushed
+  pub pulled : List Entry
+  pub fulls : ℕ
+  pub empties : ℕ
+  pub made : ℕ
+
+-- a pass that has pushed and popped nothing
+abbrev pub new_pass : TableId → ℕ → ℕ → PassView
+new_pass queue number made = record { queue = queue; number = number; own = []; pulled = []; fulls = 0; empties = 0; made = made }
+
+-- the most passes of a queue
+abbrev pub pass_limit : ℕ
+pass_limit = 2 ^ 24
+
+-- a count of so many events more, which stands still at the end of its type
+abbrev pub RoseBy : ℕ → ℕ → ℕ → Type 0
+RoseBy n before after = (before ≤ after) × (min (before + n) (2 ^ 64 - 1) ≤ after)
+
+-- the entry that a pass pushes next
+abbrev pub next_entry : PassView → TimerOp → Entry
+next_entry p op = record { pass = p.number; number = length p.own + 1; empties = p.empties; op = op }
+
+-- a pass whose operation is in the queue
+abbrev pub pushed : TimerOp → PassView → PassView
+pushed op p = record p { own = p.own ++ record { entry = next_entry p op; pulled = length p.pulled } ∷ [] }
+
+-- the changes of the book that these entries are
+abbrev pub changed_by : List Entry → List Registration → List Registration
+changed_by entries book = fold_changes book (map (λ (e : Entry). change_of e.op) entries)
+
+-- How pops leave a pass and a book: so many entries were popped, and each was applied, in the order in which it was popped.
+pub record Takes (count : ℕ) (before after : PassView) (book_before book_after : Book) : Type 0 where
+  pub entries : List Entry
+  pub number : length entries ≡ count
+  pub pass : after ≡ record before { pulled = before.pulled ++ entries; empties = after.empties }
+  pub book : book_after.entries ≡ changed_by entries book_before.entries
+  pub spare : book_before.spare ≤ book_after.spare + count
+
+-- How a drain leaves them: it took so many entries, at most 1,000. It ends after 1,000 of them, or at a pop that found the queue empty.
+pub record Drains (count : ℕ) (before after : PassView) (book_before book_after : Book) : Type 0 where
+  pub takes : Takes count before after book_before book_after
+  pub most : count ≤ 1000
+  pub ends : ((count ≡ 1000) × (after.empties ≡ before.empties)) ⊎ RoseBy 1 before.empties after.empties
+
+-- How one pop leaves a pass: it took this operation out of the queue, with its entry; or it found none, and counted that.
+abbrev pub Pops : Option TimerOp → PassView → PassView → Type 0
+Pops None before after = (after ≡ record before { empties = after.empties }) × RoseBy 1 before.empties after.empties
+Pops (Some op) before after = (entry : Entry) × (entry.op ≡ op) × (after ≡ record before { pulled = before.pulled ++ entry ∷ [] })
