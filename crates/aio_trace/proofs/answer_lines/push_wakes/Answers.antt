@@ -1,5 +1,5 @@
 use Rattle.std.proofs.Common.{◌≡◌, refl, ℕ, ◌<◌, ◌≤◌, ◌++◌, List, length, length-append, take, get_or, ap, arith, Result, Ok, Err, flat_map}
-use Rattle.std.specs.Prelude.{OnErr, codes, decimal}
+use Rattle.std.specs.Prelude.{OnErr}
 use Rattle.std.proofs.lemmas.List.Folds.{length-flat_map-take}
 use Rattle.aio_base.specs.declared.names.Waker.{Waker}
 use Rattle.aio_base.specs.declared.steps.Answer.TheVariants.{Wake}
