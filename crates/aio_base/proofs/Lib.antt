@@ -1,3 +1,4 @@
+pub mod Answering
 pub mod Apart
 pub mod Awaiting
 pub mod Arming
@@ -18,6 +19,7 @@ pub mod FirstPolls
 pub mod Frames
 pub mod FiringOrder
 mod FalseAnswers
+mod FalseRefusals
 mod FalseHistories
 mod FalseNotes
 mod FalseRounds
