@@ -6,6 +6,7 @@ pub mod Asides
 pub mod BetweenSteps
 pub mod BookChanges
 pub mod BookLemmas
+pub mod Calling
 pub mod Clearing
 pub mod Counting
 pub mod Breaking
@@ -19,6 +20,7 @@ pub mod FirstPolls
 pub mod Frames
 pub mod FiringOrder
 mod FalseAnswers
+mod FalseCalls
 mod FalseRefusals
 mod FalseHistories
 mod FalseNotes

@@ -21,6 +21,7 @@ pub mod Marks
 pub mod Sources
 pub mod Readiness
 pub mod Answers
+pub mod Calls
 pub mod Own
 pub mod FirstPolls
 pub mod Registered
