@@ -7,6 +7,7 @@ use Rattle.aio_base.specs.World.{Registration, World, opening}
 use Rattle.aio_base.specs.Runs.{PolledStep, outcome_of, world_of, scripted}
 use Rattle.aio_base.specs.Storings.{storings_of}
 use Rattle.aio_base.specs.Succession.{StoringsFollow}
+use Rattle.aio_base.specs.Calls.{CallsFollow}
 use Rattle.aio_base.specs.Clock.{ClockIsSet}
 use Rattle.aio_base.specs.Counts.{CountsRise}
 use Rattle.aio_base.specs.Handling.{HandledIsNoted}
@@ -20,6 +21,8 @@ use Rattle.aio_base.specs.RoundHands.{HandFollows}
 use Rattle.aio_base.specs.Timers.{after_pass}
 use Rattle.aio_base.specs.Arming.{ArmsAsTold}
 use Rattle.aio_base.specs.Between.{MakesPass, is_of_timer, RegistrationsFollow, StandsBetween, StandsAfter}
+use Rattle.aio_base.proofs.Answering.{answer_fits}
+use Rattle.aio_base.proofs.Calling.{calls_follow}
 use Rattle.aio_base.proofs.Awaiting.{run_waits_for_timers}
 use Rattle.aio_base.proofs.Counting.{counts_rise}
 use Rattle.aio_base.proofs.Rearming.{step_arms_as_told}
@@ -125,6 +128,10 @@ stands_between run = record {
       let w = world_of opening before in
       subst (SourcesFollow w last.step (outcome_of w last).answer) (sym (ap (world_of opening) is ∙ one_more opening before last)) (sources_follow w last.step last.answers);
   ready = λ before last is. ready_is_told (world_of opening before) last.step last.answers;
+  fits = λ before last is. answer_fits (world_of opening before) last.step last.answers;
+  calls = λ before last is.
+      let w = world_of opening before in
+      subst (CallsFollow w last.step last.answers (outcome_of w last).answer (outcome_of w last).calls) (sym (ap (world_of opening) is ∙ one_more opening before last)) (calls_follow w last.step last.answers);
   own = λ before last is.
       let w = world_of opening before in
       subst (KeepsItsOwn w last.step (outcome_of w last).answer) (sym (ap (world_of opening) is ∙ one_more opening before last)) (keeps_its_own w last.step last.answers);

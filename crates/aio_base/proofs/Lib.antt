@@ -1,3 +1,4 @@
+pub mod Answering
 pub mod Apart
 pub mod Awaiting
 pub mod Arming
@@ -5,6 +6,7 @@ pub mod Asides
 pub mod BetweenSteps
 pub mod BookChanges
 pub mod BookLemmas
+pub mod Calling
 pub mod Clearing
 pub mod Counting
 pub mod Breaking
@@ -18,6 +20,8 @@ pub mod FirstPolls
 pub mod Frames
 pub mod FiringOrder
 mod FalseAnswers
+mod FalseCalls
+mod FalseRefusals
 mod FalseHistories
 mod FalseNotes
 mod FalseRounds

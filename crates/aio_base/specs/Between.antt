@@ -16,6 +16,8 @@ use Rattle.aio_base.specs.FirstPolls.{InPollOrder}
 use Rattle.aio_base.specs.Handling.{HandledIsNoted}
 use Rattle.aio_base.specs.Marks.{MarksFollow}
 use Rattle.aio_base.specs.Others.{OthersStand}
+use Rattle.aio_base.specs.Answers.{FitsTheStep}
+use Rattle.aio_base.specs.Calls.{CallsFollow}
 use Rattle.aio_base.specs.Readiness.{ReadyIsTold}
 use Rattle.aio_base.specs.Sources.{SourcesFollow}
 use Rattle.aio_base.specs.Own.{KeepsItsOwn}
@@ -108,6 +110,12 @@ pub record StandsBetween (run : List PolledStep) : Type 0 where
   -- it was told ready exactly where it polled what was ready
   pub ready : (before : List PolledStep) (last : PolledStep) → run ≡ before ++ last ∷ []
       → ReadyIsTold (world_of opening before) last.step (outcome_of (world_of opening before) last).answer
+  -- it was told what fits it, and that it is refused where what it needs was not to be had
+  pub fits : (before : List PolledStep) (last : PolledStep) → run ≡ before ++ last ∷ []
+      → FitsTheStep (world_of opening before) last.step (outcome_of (world_of opening before) last).answer
+  -- it called the poller as it told, and no interest changed without a call
+  pub calls : (before : List PolledStep) (last : PolledStep) → run ≡ before ++ last ∷ []
+      → CallsFollow (world_of opening before) last.step last.answers (outcome_of (world_of opening before) last).answer (outcome_of (world_of opening before) last).calls (world_of opening run)
   -- and its own listener and timer are as it says
   pub own : (before : List PolledStep) (last : PolledStep) → run ≡ before ++ last ∷ []
       → KeepsItsOwn (world_of opening before) last.step (outcome_of (world_of opening before) last).answer (world_of opening run)

@@ -20,6 +20,8 @@ pub mod Others
 pub mod Marks
 pub mod Sources
 pub mod Readiness
+pub mod Answers
+pub mod Calls
 pub mod Own
 pub mod FirstPolls
 pub mod Registered

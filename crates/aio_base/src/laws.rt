@@ -2,8 +2,10 @@
 
 ghost use Rattle.std.specs.Prelude.{◌≡◌, ◌≢◌, ◌⊎◌, ◌&&◌, ◌↔◌, ℕ, ◌<◌, ◌≤◌, nat_le, filter, true, false, not, List, [], ◌∷◌, ◌++◌, length, map, Option, Some, None};
 ghost use Rattle.std.specs.List.{All, Contains};
+ghost use Rattle.aio_base.specs.Answers.{FitsTheStep};
 ghost use Rattle.aio_base.specs.Arming.{ArmsAsTold, IsArmedOrInHand};
 ghost use Rattle.aio_base.specs.Between.{IsWaitedOut, RegistrationsFollow, StandsAfter, StandsBetween, is_of_timer};
+ghost use Rattle.aio_base.specs.Calls.{CallsFollow};
 ghost use Rattle.aio_base.specs.Clock.{ClockIsSet};
 ghost use Rattle.aio_base.specs.Counts.{CountsRise};
 ghost use Rattle.aio_base.specs.Covered.{Covered, WaitsForLive};
@@ -289,6 +291,31 @@ pub fn a_step_is_ready_exactly_where_what_it_polls_is()
         → ReadyIsTold w s (step_result w s answers).answer }
 {}
 
+/// A step is told that it is refused exactly where what it needs is not to be had: a `poll`, a `new` and a
+/// `del` need a source with their key, a step of a listener or of a timer that listener or timer, an `add`
+/// room for one source more, and a `del` a source that no listener uses. Else it is told what fits it: so
+/// nobody is told to wait for what is not there, and nobody is told that something is missing which is
+/// there. An event, a fault and an interrupt are noted always.
+///
+/// What `now`, the three forms of `timer` and the steps of a round are told, say `only_now_sets_the_clock`,
+/// `a_position_and_a_deadline_have_their_steps` and `each_round_has_a_number_of_its_own`.
+pub fn a_step_is_told_what_fits_it()
+    ensures { (w : World) (s : Step) (answers : List PollerAnswer)
+        → FitsTheStep w s (step_result w s answers).answer }
+{}
+
+/// The calls of the poller that a step makes fit its answer: one `add`, one `remove` or one `wait`; of a
+/// poll that stays pending, and of an event that is handled, one `arm` or none, and one where it is told
+/// that this failed; of a whole round one `wait` and arms behind it. No other step calls the poller. What
+/// is armed changes in no step without a call, and a wait that gave events leaves their keys armed in no
+/// direction, since the poller has cleared their interests: so a waiter that is left there is armed for
+/// by a call of the poller, and not by what the machine remembers.
+pub fn no_interest_changes_without_a_call()
+    ensures { (w : World) (s : Step) (answers : List PollerAnswer)
+        → CallsFollow w s answers (step_result w s answers).answer (step_result w s answers).calls
+        (step_result w s answers).world }
+{}
+
 /// A listener is the same after a step, but for its waker, and but for its position where this is its
 /// first poll: that one it remembers, and no later one. One that is made has the source of its step's
 /// key and its step's direction, no position and no waker, and it stands under the number that is told.
@@ -339,8 +366,9 @@ pub fn a_script_is_a_run()
 /// it told, noted each event that it handled and nothing else, moved the clock where it was a `now` that
 /// was answered so, and left the things of others alone. Its own mark went where it was told ready, it
 /// changed the sources as its answer tells and its own listener or timer as such a step may, and it was
-/// told ready exactly where it polled what was ready. Where it was refused it took its position and did
-/// nothing else.
+/// told ready exactly where it polled what was ready. It was told what fits it, and that it is refused
+/// where what it needs was not to be had. It called the poller as it told, and no interest changed without
+/// a call. Where it was refused it took its position and did nothing else.
 pub fn a_run_stands_between_its_steps()
     ensures run { (run : List PolledStep) → StandsBetween run }
     ensures trace { (steps : List Step) → StandsAfter steps }

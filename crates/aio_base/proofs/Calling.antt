@@ -1,0 +1,366 @@
+-- The calls of a step are those that fit it, and without a call no interest changes.
+use Rattle.std.proofs.Common.{◌≡◌, ℕ, Bool, true, false, not, cond, ◌||◌, ◌&&◌, ◌==◌, List, [], ◌∷◌, ◌++◌, length, Option, None, Some, is_some, option_to_list, refl, sym, ap, ◌∙◌, subst, inl, inr, ⊎_elim, append-nil}
+use Rattle.std.specs.Prelude.{nat_le, nat_lt, unwrap_or}
+use Rattle.std.specs.List.{Contains, list_any, filter}
+use Rattle.std.proofs.lemmas.Bool.{cond_both, and_parts, eq-eqb, eqb-true}
+use Rattle.std.proofs.lemmas.List.Elements.{Contains-append_left}
+use Rattle.aio_base.specs.declared.names.Key.{Key}
+use Rattle.aio_base.specs.declared.names.Waker.{Waker}
+use Rattle.aio_base.specs.declared.names.Dir.{Dir}
+use Rattle.aio_base.specs.declared.names.Event.{Event}
+use Rattle.aio_base.specs.declared.outcomes.Which.{Which}
+use Rattle.aio_base.specs.declared.outcomes.Which.TheVariants as which
+use Rattle.aio_base.specs.declared.steps.Step.{Step}
+use Rattle.aio_base.specs.declared.steps.Step.TheVariants as step
+use Rattle.aio_base.specs.declared.steps.Answer.TheVariants as answer
+use Rattle.aio_base.specs.World.{PollerAnswer, Succeeds, Gives, IsInterrupted, Fails, ListenerEntry, TimerEntry, ArmedDirection, RoundState, World, directions_of, serial_of, key_of, poll_waiter, mark_of, is_empty_list, is_idle, is_broken, wanted, set_armed, is_armed, clear_armed, same_dir}
+use Rattle.aio_base.specs.Machine.{Outcome, fails, next_answer, later_answers, pending, source_limit, free_key, add, del_source, is_fresh_since, is_waker, with_waiter, poll_source, new_listener, with_listening, step_listener, drop_listener, unregistered, next_deadline, fired, waiting, tick_deadline, tick_timer, set_deadline, set_timer, end_timer, begin_round, wait_answered, wait_in, wait_round, without_waiters, world_taken, wakers_taken, rearmed, handle_source, handle_first, handle_in, handle_round, finish_in, handle_each, hand_of, case_of, step_result}
+use Rattle.aio_base.specs.Succession.{events_given}
+use Rattle.aio_base.specs.Calls.{OnlyArms, CallsFit, IsCleared, CallsFollow}
+use Rattle.aio_base.proofs.Membership.{none_is_in, first_is_in, later_is_in, among_cases, filtered_is_in, filtered_passes, any_gives}
+use Rattle.aio_base.proofs.RoundLemmas.{in_hand_of, round_begun}
+
+-- what an outcome calls fits a step, and leaves what is armed where it calls nothing
+record Calls (w : World) (s : Step) (o : Outcome) : Type 0 where
+  fit : CallsFit s o.answer o.calls
+  silent : o.calls ≡ [] → o.world.armed ≡ w.armed
+
+either : (w : World) (s : Step) (test : Bool) (x y : Outcome) → Calls w s x → Calls w s y → Calls w s (cond test x y)
+either w s true x y first second = first
+either w s false x y first second = second
+
+-- the calls of steps whose answer tells whether the poller failed
+told : (failed : Bool) (key : Key) → CallsFit step.Add (cond failed answer.FaultAdd (answer.KeyIs key)) (which.Add ∷ [])
+told true key = refl
+told false key = refl
+
+gone : (key : Key) (failed : Bool) → CallsFit (step.Del key) (cond failed answer.FaultRemove answer.Gone) (which.Remove ∷ [])
+gone key true = refl
+gone key false = refl
+
+polled : (key : Key) (dir : Dir) (waker : Waker) (failed : Bool)
+    → CallsFit (step.Poll key dir waker) (cond failed answer.FaultArm answer.Pending) (which.Arm ∷ [])
+polled key dir waker true = refl
+polled key dir waker false = inr refl
+
+listened : (number : ℕ) (waker : Waker) (failed : Bool)
+    → CallsFit (step.StepEar number waker) (cond failed answer.FaultArm answer.Pending) (which.Arm ∷ [])
+listened number waker true = refl
+listened number waker false = inr refl
+
+handled : (key : Key) (failed : Bool) → CallsFit step.Handle (answer.Handled key failed) (which.Arm ∷ [])
+handled key true = refl
+handled key false = inr refl
+
+-- ## Sources and listeners
+
+add_calls : (w : World) (answers : List PollerAnswer) → Calls w step.Add (add w answers)
+add_calls w answers =
+    either w step.Add (nat_le source_limit (length w.live)) _ _ (record { fit = refl; silent = λ none. refl })
+    (record { fit = told (fails (next_answer answers)) (record { 0 = free_key w.live }); silent = λ none. absurd cc })
+
+del_calls : (w : World) (key : Key) (found : Option ℕ) (answers : List PollerAnswer) → Calls w (step.Del key) (del_source w key.0 found answers)
+del_calls w key None answers = record { fit = refl; silent = λ none. refl }
+del_calls w key (Some serial) answers =
+    either w (step.Del key) (list_any (λ (l : ListenerEntry). l.serial == serial) w.listeners) _ _ (record { fit = refl; silent = λ none. refl })
+    (record { fit = gone key (fails (next_answer answers)); silent = λ none. absurd cc })
+
+poll_pending : (w v : World) (key : Key) (dir : Dir) (waker : Waker) (arms : Bool) (serial : ℕ) (wakes : List Waker) (answers : List PollerAnswer) → v.armed ≡ w.armed
+    → Calls w (step.Poll key dir waker) (pending arms v key.0 serial wakes answers)
+poll_pending w v key dir waker false serial wakes answers same = record { fit = inl refl; silent = λ none. same }
+poll_pending w v key dir waker true serial wakes answers same =
+    record { fit = polled key dir waker (fails (next_answer answers)); silent = λ none. absurd cc }
+
+poll_calls : (w : World) (key : Key) (dir : Dir) (waker : Waker) (found : Option ℕ) (answers : List PollerAnswer)
+    → Calls w (step.Poll key dir waker) (poll_source w key.0 dir waker found answers)
+poll_calls w key dir waker None answers = record { fit = refl; silent = λ none. refl }
+poll_calls w key dir waker (Some serial) answers =
+    let waiter = poll_waiter w.poll_waiters serial dir in
+    either w (step.Poll key dir waker) (is_fresh_since w serial dir (mark_of w.marks serial dir)) _ _ (record { fit = refl; silent = λ none. refl })
+    (either w (step.Poll key dir waker) (is_waker waker waiter) _ _ (poll_pending w w key dir waker (is_broken w serial) serial [] answers refl)
+    (poll_pending w (with_waiter w serial dir waker) key dir waker (is_idle w serial dir || is_broken w serial) serial (option_to_list waiter) answers refl))
+
+new_calls : (w : World) (key : Key) (dir : Dir) (found : Option ℕ) (answers : List PollerAnswer) → Calls w (step.New key dir) (new_listener w dir found answers)
+new_calls w key dir None answers = record { fit = refl; silent = λ none. refl }
+new_calls w key dir (Some serial) answers = record { fit = refl; silent = λ none. refl }
+
+listen_pending : (w v : World) (number : ℕ) (waker : Waker) (arms : Bool) (key serial : ℕ) (wakes : List Waker) (answers : List PollerAnswer) → v.armed ≡ w.armed
+    → Calls w (step.StepEar number waker) (pending arms v key serial wakes answers)
+listen_pending w v number waker false key serial wakes answers same = record { fit = inl refl; silent = λ none. same }
+listen_pending w v number waker true key serial wakes answers same =
+    record { fit = listened number waker (fails (next_answer answers)); silent = λ none. absurd cc }
+
+listen_calls : (w : World) (number : ℕ) (waker : Waker) (found : Option ListenerEntry) (answers : List PollerAnswer)
+    → Calls w (step.StepEar number waker) (step_listener w waker found answers)
+listen_calls w number waker None answers = record { fit = refl; silent = λ none. refl }
+listen_calls w number waker (Some entry) answers =
+    either w (step.StepEar number waker) (is_fresh_since w entry.serial entry.dir entry.position) _ _ (record { fit = refl; silent = λ none. refl })
+    (listen_pending w (record w { listeners = with_listening w entry waker }) number waker (is_idle w entry.serial entry.dir || is_broken w entry.serial)
+    (unwrap_or (key_of w entry.serial) 0) entry.serial [] answers refl)
+
+drop_calls : (w : World) (number : ℕ) (found : Option ListenerEntry) (answers : List PollerAnswer) → Calls w (step.DropEar number) (drop_listener w number found answers)
+drop_calls w number None answers = record { fit = refl; silent = λ none. refl }
+drop_calls w number (Some entry) answers = record { fit = refl; silent = λ none. refl }
+
+-- ## Timers
+
+unregistered_arms : (w : World) (id : Option ℕ) → (unregistered w id).armed ≡ w.armed
+unregistered_arms w None = refl
+unregistered_arms w (Some id) = refl
+
+fired_arms : (w : World) (entry : TimerEntry) (waker : Waker) (next : Option ℕ) → (fired w entry waker next).armed ≡ w.armed
+fired_arms w entry waker None = refl
+fired_arms w entry waker (Some deadline) = refl
+
+waiting_arms : (w : World) (entry : TimerEntry) (deadline : ℕ) (waker : Waker) → (waiting w entry deadline waker).armed ≡ w.armed
+waiting_arms w entry deadline waker =
+    cond_both (is_some entry.id && is_waker waker entry.kept) _ _ (λ (v : World). v.armed ≡ w.armed) (λ same. refl)
+    (λ other. unregistered_arms w entry.id)
+
+tick_at_calls : (w : World) (number : ℕ) (entry : TimerEntry) (waker : Waker) (deadline : Option ℕ) (answers : List PollerAnswer)
+    → Calls w (step.Tick number waker) (tick_deadline w entry waker deadline answers)
+tick_at_calls w number entry waker None answers = record { fit = refl; silent = λ none. refl }
+tick_at_calls w number entry waker (Some deadline) answers =
+    either w (step.Tick number waker) (nat_le deadline w.now) _ _
+    (record { fit = refl; silent = λ none. fired_arms (unregistered w entry.id) entry waker (next_deadline deadline entry.period) ∙ unregistered_arms w entry.id })
+    (record { fit = refl; silent = λ none. waiting_arms w entry deadline waker })
+
+tick_calls : (w : World) (number : ℕ) (waker : Waker) (found : Option TimerEntry) (answers : List PollerAnswer)
+    → Calls w (step.Tick number waker) (tick_timer w waker found answers)
+tick_calls w number waker None answers = record { fit = refl; silent = λ none. refl }
+tick_calls w number waker (Some entry) answers = tick_at_calls w number entry waker entry.deadline answers
+
+set_arms : (w : World) (entry : TimerEntry) (deadline : ℕ) (kept : Option Waker) → (set_deadline w entry deadline kept).armed ≡ w.armed
+set_arms w entry deadline None = refl
+set_arms w entry deadline (Some waker) = refl
+
+set_calls : (w : World) (s : Step) (deadline : ℕ) (period : Option ℕ) (found : Option TimerEntry) (answers : List PollerAnswer)
+    → CallsFit s answer.NoTimer [] → CallsFit s answer.Set [] → Calls w s (set_timer w deadline period found answers)
+set_calls w s deadline period None answers none set = record { fit = none; silent = λ n. refl }
+set_calls w s deadline period (Some entry) answers none set =
+    record { fit = set; silent = λ n. set_arms (unregistered w entry.id) (cond (is_some period) (record entry { period = period }) entry) deadline entry.kept ∙ unregistered_arms w entry.id }
+
+end_calls : (w : World) (number : ℕ) (found : Option TimerEntry) (answers : List PollerAnswer) → Calls w (step.End number) (end_timer w found answers)
+end_calls w number None answers = record { fit = refl; silent = λ none. refl }
+end_calls w number (Some entry) answers = record { fit = refl; silent = λ none. unregistered_arms w entry.id }
+
+-- ## Rounds
+
+answered_calls : (w : World) (round : RoundState) (told : PollerAnswer) (rest : List PollerAnswer) → (wait_answered w round told rest).calls ≡ which.Wait ∷ []
+answered_calls w round Succeeds rest = refl
+answered_calls w round (Gives events) rest = refl
+answered_calls w round IsInterrupted rest = refl
+answered_calls w round Fails rest = refl
+
+answered : (w : World) (round : RoundState) (told : PollerAnswer) (rest : List PollerAnswer) → Calls w step.Wait (wait_answered w round told rest)
+answered w round Succeeds rest = record { fit = refl; silent = λ none. absurd cc }
+answered w round (Gives events) rest = record { fit = refl; silent = λ none. absurd cc }
+answered w round IsInterrupted rest = record { fit = refl; silent = λ none. absurd cc }
+answered w round Fails rest = record { fit = refl; silent = λ none. absurd cc }
+
+wait_calls : (w : World) (round : Option RoundState) (answers : List PollerAnswer) → Calls w step.Wait (wait_in w round answers)
+wait_calls w None answers = record { fit = refl; silent = λ none. refl }
+wait_calls w (Some round) answers =
+    either w step.Wait (is_empty_list round.in_hand) _ _ (answered w round (next_answer answers) (later_answers answers))
+    (record { fit = refl; silent = λ none. refl })
+
+taken_arms : (dirs : List Dir) (w : World) (serial begin : ℕ) → (world_taken w serial begin dirs).armed ≡ w.armed
+taken_arms [] w serial begin = refl
+taken_arms (dir ∷ dirs) w serial begin = taken_arms dirs (without_waiters w serial begin dir) serial begin
+
+none_arms : OnlyArms []
+none_arms c among = none_is_in c among
+
+one_arms : OnlyArms (which.Arm ∷ [])
+one_arms c among = ⊎_elim (λ (same : which.Arm ≡ c). sym same) (λ (later : Contains [] c). none_is_in c later) (among_cases which.Arm [] c among)
+
+-- an event is handled: no call, or one arm
+record Handles (w : World) (o : Outcome) : Type 0 where
+  calls : Calls w step.Handle o
+  arms : OnlyArms o.calls
+
+handles_either : (w : World) (test : Bool) (x y : Outcome) → Handles w x → Handles w y → Handles w (cond test x y)
+handles_either w true x y first second = first
+handles_either w false x y first second = second
+
+rearmed_calls : (w v : World) (round : RoundState) (key : Key) (serial : ℕ) (answers : List PollerAnswer) → v.armed ≡ w.armed
+    → Handles w (rearmed v round key serial answers)
+rearmed_calls w v round key serial answers same =
+    handles_either w (is_empty_list (wanted v serial)) _ _
+    (record { calls = record { fit = inl refl; silent = λ none. same }; arms = none_arms })
+    (record { calls = record { fit = handled key (fails (next_answer answers)); silent = λ none. absurd cc }; arms = one_arms })
+
+source_calls : (w : World) (round : RoundState) (event : Event) (found : Option ℕ) (answers : List PollerAnswer)
+    → Handles w (handle_source w round event found answers)
+source_calls w round event None answers = record { calls = record { fit = inl refl; silent = λ none. refl }; arms = none_arms }
+source_calls w round event (Some serial) answers =
+    let taken = record round { taken = round.taken ++ wakers_taken w serial round.begin (directions_of event.on) } in
+    rearmed_calls w (record (world_taken w serial round.begin (directions_of event.on)) { round = Some taken }) taken event.key serial answers
+    (taken_arms (directions_of event.on) w serial round.begin)
+
+first_calls : (w : World) (round : RoundState) (hand : List Event) (answers : List PollerAnswer) → Handles w (handle_first w round hand answers)
+first_calls w round [] answers = record { calls = record { fit = refl; silent = λ none. refl }; arms = none_arms }
+first_calls w round (event ∷ events) answers = source_calls w (record round { in_hand = events }) event (serial_of w event.key.0) answers
+
+handle_calls : (w : World) (round : Option RoundState) (answers : List PollerAnswer) → Handles w (handle_in w round answers)
+handle_calls w None answers = record { calls = record { fit = refl; silent = λ none. refl }; arms = none_arms }
+handle_calls w (Some round) answers = first_calls w round round.in_hand answers
+
+all_of : (xs ys : List Which) → OnlyArms xs → OnlyArms ys → OnlyArms (xs ++ ys)
+all_of [] ys first second = second
+all_of (x ∷ xs) ys first second = λ c among.
+    ⊎_elim (λ (same : x ≡ c). first c (Contains-append_left (x ∷ []) xs c (subst (Contains (x ∷ [])) same (first_is_in x []))))
+    (λ (later : Contains (xs ++ ys) c). all_of xs ys (λ d there. first d (later_is_in x xs d there)) second c later) (among_cases x (xs ++ ys) c among)
+
+each_calls : (events : List Event) (w : World) (answers : List PollerAnswer) → OnlyArms (handle_each events w answers).calls
+each_calls [] w answers = none_arms
+each_calls (event ∷ events) w answers =
+    let first = handle_round w answers in
+    all_of first.calls (handle_each events first.world first.left).calls (handle_calls w w.round answers).arms (each_calls events first.world first.left)
+
+finish_calls : (w : World) (round : Option RoundState) (answers : List PollerAnswer) → Calls w step.Finish (finish_in w round answers)
+finish_calls w None answers = record { fit = refl; silent = λ none. refl }
+finish_calls w (Some round) answers =
+    either w step.Finish (is_empty_list round.in_hand) _ _ (record { fit = refl; silent = λ none. refl }) (record { fit = refl; silent = λ none. refl })
+
+some_is : (m n : List Event) → Some m ≡ Some n → m ≡ n
+some_is m n same = cc
+
+-- a round with an empty hand waits
+waits_once : (w : World) (round : Option RoundState) (answers : List PollerAnswer) → in_hand_of round ≡ Some [] → (wait_in w round answers).calls ≡ which.Wait ∷ []
+waits_once w None answers at = absurd cc
+waits_once w (Some round) answers at =
+    let empty : is_empty_list round.in_hand ≡ true = ap is_empty_list (some_is round.in_hand [] at) in
+    cond_both (is_empty_list round.in_hand) _ _ (λ (o : Outcome). o.calls ≡ which.Wait ∷ [])
+    (λ yes. answered_calls w round (next_answer answers) (later_answers answers)) (λ no. absurd (let wrong : true ≡ false = sym empty ∙ no in cc))
+
+react_or : (w : World) (runs : Bool) (x y : Outcome) → Calls w step.React x → (runs ≡ false → Calls w step.React y) → Calls w step.React (cond runs x y)
+react_or w true x y first second = first
+react_or w false x y first second = second refl
+
+waited_arms : (waited handled : List Which) → waited ≡ which.Wait ∷ [] → waited ++ handled ≡ which.Wait ∷ handled
+waited_arms waited handled is = ap (λ (calls : List Which). calls ++ handled) is
+
+not_silent : (calls arms : List Which) → calls ≡ which.Wait ∷ arms → calls ≡ [] → ⊥
+not_silent calls arms is none = let wrong : which.Wait ∷ arms ≡ [] = sym is ∙ none in cc
+
+react_calls : (w : World) (answers : List PollerAnswer) → Calls w step.React (case_of w step.React answers)
+react_calls w answers =
+    react_or w (is_some w.round) _ _ (record { fit = refl; silent = λ none. refl })
+    (λ none.
+    let begun = begin_round w None answers in
+    let waited = wait_round begun.world begun.left in
+    let hand = hand_of waited.world.round in
+    let handled = handle_each hand waited.world waited.left in
+    let is = waited_arms waited.calls handled.calls (waits_once begun.world begun.world.round begun.left (round_begun w answers none).hand) in
+    record { fit = (handled.calls, is, each_calls hand waited.world waited.left); silent = λ silent. absurd (not_silent (waited.calls ++ handled.calls) handled.calls is silent) })
+
+-- ## A step
+
+case_calls : (w : World) (s : Step) (answers : List PollerAnswer) → Calls w s (case_of w s answers)
+case_calls w step.Add answers = add_calls w answers
+case_calls w (step.Del key) answers = del_calls w key _ answers
+case_calls w (step.Poll key dir waker) answers = poll_calls w key dir waker _ answers
+case_calls w (step.New key dir) answers = new_calls w key dir _ answers
+case_calls w (step.StepEar number waker) answers = listen_calls w number waker _ answers
+case_calls w (step.DropEar number) answers = drop_calls w number _ answers
+case_calls w (step.TimerAt deadline) answers = record { fit = refl; silent = λ none. refl }
+case_calls w (step.TimerEvery deadline period) answers = record { fit = refl; silent = λ none. refl }
+case_calls w step.TimerNever answers = record { fit = refl; silent = λ none. refl }
+case_calls w (step.Tick number waker) answers = tick_calls w number waker _ answers
+case_calls w (step.SetAt number deadline) answers = set_calls w (step.SetAt number deadline) deadline None _ answers refl refl
+case_calls w (step.SetEvery number deadline period) answers = set_calls w (step.SetEvery number deadline period) deadline (Some period) _ answers refl refl
+case_calls w (step.End number) answers = end_calls w number _ answers
+case_calls w (step.Now moment) answers =
+    either w (step.Now moment) (nat_lt moment w.now) _ _ (record { fit = refl; silent = λ none. refl }) (record { fit = refl; silent = λ none. refl })
+case_calls w (step.Note event) answers = record { fit = refl; silent = λ none. refl }
+case_calls w (step.Fault kind) answers = record { fit = refl; silent = λ none. refl }
+case_calls w step.Interrupt answers = record { fit = refl; silent = λ none. refl }
+case_calls w (step.Begin limit) answers =
+    either w (step.Begin limit) (is_some w.round) _ _ (record { fit = refl; silent = λ none. refl }) (record { fit = refl; silent = λ none. refl })
+case_calls w step.Wait answers = wait_calls w w.round answers
+case_calls w step.Handle answers = (handle_calls w w.round answers).calls
+case_calls w step.Finish answers = finish_calls w w.round answers
+case_calls w step.React answers = react_calls w answers
+
+-- ## What a wait clears
+
+is_not : (test : Bool) → (test ≡ true → ⊥) → test ≡ false
+is_not true wrong = absurd (wrong refl)
+is_not false wrong = refl
+
+-- an armed direction that is left was armed, and no event is of its key
+cleared_from : (events : List Event) (armed : List ArmedDirection) (a : ArmedDirection) → Contains (clear_armed armed events) a
+    → Contains armed a × ((e : Event) → Contains events e → a.key ≡ e.key.0 → ⊥)
+cleared_from [] armed a among = (among, λ e none. none_is_in e none)
+cleared_from (event ∷ events) armed a among =
+    let rest = cleared_from events (set_armed armed event.key.0 []) a among in
+    let other = λ (x : ArmedDirection). not (x.key == event.key.0) in
+    let kept : Contains (filter other armed) a = subst (λ (xs : List ArmedDirection). Contains xs a) (append-nil (filter other armed)) rest.0 in
+    let apart : not (a.key == event.key.0) ≡ true = filtered_passes other armed a kept in (
+      filtered_is_in other armed a kept,
+      λ e here same. ⊎_elim
+          (λ (first : event ≡ e). let at : (a.key == event.key.0) ≡ true = eq-eqb a.key event.key.0 (same ∙ ap (λ (x : Event). x.key.0) (sym first)) in
+          absurd (let wrong : not true ≡ true = ap not (sym at) ∙ apart in cc))
+          (λ (later : Contains events e). rest.1 e later same) (among_cases event events e here),
+    )
+
+cleared_all : (events : List Event) (armed : List ArmedDirection) (event : Event) (dir : Dir) → Contains events event
+    → is_armed (clear_armed armed events) event.key.0 dir ≡ false
+cleared_all events armed event dir among =
+    is_not (is_armed (clear_armed armed events) event.key.0 dir)
+    (λ armed_there.
+    let one = any_gives (λ (a : ArmedDirection). (a.key == event.key.0) && same_dir a.dir dir) (clear_armed armed events) armed_there in
+    let at = eqb-true one.0.key event.key.0 (and_parts (one.0.key == event.key.0) (same_dir one.0.dir dir) one.2).0 in
+    (cleared_from events armed one.0 one.1).1 event among at)
+
+either_cleared : (answers : List PollerAnswer) (test : Bool) (x y : Outcome) → IsCleared step.Wait answers x.answer x.world.armed
+    → IsCleared step.Wait answers y.answer y.world.armed → IsCleared step.Wait answers (cond test x y).answer (cond test x y).world.armed
+either_cleared answers true x y first second = first
+either_cleared answers false x y first second = second
+
+answered_clears : (w : World) (round : RoundState) (told : PollerAnswer) (rest answers : List PollerAnswer) → next_answer answers ≡ told
+    → IsCleared step.Wait answers (wait_answered w round told rest).answer (wait_answered w round told rest).world.armed
+answered_clears w round Succeeds rest answers is =
+    λ event dir among. none_is_in event (subst (λ (a : PollerAnswer). Contains (events_given a) event) is among)
+answered_clears w round (Gives events) rest answers is =
+    λ event dir among. cleared_all events w.armed event dir (subst (λ (a : PollerAnswer). Contains (events_given a) event) is among)
+answered_clears w round IsInterrupted rest answers is = tt
+answered_clears w round Fails rest answers is = tt
+
+wait_clears : (w : World) (round : Option RoundState) (answers : List PollerAnswer)
+    → IsCleared step.Wait answers (wait_in w round answers).answer (wait_in w round answers).world.armed
+wait_clears w None answers = tt
+wait_clears w (Some round) answers =
+    either_cleared answers (is_empty_list round.in_hand) _ _ (answered_clears w round (next_answer answers) (later_answers answers) answers refl) tt
+
+case_clears : (w : World) (s : Step) (answers : List PollerAnswer) → IsCleared s answers (case_of w s answers).answer (case_of w s answers).world.armed
+case_clears w step.Add answers = tt
+case_clears w (step.Del key) answers = tt
+case_clears w (step.Poll key dir waker) answers = tt
+case_clears w (step.New key dir) answers = tt
+case_clears w (step.StepEar number waker) answers = tt
+case_clears w (step.DropEar number) answers = tt
+case_clears w (step.TimerAt deadline) answers = tt
+case_clears w (step.TimerEvery deadline period) answers = tt
+case_clears w step.TimerNever answers = tt
+case_clears w (step.Tick number waker) answers = tt
+case_clears w (step.SetAt number deadline) answers = tt
+case_clears w (step.SetEvery number deadline period) answers = tt
+case_clears w (step.End number) answers = tt
+case_clears w (step.Now moment) answers = tt
+case_clears w (step.Note event) answers = tt
+case_clears w (step.Fault kind) answers = tt
+case_clears w step.Interrupt answers = tt
+case_clears w (step.Begin limit) answers = tt
+case_clears w step.Wait answers = wait_clears w w.round answers
+case_clears w step.Handle answers = tt
+case_clears w step.Finish answers = tt
+case_clears w step.React answers = tt
+
+pub calls_follow : (w : World) (s : Step) (answers : List PollerAnswer)
+    → CallsFollow w s answers (step_result w s answers).answer (step_result w s answers).calls (step_result w s answers).world
+unfolding step_result
+calls_follow w s answers =
+    let c = case_calls w s answers in
+    record { fit = c.fit; silent = c.silent; cleared = case_clears w s answers }

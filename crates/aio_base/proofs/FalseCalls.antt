@@ -1,0 +1,34 @@
+-- Calls of wrong machines, each refused by the law of what a step calls.
+use Rattle.std.proofs.Common.{◌≡◌, true, false, [], ◌∷◌, None, refl}
+use Rattle.aio_base.specs.declared.names.Dir.TheVariants.{Read, Write}
+use Rattle.aio_base.specs.declared.outcomes.Which.TheVariants as which
+use Rattle.aio_base.specs.declared.steps.Step.TheVariants as step
+use Rattle.aio_base.specs.declared.steps.Answer.TheVariants as answer
+use Rattle.aio_base.specs.World.{Gives, World}
+use Rattle.aio_base.specs.Calls.{CallsFollow}
+use Rattle.aio_base.proofs.Membership.{first_is_in}
+use Rattle.aio_base.proofs.FalseNotes.{task, key, readable, running, waiting}
+
+-- a source is told a key, and the poller does not know of it
+pub a_source_that_is_not_registered_is_refused : (v : World) → CallsFollow waiting step.Add [] (answer.KeyIs (key 2)) [] v → ⊥
+a_source_that_is_not_registered_is_refused v c = let wrong = c.fit in cc
+
+-- a poll that stays pending calls itself armed, and the poller was not told
+pub an_interest_armed_without_a_call_is_refused :
+    CallsFollow (record waiting { armed = [] }) (step.Poll (key 0) Read (task 7)) [] answer.Pending []
+    (record waiting { pos = 5; armed = record { key = 0; dir = Read } ∷ [] }) → ⊥
+an_interest_armed_without_a_call_is_refused c = let wrong = c.silent refl in cc
+
+-- a wait gives an event and leaves its key armed, which the poller has cleared: nothing arms it again, and whoever is left there sleeps on
+pub an_interest_kept_over_its_event_is_refused :
+    CallsFollow (record (running []) { armed = record { key = 0; dir = Write } ∷ [] }) step.Wait (Gives (readable 0 ∷ []) ∷ []) (answer.Given 1) (which.Wait ∷ [])
+    (record (running (readable 0 ∷ [])) { armed = record { key = 0; dir = Write } ∷ [] }) → ⊥
+an_interest_kept_over_its_event_is_refused c = let wrong = c.cleared (readable 0) Write (first_is_in (readable 0) []) in cc
+
+-- an arm fails, as is told, and was not called
+pub a_failed_arm_without_a_call_is_refused : (v : World) → CallsFollow (running (readable 0 ∷ [])) step.Handle [] (answer.Handled (key 0) true) [] v → ⊥
+a_failed_arm_without_a_call_is_refused v c = let wrong = c.fit in cc
+
+-- a `begin` waits
+pub a_begin_that_waits_is_refused : (v : World) → CallsFollow waiting (step.Begin None) [] (answer.Begin 1 None) (which.Wait ∷ []) v → ⊥
+a_begin_that_waits_is_refused v c = let wrong = c.fit in cc

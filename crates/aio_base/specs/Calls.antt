@@ -1,0 +1,55 @@
+-- Which calls of the poller a step makes, and that no interest changes without one.
+use Rattle.std.specs.Prelude.{◌≡◌, ◌⊎◌, true, false, List, [], ◌∷◌}
+use Rattle.std.specs.List.{Contains}
+use Rattle.aio_base.specs.declared.names.Dir.{Dir}
+use Rattle.aio_base.specs.declared.names.Event.{Event}
+use Rattle.aio_base.specs.declared.outcomes.Which.{Which}
+use Rattle.aio_base.specs.declared.outcomes.Which.TheVariants as which
+use Rattle.aio_base.specs.declared.steps.Step.{Step}
+use Rattle.aio_base.specs.declared.steps.Step.TheVariants as step
+use Rattle.aio_base.specs.declared.steps.Answer.{Answer}
+use Rattle.aio_base.specs.declared.steps.Answer.TheVariants as answer
+use Rattle.aio_base.specs.World.{PollerAnswer, ArmedDirection, World, is_armed}
+use Rattle.aio_base.specs.Machine.{next_answer}
+use Rattle.aio_base.specs.Succession.{events_given}
+
+-- no call, or one arm
+abbrev pub MayArm : List Which → Type 0
+MayArm calls = (calls ≡ []) ⊎ (calls ≡ which.Arm ∷ [])
+
+-- no call of another kind
+abbrev pub OnlyArms : List Which → Type 0
+OnlyArms calls = (call : Which) → Contains calls call → call ≡ which.Arm
+
+-- The calls of a step, by its answer. An `add` that is not refused registers its source, and a `del` takes its out, also where the poller fails. A poll
+-- that stays pending and an event that is handled may arm, and do where they tell that this failed. A wait waits once; a whole round waits
+-- once, and arms after that. No other step calls the poller, and none that is refused.
+abbrev pub CallsFit : Step → Answer → List Which → Type 0
+CallsFit step.Add (answer.KeyIs key) calls = (calls ≡ which.Add ∷ [])
+CallsFit step.Add answer.FaultAdd calls = (calls ≡ which.Add ∷ [])
+CallsFit (step.Del key) answer.Gone calls = (calls ≡ which.Remove ∷ [])
+CallsFit (step.Del key) answer.FaultRemove calls = (calls ≡ which.Remove ∷ [])
+CallsFit (step.Poll key dir waker) answer.Pending calls = MayArm calls
+CallsFit (step.Poll key dir waker) answer.FaultArm calls = (calls ≡ which.Arm ∷ [])
+CallsFit (step.StepEar number waker) answer.Pending calls = MayArm calls
+CallsFit (step.StepEar number waker) answer.FaultArm calls = (calls ≡ which.Arm ∷ [])
+CallsFit step.Wait (answer.Given count) calls = (calls ≡ which.Wait ∷ [])
+CallsFit step.Wait answer.Interrupted calls = (calls ≡ which.Wait ∷ [])
+CallsFit step.Wait answer.FaultWait calls = (calls ≡ which.Wait ∷ [])
+CallsFit step.Handle (answer.Handled key false) calls = MayArm calls
+CallsFit step.Handle (answer.Handled key true) calls = (calls ≡ which.Arm ∷ [])
+CallsFit step.React (answer.Round number events end) calls = (arms : List Which) × (calls ≡ which.Wait ∷ arms) × OnlyArms arms
+CallsFit s told calls = (calls ≡ [])
+
+-- A wait that gave events leaves the key of each of them armed in no direction, for the poller has cleared its interest. So a waiter that is left there
+-- is armed for by a later call alone.
+abbrev pub IsCleared : Step → List PollerAnswer → Answer → List ArmedDirection → Type 0
+IsCleared step.Wait answers (answer.Given count) armed =
+    (event : Event) (dir : Dir) → Contains (events_given (next_answer answers)) event → is_armed armed event.key.0 dir ≡ false
+IsCleared s answers told armed = Unit {0}
+
+pub record CallsFollow (w : World) (s : Step) (answers : List PollerAnswer) (told : Answer) (calls : List Which) (v : World) : Type 0 where
+  pub fit : CallsFit s told calls
+  -- where the poller is not called, what is armed stays so, and nothing else is
+  pub silent : calls ≡ [] → v.armed ≡ w.armed
+  pub cleared : IsCleared s answers told v.armed
