@@ -10,6 +10,7 @@ use Rattle.aio_base.specs.Succession.{StoringsFollow}
 use Rattle.aio_base.specs.Calls.{CallsFollow}
 use Rattle.aio_base.specs.Clock.{ClockIsSet}
 use Rattle.aio_base.specs.Counts.{CountsRise}
+use Rattle.aio_base.specs.Drawn.{DrawsFollow}
 use Rattle.aio_base.specs.Handling.{HandledIsNoted}
 use Rattle.aio_base.specs.Marks.{MarksFollow}
 use Rattle.aio_base.specs.Others.{OthersStand}
@@ -25,6 +26,7 @@ use Rattle.aio_base.proofs.Answering.{answer_fits}
 use Rattle.aio_base.proofs.Calling.{calls_follow}
 use Rattle.aio_base.proofs.Awaiting.{run_waits_for_timers}
 use Rattle.aio_base.proofs.Counting.{counts_rise}
+use Rattle.aio_base.proofs.Drawing.{draws_follow}
 use Rattle.aio_base.proofs.Rearming.{step_arms_as_told}
 use Rattle.aio_base.proofs.CoverRuns.{run_covers, run_waits_for_live}
 use Rattle.aio_base.proofs.FirstPolls.{run_polls_in_order}
@@ -101,6 +103,9 @@ stands_between run = record {
   counted = λ before last is.
       subst (CountsRise (world_of opening before)) (sym (ap (world_of opening) is ∙ one_more opening before last))
       (counts_rise (world_of opening before) last.step last.answers);
+  drawn = λ before last is.
+      let w = world_of opening before in
+      subst (DrawsFollow w last.step (outcome_of w last).answer) (sym (ap (world_of opening) is ∙ one_more opening before last)) (draws_follow w last.step last.answers);
   polled = run_polls_in_order run;
   registered = run_waits_for_timers run;
   arms = λ before last is.

@@ -19,7 +19,9 @@ pub mod CoverWaiters
 pub mod FirstPolls
 pub mod Frames
 pub mod FiringOrder
+pub mod Drawing
 mod FalseAnswers
+mod FalseDraws
 mod FalseCalls
 mod FalseRefusals
 mod FalseHistories

@@ -11,6 +11,7 @@ use Rattle.aio_base.specs.Arming.{ArmsAsTold}
 use Rattle.aio_base.specs.Covered.{Covered, WaitsForLive}
 use Rattle.aio_base.specs.Clock.{ClockIsSet}
 use Rattle.aio_base.specs.Counts.{CountsRise}
+use Rattle.aio_base.specs.Drawn.{DrawsFollow}
 use Rattle.aio_base.specs.Distinct.{IsOfTimer, NoDoubles}
 use Rattle.aio_base.specs.FirstPolls.{InPollOrder}
 use Rattle.aio_base.specs.Handling.{HandledIsNoted}
@@ -79,6 +80,9 @@ pub record StandsBetween (run : List PolledStep) : Type 0 where
   -- the last step let no count fall and gave no number again
   pub counted : (before : List PolledStep) (last : PolledStep) → run ≡ before ++ last ∷ []
       → CountsRise (world_of opening before) (world_of opening run)
+  -- it drew a number of a listener or of a timer where it told one, and noted what it was told to note
+  pub drawn : (before : List PolledStep) (last : PolledStep) → run ≡ before ++ last ∷ []
+      → DrawsFollow (world_of opening before) last.step (outcome_of (world_of opening before) last).answer (world_of opening run)
   -- the listeners that were polled stand in the order of their first polls
   pub polled : InPollOrder (world_of opening run)
   -- each timer that waits is registered, or a pass took its registration

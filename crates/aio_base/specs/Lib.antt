@@ -11,6 +11,7 @@ pub mod Covered
 pub mod Arming
 pub mod Distinct
 pub mod Counts
+pub mod Drawn
 pub mod RoundAnswers
 pub mod RoundCounts
 pub mod RoundHands

@@ -10,6 +10,7 @@ ghost use Rattle.aio_base.specs.Clock.{ClockIsSet};
 ghost use Rattle.aio_base.specs.Counts.{CountsRise};
 ghost use Rattle.aio_base.specs.Covered.{Covered, WaitsForLive};
 ghost use Rattle.aio_base.specs.Distinct.{IsOfTimer, NoDoubles};
+ghost use Rattle.aio_base.specs.Drawn.{DrawsFollow};
 ghost use Rattle.aio_base.specs.FirstPolls.{InPollOrder};
 ghost use Rattle.aio_base.specs.Handling.{HandledIsNoted};
 ghost use Rattle.aio_base.specs.Lines.{Reads, step_read};
@@ -302,6 +303,15 @@ pub fn a_step_is_ready_exactly_where_what_it_polls_is()
 pub fn a_step_is_told_what_fits_it()
     ensures { (w : World) (s : Step) (answers : List PollerAnswer)
         → FitsTheStep w s (step_result w s answers).answer }
+{}
+
+/// One more number of a listener is drawn where a listener is told, and of a timer where a timer is told,
+/// and in no other step: no number is left out. An event that is noted stands behind those that were
+/// noted before, and a fault or an interrupt is due once it was asked for; no other step of the machine
+/// touches what the poller in memory is to give.
+pub fn no_number_and_no_event_is_left_out()
+    ensures { (w : World) (s : Step) (answers : List PollerAnswer)
+        → DrawsFollow w s (step_result w s answers).answer (step_result w s answers).world }
 {}
 
 /// The calls of the poller that a step makes fit its answer: one `add`, one `remove` or one `wait`; of a
