@@ -226,6 +226,7 @@ impl Driver {
     /// Answers the line that was found, which has this number. The answers are written where they fill
     /// a block, and else kept. Where memory runs out, what was answered before is written as far as the
     /// output takes it.
+    #[inline(always)]
     fn answer_line<V: Version, K: Sink>(
         &mut self,
         version: &V,

@@ -1,21 +1,21 @@
 -- The number that a text's first word spells.
-use Rattle.std.proofs.Common.{◌≡◌, ℕ, ◌+◌, ◌*◌, ◌-◌, ◌<◌, ◌≤◌, Bool, true, false, cond, leb, List, [], ◌∷◌, length, get_or, take, drop, Option, None, Some, Ok, Err, refl, sym, ap, ◌∙◌, subst, inl, inr, ◌⊎◌, arith}
+use Rattle.std.proofs.Common.{◌≡◌, ℕ, ◌+◌, ◌*◌, ◌-◌, ◌^◌, ◌<◌, ◌≤◌, Bool, true, false, cond, leb, List, [], ◌∷◌, length, get_or, take, drop, Option, None, Some, Ok, Err, refl, sym, ap, ◌∙◌, subst, inl, inr, ◌⊎◌, arith}
 use Rattle.std.specs.List.{All}
 use Rattle.std.specs.Int.{IsInRange}
 use Rattle.std.specs.Str.{all_ascii_digits}
 use Rattle.std.specs.Str.Parse.{digits_value}
-use Rattle.std.proofs.lemmas.List.{take_all, length-take-le}
+use Rattle.std.proofs.lemmas.List.{take_all, take-append-le, take-append-drop, length-take-le, get_or-take}
 use Rattle.std.proofs.lemmas.List.Elements.{All-more}
 use Rattle.std.proofs.lemmas.Grind.{get_or_default_zero}
 use Rattle.std.proofs.lemmas.Bool.Decides.{nat_tests}
 use Rattle.std.proofs.lemmas.Bool.{leb-true, le-leb}
-use Rattle.std.proofs.lemmas.Str.Parse.{IsNumeralModel, numerals_by_value, tells_all_ascii_digits, digit_at, digits_value-take-le}
+use Rattle.std.proofs.lemmas.Str.Parse.{IsNumeralModel, numerals_by_value, tells_all_ascii_digits, digit_at, digits_value-take-le, digits_value_short}
 use Rattle.std.proofs.lemmas.Str.{digit_value_digit}
 use Rattle.std.proofs.lemmas.Int.Digits.{digits_more, digits_value_more}
 use Rattle.aio_base.specs.declared.steps.LineFault.TheVariants as fault
 use Rattle.aio_base.specs.Lines.{is_blank, numeral, words_in}
 use Rattle.aio_trace.specs.Reading.{take_number, up_to, with_rest}
-use Rattle.aio_trace.proofs.LineWords.{FirstWord, first_word, words_of_text, reaches, byte_of_word, front_of_word, words_at_blank, words_of_one}
+use Rattle.aio_trace.proofs.LineWords.{FirstWord, first_word, words_of_text, reaches, byte_of_word, front_of_word, words_at_blank, words_of_one, words_past_blank}
 
 abbrev pub AreDigits : List ℕ → Type 0
 AreDigits word = all_ascii_digits word ≡ true
@@ -132,3 +132,36 @@ number_too_great text at most within digits great =
     let inside : at < length w.word = reaches text w at within (digits_are_solid (take (at + 1) text) digits) in
     let front : take (at + 1) w.word ≡ take (at + 1) text = front_of_word text w (at + 1) (omega arith) in
     number_none text most w (omega arith) (λ n is small. omega (arith, is.value, ap (digits_value 10) front, digits_value-take-le 10 w.word (at + 1) (omega arith)))
+
+-- ## A few digits at the front of a text
+
+front_taken : (text : List ℕ) (few at : ℕ) → at ≤ length (take few text) → take at (take few text) ≡ take at text
+front_taken text few at within = sym (take-append-le at (take few text) (drop few text) within) ∙ ap (take at) (take-append-drop few text)
+
+-- nine digits stand for less than 10^9
+pub small_value : (text : List ℕ) (few at value : ℕ) → few ≤ 9 → few ≤ length text → at ≤ length (take few text) → AreDigits (take at (take few text))
+    → value ≡ digits_value 10 (take at (take few text)) → value < 10 ^ 9
+small_value text few at value short within inside digits is =
+    let size : length (take at (take few text)) ≡ at = length-take-le at (take few text) inside in
+    let small : digits_value 10 (take at (take few text)) < 10 ^ 9 = digits_value_short numerals (take at (take few text)) 9 digits (omega (arith, size, length-take-le few text within)) in
+    omega (arith, is, small)
+
+-- digits up to a space, which is passed over
+pub few_at_space : (text : List ℕ) (few at value most : ℕ) → few ≤ 9 → few ≤ length text → 10 ^ 9 ≤ most → 0 < at → at < length (take few text) → AreDigits (take at (take few text))
+    → value ≡ digits_value 10 (take at (take few text)) → get_or (take few text) at 0 ≡ 32 → take_number most (words_in text) ≡ Ok (value, words_in (drop (at + 1) text))
+few_at_space text few at value most short within great some inside digits is space =
+    let size : length (take few text) ≡ few = length-take-le few text within in
+    let front : take at (take few text) ≡ take at text = front_taken text few at (omega arith) in
+    let blank : is_blank (get_or text at 0) ≡ true = ap is_blank (sym (get_or-take few text at 0 (omega arith)) ∙ space) in
+    let small = small_value text few at value short within (omega arith) digits is in
+    number_at_blank text at value most some (omega arith) (subst AreDigits front digits) (is ∙ ap (digits_value 10) front) (omega arith) blank
+    ∙ ap (λ words. Ok (value, words)) (words_past_blank text at (omega arith) blank)
+
+-- digits up to the end
+pub few_at_end : (text : List ℕ) (few at value most : ℕ) → few ≤ 9 → few ≤ length text → length text ≤ length (take few text) → 10 ^ 9 ≤ most → 0 < length text → length (take few text) ≤ at → at ≤ length (take few text)
+    → AreDigits (take at (take few text)) → value ≡ digits_value 10 (take at (take few text)) → take_number most (words_in text) ≡ Ok (value, [])
+few_at_end text few at value most short within whole great some past inside digits is =
+    let size : length (take few text) ≡ few = length-take-le few text within in
+    let front : take at (take few text) ≡ take at text = front_taken text few at inside in
+    let small = small_value text few at value short within inside digits is in
+    number_at_end text at value most some (omega arith) (subst AreDigits front digits) (is ∙ ap (digits_value 10) front) (omega arith)

@@ -416,6 +416,20 @@ fn take_direction(text: &[u8]) -> Result<(Dir, &[u8]), LineFault>
         (λ r. take_direction (words_in text.now) ≡ Ok (r.0, words_in r.1.now))
         (λ f. take_direction (words_in text.now) ≡ Err f) }
 {
+    match text {
+        [b'r', b' ', rest @ ..] => Ok((Dir::Read, rest)),
+        [b'w', b' ', rest @ ..] => Ok((Dir::Write, rest)),
+        _ => take_any_direction(text),
+    }
+}
+
+/// The same of any text.
+#[inline(never)]
+fn take_any_direction(text: &[u8]) -> Result<(Dir, &[u8]), LineFault>
+    ensures { MatchResult result
+        (λ r. take_direction (words_in text.now) ≡ Ok (r.0, words_in r.1.now))
+        (λ f. take_direction (words_in text.now) ≡ Err f) }
+{
     match next_word(text) {
         None => Err(LineFault::Count),
         Some((word, rest)) => Ok((read_direction(word)?, rest)),
@@ -423,7 +437,6 @@ fn take_direction(text: &[u8]) -> Result<(Dir, &[u8]), LineFault>
 }
 
 /// The direction that a word names.
-#[inline(always)]
 fn read_direction(word: &[u8]) -> Result<Dir, LineFault>
     ensures { result ≡ dir_of word.now }
 {
@@ -437,6 +450,22 @@ fn read_direction(word: &[u8]) -> Result<Dir, LineFault>
 /// The directions of an event that a text's first word names, and what follows it.
 #[inline(always)]
 fn take_flags(text: &[u8]) -> Result<(Interest, &[u8]), LineFault>
+    ensures { MatchResult result
+        (λ r. take_flags (words_in text.now) ≡ Ok (r.0, words_in r.1.now))
+        (λ f. take_flags (words_in text.now) ≡ Err f) }
+{
+    match text {
+        b"r" => Ok((Interest::READ, &[])),
+        b"w" => Ok((Interest::WRITE, &[])),
+        b"rw" => Ok((Interest::BOTH, &[])),
+        b"-" => Ok((Interest::NONE, &[])),
+        _ => take_any_flags(text),
+    }
+}
+
+/// The same of any text.
+#[inline(never)]
+fn take_any_flags(text: &[u8]) -> Result<(Interest, &[u8]), LineFault>
     ensures { MatchResult result
         (λ r. take_flags (words_in text.now) ≡ Ok (r.0, words_in r.1.now))
         (λ f. take_flags (words_in text.now) ≡ Err f) }

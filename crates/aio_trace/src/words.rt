@@ -7,6 +7,9 @@ ghost use Rattle.aio_trace.specs.Reading.{ended, take_number};
 
 use aio_base::{LineFault, Step};
 
+/// The most digits that stand for no more than a number may be.
+const FEW_DIGITS: usize = 9;
+
 /// Whether a byte parts words: a space or a tab.
 #[inline(always)]
 fn is_blank(byte: u8) -> bool
@@ -48,9 +51,36 @@ pub(crate) fn next_word(text: &[u8]) -> Option<(&[u8], &[u8])>
 }
 
 /// The number, at most `most`, that the first word of a text spells, and what follows it; or the
-/// fault of that word, or of there being none.
+/// fault of that word, or of there being none. The common case is apart: a few digits at the front
+/// of the text, up to a space or its end.
 #[inline(always)]
 pub(crate) fn next_number(text: &[u8], most: u64) -> Result<(u64, &[u8]), LineFault>
+    requires most { most ≤ 10 ^ 18 }
+    requires least { 10 ^ 9 ≤ most }
+    ensures { MatchResult result
+        (λ r. take_number most (words_in text.now) ≡ Ok (r.0, words_in r.1.now))
+        (λ f. take_number most (words_in text.now) ≡ Err f) }
+{
+    let front = &text[..text.len().min(FEW_DIGITS)];
+    let mut value: u64 = 0;
+    for (at, byte) in front.iter().enumerate() {
+        if *byte < b'0' || *byte > b'9' {
+            if at > 0 && *byte == b' ' {
+                return Ok((value, &text[at + 1..]));
+            }
+            return any_number(text, most);
+        }
+        value = 10 * value + u64::from(*byte) - u64::from(b'0');
+    }
+    if front.is_empty() || front.len() < text.len() {
+        return any_number(text, most);
+    }
+    Ok((value, &[]))
+}
+
+/// The same of any text, with blanks and zeros before the number or none.
+#[inline(never)]
+fn any_number(text: &[u8], most: u64) -> Result<(u64, &[u8]), LineFault>
     requires { most ≤ 10 ^ 18 }
     ensures { MatchResult result
         (λ r. take_number most (words_in text.now) ≡ Ok (r.0, words_in r.1.now))
