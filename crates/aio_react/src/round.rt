@@ -119,10 +119,9 @@ impl Round {
         ensures spare { OnOk result (book.old.spare ≤ book.new.spare) }
         ensures refused { OnErr result ((self.new ≡ self.old) × (book.new ≡ book.old)) }
     {
-        let due = book.due_count(now);
-        match self.taken.reserve(due.saturating_sub(self.taken.len())) {
+        match make_pass_room(&mut self.taken, book, now) {
             Ok(()) => {}
-            Err(_) => return Err(OutOfMemory),
+            Err(refused) => return Err(refused),
         }
         self.taken.clear();
         book.pass(now, &mut self.taken);
@@ -254,9 +253,9 @@ impl Round {
         ensures refused { OnErr result ((self.new ≡ self.old) × (book.new ≡ book.old)) }
     {
         if self.has_second_pass() {
-            match self.taken.reserve(book.due_count(now)) {
+            match make_pass_room(&mut self.taken, book, now) {
                 Ok(()) => {}
-                Err(_) => return Err(OutOfMemory),
+                Err(refused) => return Err(refused),
             }
             book.pass(now, &mut self.taken);
         }
@@ -338,6 +337,22 @@ impl Round {
         if self.fault.is_none() {
             self.fault = Some(fault);
         }
+    }
+}
+
+/// Makes room for the wakers that a pass takes: for as many as there are timers, so that those which
+/// are due need not be counted; and for these alone where memory is short.
+fn make_pass_room(taken: &mut Vec<Waker>, book: &TimerBook, now: Moment) -> Result<(), OutOfMemory>
+    ensures items { taken.new.items ≡ taken.old.items }
+    ensures room { OnOk result (vec_len taken.new + length (due_wakers now book.now.entries)
+        ≤ vec_capacity taken.new) }
+{
+    if taken.reserve(book.len()).is_ok() {
+        return Ok(());
+    }
+    match taken.reserve(book.due_count(now)) {
+        Ok(()) => Ok(()),
+        Err(_) => Err(OutOfMemory),
     }
 }
 

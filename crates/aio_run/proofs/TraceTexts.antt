@@ -10,7 +10,6 @@ use Rattle.aio_base.specs.Devices.{TellsFaults}
 use Rattle.aio_base.specs.Generated.{generated_steps}
 use Rattle.aio_base.specs.Lines.{HasSpelling, IsInRange, written_line}
 use Rattle.aio_base.specs.Text.{ended_line}
-use Rattle.aio_base.specs.Trace.{header_text}
 use Rattle.aio_bytes.specs.declared.traits.SinkRefusal.{SinkRefusal}
 use Rattle.aio_bytes.specs.Sinks.{AppendsPart, HasFailed, Writes}
 use Rattle.aio_trace.specs.Generating.{StepsLeft, steps_left}
@@ -18,7 +17,7 @@ use Rattle.aio_trace.proofs.Ranges.{all_spelled, in_range}
 use Rattle.aio_replay.specs.Driving.{Sends}
 use Rattle.aio_replay.proofs.StepLemmas.{written_behind}
 use Rattle.aio_replay.proofs.SummaryCounts.{behind}
-use Rattle.aio_run.specs.Commands.{trace_text}
+use Rattle.aio_run.specs.Commands.{header_text, trace_text}
 
 -- the lines of some steps
 abbrev lines_text : List Step → List ℕ

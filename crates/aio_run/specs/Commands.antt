@@ -6,7 +6,6 @@ use Rattle.aio_base.specs.declared.outcomes.CountFault.{CountFault}
 use Rattle.aio_base.specs.declared.steps.Step.{Step}
 use Rattle.aio_base.specs.Generated.{counts_line, run_counts}
 use Rattle.aio_base.specs.Lines.{numeral, written_line}
-use Rattle.aio_base.specs.Trace.{header_text}
 use Rattle.aio_base.specs.declared.steps.Reason.{Reason}
 use Rattle.aio_base.specs.Text.{ended_line, reason_text}
 use Rattle.aio_base.specs.Devices.{TellsFaults}
@@ -120,6 +119,10 @@ abbrev pub bytes_taken : Why → List ℕ → ℕ
 bytes_taken w input = option_map_or (λ end. replay_ends.bytes_taken end input) (end_of w) 0
 
 -- ## A text that is written
+
+-- the header as it is written, one space between its words
+abbrev pub header_text : List ℕ
+header_text = codes "trace 1"
 
 -- the text of the trace of some steps: the header, and the line of each
 abbrev pub trace_text : List Step → List ℕ

@@ -6,10 +6,9 @@ ghost use Rattle.aio_base.specs.Devices.{TellsFaults};
 ghost use Rattle.aio_base.specs.Generated.{counts_line, generated_steps};
 ghost use Rattle.aio_base.specs.Lines.{IsInRange, written_line};
 ghost use Rattle.aio_base.specs.Text.{ended_line};
-ghost use Rattle.aio_base.specs.Trace.{header_text};
 ghost use Rattle.aio_bytes.specs.Sinks.{HasFailed, Writes};
 ghost use Rattle.aio_replay.specs.Summing.{counts_told};
-ghost use Rattle.aio_run.specs.Commands.{summary_text, trace_text};
+ghost use Rattle.aio_run.specs.Commands.{header_text, summary_text, trace_text};
 ghost use Rattle.aio_run.specs.Texts.{Gathers};
 
 use aio_base::Step;

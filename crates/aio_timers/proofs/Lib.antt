@@ -9,7 +9,7 @@ mod FamilyLemmas
 mod MeltLemmas
 mod HeapLemmas
 mod LeastLemmas
-mod DueCountLemmas
+pub mod DueCountLemmas
 mod DueLemmas
 mod SeekLemmas
 mod ChainLemmas
