@@ -1,10 +1,10 @@
 -- Calls of wrong machines, each refused by the law of what a step calls.
-use Rattle.std.proofs.Common.{◌≡◌, true, false, [], ◌∷◌, None, refl}
+use Rattle.std.proofs.Common.{true, false, [], ◌∷◌, None, refl}
 use Rattle.aio_base.specs.declared.names.Dir.TheVariants.{Read, Write}
 use Rattle.aio_base.specs.declared.outcomes.Which.TheVariants as which
 use Rattle.aio_base.specs.declared.steps.Step.TheVariants as step
 use Rattle.aio_base.specs.declared.steps.Answer.TheVariants as answer
-use Rattle.aio_base.specs.World.{Gives, World}
+use Rattle.aio_base.specs.World.{Succeeds, Gives, Fails, World}
 use Rattle.aio_base.specs.Calls.{CallsFollow}
 use Rattle.aio_base.proofs.Membership.{first_is_in}
 use Rattle.aio_base.proofs.FalseNotes.{task, key, readable, running, waiting}
@@ -32,3 +32,37 @@ a_failed_arm_without_a_call_is_refused v c = let wrong = c.fit in cc
 -- a `begin` waits
 pub a_begin_that_waits_is_refused : (v : World) → CallsFollow waiting (step.Begin None) [] (answer.Begin 1 None) (which.Wait ∷ []) v → ⊥
 a_begin_that_waits_is_refused v c = let wrong = c.fit in cc
+
+-- an arm of a poll fails, and the poll tells `pending`, as if it were armed: its task is told of no fault, and no event comes
+pub a_failed_arm_that_is_not_told_is_refused :
+    CallsFollow (record waiting { armed = [] }) (step.Poll (key 0) Read (task 7)) (Fails ∷ []) answer.Pending (which.Arm ∷ [])
+    (record waiting { pos = 5; armed = record { key = 0; dir = Read } ∷ [] }) → ⊥
+a_failed_arm_that_is_not_told_is_refused c = let wrong = c.heard (λ same. cc) in cc
+
+-- an arm of a `handle` fails, and nothing of it is told
+pub a_failed_arm_of_an_event_that_is_not_told_is_refused :
+    (v : World) → CallsFollow (running (readable 0 ∷ [])) step.Handle (Fails ∷ []) (answer.Handled (key 0) false) (which.Arm ∷ []) v → ⊥
+a_failed_arm_of_an_event_that_is_not_told_is_refused v c = let wrong = c.heard (λ same. cc) in cc
+
+-- an `add` fails and tells a key
+pub a_key_of_a_failed_add_is_refused : (v : World) → CallsFollow waiting step.Add (Fails ∷ []) (answer.KeyIs (key 2)) (which.Add ∷ []) v → ⊥
+a_key_of_a_failed_add_is_refused v c = let wrong = c.heard (λ same. cc) in cc
+
+-- a `del` tells that its source is gone, and the poller still has it
+pub a_failed_remove_that_is_not_told_is_refused : (v : World) → CallsFollow waiting (step.Del (key 1)) (Fails ∷ []) answer.Gone (which.Remove ∷ []) v → ⊥
+a_failed_remove_that_is_not_told_is_refused v c = let wrong = c.heard (λ same. cc) in cc
+
+-- a wait fails and is told as one that gave no event
+pub a_failed_wait_that_is_not_told_is_refused : (v : World) → CallsFollow (running []) step.Wait (Fails ∷ []) (answer.Given 0) (which.Wait ∷ []) v → ⊥
+a_failed_wait_that_is_not_told_is_refused v c = let wrong = c.heard (λ same. cc) in cc
+
+-- a fault is told of an arm that succeeded
+pub a_fault_of_no_failure_is_refused :
+    (v : World) → CallsFollow waiting (step.Poll (key 0) Read (task 7)) (Succeeds ∷ []) answer.FaultArm (which.Arm ∷ []) v → ⊥
+a_fault_of_no_failure_is_refused v c = let wrong = c.heard (λ same. cc) in cc
+
+-- an arm fails, as is told, and the interest that stood is forgotten
+pub an_interest_lost_in_a_failed_arm_is_refused :
+    CallsFollow (record waiting { armed = record { key = 0; dir = Read } ∷ [] }) (step.Poll (key 0) Write (task 8)) (Fails ∷ []) answer.FaultArm (which.Arm ∷ [])
+    (record waiting { pos = 5; armed = [] }) → ⊥
+an_interest_lost_in_a_failed_arm_is_refused c = let wrong = c.stays (λ same. cc) refl in cc

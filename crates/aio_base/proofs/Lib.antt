@@ -33,6 +33,7 @@ pub mod Following
 pub mod FreeKeys
 pub mod FreshnessLemmas
 mod GivingUp
+mod Hearing
 pub mod HeldEvents
 pub mod HeldListeners
 pub mod HeldPolls

@@ -1,5 +1,5 @@
--- Which calls of the poller a step makes, and that no interest changes without one.
-use Rattle.std.specs.Prelude.{◌≡◌, ◌⊎◌, true, false, List, [], ◌∷◌}
+-- Which calls of the poller a step makes, that it tells where its call failed, and that no interest changes without one.
+use Rattle.std.specs.Prelude.{◌≡◌, ◌≢◌, ◌⊎◌, Bool, true, false, List, [], ◌∷◌}
 use Rattle.std.specs.List.{Contains}
 use Rattle.aio_base.specs.declared.names.Dir.{Dir}
 use Rattle.aio_base.specs.declared.names.Event.{Event}
@@ -10,7 +10,7 @@ use Rattle.aio_base.specs.declared.steps.Step.TheVariants as step
 use Rattle.aio_base.specs.declared.steps.Answer.{Answer}
 use Rattle.aio_base.specs.declared.steps.Answer.TheVariants as answer
 use Rattle.aio_base.specs.World.{PollerAnswer, ArmedDirection, World, is_armed}
-use Rattle.aio_base.specs.Machine.{next_answer}
+use Rattle.aio_base.specs.Machine.{fails, next_answer}
 use Rattle.aio_base.specs.Succession.{events_given}
 
 -- no call, or one arm
@@ -48,8 +48,26 @@ IsCleared step.Wait answers (answer.Given count) armed =
     (event : Event) (dir : Dir) → Contains (events_given (next_answer answers)) event → is_armed armed event.key.0 dir ≡ false
 IsCleared s answers told armed = Unit {0}
 
+-- whether the answer of a step that makes one call of the poller or none tells that this failed
+abbrev pub tells_failure : Answer → Bool
+tells_failure answer.FaultAdd = true
+tells_failure answer.FaultRemove = true
+tells_failure answer.FaultArm = true
+tells_failure answer.FaultWait = true
+tells_failure (answer.Handled key failed) = failed
+tells_failure _ = false
+
+-- whether such a step made a call that failed: it made one, and the poller's next answer is a failure
+abbrev pub has_failed : List Which → List PollerAnswer → Bool
+has_failed [] answers = false
+has_failed (call ∷ calls) answers = fails (next_answer answers)
+
 pub record CallsFollow (w : World) (s : Step) (answers : List PollerAnswer) (told : Answer) (calls : List Which) (v : World) : Type 0 where
   pub fit : CallsFit s told calls
   -- where the poller is not called, what is armed stays so, and nothing else is
   pub silent : calls ≡ [] → v.armed ≡ w.armed
   pub cleared : IsCleared s answers told v.armed
+  -- a step that is no whole round tells a failure exactly where its call failed
+  pub heard : s ≢ step.React → tells_failure told ≡ has_failed calls answers
+  -- and a call that failed changes no interest
+  pub stays : s ≢ step.React → tells_failure told ≡ true → v.armed ≡ w.armed

@@ -320,6 +320,10 @@ pub fn no_number_and_no_event_is_left_out()
 /// is armed changes in no step without a call, and a wait that gave events leaves their keys armed in no
 /// direction, since the poller has cleared their interests: so a waiter that is left there is armed for
 /// by a call of the poller, and not by what the machine remembers.
+///
+/// A step other than a whole round tells a failure exactly where it called the poller and this failed: so
+/// no failure is kept from the caller, and no fault is told that was none. A call that failed changes no
+/// interest. What a whole round tells of its calls is no part of this law.
 pub fn no_interest_changes_without_a_call()
     ensures { (w : World) (s : Step) (answers : List PollerAnswer)
         → CallsFollow w s answers (step_result w s answers).answer (step_result w s answers).calls
