@@ -20,6 +20,7 @@ use Rattle.aio_base.specs.Calls.{OnlyArms, CallsFit, IsCleared, CallsFollow}
 use Rattle.aio_base.proofs.Membership.{none_is_in, first_is_in, later_is_in, among_cases, filtered_is_in, filtered_passes, any_gives}
 use Rattle.aio_base.proofs.RoundLemmas.{in_hand_of, round_begun}
 use Rattle.aio_base.proofs.Hearing.{case_heard, case_stays}
+use Rattle.aio_base.proofs.RoundEnds.{case_ends}
 
 -- what an outcome calls fits a step, and leaves what is armed where it calls nothing
 record Calls (w : World) (s : Step) (o : Outcome) : Type 0 where
@@ -364,4 +365,4 @@ pub calls_follow : (w : World) (s : Step) (answers : List PollerAnswer)
 unfolding step_result
 calls_follow w s answers =
     let c = case_calls w s answers in
-    record { fit = c.fit; silent = c.silent; cleared = case_clears w s answers; heard = case_heard w s answers; stays = case_stays w s answers }
+    record { fit = c.fit; silent = c.silent; cleared = case_clears w s answers; heard = case_heard w s answers; stays = case_stays w s answers; ended = case_ends w s answers }

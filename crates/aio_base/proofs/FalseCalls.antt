@@ -1,6 +1,7 @@
 -- Calls of wrong machines, each refused by the law of what a step calls.
-use Rattle.std.proofs.Common.{true, false, [], ◌∷◌, None, refl}
+use Rattle.std.proofs.Common.{true, false, [], ◌∷◌, None, refl, arith}
 use Rattle.aio_base.specs.declared.names.Dir.TheVariants.{Read, Write}
+use Rattle.aio_base.specs.declared.outcomes.EndWord.TheVariants.{Clean, FaultArm}
 use Rattle.aio_base.specs.declared.outcomes.Which.TheVariants as which
 use Rattle.aio_base.specs.declared.steps.Step.TheVariants as step
 use Rattle.aio_base.specs.declared.steps.Answer.TheVariants as answer
@@ -66,3 +67,26 @@ pub an_interest_lost_in_a_failed_arm_is_refused :
     CallsFollow (record waiting { armed = record { key = 0; dir = Read } ∷ [] }) (step.Poll (key 0) Write (task 8)) (Fails ∷ []) answer.FaultArm (which.Arm ∷ [])
     (record waiting { pos = 5; armed = [] }) → ⊥
 an_interest_lost_in_a_failed_arm_is_refused c = let wrong = c.stays (λ same. cc) refl in cc
+
+-- an arm of a whole round fails, and the round tells that it ended clean: a waiter is left that no event wakes, and nobody was told
+pub a_failed_arm_of_a_whole_round_that_is_not_told_is_refused :
+    (v : World) → CallsFollow waiting step.React (Gives (readable 0 ∷ []) ∷ Fails ∷ []) (answer.Round 1 1 Clean) (which.Wait ∷ which.Arm ∷ []) v → ⊥
+a_failed_arm_of_a_whole_round_that_is_not_told_is_refused v c = let wrong = c.ended.0 in cc
+
+-- the second arm of a whole round fails, and the round tells of the first one alone
+pub a_failed_later_arm_that_is_not_told_is_refused :
+    (v : World)
+    → CallsFollow waiting step.React (Gives (readable 0 ∷ readable 1 ∷ []) ∷ Succeeds ∷ Fails ∷ []) (answer.Round 1 2 Clean) (which.Wait ∷ which.Arm ∷ which.Arm ∷ []) v
+    → ⊥
+a_failed_later_arm_that_is_not_told_is_refused v c = let wrong = c.ended.0 in cc
+
+-- a whole round whose arm succeeded tells that an arm failed
+pub a_fault_of_an_arm_that_succeeded_is_refused :
+    (v : World) → CallsFollow waiting step.React (Gives (readable 0 ∷ []) ∷ Succeeds ∷ []) (answer.Round 1 1 FaultArm) (which.Wait ∷ which.Arm ∷ []) v → ⊥
+a_fault_of_an_arm_that_succeeded_is_refused v c = let wrong = c.ended.0 in cc
+
+-- a whole round whose wait gave one event arms twice
+pub an_arm_without_an_event_is_refused :
+    (v : World)
+    → CallsFollow waiting step.React (Gives (readable 0 ∷ []) ∷ Succeeds ∷ Succeeds ∷ []) (answer.Round 1 1 Clean) (which.Wait ∷ which.Arm ∷ which.Arm ∷ []) v → ⊥
+an_arm_without_an_event_is_refused v c = let few = c.ended.1 in omega arith

@@ -62,6 +62,7 @@ mod RefusedWorlds
 pub mod Registering
 pub mod Rewaiting
 pub mod RoundAnswers
+mod RoundEnds
 pub mod RoundFaults
 pub mod RoundHands
 pub mod RoundLemmas

@@ -1,8 +1,10 @@
--- Which calls of the poller a step makes, that it tells where its call failed, and that no interest changes without one.
-use Rattle.std.specs.Prelude.{◌≡◌, ◌≢◌, ◌⊎◌, Bool, true, false, List, [], ◌∷◌}
+-- Which calls of the poller a step makes, that it tells where its calls failed, and that no interest changes without one.
+use Rattle.std.specs.Prelude.{◌≡◌, ◌≢◌, ◌⊎◌, ◌+◌, ◌≤◌, Bool, true, false, ◌||◌, if◌then◌else◌, List, [], ◌∷◌, length}
 use Rattle.std.specs.List.{Contains}
 use Rattle.aio_base.specs.declared.names.Dir.{Dir}
 use Rattle.aio_base.specs.declared.names.Event.{Event}
+use Rattle.aio_base.specs.declared.outcomes.EndWord.{EndWord}
+use Rattle.aio_base.specs.declared.outcomes.EndWord.TheVariants.{Clean, FaultWait, FaultArm}
 use Rattle.aio_base.specs.declared.outcomes.Which.{Which}
 use Rattle.aio_base.specs.declared.outcomes.Which.TheVariants as which
 use Rattle.aio_base.specs.declared.steps.Step.{Step}
@@ -10,7 +12,7 @@ use Rattle.aio_base.specs.declared.steps.Step.TheVariants as step
 use Rattle.aio_base.specs.declared.steps.Answer.{Answer}
 use Rattle.aio_base.specs.declared.steps.Answer.TheVariants as answer
 use Rattle.aio_base.specs.World.{PollerAnswer, ArmedDirection, World, is_armed}
-use Rattle.aio_base.specs.Machine.{fails, next_answer}
+use Rattle.aio_base.specs.Machine.{fails, next_answer, later_answers}
 use Rattle.aio_base.specs.Succession.{events_given}
 
 -- no call, or one arm
@@ -62,6 +64,22 @@ abbrev pub has_failed : List Which → List PollerAnswer → Bool
 has_failed [] answers = false
 has_failed (call ∷ calls) answers = fails (next_answer answers)
 
+-- whether one of these arms failed, each of which took the poller's next answer
+abbrev pub arm_failed : List Which → List PollerAnswer → Bool
+arm_failed [] answers = false
+arm_failed (arm ∷ arms) answers = fails (next_answer answers) || arm_failed arms (later_answers answers)
+
+-- How a whole round of these calls ends: its wait failed, or else one of the arms behind it did, or none of them failed.
+abbrev pub end_of_calls : List Which → List PollerAnswer → EndWord
+end_of_calls [] answers = Clean
+end_of_calls (call ∷ arms) answers =
+    if fails (next_answer answers) then FaultWait else if arm_failed arms (later_answers answers) then FaultArm else Clean
+
+-- A whole round that ran tells how its calls went, and arms at most once for each event that its wait gave.
+abbrev pub EndFits : Step → List PollerAnswer → Answer → List Which → Type 0
+EndFits step.React answers (answer.Round number events end) calls = (end ≡ end_of_calls calls answers) × (length calls ≤ events + 1)
+EndFits s answers told calls = Unit {0}
+
 pub record CallsFollow (w : World) (s : Step) (answers : List PollerAnswer) (told : Answer) (calls : List Which) (v : World) : Type 0 where
   pub fit : CallsFit s told calls
   -- where the poller is not called, what is armed stays so, and nothing else is
@@ -71,3 +89,5 @@ pub record CallsFollow (w : World) (s : Step) (answers : List PollerAnswer) (tol
   pub heard : s ≢ step.React → tells_failure told ≡ has_failed calls answers
   -- and a call that failed changes no interest
   pub stays : s ≢ step.React → tells_failure told ≡ true → v.armed ≡ w.armed
+  -- a whole round tells by its end whether its wait or one of its arms failed
+  pub ended : EndFits s answers told calls
