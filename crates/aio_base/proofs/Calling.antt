@@ -16,7 +16,7 @@ use Rattle.aio_base.specs.declared.steps.Answer.TheVariants as answer
 use Rattle.aio_base.specs.World.{PollerAnswer, Succeeds, Gives, IsInterrupted, Fails, ListenerEntry, TimerEntry, ArmedDirection, RoundState, World, directions_of, serial_of, key_of, poll_waiter, mark_of, is_empty_list, is_idle, is_broken, wanted, set_armed, is_armed, clear_armed, same_dir}
 use Rattle.aio_base.specs.Machine.{Outcome, fails, next_answer, later_answers, pending, source_limit, free_key, add, del_source, is_fresh_since, is_waker, with_waiter, poll_source, new_listener, with_listening, step_listener, drop_listener, unregistered, next_deadline, fired, waiting, tick_deadline, tick_timer, set_deadline, set_timer, end_timer, begin_round, wait_answered, wait_in, wait_round, without_waiters, world_taken, wakers_taken, rearmed, handle_source, handle_first, handle_in, handle_round, finish_in, handle_each, hand_of, case_of, step_result}
 use Rattle.aio_base.specs.Succession.{events_given}
-use Rattle.aio_base.specs.Calls.{OnlyArms, CallsFit, IsCleared, CallsFollow}
+use Rattle.aio_base.specs.Calls.{OnlyArms, CallsFit, IsCleared, OnlyCleared, CallsFollow}
 use Rattle.aio_base.proofs.Membership.{none_is_in, first_is_in, later_is_in, among_cases, filtered_is_in, filtered_passes, any_gives}
 use Rattle.aio_base.proofs.RoundLemmas.{in_hand_of, round_begun}
 use Rattle.aio_base.proofs.Hearing.{case_heard, case_stays}
@@ -360,9 +360,96 @@ case_clears w step.Handle answers = tt
 case_clears w step.Finish answers = tt
 case_clears w step.React answers = tt
 
+-- ## A whole round that makes no arm
+
+none_in_parts : (xs ys : List Which) → xs ++ ys ≡ [] → (xs ≡ []) × (ys ≡ [])
+none_in_parts [] ys none = (refl, none)
+none_in_parts (x ∷ xs) ys none = absurd cc
+
+each_silent : (events : List Event) (w : World) (answers : List PollerAnswer) → (handle_each events w answers).calls ≡ []
+    → (handle_each events w answers).world.armed ≡ w.armed
+each_silent [] w answers none = refl
+each_silent (event ∷ events) w answers none =
+    let first = handle_round w answers in
+    let parts = none_in_parts first.calls (handle_each events first.world first.left).calls none in
+    each_silent events first.world first.left parts.1 ∙ (handle_calls w w.round answers).calls.silent parts.0
+
+answered_arms : (w : World) (round : RoundState) (told : PollerAnswer) (rest : List PollerAnswer)
+    → (wait_answered w round told rest).world.armed ≡ clear_armed w.armed (events_given told)
+answered_arms w round Succeeds rest = refl
+answered_arms w round (Gives events) rest = refl
+answered_arms w round IsInterrupted rest = refl
+answered_arms w round Fails rest = refl
+
+waits_arms : (w : World) (round : Option RoundState) (answers : List PollerAnswer) → in_hand_of round ≡ Some []
+    → (wait_in w round answers).world.armed ≡ clear_armed w.armed (events_given (next_answer answers))
+waits_arms w None answers at = absurd cc
+waits_arms w (Some round) answers at =
+    let empty : is_empty_list round.in_hand ≡ true = ap is_empty_list (some_is round.in_hand [] at) in
+    cond_both (is_empty_list round.in_hand) _ _ (λ (o : Outcome). o.world.armed ≡ clear_armed w.armed (events_given (next_answer answers)))
+    (λ yes. answered_arms w round (next_answer answers) (later_answers answers)) (λ no. absurd (let wrong : true ≡ false = sym empty ∙ no in cc))
+
+begun_arms : (w : World) (answers : List PollerAnswer) → (begin_round w None answers).world.armed ≡ w.armed
+begun_arms w answers = cond_both (is_some w.round) _ _ (λ (o : Outcome). o.world.armed ≡ w.armed) (λ runs. refl) (λ none. refl)
+
+finish_arms : (w : World) (round : Option RoundState) (answers : List PollerAnswer) → (finish_in w round answers).world.armed ≡ w.armed
+finish_arms w None answers = refl
+finish_arms w (Some round) answers = cond_both (is_empty_list round.in_hand) _ _ (λ (o : Outcome). o.world.armed ≡ w.armed) (λ ends. refl) (λ some. refl)
+
+unarmed_or : (answers : List PollerAnswer) (armed : List ArmedDirection) (runs : Bool) (x y : Outcome)
+    → OnlyCleared step.React answers x.answer x.calls armed x.world.armed
+    → (runs ≡ false → OnlyCleared step.React answers y.answer y.calls armed y.world.armed)
+    → OnlyCleared step.React answers (cond runs x y).answer (cond runs x y).calls armed (cond runs x y).world.armed
+unarmed_or answers armed true x y first second = first
+unarmed_or answers armed false x y first second = second refl
+
+no_more : (waited arms : List Which) → waited ≡ which.Wait ∷ [] → waited ++ arms ≡ which.Wait ∷ [] → arms ≡ []
+no_more waited arms is alone = let same : which.Wait ∷ arms ≡ which.Wait ∷ [] = sym (waited_arms waited arms is) ∙ alone in cc
+
+react_unarmed : (w : World) (answers : List PollerAnswer)
+    → OnlyCleared step.React answers (case_of w step.React answers).answer (case_of w step.React answers).calls w.armed (case_of w step.React answers).world.armed
+react_unarmed w answers =
+    unarmed_or answers w.armed (is_some w.round) _ _ tt
+    (λ none alone.
+    let begun = begin_round w None answers in
+    let waited = wait_round begun.world begun.left in
+    let hand = hand_of waited.world.round in
+    let handled = handle_each hand waited.world waited.left in
+    let start = round_begun w answers none in
+    let once = waits_once begun.world begun.world.round begun.left start.hand in
+    finish_arms handled.world handled.world.round handled.left ∙ each_silent hand waited.world waited.left (no_more waited.calls handled.calls once alone)
+    ∙ waits_arms begun.world begun.world.round begun.left start.hand
+    ∙ ap (λ (armed : List ArmedDirection). clear_armed armed (events_given (next_answer begun.left))) (begun_arms w answers)
+    ∙ ap (λ (a : List PollerAnswer). clear_armed w.armed (events_given (next_answer a))) start.left)
+
+case_unarmed : (w : World) (s : Step) (answers : List PollerAnswer)
+    → OnlyCleared s answers (case_of w s answers).answer (case_of w s answers).calls w.armed (case_of w s answers).world.armed
+case_unarmed w step.Add answers = tt
+case_unarmed w (step.Del key) answers = tt
+case_unarmed w (step.Poll key dir waker) answers = tt
+case_unarmed w (step.New key dir) answers = tt
+case_unarmed w (step.StepEar number waker) answers = tt
+case_unarmed w (step.DropEar number) answers = tt
+case_unarmed w (step.TimerAt deadline) answers = tt
+case_unarmed w (step.TimerEvery deadline period) answers = tt
+case_unarmed w step.TimerNever answers = tt
+case_unarmed w (step.Tick number waker) answers = tt
+case_unarmed w (step.SetAt number deadline) answers = tt
+case_unarmed w (step.SetEvery number deadline period) answers = tt
+case_unarmed w (step.End number) answers = tt
+case_unarmed w (step.Now moment) answers = tt
+case_unarmed w (step.Note event) answers = tt
+case_unarmed w (step.Fault kind) answers = tt
+case_unarmed w step.Interrupt answers = tt
+case_unarmed w (step.Begin limit) answers = tt
+case_unarmed w step.Wait answers = tt
+case_unarmed w step.Handle answers = tt
+case_unarmed w step.Finish answers = tt
+case_unarmed w step.React answers = react_unarmed w answers
+
 pub calls_follow : (w : World) (s : Step) (answers : List PollerAnswer)
     → CallsFollow w s answers (step_result w s answers).answer (step_result w s answers).calls (step_result w s answers).world
 unfolding step_result
 calls_follow w s answers =
     let c = case_calls w s answers in
-    record { fit = c.fit; silent = c.silent; cleared = case_clears w s answers; heard = case_heard w s answers; stays = case_stays w s answers; ended = case_ends w s answers }
+    record { fit = c.fit; silent = c.silent; cleared = case_clears w s answers; heard = case_heard w s answers; stays = case_stays w s answers; ended = case_ends w s answers; unarmed = case_unarmed w s answers }

@@ -90,3 +90,9 @@ pub an_arm_without_an_event_is_refused :
     (v : World)
     → CallsFollow waiting step.React (Gives (readable 0 ∷ []) ∷ Succeeds ∷ Succeeds ∷ []) (answer.Round 1 1 Clean) (which.Wait ∷ which.Arm ∷ which.Arm ∷ []) v → ⊥
 an_arm_without_an_event_is_refused v c = let few = c.ended.1 in omega arith
+
+-- a whole round remembers its event's key as armed for the waiter that is left, and the poller was not told
+pub an_interest_armed_in_a_whole_round_without_a_call_is_refused :
+    CallsFollow (record waiting { armed = [] }) step.React (Gives (readable 0 ∷ []) ∷ []) (answer.Round 1 1 Clean) (which.Wait ∷ [])
+    (record waiting { pos = 5; armed = record { key = 0; dir = Write } ∷ [] }) → ⊥
+an_interest_armed_in_a_whole_round_without_a_call_is_refused c = let wrong = c.unarmed refl in cc

@@ -11,7 +11,7 @@ use Rattle.aio_base.specs.declared.steps.Step.{Step}
 use Rattle.aio_base.specs.declared.steps.Step.TheVariants as step
 use Rattle.aio_base.specs.declared.steps.Answer.{Answer}
 use Rattle.aio_base.specs.declared.steps.Answer.TheVariants as answer
-use Rattle.aio_base.specs.World.{PollerAnswer, ArmedDirection, World, is_armed}
+use Rattle.aio_base.specs.World.{PollerAnswer, ArmedDirection, World, is_armed, clear_armed}
 use Rattle.aio_base.specs.Machine.{fails, next_answer, later_answers}
 use Rattle.aio_base.specs.Succession.{events_given}
 
@@ -80,6 +80,12 @@ abbrev pub EndFits : Step → List PollerAnswer → Answer → List Which → Ty
 EndFits step.React answers (answer.Round number events end) calls = (end ≡ end_of_calls calls answers) × (length calls ≤ events + 1)
 EndFits s answers told calls = Unit {0}
 
+-- A whole round that made no arm leaves armed what was armed before it, but for the keys of the events that its wait gave.
+abbrev pub OnlyCleared : Step → List PollerAnswer → Answer → List Which → List ArmedDirection → List ArmedDirection → Type 0
+OnlyCleared step.React answers (answer.Round number events end) calls before after =
+    calls ≡ which.Wait ∷ [] → after ≡ clear_armed before (events_given (next_answer answers))
+OnlyCleared s answers told calls before after = Unit {0}
+
 pub record CallsFollow (w : World) (s : Step) (answers : List PollerAnswer) (told : Answer) (calls : List Which) (v : World) : Type 0 where
   pub fit : CallsFit s told calls
   -- where the poller is not called, what is armed stays so, and nothing else is
@@ -91,3 +97,5 @@ pub record CallsFollow (w : World) (s : Step) (answers : List PollerAnswer) (tol
   pub stays : s ≢ step.React → tells_failure told ≡ true → v.armed ≡ w.armed
   -- a whole round tells by its end whether its wait or one of its arms failed
   pub ended : EndFits s answers told calls
+  -- and remembers nothing as armed where it made no arm
+  pub unarmed : OnlyCleared s answers told calls w.armed v.armed

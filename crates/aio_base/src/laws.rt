@@ -324,7 +324,8 @@ pub fn no_number_and_no_event_is_left_out()
 /// A step other than a whole round tells a failure exactly where it called the poller and this failed: so
 /// no failure is kept from the caller, and no fault is told that was none. A call that failed changes no
 /// interest. A whole round that ran ends with `fault wait` exactly where its wait failed, and else with
-/// `fault arm` exactly where one of its arms failed; it arms at most once for each event of its wait.
+/// `fault arm` exactly where one of its arms failed. It arms at most once for each event of its wait, and
+/// where it makes no arm, what was armed stays so but for the keys of these events.
 pub fn no_interest_changes_without_a_call()
     ensures { (w : World) (s : Step) (answers : List PollerAnswer)
         → CallsFollow w s answers (step_result w s answers).answer (step_result w s answers).calls
