@@ -1,18 +1,18 @@
-//! The two commonest lines in their plainest spelling: one space between words, and numbers of a few
-//! digits. They are read from their front in one pass, compiled in place where they are used; every
-//! other line is left to `reading`.
+//! The commonest lines, the polls and the events, in their plainest spelling: one space between
+//! words, and numbers of a few digits. They are read from their front in one pass, compiled in place
+//! where they are used; every other line is left to `reading`.
 
 ghost use Rattle.std.specs.Prelude.{◌≡◌, ◌<◌, ◌≤◌, ◌+◌, ◌^◌, ℕ, [], Ok, IfSome, OnSome, length};
 ghost use Rattle.aio_base.specs.Lines.{words_in};
-ghost use Rattle.aio_trace.specs.Reading.{event_of, poll_of, step_of_words, take_direction, take_flags, take_number};
+ghost use Rattle.aio_trace.specs.Reading.{event_of, listener_poll_of, poll_of, step_of_words, take_direction, take_flags, take_number, tick_of};
 
 use aio_base::{Dir, Event, Interest, Key, Step, Waker};
 
 /// So many digits stand for no more than a number may be.
 const FEW_DIGITS: usize = 9;
 
-/// The step that a line `poll K D W` or `event K F` in its plainest spelling reads as; `None` for any
-/// other line.
+/// The step that a line `poll K D W`, `event K F`, `step N W` or `tick N W` in its plainest spelling
+/// reads as; `None` for any other line.
 #[inline(always)]
 pub(crate) fn common_step(line: &[u8]) -> Option<Step>
     ensures read { IfSome result (λ s. step_of_words (words_in line.now) ≡ Ok s) }
@@ -23,6 +23,12 @@ pub(crate) fn common_step(line: &[u8]) -> Option<Step>
     }
     if let [b'e', b'v', b'e', b'n', b't', b' ', places @ ..] = line {
         return event_step(places);
+    }
+    if let [b's', b't', b'e', b'p', b' ', places @ ..] = line {
+        return listener_poll_step(places);
+    }
+    if let [b't', b'i', b'c', b'k', b' ', places @ ..] = line {
+        return tick_step(places);
     }
     None
 }
@@ -55,6 +61,34 @@ fn event_step(places: &[u8]) -> Option<Step>
         on,
     };
     Some(Step::Note(event))
+}
+
+/// The step of a line `step N W`, read behind its command.
+#[inline(always)]
+fn listener_poll_step(places: &[u8]) -> Option<Step>
+    ensures read { IfSome result (λ s. listener_poll_of (words_in places.now) ≡ Ok s) }
+    ensures short { OnSome result (length places.now ≤ 20) }
+{
+    let (listener, rest) = few_digits(places)?;
+    let (waker, rest) = few_digits(rest)?;
+    if !rest.is_empty() {
+        return None;
+    }
+    Some(Step::StepEar(listener as u32, Waker(waker as u32)))
+}
+
+/// The step of a line `tick N W`, read behind its command.
+#[inline(always)]
+fn tick_step(places: &[u8]) -> Option<Step>
+    ensures read { IfSome result (λ s. tick_of (words_in places.now) ≡ Ok s) }
+    ensures short { OnSome result (length places.now ≤ 20) }
+{
+    let (timer, rest) = few_digits(places)?;
+    let (waker, rest) = few_digits(rest)?;
+    if !rest.is_empty() {
+        return None;
+    }
+    Some(Step::Tick(timer as u32, Waker(waker as u32)))
 }
 
 /// The number of a few digits at the front of a text, up to a space or the end of the text, and what

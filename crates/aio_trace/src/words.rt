@@ -39,7 +39,7 @@ pub(crate) fn next_word(text: &[u8]) -> Option<(&[u8], &[u8])>
     }
     for (at, byte) in text.iter().enumerate() {
         if is_blank(*byte) {
-            return Some((&text[..at], &text[at..]));
+            return Some((&text[..at], &text[at + 1..]));
         }
     }
     Some((text, &[]))
@@ -75,7 +75,7 @@ fn any_number(text: &[u8], most: u64) -> Result<(u64, &[u8]), LineFault>
     for (at, byte) in text.iter().enumerate() {
         if *byte < b'0' || *byte > b'9' {
             return if is_blank(*byte) {
-                Ok((value, &text[at..]))
+                Ok((value, &text[at + 1..]))
             } else {
                 Err(LineFault::Number)
             };
