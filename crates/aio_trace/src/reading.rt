@@ -59,7 +59,11 @@ pub fn read_line(line: &[u8]) -> Result<Step, LineFault>
 {
     match common_step(line) {
         Some(step) => Ok(step),
-        None => read_any_line(line),
+        // Taken apart, so that a common step is not laid in memory where the answer of this call is.
+        None => match read_any_line(line) {
+            Ok(step) => Ok(step),
+            Err(fault) => Err(fault),
+        },
     }
 }
 
