@@ -155,6 +155,7 @@ impl Driver {
     }
 
     /// Reads and answers the line of this number, where there is one.
+    #[inline(always)]
     fn drive_line<V: Version, S: Source, K: Sink>(
         &mut self,
         version: &V,

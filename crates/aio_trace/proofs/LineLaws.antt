@@ -1,5 +1,5 @@
 -- A line reads as a step exactly where it has no fault, and as one alone.
-use Rattle.std.proofs.Common.{◌≡◌, ℕ, ◌<◌, ◌≤◌, Bool, true, false, cond, ltb, List, length, Option, None, Some, Result, Ok, Err, refl, sym, ap, ◌∙◌, subst, arith}
+use Rattle.std.proofs.Common.{◌≡◌, ℕ, ◌<◌, ◌≤◌, Bool, true, false, cond, eqb, ltb, List, [], ◌∷◌, length, Option, None, Some, Result, Ok, Err, refl, sym, ap, ◌∙◌, subst, arith}
 use Rattle.std.specs.List.{list_all}
 use Rattle.std.proofs.lemmas.Bool.Decides.{nat_tests, Decides-ltb}
 use Rattle.aio_base.specs.declared.steps.LineFault.{LineFault}
@@ -7,7 +7,7 @@ use Rattle.aio_base.specs.declared.steps.LineFault.TheVariants as fault
 use Rattle.aio_base.specs.declared.steps.Step.{Step}
 use Rattle.aio_base.specs.Lines.{Reads, HasSpelling, SpellAll, body_of, fault_of, fault_of_words, is_allowed, line_bytes, step_words, words_in}
 use Rattle.aio_trace.specs.Reading.{line_read, step_of_words}
-use Rattle.aio_trace.proofs.Printed.{all_printed, step_printed, text_allowed}
+use Rattle.aio_trace.proofs.Printed.{all_printed, both_parts, step_printed, text_allowed}
 use Rattle.aio_trace.proofs.ReadBack.{step_back}
 use Rattle.aio_trace.proofs.Telling.{Tells, words_tell}
 
@@ -85,6 +85,27 @@ pub fault_read : (line : List ℕ) (f : LineFault) (allowed : Bool) → length l
 unfolding line_read
 fault_read line f true short e all = let few : ltb line_bytes (length line) ≡ false = grind (arith, nat_tests) in rw (few, all) e
 fault_read line f false short e all = let few : ltb line_bytes (length line) ≡ false = grind (arith, nat_tests) in rw (few, all) refl
+
+-- a line of allowed bytes has no carriage return at its end
+allowed_body : (line : List ℕ) → list_all is_allowed line ≡ true → body_of line ≡ line
+allowed_body [] e = refl
+allowed_body (b ∷ []) e = by_test (eqb b 13) refl
+  where
+    by_test : (t : Bool) → eqb b 13 ≡ t → cond t [] (b ∷ []) ≡ b ∷ []
+    by_test false other = refl
+    by_test true is =
+        let same : b ≡ 13 = grind (arith, nat_tests) in
+        let no : true ≡ false = sym e ∙ ap (λ b. list_all is_allowed (b ∷ [])) same in
+        absurd cc
+allowed_body (b ∷ c ∷ bytes) e = ap (λ body. b ∷ body) (allowed_body (c ∷ bytes) (both_parts (is_allowed b) (list_all is_allowed (c ∷ bytes)) e).1)
+
+-- words of the whole line that spell a step
+pub whole_read : (line : List ℕ) (s : Step) → length line ≤ line_bytes → step_of_words (words_in line) ≡ Ok s → line_read line ≡ Ok s
+whole_read line s short e =
+    let tells : (fault_of_words (words_in line) ≡ None) × HasSpelling s × SpellAll (words_in line) (step_words s) =
+    subst (λ read. Tells read (fault_of_words (words_in line)) (words_in line)) e (words_tell (words_in line)) in
+    let allowed : list_all is_allowed line ≡ true = text_allowed line (all_printed (words_in line) (step_words s) tells.2 (step_printed s)) in
+    step_read line s short (ap (λ body. step_of_words (words_in body)) (allowed_body line allowed) ∙ e)
 
 -- ## Both ways
 

@@ -114,7 +114,7 @@ all_printed (word ∷ words) (w ∷ ws) spelled printed = (spelled_printed word 
 
 -- ## From words to bytes
 
-both_parts : (a b : Bool) → (a && b) ≡ true → (a ≡ true) × (b ≡ true)
+pub both_parts : (a b : Bool) → (a && b) ≡ true → (a ≡ true) × (b ≡ true)
 both_parts true b e = (refl, e)
 both_parts false b e = absurd cc
 

@@ -9,6 +9,7 @@
 #![tactic(auto)]
 
 mod answer_lines;
+mod common;
 mod generating;
 pub mod laws;
 mod reading;

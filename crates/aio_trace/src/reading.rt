@@ -1,6 +1,5 @@
-//! Reading the step of a line. It takes no memory, and looks at each byte once: at its bytes one by
-//! one only where a line reads as no step. The two commonest lines are told by their first bytes,
-//! and what reads them is compiled in place.
+//! Reading the step of a line. It takes no memory, and looks at each byte once, and once more only
+//! where a line reads as no step.
 
 ghost use Rattle.std.specs.Prelude.{◌≡◌, ◌↔◌, None, Some, Ok, Err, MatchResult, IfOk, if◌then◌else◌, ◌≤◌, ◌^◌};
 ghost use Rattle.std.specs.List.{list_all};
@@ -8,8 +7,9 @@ ghost use Rattle.aio_base.specs.Lines.{Reads, body_of, fault_of, is_allowed, las
 ghost use Rattle.aio_base.specs.Trace.{is_header};
 ghost use Rattle.aio_base.specs.declared.steps.LineFault.{LineFault};
 ghost use Rattle.aio_base.specs.declared.steps.Step.{Step};
-ghost use Rattle.aio_trace.specs.Reading.{begin_of, command_named, del_of, dir_of, drop_of, end_of, event_of, fault_chosen, fault_line_of, flags_of_word, limit_of, listener_poll_of, new_of, now_of, poll_of, set_chosen, set_of, step_of, step_of_words, take_direction, take_flags, take_limit, take_number, take_period, tick_of, timer_chosen, timer_of};
+ghost use Rattle.aio_trace.specs.Reading.{begin_of, command_named, del_of, dir_of, drop_of, end_of, event_of, fault_chosen, fault_line_of, flags_of_word, limit_of, line_read, listener_poll_of, new_of, now_of, poll_of, set_chosen, set_of, step_of, step_of_words, take_direction, take_flags, take_limit, take_number, take_period, tick_of, timer_chosen, timer_of};
 
+use crate::common::common_step;
 use crate::words::{ended, next_number, next_word};
 use aio_base::{Dir, Event, Interest, Key, LineFault, Moment, Step, Waker, Which};
 
@@ -52,9 +52,25 @@ enum Command {
 /// not hold. `Empty`: no word. Then its words from left to right, the first that is not what its
 /// place asks: `Command`, `Number`, `Direction`, `Flags`, `Choice`; or `Count` where a word is
 /// missing, or one follows the last.
+#[inline(always)]
 pub fn read_line(line: &[u8]) -> Result<Step, LineFault>
     ensures step { (s : Step) → Reads s line.now ↔ (result ≡ Ok s) }
     ensures fault { (f : LineFault) → (fault_of line.now ≡ Some f) ↔ (result ≡ Err f) }
+{
+    match common_step(line) {
+        Some(step) => Ok(step),
+        // Taken apart, so that a common step is not laid in memory where the answer of this call is.
+        None => match read_any_line(line) {
+            Ok(step) => Ok(step),
+            Err(fault) => Err(fault),
+        },
+    }
+}
+
+/// The same of any line.
+#[inline(never)]
+fn read_any_line(line: &[u8]) -> Result<Step, LineFault>
+    ensures { result ≡ line_read line.now }
 {
     if line.len() > LINE_BYTES {
         return Err(LineFault::Long);
@@ -84,7 +100,6 @@ pub fn is_header(line: &[u8]) -> bool
 }
 
 /// A line without the one carriage return that may stand at its end.
-#[inline(always)]
 fn body_of(line: &[u8]) -> &[u8]
     ensures { result.now ≡ body_of line.now }
 {
@@ -101,7 +116,6 @@ fn body_of(line: &[u8]) -> &[u8]
 
 /// The fault of a line whose words have this fault: a byte that a line may not hold comes before
 /// it.
-#[inline(never)]
 fn byte_before(body: &[u8], fault: LineFault) -> LineFault
     ensures { result ≡ (if list_all is_allowed body.now then fault else LineFault.Byte) }
 {
@@ -123,13 +137,6 @@ fn all_allowed(body: &[u8]) -> bool
 fn read_body(body: &[u8]) -> Result<Step, LineFault>
     ensures { result ≡ step_of_words (words_in body.now) }
 {
-    // With nothing behind them these two come to the general case too, which finds the same fault.
-    if let [b'p', b'o', b'l', b'l', b' ', places @ ..] = body {
-        return read_poll(places);
-    }
-    if let [b'e', b'v', b'e', b'n', b't', b' ', places @ ..] = body {
-        return read_event(places);
-    }
     match next_word(body) {
         None => Err(LineFault::Empty),
         Some((word, places)) => match read_command(word) {
@@ -203,7 +210,6 @@ fn read_del(text: &[u8]) -> Result<Step, LineFault>
 }
 
 /// A line `poll K D W`, read behind its command.
-#[inline(always)]
 fn read_poll(text: &[u8]) -> Result<Step, LineFault>
     ensures { result ≡ poll_of (words_in text.now) }
 {
@@ -323,7 +329,6 @@ fn read_now(text: &[u8]) -> Result<Step, LineFault>
 }
 
 /// A line `event K F`, read behind its command.
-#[inline(always)]
 fn read_event(text: &[u8]) -> Result<Step, LineFault>
     ensures { result ≡ event_of (words_in text.now) }
 {
@@ -365,7 +370,6 @@ fn read_begin(text: &[u8]) -> Result<Step, LineFault>
 }
 
 /// The key, waker, listener or timer that a text's first word spells, and what follows it.
-#[inline(always)]
 fn take_number(text: &[u8]) -> Result<(u32, &[u8]), LineFault>
     ensures { MatchResult result
         (λ r. take_number last_number (words_in text.now) ≡ Ok (r.0, words_in r.1.now))
@@ -410,22 +414,7 @@ fn take_period(text: &[u8]) -> Result<(u64, &[u8]), LineFault>
 }
 
 /// The direction that a text's first word names, and what follows it.
-#[inline(always)]
 fn take_direction(text: &[u8]) -> Result<(Dir, &[u8]), LineFault>
-    ensures { MatchResult result
-        (λ r. take_direction (words_in text.now) ≡ Ok (r.0, words_in r.1.now))
-        (λ f. take_direction (words_in text.now) ≡ Err f) }
-{
-    match text {
-        [b'r', b' ', rest @ ..] => Ok((Dir::Read, rest)),
-        [b'w', b' ', rest @ ..] => Ok((Dir::Write, rest)),
-        _ => take_any_direction(text),
-    }
-}
-
-/// The same of any text.
-#[inline(never)]
-fn take_any_direction(text: &[u8]) -> Result<(Dir, &[u8]), LineFault>
     ensures { MatchResult result
         (λ r. take_direction (words_in text.now) ≡ Ok (r.0, words_in r.1.now))
         (λ f. take_direction (words_in text.now) ≡ Err f) }
@@ -448,24 +437,7 @@ fn read_direction(word: &[u8]) -> Result<Dir, LineFault>
 }
 
 /// The directions of an event that a text's first word names, and what follows it.
-#[inline(always)]
 fn take_flags(text: &[u8]) -> Result<(Interest, &[u8]), LineFault>
-    ensures { MatchResult result
-        (λ r. take_flags (words_in text.now) ≡ Ok (r.0, words_in r.1.now))
-        (λ f. take_flags (words_in text.now) ≡ Err f) }
-{
-    match text {
-        b"r" => Ok((Interest::READ, &[])),
-        b"w" => Ok((Interest::WRITE, &[])),
-        b"rw" => Ok((Interest::BOTH, &[])),
-        b"-" => Ok((Interest::NONE, &[])),
-        _ => take_any_flags(text),
-    }
-}
-
-/// The same of any text.
-#[inline(never)]
-fn take_any_flags(text: &[u8]) -> Result<(Interest, &[u8]), LineFault>
     ensures { MatchResult result
         (λ r. take_flags (words_in text.now) ≡ Ok (r.0, words_in r.1.now))
         (λ f. take_flags (words_in text.now) ≡ Err f) }

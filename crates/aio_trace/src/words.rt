@@ -5,13 +5,10 @@ ghost use Rattle.std.specs.Prelude.{◌≡◌, ◌<◌, ◌≤◌, ◌^◌, [], 
 ghost use Rattle.aio_base.specs.Lines.{is_blank, words_in};
 ghost use Rattle.aio_trace.specs.Reading.{ended, take_number};
 
+use crate::common::few_digits;
 use aio_base::{LineFault, Step};
 
-/// The most digits that stand for no more than a number may be.
-const FEW_DIGITS: usize = 9;
-
 /// Whether a byte parts words: a space or a tab.
-#[inline(always)]
 fn is_blank(byte: u8) -> bool
     ensures { result ≡ is_blank byte }
 {
@@ -19,7 +16,6 @@ fn is_blank(byte: u8) -> bool
 }
 
 /// The text from its first byte on that is no blank.
-#[inline(always)]
 fn skip_blanks(text: &[u8]) -> &[u8]
     ensures words { words_in result.now ≡ words_in text.now }
     ensures first { 0 < length result.now → is_blank (slice_index result.now 0) ≡ false }
@@ -33,7 +29,6 @@ fn skip_blanks(text: &[u8]) -> &[u8]
 }
 
 /// The first word of a text, and what follows it; `None` where the text has no word.
-#[inline(always)]
 pub(crate) fn next_word(text: &[u8]) -> Option<(&[u8], &[u8])>
     ensures { MatchOption result (words_in text.now ≡ [])
         (λ r. words_in text.now ≡ r.0.now ∷ words_in r.1.now) }
@@ -44,16 +39,14 @@ pub(crate) fn next_word(text: &[u8]) -> Option<(&[u8], &[u8])>
     }
     for (at, byte) in text.iter().enumerate() {
         if is_blank(*byte) {
-            return Some((&text[..at], &text[at..]));
+            return Some((&text[..at], &text[at + 1..]));
         }
     }
     Some((text, &[]))
 }
 
 /// The number, at most `most`, that the first word of a text spells, and what follows it; or the
-/// fault of that word, or of there being none. The common case is apart: a few digits at the front
-/// of the text, up to a space or its end.
-#[inline(always)]
+/// fault of that word, or of there being none.
 pub(crate) fn next_number(text: &[u8], most: u64) -> Result<(u64, &[u8]), LineFault>
     requires most { most ≤ 10 ^ 18 }
     requires least { 10 ^ 9 ≤ most }
@@ -61,25 +54,13 @@ pub(crate) fn next_number(text: &[u8], most: u64) -> Result<(u64, &[u8]), LineFa
         (λ r. take_number most (words_in text.now) ≡ Ok (r.0, words_in r.1.now))
         (λ f. take_number most (words_in text.now) ≡ Err f) }
 {
-    let front = &text[..text.len().min(FEW_DIGITS)];
-    let mut value: u64 = 0;
-    for (at, byte) in front.iter().enumerate() {
-        if *byte < b'0' || *byte > b'9' {
-            if at > 0 && *byte == b' ' {
-                return Ok((value, &text[at + 1..]));
-            }
-            return any_number(text, most);
-        }
-        value = 10 * value + u64::from(*byte) - u64::from(b'0');
+    match few_digits(text) {
+        Some((number, rest)) => Ok((number, rest)),
+        None => any_number(text, most),
     }
-    if front.is_empty() || front.len() < text.len() {
-        return any_number(text, most);
-    }
-    Ok((value, &[]))
 }
 
 /// The same of any text, with blanks and zeros before the number or none.
-#[inline(never)]
 fn any_number(text: &[u8], most: u64) -> Result<(u64, &[u8]), LineFault>
     requires { most ≤ 10 ^ 18 }
     ensures { MatchResult result
@@ -94,7 +75,7 @@ fn any_number(text: &[u8], most: u64) -> Result<(u64, &[u8]), LineFault>
     for (at, byte) in text.iter().enumerate() {
         if *byte < b'0' || *byte > b'9' {
             return if is_blank(*byte) {
-                Ok((value, &text[at..]))
+                Ok((value, &text[at + 1..]))
             } else {
                 Err(LineFault::Number)
             };
@@ -108,7 +89,6 @@ fn any_number(text: &[u8], most: u64) -> Result<(u64, &[u8]), LineFault>
 }
 
 /// A step behind whose words no word may follow.
-#[inline(always)]
 pub(crate) fn ended(step: Step, text: &[u8]) -> Result<Step, LineFault>
     ensures { result ≡ ended step (words_in text.now) }
 {

@@ -1,46 +1,23 @@
-use Rattle.std.proofs.Common.{◌≡◌, cond, Ok, Err, refl, sym, ap, ◌∙◌}
-use Rattle.aio_base.specs.declared.steps.LineFault.TheVariants as fault
-use Rattle.std.specs.List.{list_all}
-use Rattle.aio_base.specs.Lines.{words_in, body_of, is_allowed}
-use Rattle.aio_trace.specs.Reading.{line_read, step_of_words}
-use Rattle.aio_trace.proofs.LineLaws.{is_reading, long_read, step_read, fault_read}
+use Rattle.std.proofs.Common.{Ok, Err, sym, ◌∙◌}
+use Rattle.aio_trace.proofs.LineLaws.{is_reading, whole_read}
 use Rattle.aio_trace.proofs.reading.read_line.Goals as goal
 
-pub returns-then-line-gt-LINE_BYTES-clause-fault : goal.returns-then-line-gt-LINE_BYTES-clause-fault
-returns-then-line-gt-LINE_BYTES-clause-fault c = (is_reading c.args.line.now (Err fault.Long) (long_read c.args.line.now c.if-line-gt-LINE_BYTES.true)).fault
+pub returns-in-Some-clause-step : goal.returns-in-Some-clause-step
+returns-in-Some-clause-step c =
+    (is_reading c.args.line.now (Ok c.in-Some.step) (whole_read c.args.line.now c.in-Some.step c.in-Some.ensures.short c.in-Some.ensures.read)).step
+
+pub returns-in-Some-clause-fault : goal.returns-in-Some-clause-fault
+returns-in-Some-clause-fault c =
+    (is_reading c.args.line.now (Ok c.in-Some.step) (whole_read c.args.line.now c.in-Some.step c.in-Some.ensures.short c.in-Some.ensures.read)).fault
 
 pub returns-in-Ok-clause-step : goal.returns-in-Ok-clause-step
-returns-in-Ok-clause-step c =
-    let line = c.args.line.now in
-    let words : step_of_words (words_in (body_of line)) ≡ Ok c.in-Ok.step =
-    ap (λ body. step_of_words (words_in body)) (sym c.body_of-body.ensures) ∙ sym c.read_body.ensures ∙ c.in-Ok.is in
-    (is_reading line (Ok c.in-Ok.step) (step_read line c.in-Ok.step c.if-line-gt-LINE_BYTES.false words)).step
+returns-in-Ok-clause-step c = (is_reading c.args.line.now (Ok c.in-Ok.step) (sym c.read_any_line.ensures ∙ c.in-Ok.is)).step
 
 pub returns-in-Ok-clause-fault : goal.returns-in-Ok-clause-fault
-returns-in-Ok-clause-fault c =
-    let line = c.args.line.now in
-    let words : step_of_words (words_in (body_of line)) ≡ Ok c.in-Ok.step =
-    ap (λ body. step_of_words (words_in body)) (sym c.body_of-body.ensures) ∙ sym c.read_body.ensures ∙ c.in-Ok.is in
-    (is_reading line (Ok c.in-Ok.step) (step_read line c.in-Ok.step c.if-line-gt-LINE_BYTES.false words)).fault
+returns-in-Ok-clause-fault c = (is_reading c.args.line.now (Ok c.in-Ok.step) (sym c.read_any_line.ensures ∙ c.in-Ok.is)).fault
 
 pub returns-in-Err-clause-step : goal.returns-in-Err-clause-step
-returns-in-Err-clause-step c =
-    let line = c.args.line.now in
-    let words : step_of_words (words_in (body_of line)) ≡ Err c.in-Err.fault =
-    ap (λ body. step_of_words (words_in body)) (sym c.body_of-body.ensures) ∙ sym c.read_body.ensures ∙ c.in-Err.is in
-    let f : c.byte_before.result ≡ cond (list_all is_allowed (body_of line)) c.in-Err.fault fault.Byte =
-    c.byte_before.ensures ∙ ap (λ body. cond (list_all is_allowed body) c.in-Err.fault fault.Byte) c.body_of-body.ensures in
-    let read : line_read line ≡ Err c.byte_before.result =
-    fault_read line c.in-Err.fault (list_all is_allowed (body_of line)) c.if-line-gt-LINE_BYTES.false words refl ∙ ap Err (sym f) in
-    (is_reading line (Err c.byte_before.result) read).step
+returns-in-Err-clause-step c = (is_reading c.args.line.now (Err c.in-Err.fault) (sym c.read_any_line.ensures ∙ c.in-Err.is)).step
 
 pub returns-in-Err-clause-fault : goal.returns-in-Err-clause-fault
-returns-in-Err-clause-fault c =
-    let line = c.args.line.now in
-    let words : step_of_words (words_in (body_of line)) ≡ Err c.in-Err.fault =
-    ap (λ body. step_of_words (words_in body)) (sym c.body_of-body.ensures) ∙ sym c.read_body.ensures ∙ c.in-Err.is in
-    let f : c.byte_before.result ≡ cond (list_all is_allowed (body_of line)) c.in-Err.fault fault.Byte =
-    c.byte_before.ensures ∙ ap (λ body. cond (list_all is_allowed body) c.in-Err.fault fault.Byte) c.body_of-body.ensures in
-    let read : line_read line ≡ Err c.byte_before.result =
-    fault_read line c.in-Err.fault (list_all is_allowed (body_of line)) c.if-line-gt-LINE_BYTES.false words refl ∙ ap Err (sym f) in
-    (is_reading line (Err c.byte_before.result) read).fault
+returns-in-Err-clause-fault c = (is_reading c.args.line.now (Err c.in-Err.fault) (sym c.read_any_line.ensures ∙ c.in-Err.is)).fault

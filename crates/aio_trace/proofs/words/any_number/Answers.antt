@@ -1,9 +1,9 @@
-use Rattle.std.proofs.Common.{◌≡◌, ◌<◌, ◌∙◌, true, false, get_or, sym, ap, inl, inr, arith, Ok}
+use Rattle.std.proofs.Common.{◌≡◌, ◌+◌, ◌<◌, ◌∙◌, true, false, get_or, sym, ap, inl, inr, arith, Ok}
 use Rattle.std.proofs.lemmas.List.{take_rest}
 use Rattle.std.proofs.lemmas.Bool.Decides.{nat_tests}
 use Rattle.aio_base.specs.Lines.{is_blank, words_in}
 use Rattle.aio_trace.specs.Reading.{take_number}
-use Rattle.aio_trace.proofs.LineWords.{not_at_first}
+use Rattle.aio_trace.proofs.LineWords.{not_at_first, words_past_blank}
 use Rattle.aio_trace.proofs.LineNumbers.{number_at_blank, number_at_end, number_with_other, number_too_great, one_more_digit, one_digit_more}
 use Rattle.aio_trace.proofs.words.any_number.Goals as goal
 use Rattle.aio_trace.proofs.words.any_number.Goals.{then-byte-lt48-via-then-byte-lt48, then-byte-lt48-via-else-byte-lt48+then-byte-gt57}
@@ -16,7 +16,8 @@ returns-then-is_blank c =
     let blank : is_blank (get_or text at 0) ≡ true = sym c.is_blank.ensures ∙ c.if-is_blank.true in
     let some : 0 < at = not_at_first text at c.skip_blanks-text.ensures.first c.loop-at-test.true blank in
     ap (take_number c.args.most) (sym c.skip_blanks-text.ensures.words) ∙ number_at_blank text at c.loop-at.value c.args.most some c.loop-at-test.true inv.digits inv.value inv.small blank
-    ∙ ap (λ rest. Ok (c.loop-at.value, words_in rest)) (sym (take_rest text at))
+    ∙ ap (λ words. Ok (c.loop-at.value, words)) (words_past_blank text at c.loop-at-test.true blank)
+    ∙ ap (λ rest. Ok (c.loop-at.value, words_in rest)) (sym (take_rest text (at + 1)))
 
 pub returns-else-is_blank : goal.returns-else-is_blank
 returns-else-is_blank c =

@@ -1,10 +1,10 @@
-use Rattle.std.proofs.Common.{◌≡◌, ◌∷◌, ◌∙◌, true, false, take, get_or, sym, ap, subst, arith}
+use Rattle.std.proofs.Common.{◌≡◌, ◌+◌, ◌∷◌, ◌∙◌, true, false, take, get_or, sym, ap, subst, arith}
 use Rattle.std.specs.List.{All}
 use Rattle.std.proofs.lemmas.List.{take_rest, take_all}
 use Rattle.std.proofs.lemmas.List.Elements.{All-more}
 use Rattle.std.proofs.lemmas.Bool.Decides.{nat_tests}
 use Rattle.aio_base.specs.Lines.{is_blank, words_in}
-use Rattle.aio_trace.proofs.LineWords.{words_at_blank, words_of_one, not_at_first}
+use Rattle.aio_trace.proofs.LineWords.{words_at_blank, words_of_one, words_past_blank, not_at_first}
 use Rattle.aio_trace.proofs.words.next_word.Goals as goal
 
 pub returns-then-is_blank : goal.returns-then-is_blank
@@ -14,7 +14,8 @@ returns-then-is_blank c =
     let blank : is_blank (get_or text at 0) ≡ true = sym c.is_blank.ensures ∙ c.if-is_blank.true in
     sym c.skip_blanks-text.ensures.words
     ∙ words_at_blank text at (not_at_first text at c.skip_blanks-text.ensures.first c.loop-at-test.true blank) c.loop-at-test.true c.loop-at.invariant blank
-    ∙ ap (λ rest. take at text ∷ words_in rest) (sym (take_rest text at))
+    ∙ ap (λ words. take at text ∷ words) (words_past_blank text at c.loop-at-test.true blank)
+    ∙ ap (λ rest. take at text ∷ words_in rest) (sym (take_rest text (at + 1)))
 
 pub loop-at-preserved : goal.loop-at-preserved
 loop-at-preserved c =

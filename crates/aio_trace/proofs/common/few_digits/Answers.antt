@@ -3,13 +3,17 @@ use Rattle.std.proofs.lemmas.List.{take_rest}
 use Rattle.std.proofs.lemmas.Bool.Decides.{nat_tests}
 use Rattle.aio_base.specs.Lines.{words_in}
 use Rattle.aio_trace.proofs.LineNumbers.{few_at_space, few_at_end, small_value, one_more_digit, one_digit_more}
-use Rattle.aio_trace.proofs.words.next_number.Goals as goal
+use Rattle.aio_trace.proofs.common.few_digits.Goals as goal
 
-pub returns-then-byte-eq32 : goal.returns-then-byte-eq32
-returns-then-byte-eq32 c =
-    few_at_space c.args.text.now c.min.result c.loop-at.at c.loop-at.value c.args.most (omega arith) (omega arith) c.requires.least c.if-at-gt0.true c.loop-at-test.true
+pub returns-then-byte-eq32-clause-read : goal.returns-then-byte-eq32-clause-read
+returns-then-byte-eq32-clause-read c = λ most small.
+    few_at_space c.args.text.now c.min.result c.loop-at.at c.loop-at.value most (omega arith) (omega arith) small c.if-at-gt0.true c.loop-at-test.true
     c.loop-at.invariant.digits c.loop-at.invariant.value c.if-byte-eq32.true
     ∙ ap (λ rest. Ok (c.loop-at.value, words_in rest)) (sym (take_rest c.args.text.now (c.loop-at.at + 1)))
+
+pub returns-then-byte-eq32-clause-small : goal.returns-then-byte-eq32-clause-small
+returns-then-byte-eq32-clause-small c =
+    small_value c.args.text.now c.min.result c.loop-at.at c.loop-at.value (omega arith) (omega arith) c.loop-at.auto.at-end c.loop-at.invariant.digits c.loop-at.invariant.value
 
 pub overflow_mul-value : goal.overflow_mul-value
 overflow_mul-value c =
@@ -30,7 +34,11 @@ loop-at-preserved c =
       value = omega (arith, more, c.loop-at.invariant.value, c.from.ensures, c.from-in-loop-at.ensures, c.if-byte-lt48.false);
     }
 
-pub returns : goal.returns
-returns c =
-    few_at_end c.args.text.now c.min.result c.loop-at.at c.loop-at.value c.args.most (omega arith) (omega arith) c.if-front-text.false c.requires.least
+pub returns-clause-read : goal.returns-clause-read
+returns-clause-read c = λ most small.
+    few_at_end c.args.text.now c.min.result c.loop-at.at c.loop-at.value most (omega arith) (omega arith) c.if-front-text.false small
     (grind (arith, nat_tests)) c.loop-at-test.false c.loop-at.auto.at-end c.loop-at.invariant.digits c.loop-at.invariant.value
+
+pub returns-clause-small : goal.returns-clause-small
+returns-clause-small c =
+    small_value c.args.text.now c.min.result c.loop-at.at c.loop-at.value (omega arith) (omega arith) c.loop-at.auto.at-end c.loop-at.invariant.digits c.loop-at.invariant.value
