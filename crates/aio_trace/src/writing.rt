@@ -40,6 +40,7 @@ pub fn write_line(step: &Step, out: &mut Vec<u8>) -> Result<(), OutOfMemory>
 /// # Errors
 ///
 /// `OutOfMemory` only where there was no room for the line, and then `out` holds what it held.
+#[inline]
 pub fn write_answer(answer: &Answer, out: &mut Vec<u8>) -> Result<(), OutOfMemory>
     ensures ok { OnOk result (out.new.items ≡ out.old.items
         ++ ended_line (answer_line answer.now)) }
