@@ -10,7 +10,6 @@ use Rattle.aio_base.specs.declared.steps.Reason.{Reason}
 use Rattle.aio_base.specs.declared.steps.Reason.TheVariants as reason
 use Rattle.aio_base.specs.World.{World, opening}
 use Rattle.aio_base.specs.Script.{output, output_from, world_after, script_step, reply_text}
-use Rattle.aio_base.specs.Text.{answer_line, ended_line}
 use Rattle.aio_base.specs.Trace.{Trace, Refusal, lines_of, with_step, refused}
 use Rattle.aio_bytes.specs.declared.traits.SinkRefusal.{SinkRefusal}
 use Rattle.aio_bytes.specs.Sinks.{AppendsPart, Writes}
@@ -51,14 +50,6 @@ answered old new s a wakes text_old text_new replays text w stands =
           ∙ ap (λ t. text_old ++ reply_text (script_step w s).answer t) (sym gives.wakes_are),
       gives.stands,
     )
-
--- a step that woke nobody
-pub answered_alone : (old new : Replayer) (s : Step) (a : Answer) (wakes : List Waker) (text_old text_new : List ℕ) → Replays s a wakes old new
-    → wakes ≡ [] → text_new ≡ text_old ++ ended_line (answer_line a) → Answers s old new text_old text_new
-unfolding reply_text
-answered_alone old new s a wakes text_old text_new replays none text =
-    answered old new s a wakes text_old text_new replays
-    (text ∙ ap (λ t. text_old ++ t) (sym (ap (reply_text a) none ∙ append-nil (ended_line (answer_line a)))))
 
 -- ## The steps of an input
 

@@ -17,7 +17,7 @@ use aio_base::{Reason, Step, Waker};
 use aio_bytes::{LineReader, Sink, SinkRefusal, Source, write_all};
 use aio_react::Core;
 use aio_script::ScriptPoller;
-use aio_trace::{write_answer, write_reply};
+use aio_trace::write_reply;
 use std::alloc::{AllocError, Global};
 
 /// How many bytes of answers are gathered before they are written.
@@ -86,17 +86,8 @@ impl Driver {
         ensures reader { self.new.reader ≡ self.old.reader }
     {
         let answer = self.replayer.step(step, &mut self.wakes)?;
-        if self.wakes.is_empty() {
-            return match write_answer(&answer, &mut self.text) {
-                Ok(()) => Ok(()),
-                Err(_) => Err(AllocError),
-            };
-        }
-        match write_reply(answer, self.wakes.as_slice(), &mut self.text) {
-            Ok(()) => {
-                self.wakes.clear();
-                Ok(())
-            }
+        match write_reply(answer, &mut self.wakes, &mut self.text) {
+            Ok(()) => Ok(()),
             Err(_) => Err(AllocError),
         }
     }
