@@ -23,7 +23,7 @@ use std::alloc::{AllocError, Global};
 const REPLY_ROOM: usize = 32_768;
 
 /// A replay in the middle: the reader of the input's lines, what runs the steps, and the answers that
-/// are not written yet.
+/// are not written yet. Between two steps there are no wakes.
 #[derive(Drop)]
 pub(crate) struct Driver {
     pub reader: LineReader,
@@ -47,6 +47,7 @@ impl Driver {
     pub(crate) fn new(alloc: Global) -> Result<Driver, AllocError>
         ensures opens { IfOk result (λ d. Opens d.reader.ahead d.text.items d.replayer) }
         ensures within { IfOk result (λ d. IsWithin 0 d.replayer) }
+        ensures none { IfOk result (λ d. d.wakes.items ≡ []) }
     {
         let reader = LineReader::new(alloc)?;
         let replayer = Replayer::new(alloc)?;
@@ -71,15 +72,17 @@ impl Driver {
     fn answer(&mut self, step: &Step) -> Result<(), AllocError>
         requires range { IsInRange step.now }
         requires within { IsWithin 1000000 self.old.replayer }
+        requires none { self.old.wakes.items ≡ [] }
         ensures answers { OnOk result (Answers step.now self.old.replayer self.new.replayer
             self.old.text.items self.new.text.items) }
         ensures kept { OnErr result (self.new.text.items ≡ self.old.text.items) }
         ensures counted { OnOk result ((bound : ℕ) → IsWithin bound self.old.replayer
             → IsWithin (bound + 1) self.new.replayer) }
+        ensures none { OnOk result (self.new.wakes.items ≡ []) }
         ensures reader { self.new.reader ≡ self.old.reader }
     {
         let answer = self.replayer.step(step, &mut self.wakes)?;
-        match write_reply(answer, self.wakes.as_slice(), &mut self.text) {
+        match write_reply(answer, &mut self.wakes, &mut self.text) {
             Ok(()) => Ok(()),
             Err(_) => Err(AllocError),
         }
@@ -95,6 +98,7 @@ impl Driver {
         requires says { SaysByLines V.language }
         requires opens { Opens self.old.reader.ahead self.old.text.items self.old.replayer }
         requires within { IsWithin 0 self.old.replayer }
+        requires none { self.old.wakes.items ≡ [] }
         ensures ends { (all : List ℕ) → S.remaining input.old ≡ Some all
             → EndsSo V.language result all (S.remaining input.new)
             (K.contents out.old) (K.contents out.new) self.new.replayer }
@@ -132,6 +136,7 @@ impl Driver {
             2 self.new.reader.ahead self.new.text.items self.new.replayer }
         ensures bound { length self.new.reader.ahead ≤ 257 }
         ensures replayer { self.new.replayer ≡ self.old.replayer }
+        ensures wakes { self.new.wakes ≡ self.old.wakes }
         ensures read_cause { Causes S.fault_count S.is_sure
             input.old input.new (goes_on_with is_read_fault result) }
         ensures write_cause { Causes K.fault_count K.is_sure
@@ -167,6 +172,7 @@ impl Driver {
         requires limit { line ≤ V.language.limit }
         requires bound { length self.old.reader.ahead ≤ 257 }
         requires within { IsWithin line self.old.replayer }
+        requires none { self.old.wakes.items ≡ [] }
         ensures goes_on { (all : List ℕ) (first : Option (List ℕ))
             → Standing V.language all (S.remaining input.old) first (K.contents out.old)
             line self.old.reader.ahead self.old.text.items self.old.replayer
@@ -174,6 +180,7 @@ impl Driver {
             (line + 1) self.new.reader.ahead self.new.text.items self.new.replayer }
         ensures bound { length self.new.reader.ahead ≤ 257 }
         ensures within { result ≡ None → IsWithin (line + 1) self.new.replayer }
+        ensures none { result ≡ None → self.new.wakes.items ≡ [] }
         ensures block { result ≡ None → vec_len self.new.text < 65536 }
         ensures read_cause { Causes S.fault_count S.is_sure
             input.old input.new (goes_on_with is_read_fault result) }
@@ -237,12 +244,14 @@ impl Driver {
         requires says { SaysByLines V.language }
         requires limit { line ≤ V.language.limit }
         requires within { IsWithin line self.old.replayer }
+        requires none { self.old.wakes.items ≡ [] }
         ensures goes_on { (input : List ℕ) (told first : Option (List ℕ))
             → LineTaken V.language input told first (K.contents out.old) line
             self.old.reader.line self.old.reader.ahead self.old.text.items self.old.replayer
             → GoesOn V.language result input told first (K.contents out.new)
             (line + 1) self.new.reader.ahead self.new.text.items self.new.replayer }
         ensures within { result ≡ None → IsWithin (line + 1) self.new.replayer }
+        ensures none { result ≡ None → self.new.wakes.items ≡ [] }
         ensures block { result ≡ None → vec_len self.new.text < 65536 }
         ensures gathers { result ≡ None → (out.new ≡ out.old)
             ⊎ BlockWent (K.contents out.old) (K.contents out.new) }

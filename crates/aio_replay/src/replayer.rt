@@ -44,18 +44,18 @@ impl Replayer {
         })
     }
 
-    /// Runs a step of a trace: its answer, and its wakes in order in place of what `wakes` held.
+    /// Runs a step of a trace: its answer, and its wakes in order in `wakes`, which is empty.
     /// `AllocError` where memory ran out. A trace of 1,000,000 steps spends no rounds, tickets or
     /// ids.
     pub(crate) fn step(&mut self, step: &Step, wakes: &mut Vec<Waker>) -> Result<Answer, AllocError>
         requires range { IsInRange step.now }
         requires within { IsWithin 1000000 self.old }
+        requires none { wakes.old.items ≡ [] }
         ensures replays { IfOk result (λ answer.
             Replays step.now answer wakes.new.items self.old self.new) }
         ensures within { OnOk result ((bound : ℕ) → IsWithin bound self.old
             → IsWithin (bound + 1) self.new) }
     {
-        wakes.clear();
         self.run(step, wakes)
     }
 

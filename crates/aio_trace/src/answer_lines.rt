@@ -1,7 +1,7 @@
 //! The lines of answers and wakes.
 
-ghost use Rattle.std.specs.Prelude.{◌≡◌, ◌≤◌, ◌++◌, codes, decimal, flat_map, MatchOption};
-ghost use Rattle.std.specs.Prelude.{OnErr, OnOk, vec_capacity};
+ghost use Rattle.std.specs.Prelude.{◌≡◌, ◌≤◌, ◌++◌, [], codes, decimal, flat_map};
+ghost use Rattle.std.specs.Prelude.{MatchOption, OnErr, OnOk, vec_capacity};
 ghost use Rattle.aio_base.specs.Script.{reply_text};
 ghost use Rattle.aio_base.specs.Text.{answer_line, end_text, ended_line, fault_text, limit_text};
 ghost use Rattle.aio_trace.specs.Writing.{HasNumbers, KeepsFront, LacksRoom};
@@ -11,25 +11,30 @@ use aio_base::{Answer, EndWord, Key, Waker};
 use itoa::write_digits;
 use std::alloc::AllocError;
 
-/// Writes an answer's line and then one line for each wake, maybe a part of them where memory runs
-/// out.
+/// Writes an answer's line and then one line for each of `wakes`, which is left empty; maybe a part of
+/// them where memory runs out.
 #[inline]
 #[tactic(auto, unfolding(aio_base::specs::Script::reply_text))]
 pub(crate) fn push_reply(
     answer: Answer,
-    wakes: &[Waker],
+    wakes: &mut Vec<Waker>,
     out: &mut Vec<u8>,
 ) -> Result<(), AllocError>
-    ensures ok { OnOk result (out.new.items ≡ out.old.items ++ reply_text answer wakes.now) }
+    ensures ok { OnOk result (out.new.items
+        ≡ out.old.items ++ reply_text answer wakes.old.items) }
+    ensures taken { OnOk result (wakes.new.items ≡ []) }
+    ensures left { OnErr result (wakes.new.items ≡ wakes.old.items) }
     ensures kept { OnErr result (KeepsFront out.old.items out.new.items) }
     ensures full { OnErr result (LacksRoom (vec_capacity out.old) out.old.items
-        (reply_text answer wakes.now)) }
+        (reply_text answer wakes.old.items)) }
 {
     push_answer(answer, out)?;
     if wakes.is_empty() {
         return Ok(());
     }
-    push_wakes(wakes, out)
+    push_wakes(wakes.as_slice(), out)?;
+    wakes.clear();
+    Ok(())
 }
 
 /// Writes one line for each wake.

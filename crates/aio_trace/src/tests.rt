@@ -216,14 +216,16 @@ fn each_answer_is_written(rt: HostRuntime) -> Result<(), Fail> {
 #[test]
 fn replies_follow_what_was_written(rt: HostRuntime) -> Result<(), Fail> {
     let mut out = Vec::new(rt.alloc());
-    let wakes = [Waker(2), Waker(0), Waker(4_294_967_295)];
-    assert_eq!(rt; write_reply(Answer::Noted, &[], &mut out), Ok(()));
+    let mut wakes = Vec::new(rt.alloc());
+    assert_eq!(rt; write_reply(Answer::Noted, &mut wakes, &mut out), Ok(()));
+    wakes.extend_from_slice(&[Waker(2), Waker(0), Waker(4_294_967_295)])?;
     assert_eq!(rt;
-        write_reply(whole(EndWord::FaultArm), &wakes, &mut out),
+        write_reply(whole(EndWord::FaultArm), &mut wakes, &mut out),
         Ok(())
     );
     let want = "noted\nround 1 events 2 fault arm\nwake 2\nwake 0\nwake 4294967295\n";
     assert_eq!(rt; out.as_slice(), want.as_bytes());
+    assert_eq!(rt; wakes.len(), 0);
     Ok(())
 }
 

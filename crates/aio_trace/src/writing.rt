@@ -1,7 +1,7 @@
 //! Writing the line of a step, the line of an answer, and what a whole step gives, at the end of a
 //! block of output.
 
-ghost use Rattle.std.specs.Prelude.{◌≡◌, ◌≤◌, ◌++◌, decimal, OnErr, OnOk, vec_capacity};
+ghost use Rattle.std.specs.Prelude.{◌≡◌, ◌≤◌, ◌++◌, [], decimal, OnErr, OnOk, vec_capacity};
 ghost use Rattle.aio_base.specs.Lines.{IsInRange, written_line};
 ghost use Rattle.aio_base.specs.Script.{reply_text};
 ghost use Rattle.aio_base.specs.Text.{answer_line, ended_line};
@@ -58,17 +58,25 @@ pub fn write_answer(answer: &Answer, out: &mut Vec<u8>) -> Result<(), OutOfMemor
 }
 
 /// Writes what a step gives: the line of its answer, and then one line for each of its wakes, in
-/// order. All of them or none.
+/// order, which are taken out of `wakes`.
 ///
 /// # Errors
 ///
-/// `OutOfMemory` only where there was no room for them all, and then `out` holds what it held.
+/// `OutOfMemory` only where there was no room for them all, and then `out` and `wakes` hold what they
+/// held.
 #[inline]
-pub fn write_reply(answer: Answer, wakes: &[Waker], out: &mut Vec<u8>) -> Result<(), OutOfMemory>
-    ensures ok { OnOk result (out.new.items ≡ out.old.items ++ reply_text answer wakes.now) }
+pub fn write_reply(
+    answer: Answer,
+    wakes: &mut Vec<Waker>,
+    out: &mut Vec<u8>,
+) -> Result<(), OutOfMemory>
+    ensures ok { OnOk result (out.new.items
+        ≡ out.old.items ++ reply_text answer wakes.old.items) }
+    ensures taken { OnOk result (wakes.new.items ≡ []) }
     ensures err { OnErr result (out.new.items ≡ out.old.items) }
+    ensures left { OnErr result (wakes.new.items ≡ wakes.old.items) }
     ensures full { OnErr result (LacksRoom (vec_capacity out.old) out.old.items
-        (reply_text answer wakes.now)) }
+        (reply_text answer wakes.old.items)) }
 {
     let written = out.len();
     match push_reply(answer, wakes, out) {

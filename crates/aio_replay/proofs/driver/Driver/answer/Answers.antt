@@ -1,9 +1,6 @@
-use Rattle.std.proofs.Common.{ap, ◌++◌, ◌∙◌}
-use Rattle.aio_base.specs.Script.{reply_text}
 use Rattle.aio_replay.proofs.StepLemmas.{answered}
 use Rattle.aio_replay.proofs.driver.Driver.answer.Goals as goal
 
 pub returns-in-Ok-clause-answers : goal.returns-in-Ok-clause-answers
 returns-in-Ok-clause-answers c =
-    answered _ _ c.args.step.now c.in_ok-answer.answer c.step.new.wakes.items _ _ c.in_ok-answer.ensures.replays
-    (c.in-Ok.ensures.ok ∙ ap (λ wakes. c.args.self.now.text.items ++ reply_text c.in_ok-answer.answer wakes) c.as_slice.ensures.value)
+    answered _ _ c.args.step.now c.in_ok-answer.answer c.step.new.wakes.items _ _ c.in_ok-answer.ensures.replays c.in-Ok.ensures.ok

@@ -1,4 +1,4 @@
-use Rattle.std.proofs.Common.{◌≡◌, ℕ, ◌≤◌, List, Some, length, false}
+use Rattle.std.proofs.Common.{◌≡◌, ℕ, ◌≤◌, List, [], Some, length, false}
 use Rattle.aio_replay.specs.Driving.{Causes}
 use Rattle.aio_replay.specs.Replaying.{IsWithin}
 use Rattle.aio_replay.specs.Steps.{Standing}
@@ -11,6 +11,7 @@ invariant-loop-line g l = record {
       → Standing g.V.Version.language all (g.S.Source.remaining l.input) (g.K.Sink.contents l.fn.out) (g.K.Sink.contents l.out) l.line l.self.reader.ahead l.self.text.items l.self.replayer;
   bound : length l.self.reader.ahead ≤ 257;
   within : IsWithin l.line l.self.replayer;
+  none : l.self.wakes.items ≡ [];
   read_cause : Causes g.S.Faults.fault_count g.S.Faults.is_sure l.fn.input l.input false;
   write_cause : Causes g.K.Faults.fault_count g.K.Faults.is_sure l.fn.out l.out false;
 }
