@@ -28,6 +28,7 @@ pub fn summary(alloc: Global, n: u32, seed: u64) -> Result<Summary, OutOfMemory>
     let mut wakes = Vec::new(alloc);
     let mut summary = Summary::new();
     for step in gen_steps(n, seed) {
+        wakes.clear();
         match replayer.step(&step, &mut wakes) {
             Ok(answer) => summary.count(answer, wakes.len()),
             Err(_) => return Err(OutOfMemory),
