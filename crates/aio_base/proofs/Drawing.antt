@@ -15,6 +15,7 @@ use Rattle.aio_base.specs.declared.steps.Answer.TheVariants as answer
 use Rattle.aio_base.specs.World.{PollerAnswer, Succeeds, Gives, IsInterrupted, Fails, ListenerEntry, TimerEntry, DueFaults, RoundState, World, directions_of, serial_of, key_of, poll_waiter, mark_of, is_empty_list, is_idle, is_broken, wanted}
 use Rattle.aio_base.specs.Machine.{Outcome, fails, next_answer, later_answers, broken_world, armed_world, after_arm, pending, source_limit, add, del_source, is_fresh_since, is_waker, with_waiter, poll_source, new_listener, is_listener, with_listening, step_listener, drop_listener, is_timer, unregistered, next_deadline, fired, tick_deadline, tick_timer, set_deadline, set_timer, end_timer, begin_round, wait_answered, wait_in, wait_round, without_waiters, world_taken, wakers_taken, rearmed, handle_source, handle_first, handle_in, handle_round, finish_in, handle_each, hand_of, case_of, step_result}
 use Rattle.aio_base.specs.Drawn.{listeners_after, timers_after, noted_after, due_after, DrawsFollow}
+use Rattle.aio_base.proofs.DrawnIds.{case_ids}
 use Rattle.aio_base.proofs.Frames.{either, either_world}
 
 -- what a step of the machine may draw or note
@@ -249,6 +250,7 @@ draws_follow w s answers =
     record {
       listeners = ap (λ (t : Tally). t.drawn) is;
       timers = ap (λ (t : Tally). t.made) is;
+      ids = case_ids w s answers;
       noted = ap (λ (t : Tally). t.noted) is;
       due = ap (λ (t : Tally). t.due) is;
     }

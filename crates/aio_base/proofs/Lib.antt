@@ -20,6 +20,7 @@ pub mod FirstPolls
 pub mod Frames
 pub mod FiringOrder
 pub mod Drawing
+pub mod DrawnIds
 mod FalseAnswers
 mod FalseDraws
 mod FalseCalls

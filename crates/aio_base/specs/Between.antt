@@ -80,7 +80,7 @@ pub record StandsBetween (run : List PolledStep) : Type 0 where
   -- the last step let no count fall and gave no number again
   pub counted : (before : List PolledStep) (last : PolledStep) → run ≡ before ++ last ∷ []
       → CountsRise (world_of opening before) (world_of opening run)
-  -- it drew a number of a listener or of a timer where it told one, and noted what it was told to note
+  -- it drew a number of a listener or of a timer where it told one, an id where it registered a timer, and noted what it was told to note
   pub drawn : (before : List PolledStep) (last : PolledStep) → run ≡ before ++ last ∷ []
       → DrawsFollow (world_of opening before) last.step (outcome_of (world_of opening before) last).answer (world_of opening run)
   -- the listeners that were polled stand in the order of their first polls

@@ -306,9 +306,10 @@ pub fn a_step_is_told_what_fits_it()
 {}
 
 /// One more number of a listener is drawn where a listener is told, and of a timer where a timer is told,
-/// and in no other step: no number is left out. An event that is noted stands behind those that were
-/// noted before, and a fault or an interrupt is due once it was asked for; no other step of the machine
-/// touches what the poller in memory is to give.
+/// and in no other step. An id of a registration is drawn where a timer is registered under it, and it is
+/// the next one. So no number is left out. An event that is noted stands behind those that were noted
+/// before, and a fault or an interrupt is due once it was asked for; no other step of the machine touches
+/// what the poller in memory is to give.
 pub fn no_number_and_no_event_is_left_out()
     ensures { (w : World) (s : Step) (answers : List PollerAnswer)
         → DrawsFollow w s (step_result w s answers).answer (step_result w s answers).world }
