@@ -1,5 +1,5 @@
 -- The calls of a step are those that fit it, and without a call no interest changes.
-use Rattle.std.proofs.Common.{◌≡◌, ℕ, Bool, true, false, not, cond, ◌||◌, ◌&&◌, ◌==◌, List, [], ◌∷◌, ◌++◌, length, Option, None, Some, is_some, option_to_list, refl, sym, ap, ◌∙◌, subst, inl, inr, ⊎_elim, append-nil}
+use Rattle.std.proofs.Common.{◌≡◌, ◌↔◌, ◌≤◌, find, option_map, ℕ, Bool, true, false, not, cond, ◌||◌, ◌&&◌, ◌==◌, List, [], ◌∷◌, ◌++◌, length, Option, None, Some, is_some, option_to_list, refl, sym, ap, ◌∙◌, subst, inl, inr, ⊎_elim, append-nil}
 use Rattle.std.specs.Prelude.{nat_le, nat_lt, unwrap_or}
 use Rattle.std.specs.List.{Contains, list_any, filter}
 use Rattle.std.proofs.lemmas.Bool.{cond_both, and_parts, eq-eqb, eqb-true}
@@ -13,14 +13,18 @@ use Rattle.aio_base.specs.declared.outcomes.Which.TheVariants as which
 use Rattle.aio_base.specs.declared.steps.Step.{Step}
 use Rattle.aio_base.specs.declared.steps.Step.TheVariants as step
 use Rattle.aio_base.specs.declared.steps.Answer.TheVariants as answer
-use Rattle.aio_base.specs.World.{PollerAnswer, Succeeds, Gives, IsInterrupted, Fails, ListenerEntry, TimerEntry, ArmedDirection, RoundState, World, directions_of, serial_of, key_of, poll_waiter, mark_of, is_empty_list, is_idle, is_broken, wanted, set_armed, is_armed, clear_armed, same_dir}
-use Rattle.aio_base.specs.Machine.{Outcome, fails, next_answer, later_answers, pending, source_limit, free_key, add, del_source, is_fresh_since, is_waker, with_waiter, poll_source, new_listener, with_listening, step_listener, drop_listener, unregistered, next_deadline, fired, waiting, tick_deadline, tick_timer, set_deadline, set_timer, end_timer, begin_round, wait_answered, wait_in, wait_round, without_waiters, world_taken, wakers_taken, rearmed, handle_source, handle_first, handle_in, handle_round, finish_in, handle_each, hand_of, case_of, step_result}
+use Rattle.aio_base.specs.World.{PollerAnswer, Succeeds, Gives, IsInterrupted, Fails, LiveSource, ListenerEntry, TimerEntry, ArmedDirection, RoundState, World, directions_of, serial_of, key_of, poll_waiter, mark_of, is_empty_list, is_idle, is_broken, wanted, set_armed, is_armed, clear_armed, same_dir}
+use Rattle.aio_base.specs.Machine.{Outcome, fails, next_answer, later_answers, pending, source_limit, free_key, add, del_source, is_fresh_since, is_waker, with_waiter, poll_source, new_listener, with_listening, step_listener, drop_listener, unregistered, next_deadline, fired, waiting, tick_deadline, tick_timer, set_deadline, set_timer, end_timer, begin_round, wait_answered, wait_in, wait_round, world_taken, wakers_taken, rearmed, handle_source, handle_first, handle_in, handle_round, finish_in, finish_round, handle_each, hand_of, case_of, step_result}
 use Rattle.aio_base.specs.Succession.{events_given}
+use Rattle.aio_base.specs.Interests.{Arms, Nothing, SetsInterest, NoneOf, IsWaitedFor, arms_done, arms_behind, RoundArms, InterestsFollow}
 use Rattle.aio_base.specs.Calls.{OnlyArms, CallsFit, IsCleared, OnlyCleared, CallsFollow}
 use Rattle.aio_base.proofs.Membership.{none_is_in, first_is_in, later_is_in, among_cases, filtered_is_in, filtered_passes, any_gives}
-use Rattle.aio_base.proofs.RoundLemmas.{in_hand_of, round_begun}
+use Rattle.aio_base.proofs.RoundLemmas.{in_hand_of, round_begun, round_waited}
+use Rattle.aio_base.proofs.RoundFaults.{begun_clean}
+use Rattle.aio_base.proofs.Standing.{armed_stays}
+use Rattle.aio_base.proofs.Interesting.{Sets, Rearms, taken_arms, add_sets, del_sets, poll_sets, listen_sets, handle_sets, each_leaves}
 use Rattle.aio_base.proofs.Hearing.{case_heard, case_stays}
-use Rattle.aio_base.proofs.RoundEnds.{case_ends}
+use Rattle.aio_base.proofs.RoundEnds.{case_ends, round_waits}
 
 -- what an outcome calls fits a step, and leaves what is armed where it calls nothing
 record Calls (w : World) (s : Step) (o : Outcome) : Type 0 where
@@ -165,10 +169,6 @@ wait_calls w None answers = record { fit = refl; silent = λ none. refl }
 wait_calls w (Some round) answers =
     either w step.Wait (is_empty_list round.in_hand) _ _ (answered w round (next_answer answers) (later_answers answers))
     (record { fit = refl; silent = λ none. refl })
-
-taken_arms : (dirs : List Dir) (w : World) (serial begin : ℕ) → (world_taken w serial begin dirs).armed ≡ w.armed
-taken_arms [] w serial begin = refl
-taken_arms (dir ∷ dirs) w serial begin = taken_arms dirs (without_waiters w serial begin dir) serial begin
 
 none_arms : OnlyArms []
 none_arms c among = none_is_in c among
@@ -447,9 +447,146 @@ case_unarmed w step.Handle answers = tt
 case_unarmed w step.Finish answers = tt
 case_unarmed w step.React answers = react_unarmed w answers
 
+-- ## What is armed
+
+cleared_stays : (events : List Event) (armed : List ArmedDirection) (k : ℕ) (dir : Dir) → Arms armed k dir → NoneOf events k → Arms (clear_armed armed events) k dir
+cleared_stays [] armed k dir arms none = arms
+cleared_stays (event ∷ events) armed k dir arms none =
+    cleared_stays events (set_armed armed event.key.0 []) k dir
+    (armed_stays armed event.key.0 [] k dir (λ same. none event (first_is_in event events) (sym same)) arms) (λ e later. none e (later_is_in event events e later))
+
+-- what is armed after events cleared their keys
+cleared_is : (events : List Event) (armed after : List ArmedDirection) → after ≡ clear_armed armed events → (k : ℕ) (dir : Dir)
+    → Arms after k dir ↔ (Arms armed k dir × NoneOf events k)
+cleared_is events armed after is k dir = (
+  λ arms. let from = cleared_from events armed (record { key = k; dir = dir }) (subst (λ xs. Arms xs k dir) is arms) in
+      (from.0, λ e here same. from.1 e here (sym same)),
+  λ stays. subst (λ xs. Arms xs k dir) (sym is) (cleared_stays events armed k dir stays.0 stays.1),
+)
+
+wait_given : (w : World) (round : Option RoundState) (answers : List PollerAnswer) (count : ℕ) → (wait_in w round answers).answer ≡ answer.Given count
+    → (wait_in w round answers).world.armed ≡ clear_armed w.armed (events_given (next_answer answers))
+wait_given w None answers count told = absurd cc
+wait_given w (Some round) answers count told =
+    cond_both (is_empty_list round.in_hand) _ _
+    (λ (o : Outcome). o.answer ≡ answer.Given count → o.world.armed ≡ clear_armed w.armed (events_given (next_answer answers)))
+    (λ empty told. answered_arms w round (next_answer answers) (later_answers answers)) (λ some told. absurd cc) told
+
+-- a world with the same waiters
+abbrev SameWaiters : World → World → Type 0
+SameWaiters w v = (n : ℕ) (dir : Dir) → is_idle v n dir ≡ is_idle w n dir
+
+answered_waiters : (w : World) (round : RoundState) (told : PollerAnswer) (rest : List PollerAnswer) → SameWaiters w (wait_answered w round told rest).world
+answered_waiters w round Succeeds rest n dir = refl
+answered_waiters w round (Gives events) rest n dir = refl
+answered_waiters w round IsInterrupted rest n dir = refl
+answered_waiters w round Fails rest n dir = refl
+
+wait_waiters : (w : World) (round : Option RoundState) (answers : List PollerAnswer) → SameWaiters w (wait_in w round answers).world
+wait_waiters w None answers n dir = refl
+wait_waiters w (Some round) answers n dir =
+    cond_both (is_empty_list round.in_hand) _ _ (λ (o : Outcome). is_idle o.world n dir ≡ is_idle w n dir)
+    (λ empty. answered_waiters w round (next_answer answers) (later_answers answers) n dir) (λ some. refl)
+
+begin_waiters : (w : World) (answers : List PollerAnswer) → SameWaiters w (begin_round w None answers).world
+begin_waiters w answers n dir = cond_both (is_some w.round) _ _ (λ (o : Outcome). is_idle o.world n dir ≡ is_idle w n dir) (λ runs. refl) (λ none. refl)
+
+no_round : (round : Option RoundState) → round ≡ None → is_some round ≡ false
+no_round round none = ap is_some none
+
+begun_round : (w : World) (answers : List PollerAnswer) → is_some w.round ≡ false
+    → (let begun = begin_round w None answers in let waited = wait_round begun.world begun.left in
+    let handled = handle_each (hand_of waited.world.round) waited.world waited.left in
+    RoundArms w answers (waited.calls ++ handled.calls) (finish_round handled.world handled.left).world)
+begun_round w answers none =
+    let begun = begin_round w None answers in
+    let waited = wait_round begun.world begun.left in
+    let hand = hand_of waited.world.round in
+    let handled = handle_each hand waited.world waited.left in
+    let ended = finish_round handled.world handled.left in
+    let events = events_given (next_answer answers) in
+    let start = round_begun w answers none in
+    let waits = round_waits begun.world begun.world.round begun.left start.hand (begun_clean w None answers none) in
+    let all = each_leaves hand waited.world waited.left in
+    let clears : waited.world.armed ≡ clear_armed w.armed events =
+    waits_arms begun.world begun.world.round begun.left start.hand
+    ∙ ap (λ (armed : List ArmedDirection). clear_armed armed (events_given (next_answer begun.left))) (begun_arms w answers)
+    ∙ ap (λ (a : List PollerAnswer). clear_armed w.armed (events_given (next_answer a))) start.left in
+    let ends : ended.world.armed ≡ handled.world.armed = finish_arms handled.world handled.world.round handled.left in
+    let lives : waited.world.live ≡ w.live = (round_waited begun.world begun.world.round begun.left start.hand).same.live ∙ start.live in
+    let count : arms_done handled.calls waited.left ≡ arms_behind (waited.calls ++ handled.calls) answers =
+    ap (arms_done handled.calls) (waits.left ∙ ap later_answers start.left)
+    ∙ ap (λ (calls : List Which). arms_behind (calls ++ handled.calls) answers) (sym waits.calls) in
+    let cleared : (k : ℕ) (dir : Dir) → Arms waited.world.armed k dir ↔ (Arms w.armed k dir × NoneOf events k) = cleared_is events w.armed waited.world.armed clears in
+    record {
+      keys = all.keys;
+      asked = subst (λ n. length all.keys ≤ n) count all.asked;
+      others = λ k dir other.
+          let o = all.others k dir other in (
+            λ arms. (cleared k dir).0 (o.0 (subst (λ xs. Arms xs k dir) ends arms)),
+            λ stays. subst (λ xs. Arms xs k dir) (sym ends) (o.1 ((cleared k dir).1 stays)),
+          );
+      waited = λ k dir arms.
+          ⊎_elim (λ (still : Arms waited.world.armed k dir). inl ((cleared k dir).0 still))
+          (λ (anew : IsWaitedFor waited.world k dir).
+          inr (
+            anew.0,
+            sym (ap (λ live. option_map (λ (s : LiveSource). s.serial) (find (λ (s : LiveSource). s.key == k) live)) lives) ∙ anew.1,
+            sym (wait_waiters begun.world begun.world.round begun.left anew.0 dir ∙ begin_waiters w answers anew.0 dir) ∙ anew.2,
+          )) (all.from k dir (subst (λ xs. Arms xs k dir) ends arms));
+    }
+
+react_round : (w : World) (answers : List PollerAnswer) → w.round ≡ None → RoundArms w answers (case_of w step.React answers).calls (case_of w step.React answers).world
+react_round w answers none =
+    cond_both (is_some w.round) _ _ (λ (o : Outcome). RoundArms w answers o.calls o.world)
+    (λ runs. absurd (let wrong : true ≡ false = sym runs ∙ no_round w.round none in cc)) (λ begins. begun_round w answers begins)
+
+case_interests : (w : World) (s : Step) (answers : List PollerAnswer)
+    → InterestsFollow w s answers (case_of w s answers).answer (case_of w s answers).calls (case_of w s answers).world
+case_interests w s answers = record {
+  added = λ key is.
+      subst (λ (x : Step). (case_of w x answers).answer ≡ answer.KeyIs key → SetsInterest w.armed (case_of w x answers).world.armed key.0 Nothing) (sym is)
+      (add_sets w answers key);
+  removed = λ key is.
+      subst (λ (x : Step). (case_of w x answers).answer ≡ answer.Gone → SetsInterest w.armed (case_of w x answers).world.armed key.0 Nothing) (sym is)
+      (del_sets w key.0 (serial_of w key.0) answers);
+  polled = λ key dir waker serial is lives.
+      subst (λ (x : Step). Sets w.armed key.0 serial (case_of w x answers)) (sym is)
+      (subst (λ found. Sets w.armed key.0 serial (poll_source w key.0 dir waker found answers)) (sym lives) (poll_sets w key.0 dir waker serial answers));
+  listened = λ number key waker l is found at.
+      subst (λ (x : Step). Sets w.armed key l.serial (case_of w x answers)) (sym is)
+      (subst (λ entry. Sets w.armed key l.serial (step_listener w waker entry answers)) (sym found) (listen_sets w waker l answers key at));
+  handled = λ key serial is lives.
+      subst (λ (x : Step). Rearms w.armed key serial (case_of w x answers)) (sym is) (handle_sets w w.round answers key serial lives);
+  given = λ count is.
+      subst (λ (x : Step). (case_of w x answers).answer ≡ answer.Given count → (k : ℕ) (dir : Dir)
+      → Arms (case_of w x answers).world.armed k dir ↔ (Arms w.armed k dir × NoneOf (events_given (next_answer answers)) k)) (sym is)
+      (λ told. cleared_is (events_given (next_answer answers)) w.armed (wait_in w w.round answers).world.armed (wait_given w w.round answers count told));
+  round = λ is none.
+      subst (λ (x : Step). RoundArms w answers (case_of w x answers).calls (case_of w x answers).world) (sym is) (react_round w answers none);
+}
+
 pub calls_follow : (w : World) (s : Step) (answers : List PollerAnswer)
     → CallsFollow w s answers (step_result w s answers).answer (step_result w s answers).calls (step_result w s answers).world
 unfolding step_result
 calls_follow w s answers =
     let c = case_calls w s answers in
-    record { fit = c.fit; silent = c.silent; cleared = case_clears w s answers; heard = case_heard w s answers; stays = case_stays w s answers; ended = case_ends w s answers; unarmed = case_unarmed w s answers }
+    let i = case_interests w s answers in
+    record {
+      fit = c.fit;
+      silent = c.silent;
+      cleared = case_clears w s answers;
+      heard = case_heard w s answers;
+      stays = case_stays w s answers;
+      ended = case_ends w s answers;
+      unarmed = case_unarmed w s answers;
+      interests = record {
+        added = i.added;
+        removed = i.removed;
+        polled = i.polled;
+        listened = i.listened;
+        handled = i.handled;
+        given = i.given;
+        round = λ is none. let r = i.round is none in record { keys = r.keys; asked = r.asked; others = r.others; waited = r.waited };
+      };
+    }

@@ -1,7 +1,6 @@
 -- A step draws no id of a registration, or the next one, under which it registers a timer.
-use Rattle.std.proofs.Common.{◌≡◌, ℕ, ◌+◌, Bool, true, false, cond, ◌&&◌, List, [], ◌++◌, ◌∷◌, find, Option, None, Some, is_some, refl, ap, ◌∙◌, inl, inr}
+use Rattle.std.proofs.Common.{◌≡◌, ℕ, ◌+◌, cond, ◌&&◌, List, find, Option, None, Some, is_some, refl, ap, ◌∙◌, inl, inr}
 use Rattle.std.specs.Prelude.{nat_le, nat_lt}
-use Rattle.std.proofs.lemmas.Bool.{cond_both}
 use Rattle.std.proofs.lemmas.List.Elements.{Contains-push}
 use Rattle.aio_base.specs.declared.names.Waker.{Waker}
 use Rattle.aio_base.specs.declared.steps.Step.{Step}

@@ -24,6 +24,7 @@ pub mod DrawnIds
 mod FalseAnswers
 mod FalseDraws
 mod FalseCalls
+mod FalseInterests
 mod FalseRefusals
 mod FalseHistories
 mod FalseNotes
@@ -43,6 +44,7 @@ pub mod HeldTicks
 pub mod HeldTimers
 pub mod Holding
 pub mod InterestLemmas
+pub mod Interesting
 pub mod Kept
 pub mod Leaving
 pub mod LockSeats

@@ -17,12 +17,12 @@ use Rattle.aio_base.proofs.RoundLemmas.{in_hand_of, round_begun}
 use Rattle.aio_base.proofs.RoundFaults.{begun_clean}
 
 -- the poller's answers behind those to these calls
-abbrev answers_behind : List Which → List PollerAnswer → List PollerAnswer
+abbrev pub answers_behind : List Which → List PollerAnswer → List PollerAnswer
 answers_behind [] answers = answers
 answers_behind (call ∷ calls) answers = answers_behind calls (later_answers answers)
 
 -- the fault of a round after arms, by whether one failed
-abbrev after_arms : EndWord → Bool → EndWord
+abbrev pub after_arms : EndWord → Bool → EndWord
 after_arms before failed = cond failed (first_fault before FaultArm) before
 
 kept_once : (before : EndWord) → first_fault (first_fault before FaultArm) FaultArm ≡ first_fault before FaultArm
@@ -58,10 +58,10 @@ counts_both (call ∷ first) second = let later = counts_both first second in om
 -- ## Events are handled
 
 -- an outcome of arms, at most so many, whose failures are the round's faults
-record Arms (before : EndWord) (most : ℕ) (answers : List PollerAnswer) (o : Outcome) : Type 0 where
-  fault : fault_of o.world.round ≡ after_arms before (arm_failed o.calls answers)
-  left : o.left ≡ answers_behind o.calls answers
-  few : length o.calls ≤ most
+pub record Arms (before : EndWord) (most : ℕ) (answers : List PollerAnswer) (o : Outcome) : Type 0 where
+  pub fault : fault_of o.world.round ≡ after_arms before (arm_failed o.calls answers)
+  pub left : o.left ≡ answers_behind o.calls answers
+  pub few : length o.calls ≤ most
 
 arm_fault : (failing : Bool) (v : World) (round : RoundState) (key serial : ℕ)
     → let u : World = record v { round = Some round } in
@@ -90,7 +90,7 @@ first_arms : (w : World) (round : RoundState) (hand : List Event) (answers : Lis
 first_arms w round [] answers same = record { fault = same; left = refl; few = omega arith }
 first_arms w round (event ∷ events) answers same = source_arms w (record round { in_hand = events }) event (serial_of w event.key.0) answers
 
-handle_arms : (w : World) (round : Option RoundState) (answers : List PollerAnswer) → w.round ≡ round → Arms (fault_of round) 1 answers (handle_in w round answers)
+pub handle_arms : (w : World) (round : Option RoundState) (answers : List PollerAnswer) → w.round ≡ round → Arms (fault_of round) 1 answers (handle_in w round answers)
 handle_arms w None answers is = record { fault = ap fault_of is; left = refl; few = omega arith }
 handle_arms w (Some round) answers is = first_arms w round round.in_hand answers (ap fault_of is)
 
@@ -114,10 +114,10 @@ each_arms (event ∷ events) w answers =
 
 -- ## A round waits
 
-record Waits (told : PollerAnswer) (rest : List PollerAnswer) (o : Outcome) : Type 0 where
-  calls : o.calls ≡ which.Wait ∷ []
-  left : o.left ≡ rest
-  fault : fault_of o.world.round ≡ cond (fails told) FaultWait Clean
+pub record Waits (told : PollerAnswer) (rest : List PollerAnswer) (o : Outcome) : Type 0 where
+  pub calls : o.calls ≡ which.Wait ∷ []
+  pub left : o.left ≡ rest
+  pub fault : fault_of o.world.round ≡ cond (fails told) FaultWait Clean
 
 answered_waits : (w : World) (round : RoundState) (told : PollerAnswer) (rest : List PollerAnswer) → round.fault ≡ Clean
     → Waits told rest (wait_answered w round told rest)
@@ -126,7 +126,7 @@ answered_waits w round (Gives events) rest clean = record { calls = refl; left =
 answered_waits w round IsInterrupted rest clean = record { calls = refl; left = refl; fault = clean }
 answered_waits w round Fails rest clean = record { calls = refl; left = refl; fault = ap (λ (fault : EndWord). first_fault fault FaultWait) clean }
 
-round_waits : (w : World) (round : Option RoundState) (answers : List PollerAnswer) → in_hand_of round ≡ Some [] → fault_of round ≡ Clean
+pub round_waits : (w : World) (round : Option RoundState) (answers : List PollerAnswer) → in_hand_of round ≡ Some [] → fault_of round ≡ Clean
     → Waits (next_answer answers) (later_answers answers) (wait_in w round answers)
 round_waits w None answers empty clean = absurd cc
 round_waits w (Some round) answers empty clean =

@@ -117,7 +117,7 @@ pub record StandsBetween (run : List PolledStep) : Type 0 where
   -- it was told what fits it, and that it is refused where what it needs was not to be had
   pub fits : (before : List PolledStep) (last : PolledStep) → run ≡ before ++ last ∷ []
       → FitsTheStep (world_of opening before) last.step (outcome_of (world_of opening before) last).answer
-  -- it called the poller as it told, told where one of its calls failed, and no interest changed without a call
+  -- it called the poller as it told, told where one of its calls failed, and what is armed is what it asked for
   pub calls : (before : List PolledStep) (last : PolledStep) → run ≡ before ++ last ∷ []
       → CallsFollow (world_of opening before) last.step last.answers (outcome_of (world_of opening before) last).answer (outcome_of (world_of opening before) last).calls (world_of opening run)
   -- and its own listener and timer are as it says

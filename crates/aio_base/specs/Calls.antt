@@ -13,6 +13,7 @@ use Rattle.aio_base.specs.declared.steps.Answer.{Answer}
 use Rattle.aio_base.specs.declared.steps.Answer.TheVariants as answer
 use Rattle.aio_base.specs.World.{PollerAnswer, ArmedDirection, World, is_armed, clear_armed}
 use Rattle.aio_base.specs.Machine.{fails, next_answer, later_answers}
+use Rattle.aio_base.specs.Interests.{InterestsFollow}
 use Rattle.aio_base.specs.Succession.{events_given}
 
 -- no call, or one arm
@@ -99,3 +100,5 @@ pub record CallsFollow (w : World) (s : Step) (answers : List PollerAnswer) (tol
   pub ended : EndFits s answers told calls
   -- and remembers nothing as armed where it made no arm
   pub unarmed : OnlyCleared s answers told calls w.armed v.armed
+  -- what is armed is what was asked for
+  pub interests : InterestsFollow w s answers told calls v

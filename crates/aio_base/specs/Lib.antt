@@ -17,6 +17,7 @@ pub mod RoundCounts
 pub mod RoundHands
 pub mod Clock
 pub mod Handling
+pub mod Interests
 pub mod Others
 pub mod Marks
 pub mod Sources

@@ -327,6 +327,12 @@ pub fn no_number_and_no_event_is_left_out()
 /// interest. A whole round that ran ends with `fault wait` exactly where its wait failed, and else with
 /// `fault arm` exactly where one of its arms failed. It arms at most once for each event of its wait, and
 /// where it makes no arm, what was armed stays so but for the keys of these events.
+///
+/// What is armed is what was asked for. Of a source that is new or gone nothing is armed. A poll or a
+/// handled event that armed its source leaves it armed in just the directions that have a waiter, and a
+/// wait clears the keys of its events; of every other key what was armed is (`InterestsFollow`). A whole
+/// round arms anew at most one key for each of its arms that succeeded, and only directions that had a
+/// waiter.
 pub fn no_interest_changes_without_a_call()
     ensures { (w : World) (s : Step) (answers : List PollerAnswer)
         → CallsFollow w s answers (step_result w s answers).answer (step_result w s answers).calls
