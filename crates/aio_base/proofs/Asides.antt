@@ -1,13 +1,12 @@
 -- What the steps of the machine leave of the serials, the marks and the failed arms.
-use Rattle.std.proofs.Common.{◌≡◌, ℕ, Bool, true, false, cond, ◌&&◌, ◌||◌, ◌==◌, List, [], ◌∷◌, Option, None, Some, is_some, refl, ap, ◌∙◌}
+use Rattle.std.proofs.Common.{◌≡◌, ℕ, Bool, true, false, cond, ◌&&◌, ◌||◌, List, [], ◌∷◌, Option, None, Some, is_some, refl, ap, ◌∙◌}
 use Rattle.std.specs.Prelude.{nat_le, option_to_list, unwrap_or, length}
-use Rattle.std.specs.List.{list_any}
 use Rattle.aio_base.specs.declared.names.Key.{Key}
 use Rattle.aio_base.specs.declared.names.Waker.{Waker}
 use Rattle.aio_base.specs.declared.names.Dir.{Dir}
 use Rattle.aio_base.specs.declared.names.Event.{Event}
 use Rattle.aio_base.specs.World.{PollerAnswer, Succeeds, Gives, IsInterrupted, Fails, Mark, ListenerEntry, BrokenSource, TimerEntry, RoundState, World, directions_of, serial_of, key_of, poll_waiter, mark_of, is_empty_list, is_idle, is_broken, wanted}
-use Rattle.aio_base.specs.Machine.{fails, next_answer, later_answers, broken_world, armed_world, after_arm, pending, source_limit, add, del_source, is_fresh_since, is_waker, with_waiter, poll_source, new_listener, with_listening, step_listener, drop_listener, unregistered, next_deadline, fired, tick_deadline, tick_timer, set_deadline, set_timer, end_timer, begin_round, wait_answered, wait_in, wait_round, without_waiters, world_taken, rearmed, handle_source, handle_first, handle_in, handle_round, handle_each, hand_of, finish_in, react}
+use Rattle.aio_base.specs.Machine.{fails, next_answer, later_answers, broken_world, armed_world, after_arm, pending, source_limit, add, is_fresh_since, is_waker, with_waiter, poll_source, new_listener, with_listening, step_listener, drop_listener, unregistered, next_deadline, fired, tick_deadline, tick_timer, set_deadline, set_timer, end_timer, begin_round, wait_answered, wait_in, wait_round, without_waiters, world_taken, rearmed, handle_source, handle_first, handle_in, handle_round, handle_each, hand_of, finish_in, react}
 use Rattle.aio_base.proofs.Frames.{either, either_world}
 
 pub record Aside : Type 0 where
@@ -21,9 +20,6 @@ aside w = record { serials = w.serials; marks = w.marks; broken = w.broken }
 -- but for what the steps of sources change
 abbrev pub but_serials : Aside → Aside
 but_serials a = record a { serials = 0 }
-
-abbrev pub but_marks : Aside → Aside
-but_marks a = record a { marks = [] }
 
 abbrev pub but_broken : Aside → Aside
 but_broken a = record a { broken = [] }
@@ -97,11 +93,6 @@ pub add_leaves : (w : World) (answers : List PollerAnswer) → but_serials (asid
 add_leaves w answers =
     either (λ o. but_serials (aside o.world) ≡ but_serials (aside w)) (nat_le source_limit (length w.live)) _ _ refl
     (either_world (λ v. but_serials (aside v) ≡ but_serials (aside w)) (fails (next_answer answers)) w _ refl refl)
-
-pub del_serials : (w : World) (key : ℕ) (serial : Option ℕ) (answers : List PollerAnswer) → (del_source w key serial answers).world.serials ≡ w.serials
-del_serials w key None answers = refl
-del_serials w key (Some serial) answers =
-    either (λ o. o.world.serials ≡ w.serials) (list_any (λ (l : ListenerEntry). l.serial == serial) w.listeners) _ _ refl refl
 
 -- ## Arming
 

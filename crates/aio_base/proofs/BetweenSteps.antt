@@ -20,14 +20,14 @@ use Rattle.aio_base.specs.Refusals.{RefusalLeaves}
 use Rattle.aio_base.specs.RoundCounts.{RoundsFollow}
 use Rattle.aio_base.specs.RoundHands.{HandFollows}
 use Rattle.aio_base.specs.Timers.{after_pass}
-use Rattle.aio_base.specs.Arming.{ArmsAsTold}
+use Rattle.aio_base.specs.Arming.{UnbrokenAsTold}
 use Rattle.aio_base.specs.Between.{MakesPass, is_of_timer, RegistrationsFollow, StandsBetween, StandsAfter}
 use Rattle.aio_base.proofs.Answering.{answer_fits}
 use Rattle.aio_base.proofs.Calling.{calls_follow}
 use Rattle.aio_base.proofs.Awaiting.{run_waits_for_timers}
 use Rattle.aio_base.proofs.Counting.{counts_rise}
 use Rattle.aio_base.proofs.Drawing.{draws_follow}
-use Rattle.aio_base.proofs.Rearming.{step_arms_as_told}
+use Rattle.aio_base.proofs.Rearming.{step_leaves_unbroken}
 use Rattle.aio_base.proofs.CoverRuns.{run_covers, run_waits_for_live}
 use Rattle.aio_base.proofs.FirstPolls.{run_polls_in_order}
 use Rattle.aio_base.proofs.Following.{run_follows}
@@ -108,9 +108,9 @@ stands_between run = record {
       subst (DrawsFollow w last.step (outcome_of w last).answer) (sym (ap (world_of opening) is ∙ one_more opening before last)) (draws_follow w last.step last.answers);
   polled = run_polls_in_order run;
   registered = run_waits_for_timers run;
-  arms = λ before last is.
+  unbroken = λ before last is.
       let w = world_of opening before in
-      subst (ArmsAsTold w last.step last.answers (outcome_of w last).answer) (sym (ap (world_of opening) is ∙ one_more opening before last)) (step_arms_as_told w last.step last.answers);
+      subst (UnbrokenAsTold w last.step last.answers (outcome_of w last).answer) (sym (ap (world_of opening) is ∙ one_more opening before last)) (step_leaves_unbroken w last.step last.answers);
   rounds = λ before last is.
       let w = world_of opening before in
       subst (RoundsFollow w last.step last.answers (outcome_of w last).answer) (sym (ap (world_of opening) is ∙ one_more opening before last)) (rounds_follow w last.step last.answers);

@@ -14,7 +14,7 @@ use Rattle.aio_base.specs.declared.steps.Step.TheVariants as step
 use Rattle.aio_base.specs.declared.steps.Answer.TheVariants as answer
 use Rattle.aio_base.specs.World.{PollerAnswer, LiveSource, BrokenSource, RoundState, World, directions, directions_of, serial_of, is_empty_list, is_idle, wanted, is_broken, without_broken}
 use Rattle.aio_base.specs.Machine.{Outcome, fails, next_answer, later_answers, broken_world, armed_world, first_fault, begin_round, wait_round, without_waiters, world_taken, wakers_taken, rearmed, handle_source, handle_first, handle_in, handle_round, finish_in, finish_round, handle_each, hand_of, fault_of, react, step_result}
-use Rattle.aio_base.specs.Arming.{handled_events, is_clean, tells_no_fault, ArmsAsTold}
+use Rattle.aio_base.specs.Arming.{handled_events, is_clean, tells_no_fault, UnbrokenAsTold}
 use Rattle.aio_base.specs.Succession.{events_given}
 use Rattle.aio_base.proofs.Arming.{without_unbroken, polled_arms}
 use Rattle.aio_base.proofs.CoverRounds.{nowhere, taken_rewaits}
@@ -318,9 +318,9 @@ handled_rearms w (step.Begin limit) answers event serial among told lives = none
 handled_rearms w step.Wait answers event serial among told lives = none_is_in event among
 handled_rearms w step.Finish answers event serial among told lives = none_is_in event among
 
-pub step_arms_as_told : (w : World) (s : Step) (answers : List PollerAnswer)
-    → ArmsAsTold w s answers (step_result w s answers).answer (step_result w s answers).world
-step_arms_as_told w s answers = record {
+pub step_leaves_unbroken : (w : World) (s : Step) (answers : List PollerAnswer)
+    → UnbrokenAsTold w s answers (step_result w s answers).answer (step_result w s answers).world
+step_leaves_unbroken w s answers = record {
   polled = λ serial at told. polled_arms w s answers serial at told;
   handled = λ event serial among told lives waits. handled_rearms w s answers event serial among told lives waits;
 }

@@ -14,7 +14,7 @@ use Rattle.aio_base.specs.World.{Gives, Fails, World, LiveSource, BrokenSource, 
 use Rattle.aio_base.specs.Machine.{hand_of}
 use Rattle.aio_base.specs.Registered.{IsRegistered, TimersAreRegistered}
 use Rattle.aio_base.specs.Timers.{AllAbove}
-use Rattle.aio_base.specs.Arming.{ArmsAsTold}
+use Rattle.aio_base.specs.Arming.{UnbrokenAsTold}
 use Rattle.aio_base.specs.Covered.{tells_at, Cover, IsArmed, InHand, IsTold, Covered, HasSource, WaitsForLive}
 use Rattle.aio_base.specs.Counts.{NoneAgain, CountsRise}
 use Rattle.aio_base.specs.Distinct.{IsOfTimer, NoDoubles}
@@ -239,7 +239,7 @@ abbrev broken : Dir → World
 broken dir = record (waiting dir) { pos = 3; broken = record { serial = 1; position = 1 } ∷ [] }
 
 -- a poll of a broken source whose arm fails again, that is told pending and leaves the source broken as it was told before
-pub a_poll_that_hides_behind_an_older_fault_is_refused : ArmsAsTold (broken Read) (step.Poll (record { 0 = 0 }) Read (record { 0 = 7 })) (Fails ∷ []) answer.Pending (broken Read) → ⊥
+pub a_poll_that_hides_behind_an_older_fault_is_refused : UnbrokenAsTold (broken Read) (step.Poll (record { 0 = 0 }) Read (record { 0 = 7 })) (Fails ∷ []) answer.Pending (broken Read) → ⊥
 a_poll_that_hides_behind_an_older_fault_is_refused arms =
     let whole : true ≡ false = arms.polled 1 refl refl in cc
 
@@ -249,13 +249,13 @@ readable = record { key = record { 0 = 0 }; on = record { read = true; write = f
 
 -- a handled event of a broken source whose arm for the waiter that is left fails again, told without a fault
 pub a_handling_that_hides_behind_an_older_fault_is_refused :
-    ArmsAsTold (record (broken Write) { round = Some (record (round_with []) { in_hand = readable ∷ [] }) }) step.Handle (Fails ∷ [])
+    UnbrokenAsTold (record (broken Write) { round = Some (record (round_with []) { in_hand = readable ∷ [] }) }) step.Handle (Fails ∷ [])
     (answer.Handled (record { 0 = 0 }) false) (broken Write) → ⊥
 a_handling_that_hides_behind_an_older_fault_is_refused arms =
     let whole : true ≡ false = arms.handled readable 1 (first_is_in readable []) refl refl refl in cc
 
 -- so in a whole round that ends clean
 pub a_round_that_hides_behind_an_older_fault_is_refused :
-    ArmsAsTold (broken Write) step.React (Gives (readable ∷ []) ∷ Fails ∷ []) (answer.Round 1 1 Clean) (broken Write) → ⊥
+    UnbrokenAsTold (broken Write) step.React (Gives (readable ∷ []) ∷ Fails ∷ []) (answer.Round 1 1 Clean) (broken Write) → ⊥
 a_round_that_hides_behind_an_older_fault_is_refused arms =
     let whole : true ≡ false = arms.handled readable 1 (first_is_in readable []) refl refl refl in cc

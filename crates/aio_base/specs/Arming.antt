@@ -1,4 +1,4 @@
--- That a step which tells of no failed arm leaves the source that it polled, or whose event it handled, armed for the waiters there.
+-- That a step which tells of no failed arm leaves the source that it polled, or whose event it handled, unbroken.
 use Rattle.std.specs.Prelude.{◌≡◌, ◌⊎◌, ◌==◌, ℕ, Bool, true, false, not, if◌then◌else◌, List, [], find, take, Option, None, Some, is_some, option_map}
 use Rattle.std.specs.List.{Contains, list_any}
 use Rattle.aio_base.specs.declared.names.Dir.{Dir}
@@ -39,7 +39,7 @@ tells_no_fault _ = false
 
 -- How a step from a world, with its answer and the world after it, leaves the source that it polled or whose event it handled. No earlier fault excuses
 -- a waiter of a source that is not broken: it is armed for, or an event of its key is in hand.
-pub record ArmsAsTold (w : World) (s : Step) (answers : List PollerAnswer) (told : Answer) (after : World) : Type 0 where
+pub record UnbrokenAsTold (w : World) (s : Step) (answers : List PollerAnswer) (told : Answer) (after : World) : Type 0 where
   -- a poll that is told pending leaves its source unbroken, also where an earlier arm of it had failed
   pub polled : (serial : ℕ) → polled_source w s ≡ Some serial → told ≡ answer.Pending → is_broken after serial ≡ false
   -- so does an event that was handled without a fault, itself or in a whole round, where its source has a waiter left

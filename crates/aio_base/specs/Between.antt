@@ -7,7 +7,7 @@ use Rattle.aio_base.specs.World.{Succeeds, Gives, RoundState, World, opening}
 use Rattle.aio_base.specs.Runs.{PolledStep, answers_of, outcome_of, scripted, wakes_of, world_of}
 use Rattle.aio_base.specs.Storings.{Once, storings_of}
 use Rattle.aio_base.specs.Succession.{StoringsFollow}
-use Rattle.aio_base.specs.Arming.{ArmsAsTold}
+use Rattle.aio_base.specs.Arming.{UnbrokenAsTold}
 use Rattle.aio_base.specs.Covered.{Covered, WaitsForLive}
 use Rattle.aio_base.specs.Clock.{ClockIsSet}
 use Rattle.aio_base.specs.Counts.{CountsRise}
@@ -87,9 +87,9 @@ pub record StandsBetween (run : List PolledStep) : Type 0 where
   pub polled : InPollOrder (world_of opening run)
   -- each timer that waits is registered, or a pass took its registration
   pub registered : TimersAreRegistered (world_of opening run)
-  -- the last step left the source that it polled or handled armed, where its answer tells of no fault
-  pub arms : (before : List PolledStep) (last : PolledStep) → run ≡ before ++ last ∷ []
-      → ArmsAsTold (world_of opening before) last.step last.answers (outcome_of (world_of opening before) last).answer (world_of opening run)
+  -- the last step left the source that it polled or handled unbroken, where its answer tells of no fault
+  pub unbroken : (before : List PolledStep) (last : PolledStep) → run ≡ before ++ last ∷ []
+      → UnbrokenAsTold (world_of opening before) last.step last.answers (outcome_of (world_of opening before) last).answer (world_of opening run)
   -- the last step counted a round where it began one, what ran ran on, and it was told so
   pub rounds : (before : List PolledStep) (last : PolledStep) → run ≡ before ++ last ∷ []
       → RoundsFollow (world_of opening before) last.step last.answers (outcome_of (world_of opening before) last).answer (world_of opening run)

@@ -3,7 +3,7 @@
 ghost use Rattle.std.specs.Prelude.{◌≡◌, ◌≢◌, ◌⊎◌, ◌&&◌, ◌↔◌, ℕ, ◌<◌, ◌≤◌, nat_le, filter, true, false, not, List, [], ◌∷◌, ◌++◌, length, map, Option, Some, None};
 ghost use Rattle.std.specs.List.{All, Contains};
 ghost use Rattle.aio_base.specs.Answers.{FitsTheStep};
-ghost use Rattle.aio_base.specs.Arming.{ArmsAsTold, IsArmedOrInHand};
+ghost use Rattle.aio_base.specs.Arming.{UnbrokenAsTold, IsArmedOrInHand};
 ghost use Rattle.aio_base.specs.Between.{IsWaitedOut, RegistrationsFollow, StandsAfter, StandsBetween, is_of_timer};
 ghost use Rattle.aio_base.specs.Calls.{CallsFollow};
 ghost use Rattle.aio_base.specs.Clock.{ClockIsSet};
@@ -410,9 +410,9 @@ pub fn polled_listeners_stand_in_the_order_of_their_first_poll()
 /// `handle` or in a whole round that ends clean, where its source has a waiter left. A covered waiter of
 /// a source that is not broken is armed for, or an event of its key is in hand: no earlier fault excuses
 /// it.
-pub fn a_poll_that_is_told_pending_has_armed_its_source()
+pub fn a_poll_that_is_told_pending_leaves_its_source_unbroken()
     ensures step { (w : World) (s : Step) (answers : List PollerAnswer)
-        → ArmsAsTold w s answers (step_result w s answers).answer (step_result w s answers).world }
+        → UnbrokenAsTold w s answers (step_result w s answers).answer (step_result w s answers).world }
     ensures cover { (w : World) (answered : List Answer)
         → Covered w answered
         → (key serial : ℕ) (dir : Dir) (waiter : Waker)
