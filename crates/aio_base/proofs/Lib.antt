@@ -61,6 +61,7 @@ pub mod Readying
 pub mod Rearming
 pub mod RefusalLemmas
 mod RefusedLocks
+mod RefusedTurns
 mod RefusedWorlds
 pub mod Registering
 pub mod Rewaiting
@@ -69,6 +70,7 @@ mod RoundEnds
 pub mod RoundFaults
 pub mod RoundHands
 pub mod RoundLemmas
+pub mod RoundLockSteps
 pub mod RoundSteps
 mod Rows
 pub mod RunLemmas

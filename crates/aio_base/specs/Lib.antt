@@ -42,3 +42,6 @@ pub mod Tasks
 pub mod SharedLock
 pub mod LockLaws
 pub mod Polls
+pub mod ClockBounds
+pub mod RoundLock
+pub mod RoundLockLaws

@@ -4,9 +4,11 @@
 //!
 //! It stands on nothing but std. The traits promise what `devices` says; the definitions of
 //! `specs/` say what the machine answers to each step, which bytes a trace of steps writes, and which
-//! rule holds of the words that threads share and of a lock whose tokens know what it holds.
+//! rule holds of the words that threads share, of a lock whose tokens know what it holds, and of the lock
+//! of a shared reactor.
 #![tactic(auto)]
 
+pub mod clock;
 pub mod devices;
 pub mod draws;
 pub mod freshness;
@@ -22,8 +24,11 @@ pub mod steps;
 pub mod tasks;
 #[cfg(test)]
 mod tests;
+pub mod turn_laws;
+pub mod turns;
 pub mod word_laws;
 
+pub use clock::Clock;
 pub use devices::{Arm, EventWait, Faults, Poller};
 pub use draws::Draws;
 pub use later::Later;
@@ -34,3 +39,4 @@ pub use outcomes::{ArmFault, CountFault, EndWord, Failed, OutOfMemory, Poll, Wai
 pub use seats::{Mode, Owed, Role, SeatView, WordStep};
 pub use steps::{Answer, LineFault, Reason, Step};
 pub use tasks::{Cx, Task};
+pub use turns::{RoundItem, TurnView};

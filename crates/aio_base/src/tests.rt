@@ -1,15 +1,17 @@
 //! The traits of devices as a generic caller sees them, and the ends of the range of moments.
 
-ghost use Rattle.std.specs.Prelude.{◌≡◌, ◌+◌, ◌<◌, ◌≤◌, List, [], ◌∷◌, ◌++◌, Result, if◌then◌else◌, is_ok, vec_len, vec_capacity};
+ghost use Rattle.std.specs.Prelude.{◌≡◌, ◌+◌, ◌<◌, ◌≤◌, ◌^◌, Some, List, [], ◌∷◌, ◌++◌, Result, if◌then◌else◌, is_ok, vec_len, vec_capacity};
 ghost use Rattle.aio_base.specs.declared.names.Event.{Event};
 ghost use Rattle.aio_base.specs.declared.outcomes.Failed.{Failed};
+ghost use Rattle.aio_base.specs.ClockBounds.{IsWithin};
 ghost use Rattle.aio_base.specs.Devices.{ArmCall, ArmOf, Armed, Awaited, Arms, Becomes, PollerStep, RunOf, clear_interests, raised, with_interest};
 ghost use Rattle.aio_base.specs.Waits.{IsCountOf};
 
+use crate::clock::Clock;
 use crate::devices::{Arm, EventWait, Faults, Poller};
 use crate::draws::Draws;
 use crate::names::{Event, Interest, Key, Moment};
-use crate::outcomes::{Failed, Waited};
+use crate::outcomes::{Failed, OutOfMemory, Waited};
 use std::test::Fail;
 
 const READABLE: Event = Event {
@@ -169,6 +171,65 @@ fn a_poller_that_tells_nothing_is_called_through_the_bounds(rt: HostRuntime) -> 
     assert_eq!(rt; answers, (Err(Failed), Err(Failed)));
     assert_eq!(rt; poller.faults(), 3);
     assert_eq!(rt; poller.waits(), 1);
+    Ok(())
+}
+
+/// A clock that goes on by a step at each look, up to its last moment.
+#[derive(Drop)]
+struct SteppingClock {
+    moment: Moment,
+    step: u64,
+}
+
+impl Clock for SteppingClock {
+    ghost latest = { λ c. c.moment };
+
+    ghost bounds = { λ c. record { least = Some 0; greatest = Some (10 ^ 18) } };
+
+    fn now(&mut self) -> Moment {
+        let moment = self.moment;
+        if let Some(next) = Moment::new(moment.get().saturating_add(self.step)) {
+            self.moment = next;
+        }
+        moment
+    }
+
+    fn twin(&self) -> Result<SteppingClock, OutOfMemory> {
+        Ok(SteppingClock {
+            moment: self.moment,
+            step: self.step,
+        })
+    }
+}
+
+/// Two looks at a clock: the later answers no earlier moment, and both lie between its bounds.
+fn look_twice<C: Clock>(clock: &mut C) -> (Moment, Moment)
+    ensures order { result.0 ≤ result.1 }
+    ensures within { IsWithin (C.bounds clock.old) result.0 × IsWithin (C.bounds clock.old) result.1 }
+{
+    let first = clock.now();
+    let second = clock.now();
+    (first, second)
+}
+
+fn twin_of<C: Clock>(clock: &C) -> Result<C, OutOfMemory> {
+    clock.twin()
+}
+
+#[test]
+fn a_clock_never_goes_back(rt: HostRuntime) -> Result<(), Fail> {
+    let Some(moment) = Moment::new(5) else {
+        return Ok(());
+    };
+    let mut clock = SteppingClock { moment, step: 3 };
+    let Ok(mut twin) = twin_of(&clock) else {
+        return Ok(());
+    };
+    let (first, second) = look_twice(&mut clock);
+    assert_eq!(rt; first.get(), 5);
+    assert_eq!(rt; second.get(), 8);
+    let (first, _) = look_twice(&mut twin);
+    assert_eq!(rt; first.get(), 5);
     Ok(())
 }
 
