@@ -138,18 +138,18 @@ number_too_great text at most within digits great =
 front_taken : (text : List ℕ) (few at : ℕ) → at ≤ length (take few text) → take at (take few text) ≡ take at text
 front_taken text few at within = sym (take-append-le at (take few text) (drop few text) within) ∙ ap (take at) (take-append-drop few text)
 
--- nine digits stand for less than 10^9
-pub small_value : (text : List ℕ) (few at value : ℕ) → few ≤ 9 → few ≤ length text → at ≤ length (take few text) → AreDigits (take at (take few text))
-    → value ≡ digits_value 10 (take at (take few text)) → value < 10 ^ 9
-small_value text few at value short within inside digits is =
+-- so many digits stand for less than that power of ten
+pub small_value : (text : List ℕ) (few at value most : ℕ) → at ≤ most → few ≤ length text → at ≤ length (take few text) → AreDigits (take at (take few text))
+    → value ≡ digits_value 10 (take at (take few text)) → value < 10 ^ most
+small_value text few at value most short within inside digits is =
     let size : length (take at (take few text)) ≡ at = length-take-le at (take few text) inside in
-    let small : digits_value 10 (take at (take few text)) < 10 ^ 9 = digits_value_short numerals (take at (take few text)) 9 digits (omega (arith, size, length-take-le few text within)) in
+    let small : digits_value 10 (take at (take few text)) < 10 ^ most = digits_value_short numerals (take at (take few text)) most digits (omega (arith, size)) in
     omega (arith, is, small)
 
 -- digits up to a space, which is passed over
-pub few_at_space : (text : List ℕ) (few at value most : ℕ) → few ≤ 9 → few ≤ length text → value ≤ most → 0 < at → at < length (take few text) → AreDigits (take at (take few text))
+pub few_at_space : (text : List ℕ) (few at value most : ℕ) → few ≤ length text → value ≤ most → 0 < at → at < length (take few text) → AreDigits (take at (take few text))
     → value ≡ digits_value 10 (take at (take few text)) → get_or (take few text) at 0 ≡ 32 → take_number most (words_in text) ≡ Ok (value, words_in (drop (at + 1) text))
-few_at_space text few at value most short within small some inside digits is space =
+few_at_space text few at value most within small some inside digits is space =
     let size : length (take few text) ≡ few = length-take-le few text within in
     let front : take at (take few text) ≡ take at text = front_taken text few at (omega arith) in
     let blank : is_blank (get_or text at 0) ≡ true = ap is_blank (sym (get_or-take few text at 0 (omega arith)) ∙ space) in
@@ -157,9 +157,9 @@ few_at_space text few at value most short within small some inside digits is spa
     ∙ ap (λ words. Ok (value, words)) (words_past_blank text at (omega arith) blank)
 
 -- digits up to the end
-pub few_at_end : (text : List ℕ) (few at value most : ℕ) → few ≤ 9 → few ≤ length text → length text ≤ length (take few text) → value ≤ most → 0 < length text → length (take few text) ≤ at → at ≤ length (take few text)
+pub few_at_end : (text : List ℕ) (few at value most : ℕ) → few ≤ length text → length text ≤ length (take few text) → value ≤ most → 0 < length text → length (take few text) ≤ at → at ≤ length (take few text)
     → AreDigits (take at (take few text)) → value ≡ digits_value 10 (take at (take few text)) → take_number most (words_in text) ≡ Ok (value, [])
-few_at_end text few at value most short within whole small some past inside digits is =
+few_at_end text few at value most within whole small some past inside digits is =
     let size : length (take few text) ≡ few = length-take-le few text within in
     let front : take at (take few text) ≡ take at text = front_taken text few at inside in
     number_at_end text at value most some (omega arith) (subst AreDigits front digits) (is ∙ ap (digits_value 10) front) small

@@ -1,36 +1,60 @@
-//! The commonest lines, the polls and the events, in their plainest spelling: one space between
-//! words, and numbers of a few digits. They are read from their front in one pass, compiled in place
-//! where they are used; every other line is left to `reading`.
+//! Lines in their plainest spelling: one space between words, no other blank, and numbers of a few
+//! digits. They are read from their front in one pass, compiled in place where they are used; every
+//! other line is left to `reading`.
 
-ghost use Rattle.std.specs.Prelude.{◌≡◌, ◌<◌, ◌≤◌, ◌+◌, ◌^◌, ℕ, [], Ok, IfSome, OnSome, length};
-ghost use Rattle.aio_base.specs.Lines.{words_in};
-ghost use Rattle.aio_trace.specs.Reading.{event_of, listener_poll_of, poll_of, step_of_words, take_direction, take_flags, take_number, tick_of};
+ghost use Rattle.std.specs.Prelude.{◌≡◌, ◌<◌, ◌≤◌, ◌+◌, ◌^◌, ℕ, [], None, Ok, Some, IfSome, OnSome, length};
+ghost use Rattle.aio_base.specs.Lines.{last_moment, last_number, words_in};
+ghost use Rattle.aio_trace.specs.Reading.{begin_of, event_of, fault_line_of, listener_poll_of, new_of, poll_of, set_of, step_of_words, take_direction, take_flags, take_limit, take_number, take_period, tick_of, timer_of};
 
-use aio_base::{Dir, Event, Interest, Key, Step, Waker};
+use crate::reading::moment_at;
+use aio_base::{Dir, Event, Interest, Key, Moment, Step, Waker, Which};
 
-/// So many digits stand for no more than a number may be.
-const FEW_DIGITS: usize = 9;
+/// So many digits stand for no more than a key, a waker, a listener or a timer may be.
+const NUMBER_DIGITS: usize = 9;
 
-/// The step that a line `poll K D W`, `event K F`, `step N W` or `tick N W` in its plainest spelling
-/// reads as; `None` for any other line.
+/// So many digits stand for no more than a moment, a period or a limit may be.
+const MOMENT_DIGITS: usize = 18;
+
+/// The step that a line in its plainest spelling reads as; `None` for any other line. The commonest
+/// commands are looked for first.
 #[inline(always)]
 pub(crate) fn common_step(line: &[u8]) -> Option<Step>
     ensures read { IfSome result (λ s. step_of_words (words_in line.now) ≡ Ok s) }
     ensures short { OnSome result (length line.now ≤ 256) }
 {
-    if let [b'p', b'o', b'l', b'l', b' ', places @ ..] = line {
-        return poll_step(places);
+    match line {
+        [b'p', b'o', b'l', b'l', b' ', places @ ..] => poll_step(places),
+        [b'e', b'v', b'e', b'n', b't', b' ', places @ ..] => event_step(places),
+        [b's', b't', b'e', b'p', b' ', places @ ..] => listener_poll_step(places),
+        [b't', b'i', b'c', b'k', b' ', places @ ..] => tick_step(places),
+        _ => rarer_step(line),
     }
-    if let [b'e', b'v', b'e', b'n', b't', b' ', places @ ..] = line {
-        return event_step(places);
+}
+
+/// The same of the other commands.
+#[inline(always)]
+fn rarer_step(line: &[u8]) -> Option<Step>
+    ensures read { IfSome result (λ s. step_of_words (words_in line.now) ≡ Ok s) }
+    ensures short { OnSome result (length line.now ≤ 256) }
+{
+    match line {
+        b"react" => Some(Step::React),
+        b"add" => Some(Step::Add),
+        b"handle" => Some(Step::Handle),
+        b"wait" => Some(Step::Wait),
+        b"finish" => Some(Step::Finish),
+        b"interrupt" => Some(Step::Interrupt),
+        [b'n', b'e', b'w', b' ', places @ ..] => new_step(places),
+        [b'n', b'o', b'w', b' ', places @ ..] => Some(Step::Now(whole_moment(places)?)),
+        [b'd', b'r', b'o', b'p', b' ', places @ ..] => Some(Step::DropEar(whole_number(places)?)),
+        [b'd', b'e', b'l', b' ', places @ ..] => Some(Step::Del(Key(whole_number(places)?))),
+        [b'e', b'n', b'd', b' ', places @ ..] => Some(Step::End(whole_number(places)?)),
+        [b't', b'i', b'm', b'e', b'r', b' ', choice @ ..] => timer_step(choice),
+        [b's', b'e', b't', b' ', places @ ..] => set_step(places),
+        [b'b', b'e', b'g', b'i', b'n', b' ', places @ ..] => begin_step(places),
+        [b'f', b'a', b'u', b'l', b't', b' ', kind @ ..] => fault_step(kind),
+        _ => None,
     }
-    if let [b's', b't', b'e', b'p', b' ', places @ ..] = line {
-        return listener_poll_step(places);
-    }
-    if let [b't', b'i', b'c', b'k', b' ', places @ ..] = line {
-        return tick_step(places);
-    }
-    None
 }
 
 /// The step of a line `poll K D W`, read behind its command.
@@ -39,13 +63,10 @@ fn poll_step(places: &[u8]) -> Option<Step>
     ensures read { IfSome result (λ s. poll_of (words_in places.now) ≡ Ok s) }
     ensures short { OnSome result (length places.now ≤ 22) }
 {
-    let (key, rest) = few_digits(places)?;
-    let (direction, rest) = direction_letter(rest)?;
-    let (waker, rest) = few_digits(rest)?;
-    if !rest.is_empty() {
-        return None;
-    }
-    Some(Step::Poll(Key(key as u32), direction, Waker(waker as u32)))
+    let (key, rest) = first_number(places)?;
+    let (direction, rest) = first_direction(rest)?;
+    let waker = whole_number(rest)?;
+    Some(Step::Poll(Key(key), direction, Waker(waker)))
 }
 
 /// The step of a line `event K F`, read behind its command.
@@ -54,12 +75,9 @@ fn event_step(places: &[u8]) -> Option<Step>
     ensures read { IfSome result (λ s. event_of (words_in places.now) ≡ Ok s) }
     ensures short { OnSome result (length places.now ≤ 12) }
 {
-    let (key, rest) = few_digits(places)?;
-    let on = flags_word(rest)?;
-    let event = Event {
-        key: Key(key as u32),
-        on,
-    };
+    let (key, rest) = first_number(places)?;
+    let on = whole_flags(rest)?;
+    let event = Event { key: Key(key), on };
     Some(Step::Note(event))
 }
 
@@ -69,12 +87,9 @@ fn listener_poll_step(places: &[u8]) -> Option<Step>
     ensures read { IfSome result (λ s. listener_poll_of (words_in places.now) ≡ Ok s) }
     ensures short { OnSome result (length places.now ≤ 20) }
 {
-    let (listener, rest) = few_digits(places)?;
-    let (waker, rest) = few_digits(rest)?;
-    if !rest.is_empty() {
-        return None;
-    }
-    Some(Step::StepEar(listener as u32, Waker(waker as u32)))
+    let (listener, rest) = first_number(places)?;
+    let waker = whole_number(rest)?;
+    Some(Step::StepEar(listener, Waker(waker)))
 }
 
 /// The step of a line `tick N W`, read behind its command.
@@ -83,24 +98,180 @@ fn tick_step(places: &[u8]) -> Option<Step>
     ensures read { IfSome result (λ s. tick_of (words_in places.now) ≡ Ok s) }
     ensures short { OnSome result (length places.now ≤ 20) }
 {
-    let (timer, rest) = few_digits(places)?;
-    let (waker, rest) = few_digits(rest)?;
+    let (timer, rest) = first_number(places)?;
+    let waker = whole_number(rest)?;
+    Some(Step::Tick(timer, Waker(waker)))
+}
+
+/// The step of a line `new K D`, read behind its command.
+#[inline(always)]
+fn new_step(places: &[u8]) -> Option<Step>
+    ensures read { IfSome result (λ s. new_of (words_in places.now) ≡ Ok s) }
+    ensures short { OnSome result (length places.now ≤ 11) }
+{
+    let (key, rest) = first_number(places)?;
+    let direction = whole_direction(rest)?;
+    Some(Step::New(Key(key), direction))
+}
+
+/// The step of a line `timer at T`, `timer every T P` or `timer never`, read behind its command.
+#[inline(always)]
+fn timer_step(choice: &[u8]) -> Option<Step>
+    ensures read { IfSome result (λ s. timer_of (words_in choice.now) ≡ Ok s) }
+    ensures short { OnSome result (length choice.now ≤ 44) }
+{
+    match choice {
+        [b'a', b't', b' ', places @ ..] => Some(Step::TimerAt(whole_moment(places)?)),
+        [b'e', b'v', b'e', b'r', b'y', b' ', places @ ..] => {
+            let (first, rest) = first_nanoseconds(places)?;
+            let period = whole_period(rest)?;
+            Some(Step::TimerEvery(moment_at(first), period))
+        }
+        [b'n', b'e', b'v', b'e', b'r'] => Some(Step::TimerNever),
+        _ => None,
+    }
+}
+
+/// The step of a line `set N at T` or `set N every T P`, read behind its command.
+#[inline(always)]
+fn set_step(places: &[u8]) -> Option<Step>
+    ensures read { IfSome result (λ s. set_of (words_in places.now) ≡ Ok s) }
+    ensures short { OnSome result (length places.now ≤ 54) }
+{
+    let (timer, choice) = first_number(places)?;
+    match choice {
+        [b'a', b't', b' ', places @ ..] => Some(Step::SetAt(timer, whole_moment(places)?)),
+        [b'e', b'v', b'e', b'r', b'y', b' ', places @ ..] => {
+            let (first, rest) = first_nanoseconds(places)?;
+            let period = whole_period(rest)?;
+            Some(Step::SetEvery(timer, moment_at(first), period))
+        }
+        _ => None,
+    }
+}
+
+/// The step of a line `begin L`, read behind its command.
+#[inline(always)]
+fn begin_step(places: &[u8]) -> Option<Step>
+    ensures read { IfSome result (λ s. begin_of (words_in places.now) ≡ Ok s) }
+    ensures short { OnSome result (length places.now ≤ 19) }
+{
+    match places {
+        b"none" => Some(Step::Begin(None)),
+        _ => Some(Step::Begin(Some(whole_limit(places)?))),
+    }
+}
+
+/// The step of a line `fault X`, read behind its command.
+#[inline(always)]
+fn fault_step(kind: &[u8]) -> Option<Step>
+    ensures read { IfSome result (λ s. fault_line_of (words_in kind.now) ≡ Ok s) }
+    ensures short { OnSome result (length kind.now ≤ 6) }
+{
+    match kind {
+        b"add" => Some(Step::Fault(Which::Add)),
+        b"arm" => Some(Step::Fault(Which::Arm)),
+        b"remove" => Some(Step::Fault(Which::Remove)),
+        b"wait" => Some(Step::Fault(Which::Wait)),
+        _ => None,
+    }
+}
+
+/// The key, listener or timer that is the first word of a text, and what follows it.
+#[inline(always)]
+fn first_number(text: &[u8]) -> Option<(u32, &[u8])>
+    ensures read { IfSome result (λ r.
+        take_number last_number (words_in text.now) ≡ Ok (r.0, words_in r.1.now)) }
+    ensures short { IfSome result (λ r. length text.now ≤ length r.1.now + 10) }
+{
+    let (number, rest) = few_digits(text, NUMBER_DIGITS)?;
+    Some((number as u32, rest))
+}
+
+/// The key, waker, listener or timer that is the one word of a text.
+#[inline(always)]
+fn whole_number(text: &[u8]) -> Option<u32>
+    ensures read { IfSome result (λ n.
+        take_number last_number (words_in text.now) ≡ Ok (n, [])) }
+    ensures short { OnSome result (length text.now ≤ 10) }
+{
+    let (number, rest) = first_number(text)?;
     if !rest.is_empty() {
         return None;
     }
-    Some(Step::Tick(timer as u32, Waker(waker as u32)))
+    Some(number)
 }
 
-/// The number of a few digits at the front of a text, up to a space or the end of the text, and what
-/// follows the space; `None` for any other text.
+/// The nanoseconds that are the first word of a text, and what follows them.
 #[inline(always)]
-pub(crate) fn few_digits(text: &[u8]) -> Option<(u64, &[u8])>
+fn first_nanoseconds(text: &[u8]) -> Option<(u64, &[u8])>
+    ensures read { IfSome result (λ r.
+        take_number last_moment (words_in text.now) ≡ Ok (r.0, words_in r.1.now)) }
+    ensures bound { IfSome result (λ r. r.0 ≤ 10 ^ 18) }
+    ensures short { IfSome result (λ r. length text.now ≤ length r.1.now + 19) }
+{
+    few_digits(text, MOMENT_DIGITS)
+}
+
+/// The nanoseconds that are the one word of a text.
+#[inline(always)]
+fn whole_nanoseconds(text: &[u8]) -> Option<u64>
+    ensures read { IfSome result (λ n.
+        take_number last_moment (words_in text.now) ≡ Ok (n, [])) }
+    ensures bound { IfSome result (λ n. n ≤ 10 ^ 18) }
+    ensures short { OnSome result (length text.now ≤ 19) }
+{
+    let (nanoseconds, rest) = first_nanoseconds(text)?;
+    if !rest.is_empty() {
+        return None;
+    }
+    Some(nanoseconds)
+}
+
+/// The moment that is the one word of a text.
+#[inline(always)]
+fn whole_moment(text: &[u8]) -> Option<Moment>
+    ensures read { IfSome result (λ m.
+        take_number last_moment (words_in text.now) ≡ Ok (m, [])) }
+    ensures short { OnSome result (length text.now ≤ 19) }
+{
+    Some(moment_at(whole_nanoseconds(text)?))
+}
+
+/// The period in nanoseconds that is the one word of a text.
+#[inline(always)]
+fn whole_period(text: &[u8]) -> Option<u64>
+    ensures read { IfSome result (λ p. take_period (words_in text.now) ≡ Ok (p, [])) }
+    ensures short { OnSome result (length text.now ≤ 19) }
+{
+    let period = whole_nanoseconds(text)?;
+    if period == 0 {
+        return None;
+    }
+    Some(period)
+}
+
+/// The limit in nanoseconds that is the one word of a text.
+#[inline(always)]
+fn whole_limit(text: &[u8]) -> Option<u64>
+    ensures read { IfSome result (λ limit.
+        take_limit (words_in text.now) ≡ Ok (Some limit, [])) }
+    ensures short { OnSome result (length text.now ≤ 19) }
+{
+    whole_nanoseconds(text)
+}
+
+/// The number of at most so many digits at the front of a text, up to a space or the end of the
+/// text, and what follows the space; `None` for any other text.
+#[inline(always)]
+fn few_digits(text: &[u8], digits: usize) -> Option<(u64, &[u8])>
+    requires { digits ≤ 18 }
     ensures read { IfSome result (λ r. (most : ℕ) → r.0 ≤ most
         → take_number most (words_in text.now) ≡ Ok (r.0, words_in r.1.now)) }
-    ensures small { IfSome result (λ r. r.0 < 10 ^ 9) }
-    ensures short { IfSome result (λ r. length text.now ≤ length r.1.now + 10) }
+    ensures small { IfSome result (λ r. r.0 < 10 ^ digits) }
+    ensures short { IfSome result (λ r. length text.now ≤ length r.1.now + digits + 1) }
 {
-    let front = &text[..text.len().min(FEW_DIGITS)];
+    let front = &text[..text.len().min(digits)];
     let mut value: u64 = 0;
     for (at, byte) in front.iter().enumerate() {
         if *byte < b'0' || *byte > b'9' {
@@ -117,9 +288,9 @@ pub(crate) fn few_digits(text: &[u8]) -> Option<(u64, &[u8])>
     Some((value, &[]))
 }
 
-/// The direction that stands at the front of a text with a space behind it, and what follows that.
+/// The direction at the front of a text, with a space behind it, and what follows that.
 #[inline(always)]
-fn direction_letter(text: &[u8]) -> Option<(Dir, &[u8])>
+fn first_direction(text: &[u8]) -> Option<(Dir, &[u8])>
     ensures read { IfSome result (λ r. take_direction (words_in text.now) ≡ Ok (r.0, words_in r.1.now)) }
     ensures short { IfSome result (λ r. length text.now ≤ length r.1.now + 2) }
 {
@@ -130,9 +301,22 @@ fn direction_letter(text: &[u8]) -> Option<(Dir, &[u8])>
     }
 }
 
+/// The direction that is all of a text.
+#[inline(always)]
+fn whole_direction(text: &[u8]) -> Option<Dir>
+    ensures read { IfSome result (λ dir. take_direction (words_in text.now) ≡ Ok (dir, [])) }
+    ensures short { OnSome result (length text.now ≤ 1) }
+{
+    match text {
+        b"r" => Some(Dir::Read),
+        b"w" => Some(Dir::Write),
+        _ => None,
+    }
+}
+
 /// The directions of an event that are all of a text.
 #[inline(always)]
-fn flags_word(text: &[u8]) -> Option<Interest>
+fn whole_flags(text: &[u8]) -> Option<Interest>
     ensures read { IfSome result (λ on. take_flags (words_in text.now) ≡ Ok (on, [])) }
     ensures short { OnSome result (length text.now ≤ 2) }
 {

@@ -1,5 +1,5 @@
-//! Reading the step of a line. It takes no memory, and looks at each byte once, and once more only
-//! where a line reads as no step.
+//! Reading the step of a line. It takes no memory. A line in its plainest spelling is read by
+//! `common`; any other is read here, and looked at once more where it reads as no step.
 
 ghost use Rattle.std.specs.Prelude.{◌≡◌, ◌↔◌, None, Some, Ok, Err, MatchResult, IfOk, if◌then◌else◌, ◌≤◌, ◌^◌};
 ghost use Rattle.std.specs.List.{list_all};

@@ -5,7 +5,6 @@ ghost use Rattle.std.specs.Prelude.{◌≡◌, ◌<◌, ◌≤◌, ◌^◌, [], 
 ghost use Rattle.aio_base.specs.Lines.{is_blank, words_in};
 ghost use Rattle.aio_trace.specs.Reading.{ended, take_number};
 
-use crate::common::few_digits;
 use aio_base::{LineFault, Step};
 
 /// Whether a byte parts words: a space or a tab.
@@ -48,20 +47,6 @@ pub(crate) fn next_word(text: &[u8]) -> Option<(&[u8], &[u8])>
 /// The number, at most `most`, that the first word of a text spells, and what follows it; or the
 /// fault of that word, or of there being none.
 pub(crate) fn next_number(text: &[u8], most: u64) -> Result<(u64, &[u8]), LineFault>
-    requires most { most ≤ 10 ^ 18 }
-    requires least { 10 ^ 9 ≤ most }
-    ensures { MatchResult result
-        (λ r. take_number most (words_in text.now) ≡ Ok (r.0, words_in r.1.now))
-        (λ f. take_number most (words_in text.now) ≡ Err f) }
-{
-    match few_digits(text) {
-        Some((number, rest)) => Ok((number, rest)),
-        None => any_number(text, most),
-    }
-}
-
-/// The same of any text, with blanks and zeros before the number or none.
-fn any_number(text: &[u8], most: u64) -> Result<(u64, &[u8]), LineFault>
     requires { most ≤ 10 ^ 18 }
     ensures { MatchResult result
         (λ r. take_number most (words_in text.now) ≡ Ok (r.0, words_in r.1.now))

@@ -1,7 +1,7 @@
 use Rattle.std.proofs.Common.{◌≡◌, ◌≤◌, true, take}
 use Rattle.std.specs.Str.{all_ascii_digits}
 use Rattle.std.specs.Str.Parse.{digits_value}
-use Rattle.aio_trace.proofs.words.any_number.Given as goal
+use Rattle.aio_trace.proofs.words.next_number.Given as goal
 
 -- the bytes so far are digits, and this is what they stand for
 abbrev pub invariant-loop-at : goal.invariant-loop-at
