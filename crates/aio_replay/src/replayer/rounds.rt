@@ -73,8 +73,9 @@ impl Replayer {
         ensures { OnOk result
             (wakes.new.items ≡ (if ended then self.now.core.1.round.taken else [])) }
     {
-        if ended {
-            wakes.extend_from_slice(self.core.woken())?;
+        let woken = self.core.woken();
+        if ended && !woken.is_empty() {
+            wakes.extend_from_slice(woken)?;
         }
         Ok(())
     }
