@@ -84,6 +84,7 @@ impl<W: Copy> Listeners<W> {
     ///
     /// No other call takes memory. It takes constant time, but for the growth of the slab, which is
     /// amortised.
+    #[inline(always)]
     pub fn add(&mut self) -> Result<Ticket, AddRefusal>
         ensures added { IfOk result (λ ticket. self.new ≡ record { entries = self.old.entries ++ (ticket, None) ∷ []; drawn = self.old.drawn + 1 }) }
         ensures serial { IfOk result (λ ticket. ticket.serial ≡ self.old.drawn + 1) }
@@ -175,6 +176,7 @@ impl<W: Copy> Listeners<W> {
     /// with no waker. It takes no memory, and the time of two walks between the last listener and
     /// the first one that waits, or of one where all wait: those before that one, which have no
     /// waker, are not visited.
+    #[inline(always)]
     pub fn drain_into(&mut self, out: &mut Vec<W>)
         requires { vec_len out.old + length (wakers_of self.old.entries) ≤ vec_capacity out.old }
         ensures drained { self.new ≡ record self.old { entries = emptied self.old.entries } }

@@ -104,6 +104,7 @@ impl Round {
     /// limit of its waits in nanoseconds: 0 where the pass took a timer, otherwise the lesser of
     /// the time to the first deadline and the given limit, each where there is one. `OutOfMemory`
     /// where there is no memory for the wakers that are due; round and book are then as before.
+    #[inline(always)]
     pub fn begin(
         &mut self,
         book: &mut TimerBook,
@@ -143,6 +144,7 @@ impl Round {
     /// Waits once, for at most the round's limit. The events that the poller gives, at most 1,024,
     /// are in hand then, in its order; an interrupted or failed wait gives none. `CountFault` only
     /// where the poller's count of faults rose; it is kept where no fault was. It takes no memory.
+    #[inline(always)]
     pub fn wait<W: EventWait>(&mut self, poller: &mut W) -> Result<Waited, CountFault>
         requires running { self.old.running ≡ true }
         requires hand { self.old.hand ≡ [] }
@@ -236,6 +238,7 @@ impl Round {
     /// to wait, a second pass over the timers is made at the moment `now`. The round is idle then,
     /// and all wakers that it took are to be woken. `OutOfMemory` where there is no memory for the
     /// wakers that are due; the round then runs on, and round and book are as before.
+    #[inline(always)]
     pub fn finish(
         &mut self,
         book: &mut TimerBook,
@@ -342,6 +345,7 @@ impl Round {
 
 /// Makes room for the wakers that a pass takes: for as many as there are timers, so that those which
 /// are due need not be counted; and for these alone where memory is short.
+#[inline(always)]
 fn make_pass_room(taken: &mut Vec<Waker>, book: &TimerBook, now: Moment) -> Result<(), OutOfMemory>
     ensures items { taken.new.items ≡ taken.old.items }
     ensures room { OnOk result (vec_len taken.new + length (due_wakers now book.now.entries)

@@ -47,6 +47,7 @@ impl Replayer {
     /// Runs a step of a trace: its answer, and its wakes in order in `wakes`, which is empty.
     /// `AllocError` where memory ran out. A trace of 1,000,000 steps spends no rounds, tickets or
     /// ids.
+    #[inline(always)]
     pub(crate) fn step(&mut self, step: &Step, wakes: &mut Vec<Waker>) -> Result<Answer, AllocError>
         requires range { IsInRange step.now }
         requires within { IsWithin 1000000 self.old }
@@ -67,6 +68,7 @@ impl Replayer {
     }
 
     /// Runs a step; its wakes go into `wakes`, which is empty.
+    #[inline(always)]
     fn run(&mut self, step: &Step, wakes: &mut Vec<Waker>) -> Result<Answer, AllocError>
         requires range { IsInRange step.now }
         requires within { IsWithin 1000000 self.old }

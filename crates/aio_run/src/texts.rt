@@ -1,12 +1,13 @@
 //! The commands that write a text of their own: the trace that a number describes, and what its run
 //! comes to. They read no input.
 
-ghost use Rattle.std.specs.Prelude.{◌≡◌, ℕ, ◌<◌, ◌≤◌, ◌^◌, ◌++◌, IfOk, OnOk, decimal};
+ghost use Rattle.std.specs.Prelude.{◌≡◌, ℕ, ◌<◌, ◌≤◌, ◌^◌, ◌++◌, ◌⊎◌, IfOk, OnOk, decimal};
 ghost use Rattle.aio_base.specs.Devices.{TellsFaults};
 ghost use Rattle.aio_base.specs.Generated.{counts_line, generated_steps};
 ghost use Rattle.aio_base.specs.Lines.{IsInRange, written_line};
 ghost use Rattle.aio_base.specs.Text.{ended_line};
 ghost use Rattle.aio_bytes.specs.Sinks.{HasFailed, Writes};
+ghost use Rattle.aio_replay.specs.Driving.{BlockWent};
 ghost use Rattle.aio_replay.specs.Summing.{counts_told};
 ghost use Rattle.aio_run.specs.Commands.{header_text, summary_text, trace_text};
 ghost use Rattle.aio_run.specs.Texts.{Gathers};
@@ -58,11 +59,14 @@ fn header(alloc: Global) -> Result<Vec<u8>, AllocError>
 }
 
 /// Writes the line of a step at the end of the text, and the text to the output where it fills a
-/// block. Where memory runs out, the text before is written as far as the output takes it.
+/// block, and not before. Where memory runs out, the text before is written as far as the output
+/// takes it.
 fn gather<K: Sink>(step: &Step, text: &mut Vec<u8>, out: &mut K) -> Result<(), SinkRefusal>
     requires { IsInRange step.now }
     ensures gathers { Gathers result (K.contents out.old) (K.contents out.new)
         text.old.items text.new.items (ended_line (written_line step.now)) }
+    ensures blocks { OnOk result ((out.new ≡ out.old)
+        ⊎ BlockWent (K.contents out.old) (K.contents out.new)) }
     ensures cause { TellsFaults K.fault_count K.is_sure out.old out.new (HasFailed result) }
 {
     if write_line(step, text).is_err() {

@@ -25,6 +25,7 @@ impl<P: Poller> Core<P> {
     /// in the order in which they came. `NoSource` exactly where no source has this key, and then
     /// `TicketsSpent` exactly where 2^64 - 1 numbers were given. `OutOfMemory` where memory ran out.
     /// A refusal leaves all as it was.
+    #[inline(always)]
     pub fn listen(&mut self, key: Key, dir: Dir) -> Result<u64, CoreRefusal>
         ensures meets { IfSome (listen_reply result) (λ reply. Meets
             (PollerStep P.arm_step P.wait_step) P.interests (step.New key dir) None
@@ -63,6 +64,7 @@ impl<P: Poller> Core<P> {
     /// 2^64 - 1 tickets of the direction were drawn, and `OutOfMemory` where memory ran out. A refusal
     /// leaves all as it was, and the poller is not armed. `ArmFault`, inside the answer, only where
     /// the poller's count of faults rose; the listener stays.
+    #[inline(always)]
     pub fn step(
         &mut self,
         listener: u64,
@@ -119,6 +121,7 @@ impl<P: Poller> Core<P> {
     /// Gives up a listener: it goes with its waker, and nothing that was asked of the poller changes.
     /// `NoListener` exactly where no living listener has this number; all is as it was then. It takes
     /// no memory.
+    #[inline(always)]
     pub fn unlisten(&mut self, listener: u64) -> Result<(), CoreRefusal>
         ensures meets { Meets (PollerStep P.arm_step P.wait_step) P.interests
             (step.DropEar listener) None (drop_reply result) [] None self.old self.new }

@@ -24,6 +24,7 @@ impl<P: Poller> Core<P> {
     /// 2^64 - 1 rounds have begun; all is as before then. `OutOfMemory` where memory ran out: before
     /// the begin all is as before, and no round runs; after it the round runs on with its events,
     /// wakers and first fault, which this call met, for `handle` and `finish`.
+    #[inline(always)]
     pub fn react(&mut self, now: Moment, given: Option<u64>) -> Result<Reacted, CoreRefusal>
         ensures meets { IfSome (react_reply result) (λ reply. MeetsRound
             (PollerStep P.arm_step P.wait_step) P.interests given now

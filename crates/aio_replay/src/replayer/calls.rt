@@ -1,4 +1,7 @@
 //! The steps on sources and listeners.
+//!
+//! The steps that come most often, polls and those of listeners, stay functions of their own: each has
+//! the registers to itself then, which costs less than the calls.
 
 ghost use Rattle.std.specs.Prelude.{◌≡◌, [], IfOk};
 ghost use Rattle.aio_base.specs.declared.steps.Step.TheVariants as step;
@@ -11,6 +14,7 @@ use std::alloc::AllocError;
 
 impl Replayer {
     /// Adds a source.
+    #[inline(always)]
     pub fn add(&mut self) -> Answer
         ensures { Replays step.Add result [] self.old self.new }
     {
@@ -18,6 +22,7 @@ impl Replayer {
     }
 
     /// Takes a source out.
+    #[inline(always)]
     pub fn del(&mut self, key: Key) -> Answer
         ensures { Replays (step.Del key) result [] self.old self.new }
     {
@@ -26,6 +31,7 @@ impl Replayer {
 
     /// Polls a direction of a source; the waker that lost its place goes into `wakes`, which is
     /// empty. `AllocError` where there is no memory for it.
+    #[inline(never)]
     pub fn poll(
         &mut self,
         key: Key,
@@ -41,6 +47,7 @@ impl Replayer {
     }
 
     /// Makes a listener of a direction of a source. `AllocError` where memory ran out.
+    #[inline(never)]
     pub fn new_listener(&mut self, key: Key, dir: Dir) -> Result<Answer, AllocError>
         requires { IsWithin 1000000 self.old }
         ensures { IfOk result (λ answer.
@@ -50,6 +57,7 @@ impl Replayer {
     }
 
     /// Polls a listener with a waker. `AllocError` where its first poll finds no memory for it.
+    #[inline(never)]
     pub fn step_listener(&mut self, number: u32, waker: Waker) -> Result<Answer, AllocError>
         requires { IsWithin 1000000 self.old }
         ensures { IfOk result (λ answer.
@@ -59,6 +67,7 @@ impl Replayer {
     }
 
     /// Gives up a listener.
+    #[inline(never)]
     pub fn drop_listener(&mut self, number: u32) -> Answer
         ensures { Replays (step.DropEar number) result [] self.old self.new }
     {

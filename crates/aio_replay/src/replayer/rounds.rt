@@ -12,6 +12,7 @@ use std::alloc::AllocError;
 impl Replayer {
     /// Begins a round with a limit in nanoseconds, where one is given. `AllocError` where memory
     /// ran out.
+    #[inline(always)]
     pub fn begin(&mut self, given: Option<u64>) -> Result<Answer, AllocError>
         requires { IsWithin 1000000 self.old }
         ensures { IfOk result (λ answer.
@@ -21,6 +22,7 @@ impl Replayer {
     }
 
     /// Waits in the running round.
+    #[inline(always)]
     pub fn wait(&mut self) -> Answer
         ensures { Replays step.Wait result [] self.old self.new }
     {
@@ -29,6 +31,7 @@ impl Replayer {
 
     /// Handles the first event in hand. `AllocError` where there is no memory for the waiters of
     /// its source.
+    #[inline(always)]
     pub fn handle(&mut self) -> Result<Answer, AllocError>
         ensures { IfOk result (λ answer. Replays step.Handle answer [] self.old self.new) }
     {
@@ -37,6 +40,7 @@ impl Replayer {
 
     /// Ends the running round, whose wakers go into `wakes`, which is empty. `AllocError` where
     /// memory ran out.
+    #[inline(always)]
     pub fn finish(&mut self, wakes: &mut Vec<Waker>) -> Result<Answer, AllocError>
         requires { wakes.old.items ≡ [] }
         ensures { IfOk result (λ answer.
@@ -49,6 +53,7 @@ impl Replayer {
 
     /// A whole round with no limit, whose wakers go into `wakes`, which is empty. `AllocError`
     /// where memory ran out.
+    #[inline(always)]
     pub fn react(&mut self, wakes: &mut Vec<Waker>) -> Result<Answer, AllocError>
         requires none { wakes.old.items ≡ [] }
         requires within { IsWithin 1000000 self.old }
@@ -62,13 +67,15 @@ impl Replayer {
 
     /// Where a round has ended, its wakers go into `wakes`, which is empty. `AllocError` where
     /// memory ran out.
+    #[inline(always)]
     fn take_woken(&self, ended: bool, wakes: &mut Vec<Waker>) -> Result<(), AllocError>
         requires { wakes.old.items ≡ [] }
         ensures { OnOk result
             (wakes.new.items ≡ (if ended then self.now.core.1.round.taken else [])) }
     {
-        if ended {
-            wakes.extend_from_slice(self.core.woken())?;
+        let woken = self.core.woken();
+        if ended && !woken.is_empty() {
+            wakes.extend_from_slice(woken)?;
         }
         Ok(())
     }

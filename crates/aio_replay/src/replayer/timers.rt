@@ -15,6 +15,7 @@ use std::alloc::AllocError;
 
 impl Replayer {
     /// Makes a timer. `AllocError` where there is no memory for it.
+    #[inline(always)]
     pub fn add_timer(&mut self, timer: Timer) -> Result<Answer, AllocError>
         ensures { IfOk result (λ answer. (s : Step) → MakesTimer s timer
             → Replays s answer [] self.old self.new) }
@@ -26,6 +27,7 @@ impl Replayer {
     }
 
     /// Polls a timer with a waker, at the clock's moment. `AllocError` where memory ran out.
+    #[inline(always)]
     pub fn tick(&mut self, number: u32, waker: Waker) -> Result<Answer, AllocError>
         requires { IsWithin 1000000 self.old }
         ensures { IfOk result (λ answer.
@@ -38,6 +40,7 @@ impl Replayer {
     }
 
     /// Gives a timer another deadline. `AllocError` where memory ran out.
+    #[inline(always)]
     pub fn set_at(&mut self, number: u32, deadline: Moment) -> Result<Answer, AllocError>
         requires { IsWithin 1000000 self.old }
         ensures { IfOk result (λ answer.
@@ -51,6 +54,7 @@ impl Replayer {
 
     /// Gives a timer another deadline and a period of 1 to 10^18 nanoseconds. `AllocError` where
     /// memory ran out.
+    #[inline(always)]
     pub fn set_every(
         &mut self,
         number: u32,
@@ -69,6 +73,7 @@ impl Replayer {
     }
 
     /// Gives up a timer, whose number stays given.
+    #[inline(always)]
     pub fn end(&mut self, number: u32) -> Answer
         ensures { Replays (step.End number) result [] self.old self.new }
     {
