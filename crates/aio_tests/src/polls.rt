@@ -1,8 +1,8 @@
 //! What no clause says of a core's sources: that calls succeed through the bounds of its poller.
 
-use crate::round_tests::quiet;
-use crate::{Core, CoreRefusal};
+use crate::rounds::quiet;
 use aio_base::{Dir, Key, Poll, Poller, Waker};
+use aio_react::{Core, CoreRefusal};
 use aio_source::Polled;
 use std::test::Fail;
 

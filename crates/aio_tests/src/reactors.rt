@@ -1,10 +1,10 @@
 //! What no clause says of a core: that it is made with ample memory, and that its calls succeed
 //! through the bounds of its poller.
 
-use crate::round_tests::quiet;
-use crate::tests::insert_two;
-use crate::{Core, CoreRefusal};
+use crate::hosts::insert_two;
+use crate::rounds::quiet;
 use aio_base::{EventWait, Key, Moment, Poller, TimerId, Waited, Waker};
+use aio_react::{Core, CoreRefusal};
 use std::test::Fail;
 
 fn wait<P: Poller>(core: &mut Core<P>) -> Result<Waited, CoreRefusal> {

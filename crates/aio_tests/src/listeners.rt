@@ -1,9 +1,9 @@
 //! What no clause says of a core's listeners: that their calls succeed with ample memory, through the
 //! bounds of the poller, and how they follow one another.
 
-use crate::round_tests::quiet;
-use crate::{Core, CoreRefusal};
+use crate::rounds::quiet;
 use aio_base::{ArmFault, Dir, Key, Poll, Poller, Waker};
+use aio_react::{Core, CoreRefusal};
 use std::test::Fail;
 
 const SOURCE: Key = Key(0);

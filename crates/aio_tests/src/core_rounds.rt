@@ -1,9 +1,9 @@
 //! What no clause says of a core's round: that its calls succeed with ample memory, through the
 //! bounds of the poller.
 
-use crate::round_tests::quiet;
-use crate::{Core, CoreRefusal, Handled, Reacted, RoundFault, TimerHost};
+use crate::rounds::quiet;
 use aio_base::{Moment, Poller, Waited, Waker};
+use aio_react::{Core, CoreRefusal, Handled, Reacted, RoundFault, TimerHost};
 use std::test::Fail;
 
 type Answers = ((u64, Option<u64>), Waited, Option<RoundFault>);

@@ -4,8 +4,8 @@
 ghost use Rattle.std.specs.Prelude.{◌≡◌, ◌-◌, ◌^◌, ◌≤◌, false, IfSome, None};
 ghost use Rattle.aio_react.specs.Hosts.{NotifierTells, next_id, wake_fault};
 
-use crate::{Host, InsertRefusal, TimerHost};
 use aio_base::{CountFault, Later, Moment, OutOfMemory, TimerId, Waker};
+use aio_react::{Host, InsertRefusal, TimerHost};
 use std::test::Fail;
 
 const LAST_ID: u64 = 0xff_ffff_ffff;

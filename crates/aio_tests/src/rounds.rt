@@ -4,11 +4,11 @@
 ghost use Rattle.std.specs.Prelude.{◌≡◌, [], true, false, IsErr};
 ghost use Rattle.aio_base.specs.Devices.{HasCause};
 
-use crate::{Round, RoundFault};
 use aio_base::{
     Arm, ArmFault, CountFault, Dir, Event, EventWait, Failed, Faults, Interest, Key, Moment,
     OutOfMemory, Poll, Poller, TimerId, Waited, Waker,
 };
+use aio_react::{Round, RoundFault};
 use aio_source::SourceState;
 use aio_timers::{TimerBook, TimerOp};
 use std::alloc::Global;
