@@ -2,14 +2,19 @@
 //! left, and which steps and counts the definitions give. The counts of long runs are those of a plain
 //! model that was written apart from this program.
 
-use crate::traces::{Failing, NOTHING_FAILS, run_over};
-use aio_base::CountFault;
+use crate::traces::{
+    FIRST_FAULT, Failing, NOTHING_FAILS, Ran, assert_exit, assert_out, assert_told, assert_why,
+    run_over,
+};
 use aio_replay::{Summary, summary};
 use aio_run::Why;
+use std::process::Abort;
+use std::sync::Wait;
 use std::test::Fail;
+use std::thread::Threads;
 
 /// Words, and what is written for them. Leading zeros are read.
-const WRITTEN: [(&[&str], &[u8]); 9] = [
+const WRITTEN: &[(&[&str], &[u8])] = &[
     (&["gen", "0", "0"], b"trace 1\n"),
     (&["gen", "2", "0"], b"trace 1\nadd\nevent 6 w\n"),
     (
@@ -42,19 +47,28 @@ const WRITTEN: [(&[&str], &[u8]); 9] = [
     ),
 ];
 
-#[test]
-fn a_trace_is_made_and_summed_without_the_input(rt: HostRuntime) -> Result<(), Fail> {
-    // A read would fail.
+/// Runs these words over an input whose first read would fail.
+fn write_row<R: Wait + Threads + Sync + Send + Copy + AllocGlobal + Abort>(
+    rt: &R,
+    words: &[&str],
+    out: &[u8],
+) -> Result<(), Fail> {
     let failing = Failing {
         reads: &[1],
         ..NOTHING_FAILS
     };
+    let ran = run_over(rt, words, b"trace 1\n", 1, failing)?;
+    assert_exit(rt, &ran, 0, words);
+    assert_why(rt, &ran, Why::Done, words);
+    assert_out(rt, &ran, out, words);
+    assert_told(rt, &ran, b"", words);
+    Ok(())
+}
+
+#[test]
+fn a_trace_is_made_and_summed_without_the_input(rt: HostRuntime) -> Result<(), Fail> {
     for (words, out) in WRITTEN {
-        let ran = run_over(&rt, words, b"trace 1\n", 1, failing)?;
-        assert_eq!(rt; ran.status.exit, 0);
-        assert_eq!(rt; ran.status.why, Why::Done);
-        assert_eq!(rt; ran.out.bytes(), out, "of {words:?}");
-        assert!(rt; ran.err.bytes().is_empty());
+        write_row(&rt, words, out)?;
     }
     Ok(())
 }
@@ -73,28 +87,39 @@ fn a_run_is_counted(rt: HostRuntime) -> Result<(), Fail> {
     Ok(())
 }
 
+/// The words that make the trace.
+const MADE: &[&str] = &["gen", "20000", "1"];
+
+/// Makes the trace where this write fails, and asserts that its front was written.
+fn make_front<R: Wait + Threads + Sync + Send + Copy + AllocGlobal + Abort>(
+    rt: &R,
+    trace: &[u8],
+    writes: &'static [u64],
+) -> Result<(), Fail> {
+    let failing = Failing {
+        writes,
+        ..NOTHING_FAILS
+    };
+    let ran = run_over(rt, MADE, b"", 1, failing)?;
+    assert_exit(rt, &ran, 4, writes);
+    assert_why(rt, &ran, Why::WriteFault(FIRST_FAULT), writes);
+    assert_front(rt, &ran, trace);
+    assert_told(rt, &ran, b"write fault\n", writes);
+    Ok(())
+}
+
+/// Asserts that a front of the trace was written, and not all of it.
+fn assert_front(rt: &impl Abort, ran: &Ran, trace: &[u8]) {
+    assert!(rt; trace.starts_with(ran.out.bytes()) && trace != ran.out.bytes());
+}
+
 #[test]
 fn a_made_trace_is_replayed_or_left_at_its_front(rt: HostRuntime) -> Result<(), Fail> {
-    let words = ["gen", "20000", "1"];
-    let made = run_over(&rt, &words, b"", 1, NOTHING_FAILS)?;
+    let made = run_over(&rt, MADE, b"", 1, NOTHING_FAILS)?;
     let trace = made.out.bytes();
     let replayed = run_over(&rt, &["replay"], trace, 4096, NOTHING_FAILS)?;
-    assert_eq!(rt; replayed.status.exit, 0);
-    let refused: [&[u64]; 3] = [&[1], &[2], &[3]];
-    for writes in refused {
-        let failing = Failing {
-            writes,
-            ..NOTHING_FAILS
-        };
-        let ran = run_over(&rt, &words, b"", 1, failing)?;
-        let fault = CountFault {
-            before: 0,
-            after: 1,
-        };
-        assert_eq!(rt; ran.status.exit, 4);
-        assert_eq!(rt; ran.status.why, Why::WriteFault(fault));
-        assert!(rt; trace.starts_with(ran.out.bytes()) && trace != ran.out.bytes());
-        assert_eq!(rt; ran.err.bytes(), b"write fault\n".as_slice());
-    }
-    Ok(())
+    assert_exit(&rt, &replayed, 0, MADE);
+    make_front(&rt, trace, &[1])?;
+    make_front(&rt, trace, &[2])?;
+    make_front(&rt, trace, &[3])
 }
