@@ -113,12 +113,21 @@ fn assert_front(rt: &impl Abort, ran: &Ran, trace: &[u8]) {
     assert!(rt; trace.starts_with(ran.out.bytes()) && trace != ran.out.bytes());
 }
 
+/// Asserts that the trace is replayed to its end.
+fn replay_made<R: Wait + Threads + Sync + Send + Copy + AllocGlobal + Abort>(
+    rt: &R,
+    trace: &[u8],
+) -> Result<(), Fail> {
+    let replayed = run_over(rt, &["replay"], trace, 4096, NOTHING_FAILS)?;
+    assert_exit(rt, &replayed, 0, MADE);
+    Ok(())
+}
+
 #[test]
 fn a_made_trace_is_replayed_or_left_at_its_front(rt: HostRuntime) -> Result<(), Fail> {
     let made = run_over(&rt, MADE, b"", 1, NOTHING_FAILS)?;
     let trace = made.out.bytes();
-    let replayed = run_over(&rt, &["replay"], trace, 4096, NOTHING_FAILS)?;
-    assert_exit(&rt, &replayed, 0, MADE);
+    replay_made(&rt, trace)?;
     make_front(&rt, trace, &[1])?;
     make_front(&rt, trace, &[2])?;
     make_front(&rt, trace, &[3])

@@ -45,6 +45,12 @@ pub(crate) const NOTHING_FAILS: Failing = Failing {
     tells: &[],
 };
 
+/// The first fault of a device.
+pub(crate) const FIRST_FAULT: CountFault = CountFault {
+    before: 0,
+    after: 1,
+};
+
 /// Runs the command of these words over an input in memory, of which a read gives at most `piece`
 /// bytes, and one where that is 0.
 pub(crate) fn run_over<R: Wait + Threads + Sync + Send + Copy + AllocGlobal>(
@@ -104,12 +110,6 @@ pub(crate) fn assert_exit<T: Debug + Drop>(rt: &impl Abort, ran: &Ran, exit: u8,
 pub(crate) fn assert_why<T: Debug + Drop>(rt: &impl Abort, ran: &Ran, why: Why, of: T) {
     assert_eq!(rt; ran.status.why, why, "cause of {of:?}");
 }
-
-/// The first fault of a device.
-pub(crate) const FIRST_FAULT: CountFault = CountFault {
-    before: 0,
-    after: 1,
-};
 
 /// Traces, and the answers to each; all lines of each are read.
 const TRACES: &[(&[u8], &[u8])] = &[
