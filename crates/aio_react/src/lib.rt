@@ -14,16 +14,8 @@ mod listener_table;
 mod numbered;
 mod outcomes;
 mod reactor;
-#[cfg(test)]
-mod reactor_tests;
 mod refusals;
 mod round;
-#[cfg(test)]
-mod round_tests;
-#[cfg(test)]
-mod sources_tests;
-#[cfg(test)]
-mod tests;
 
 pub use hosts::{Host, InsertRefusal, TimerHost};
 pub use numbered::Numbered;

@@ -3,10 +3,12 @@
 ghost use Rattle.std.specs.Prelude.{◌≡◌};
 ghost use Rattle.aio_source.specs.Noting.{cell_note};
 
+use crate::asserts::same;
 use aio_base::{Arm, ArmFault, Dir, Event, Interest, Key, Waker};
 use aio_lock::Lock;
 use aio_script::ScriptPoller;
 use aio_source::{Poll, SourceCell, SourceState};
+use std::alloc::Global;
 use std::process::Abort;
 use std::sync::Wait;
 use std::test::Fail;
@@ -48,27 +50,36 @@ fn handle_in<A: Arm, R: Wait + Abort>(
     handled
 }
 
-#[test]
-fn a_visit_leaves_the_cell_that_its_owner_gave(rt: HostRuntime) -> Result<(), Fail> {
-    let key = Key(7);
+const KEY: Key = Key(7);
+
+/// A cell whose reader is the eleventh waker.
+fn waited_for(rt: &impl Abort, alloc: Global) -> Result<SourceCell<ScriptPoller>, Fail> {
     let mut cell = SourceCell {
-        state: SourceState::new(rt.alloc(), key),
-        io: ScriptPoller::new(rt.alloc())?,
+        state: SourceState::new(alloc, KEY),
+        io: ScriptPoller::new(alloc)?,
     };
     let polled = cell.state.poll_dir(&mut cell.io, Dir::Read, Waker(11), 0);
-    assert_eq!(rt; polled.answer, Poll::Pending);
+    same(rt, polled.answer, Poll::Pending);
+    Ok(cell)
+}
+
+/// Asserts that an event of the first round was handled in the cell.
+fn assert_handled(rt: &impl Abort, cell: &SourceCell<ScriptPoller>) {
+    same(rt, cell.state.key(), KEY);
+    same(rt, cell.state.tick(Dir::Read), 1);
+    same(rt, cell.io.armed(KEY), Interest::READ);
+}
+
+#[test]
+fn a_visit_leaves_the_cell_that_its_owner_gave(rt: HostRuntime) -> Result<(), Fail> {
     let (lock, mut owner, _other) = Lock::vacant(rt.alloc())?;
-    lock.give(&mut owner, cell);
+    lock.give(&mut owner, waited_for(&rt, rt.alloc())?);
     let mut taken = Vec::with_capacity(rt.alloc(), 8)?;
-    assert_eq!(rt;
-        handle_in(&rt, &lock, Interest::READ, 1, &mut taken),
-        Ok(())
-    );
-    assert_eq!(rt; taken.as_slice(), [Waker(11)].as_slice());
+    let handled = handle_in(&rt, &lock, Interest::READ, 1, &mut taken);
+    same(&rt, handled, Ok(()));
+    same(&rt, taken.as_slice(), [Waker(11)].as_slice());
     let cell = lock.take(&rt, &mut owner);
-    assert_eq!(rt; cell.state.key(), key);
-    assert_eq!(rt; cell.state.tick(Dir::Read), 1);
-    assert_eq!(rt; cell.io.armed(key), Interest::READ);
+    assert_handled(&rt, &cell);
     lock.give(&mut owner, cell);
     Ok(())
 }

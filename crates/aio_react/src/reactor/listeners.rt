@@ -11,9 +11,6 @@ ghost use Rattle.aio_react.specs.Meeting.{Meets};
 ghost use Rattle.aio_react.specs.Numbers.{value_of};
 ghost use Rattle.aio_react.specs.Sections.{IsRefusedBy};
 
-#[cfg(test)]
-mod tests;
-
 use crate::entries::{Listener, SourceEntry};
 use crate::reactor::Core;
 use crate::refusals::CoreRefusal;

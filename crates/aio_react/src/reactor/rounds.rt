@@ -14,9 +14,6 @@ ghost use Rattle.aio_react.specs.Replies.{empty_hand_refusal};
 ghost use Rattle.aio_react.specs.Rounds.{HasRisen, arm_told};
 ghost use Rattle.aio_react.specs.Sections.{IsRefusedBy, begin_refusal, core_begun, begin_reply, handle_refusal, handle_reply, handle_fault, finish_reply, finish_wakes};
 
-#[cfg(test)]
-mod tests;
-
 use super::{Core, require_empty_hand};
 use crate::outcomes::Handled;
 use crate::refusals::CoreRefusal;

@@ -7,6 +7,8 @@ use aio_base::{CountFault, Failed, Faults, Reason};
 use aio_bytes::{MemSink, MemSource, Source};
 use aio_run::{Status, Why, run};
 use std::alloc::{AllocError, Global};
+use std::fmt::Debug;
+use std::process::Abort;
 use std::sync::Wait;
 use std::test::Fail;
 use std::thread::Threads;
@@ -43,6 +45,12 @@ pub(crate) const NOTHING_FAILS: Failing = Failing {
     tells: &[],
 };
 
+/// The first fault of a device.
+pub(crate) const FIRST_FAULT: CountFault = CountFault {
+    before: 0,
+    after: 1,
+};
+
 /// Runs the command of these words over an input in memory, of which a read gives at most `piece`
 /// bytes, and one where that is 0.
 pub(crate) fn run_over<R: Wait + Threads + Sync + Send + Copy + AllocGlobal>(
@@ -53,23 +61,58 @@ pub(crate) fn run_over<R: Wait + Threads + Sync + Send + Copy + AllocGlobal>(
     failing: Failing,
 ) -> Result<Ran, AllocError> {
     let alloc = rt.alloc();
+    let bytes = input.to_vec(alloc)?;
+    let mut source = MemSource::new(bytes, piece.max(1), failing.reads.to_vec(alloc)?);
+    run_from(rt, words, &mut source, failing)
+}
+
+/// Runs the command of these words over this source.
+pub(crate) fn run_from<R: Wait + Threads + Sync + Send + Copy + AllocGlobal, S: Source>(
+    rt: &R,
+    words: &[&str],
+    source: &mut S,
+    failing: Failing,
+) -> Result<Ran, AllocError> {
+    let alloc = rt.alloc();
+    let texts = texts_of(alloc, words)?;
+    let mut out = MemSink::new(alloc, failing.writes.to_vec(alloc)?);
+    let mut err = MemSink::new(alloc, failing.tells.to_vec(alloc)?);
+    let status = run(rt, alloc, texts.as_slice(), source, &mut out, &mut err);
+    Ok(Ran { status, out, err })
+}
+
+fn texts_of(alloc: Global, words: &[&str]) -> Result<Vec<String>, AllocError> {
     let mut texts = Vec::new(alloc);
     for word in words {
         texts.push(String::from_str(alloc, *word)?)?;
     }
-    let mut source = MemSource::new(
-        input.to_vec(alloc)?,
-        piece.max(1),
-        failing.reads.to_vec(alloc)?,
-    );
-    let mut out = MemSink::new(alloc, failing.writes.to_vec(alloc)?);
-    let mut err = MemSink::new(alloc, failing.tells.to_vec(alloc)?);
-    let status = run(rt, alloc, texts.as_slice(), &mut source, &mut out, &mut err);
-    Ok(Ran { status, out, err })
+    Ok(texts)
+}
+
+// Each assertion is a call: what stands in the body of a test makes its proof longer by the square.
+
+/// Asserts what was written to the output, naming the input or the words where it differs.
+pub(crate) fn assert_out<T: Debug + Drop>(rt: &impl Abort, ran: &Ran, out: &[u8], of: T) {
+    assert_eq!(rt; ran.out.bytes(), out, "output of {of:?}");
+}
+
+/// Asserts what the user was told, in the same way.
+pub(crate) fn assert_told<T: Debug + Drop>(rt: &impl Abort, ran: &Ran, err: &[u8], of: T) {
+    assert_eq!(rt; ran.err.bytes(), err, "text for {of:?}");
+}
+
+/// Asserts the exit status, in the same way.
+pub(crate) fn assert_exit<T: Debug + Drop>(rt: &impl Abort, ran: &Ran, exit: u8, of: T) {
+    assert_eq!(rt; ran.status.exit, exit, "exit of {of:?}");
+}
+
+/// Asserts why the call ended, in the same way.
+pub(crate) fn assert_why<T: Debug + Drop>(rt: &impl Abort, ran: &Ran, why: Why, of: T) {
+    assert_eq!(rt; ran.status.why, why, "cause of {of:?}");
 }
 
 /// Traces, and the answers to each; all lines of each are read.
-const TRACES: [(&[u8], &[u8]); 15] = [
+const TRACES: &[(&[u8], &[u8])] = &[
     (b"trace 1\n", b""),
     (b"trace 1", b""),
     (ORDINARY, ORDINARY_ANSWERS),
@@ -128,7 +171,7 @@ const TRACES: [(&[u8], &[u8]); 15] = [
 ];
 
 /// Traces with timers, and the answers to each in the same way.
-const TIMER_TRACES: [(&[u8], &[u8]); 10] = [
+const TIMER_TRACES: &[(&[u8], &[u8])] = &[
     // Timers of one deadline fire in the order in which they were registered.
     (
         b"trace 1\ntimer at 150\ntimer at 150\ntick 1 5\ntick 2 4\nnow 150\nreact\n",
@@ -182,7 +225,7 @@ const TIMER_TRACES: [(&[u8], &[u8]); 10] = [
 ];
 
 /// Traces with rounds in sections, and the answers to each; all lines of each are read.
-const SECTION_TRACES: [(&[u8], &[u8]); 8] = [
+const SECTION_TRACES: &[(&[u8], &[u8])] = &[
     // An event of the running round is not fresh: a poll after it waits for another.
     (
         b"trace 1\nadd\nbegin none\npoll 0 r 7\nevent 0 r\nwait\nhandle\nfinish\npoll 0 r 7\n",
@@ -225,87 +268,102 @@ const SECTION_TRACES: [(&[u8], &[u8]); 8] = [
     ),
 ];
 
-#[test]
-fn traces_are_answered_however_they_are_read(rt: HostRuntime) -> Result<(), Fail> {
-    for piece in [1, 7, 4096] {
-        for (trace, out) in TRACES {
-            let ran = run_over(&rt, &["replay"], trace, piece, NOTHING_FAILS)?;
-            assert_eq!(rt; ran.out.bytes(), out, "output of {trace:?}");
-            assert!(rt; ran.err.bytes().is_empty(), "text for {trace:?}");
-            assert_eq!(rt; ran.status.exit, 0, "exit of {trace:?}");
-        }
+/// Replays each trace, of which a read gives at most `piece` bytes, and asserts its answers.
+pub(crate) fn replay_rows<R: Wait + Threads + Sync + Send + Copy + AllocGlobal + Abort>(
+    rt: &R,
+    rows: &[(&[u8], &[u8])],
+    piece: usize,
+) -> Result<(), Fail> {
+    for (trace, out) in rows {
+        replay_row(rt, trace, out, piece)?;
     }
     Ok(())
+}
+
+fn replay_row<R: Wait + Threads + Sync + Send + Copy + AllocGlobal + Abort>(
+    rt: &R,
+    trace: &[u8],
+    out: &[u8],
+    piece: usize,
+) -> Result<(), Fail> {
+    let ran = run_over(rt, &["replay"], trace, piece, NOTHING_FAILS)?;
+    assert_out(rt, &ran, out, trace);
+    assert_told(rt, &ran, b"", trace);
+    assert_exit(rt, &ran, 0, trace);
+    Ok(())
+}
+
+#[test]
+fn traces_are_answered_however_they_are_read(rt: HostRuntime) -> Result<(), Fail> {
+    replay_rows(&rt, TRACES, 1)?;
+    replay_rows(&rt, TRACES, 7)?;
+    replay_rows(&rt, TRACES, 4096)
 }
 
 #[test]
 fn timers_fire_in_order_and_once(rt: HostRuntime) -> Result<(), Fail> {
-    for piece in [1, 4096] {
-        for (trace, out) in TIMER_TRACES {
-            let ran = run_over(&rt, &["replay"], trace, piece, NOTHING_FAILS)?;
-            assert_eq!(rt; ran.out.bytes(), out, "output of {trace:?}");
-            assert!(rt; ran.err.bytes().is_empty(), "text for {trace:?}");
-            assert_eq!(rt; ran.status.exit, 0, "exit of {trace:?}");
-        }
-    }
-    Ok(())
+    replay_rows(&rt, TIMER_TRACES, 1)?;
+    replay_rows(&rt, TIMER_TRACES, 4096)
 }
 
 #[test]
 fn rounds_are_answered_section_by_section(rt: HostRuntime) -> Result<(), Fail> {
-    for piece in [1, 4096] {
-        for (trace, out) in SECTION_TRACES {
-            let ran = run_over(&rt, &["replay"], trace, piece, NOTHING_FAILS)?;
-            assert_eq!(rt; ran.out.bytes(), out, "output of {trace:?}");
-            assert!(rt; ran.err.bytes().is_empty(), "text for {trace:?}");
-            assert_eq!(rt; ran.status.exit, 0, "exit of {trace:?}");
-        }
-    }
+    replay_rows(&rt, SECTION_TRACES, 1)?;
+    replay_rows(&rt, SECTION_TRACES, 4096)
+}
+
+/// Words that are no command.
+const OTHER_WORDS: &[&[&str]] = &[
+    &[],
+    &[""],
+    &["replay", "x"],
+    &["Replay"],
+    &["gen"],
+    &["gen", "1"],
+    &["gen", "1", "2", "3"],
+    &["Gen", "1", "0"],
+    &["gen ", "1", "0"],
+    &["gen", "1000000", "0"],
+    &["gen", "4294967296", "0"],
+    &["gen", "1", "281474976710656"],
+    &["gen", "18446744073709551616", "0"],
+    &["gen", "-1", "0"],
+    &["gen", "+1", "0"],
+    &["gen", "1", "+0"],
+    &["gen", "x", "0"],
+    &["gen", "1x", "0"],
+    &["gen", "", "0"],
+    &["gen", "1", ""],
+    &["gen 1 0"],
+    &["sum", " 0", "1"],
+    &["sum", "1000000", "1"],
+    &["sum", "replay"],
+    &["relay", "4000", "1", "1", "1"],
+    &["stress", "1", "1"],
+];
+
+fn refuse_words<R: Wait + Threads + Sync + Send + Copy + AllocGlobal + Abort>(
+    rt: &R,
+    words: &[&str],
+) -> Result<(), Fail> {
+    let ran = run_over(rt, words, ORDINARY, 4096, NOTHING_FAILS)?;
+    assert_exit(rt, &ran, 1, words);
+    assert_why(rt, &ran, Why::Usage, words);
+    assert_told(rt, &ran, USAGE, words);
+    assert_out(rt, &ran, b"", words);
     Ok(())
 }
 
 #[test]
 fn other_words_are_no_command(rt: HostRuntime) -> Result<(), Fail> {
-    let lists: [&[&str]; 26] = [
-        &[],
-        &[""],
-        &["replay", "x"],
-        &["Replay"],
-        &["gen"],
-        &["gen", "1"],
-        &["gen", "1", "2", "3"],
-        &["Gen", "1", "0"],
-        &["gen ", "1", "0"],
-        &["gen", "1000000", "0"],
-        &["gen", "4294967296", "0"],
-        &["gen", "1", "281474976710656"],
-        &["gen", "18446744073709551616", "0"],
-        &["gen", "-1", "0"],
-        &["gen", "+1", "0"],
-        &["gen", "1", "+0"],
-        &["gen", "x", "0"],
-        &["gen", "1x", "0"],
-        &["gen", "", "0"],
-        &["gen", "1", ""],
-        &["gen 1 0"],
-        &["sum", " 0", "1"],
-        &["sum", "1000000", "1"],
-        &["sum", "replay"],
-        &["relay", "4000", "1", "1", "1"],
-        &["stress", "1", "1"],
-    ];
-    for words in lists {
-        let ran = run_over(&rt, words, ORDINARY, 4096, NOTHING_FAILS)?;
-        assert_eq!(rt; ran.status.exit, 1);
-        assert_eq!(rt; ran.status.why, Why::Usage);
-        assert_eq!(rt; ran.err.bytes(), USAGE);
-        assert!(rt; ran.out.bytes().is_empty());
+    for words in OTHER_WORDS {
+        refuse_words(&rt, words)?;
     }
     Ok(())
 }
 
 /// The read of the ordinary trace that fails, where each gives one byte, and what was written then.
-const FAILING_READS: [(&[u64], &[u8]); 8] = [
+const FAILING_READS: &[(&[u64], &[u8])] = &[
     (&[1], b""),
     (&[9], b""),
     (&[12], b""),
@@ -319,22 +377,27 @@ const FAILING_READS: [(&[u64], &[u8]); 8] = [
     (&[51], ORDINARY_ANSWERS),
 ];
 
+fn fail_read<R: Wait + Threads + Sync + Send + Copy + AllocGlobal + Abort>(
+    rt: &R,
+    reads: &'static [u64],
+    out: &[u8],
+) -> Result<(), Fail> {
+    let failing = Failing {
+        reads,
+        ..NOTHING_FAILS
+    };
+    let ran = run_over(rt, &["replay"], ORDINARY, 1, failing)?;
+    assert_exit(rt, &ran, 3, reads);
+    assert_why(rt, &ran, Why::ReadFault(FIRST_FAULT), reads);
+    assert_out(rt, &ran, out, reads);
+    assert_told(rt, &ran, b"read fault\n", reads);
+    Ok(())
+}
+
 #[test]
 fn a_failing_read_leaves_the_answers_before_it(rt: HostRuntime) -> Result<(), Fail> {
     for (reads, out) in FAILING_READS {
-        let failing = Failing {
-            reads,
-            ..NOTHING_FAILS
-        };
-        let ran = run_over(&rt, &["replay"], ORDINARY, 1, failing)?;
-        let fault = CountFault {
-            before: 0,
-            after: 1,
-        };
-        assert_eq!(rt; ran.status.exit, 3);
-        assert_eq!(rt; ran.status.why, Why::ReadFault(fault), "at {reads:?}");
-        assert_eq!(rt; ran.out.bytes(), out, "at {reads:?}");
-        assert_eq!(rt; ran.err.bytes(), b"read fault\n".as_slice());
+        fail_read(&rt, reads, out)?;
     }
     Ok(())
 }
@@ -342,38 +405,39 @@ fn a_failing_read_leaves_the_answers_before_it(rt: HostRuntime) -> Result<(), Fa
 /// A trace whose first 257 bytes, which one read gives, end in the middle of its last line; and the
 /// answers to the lines before that.
 fn adds_across_a_read(alloc: Global) -> Result<(Vec<u8>, Vec<u8>), Fail> {
-    let mut trace = b"trace 1\n".to_vec(alloc)?;
-    let mut answers = Vec::new(alloc);
-    for key in 0..62 {
-        trace.extend_from_slice(b"add\n")?;
-        answers.extend_from_slice(format!(in alloc; "key {key}\n")?.as_bytes())?;
-    }
+    let (mut trace, answers) = adds(alloc, 62)?;
     trace.extend_from_slice(b"add\n")?;
     Ok((trace, answers))
+}
+
+fn fail_second_read<R: Wait + Threads + Sync + Send + Copy + AllocGlobal + Abort>(
+    rt: &R,
+    trace: &[u8],
+    writes: &'static [u64],
+    out: &[u8],
+) -> Result<(), Fail> {
+    let failing = Failing {
+        reads: &[2],
+        writes,
+        tells: &[],
+    };
+    let ran = run_over(rt, &["replay"], trace, 4096, failing)?;
+    assert_exit(rt, &ran, 3, writes);
+    assert_out(rt, &ran, out, writes);
+    assert_told(rt, &ran, b"read fault\n", writes);
+    Ok(())
 }
 
 #[test]
 fn answers_gathered_before_a_failing_read_are_sent(rt: HostRuntime) -> Result<(), Fail> {
     let (trace, answers) = adds_across_a_read(rt.alloc())?;
-    let sent = answers.as_slice();
-    let cases: [(&[u64], &[u8]); 2] = [(&[], sent), (&[1], b"")];
-    for (writes, out) in cases {
-        let failing = Failing {
-            reads: &[2],
-            writes,
-            tells: &[],
-        };
-        let ran = run_over(&rt, &["replay"], trace.as_slice(), 4096, failing)?;
-        assert_eq!(rt; ran.status.exit, 3);
-        assert_eq!(rt; ran.out.bytes(), out);
-        assert_eq!(rt; ran.err.bytes(), b"read fault\n".as_slice());
-    }
-    Ok(())
+    fail_second_read(&rt, trace.as_slice(), &[], answers.as_slice())?;
+    fail_second_read(&rt, trace.as_slice(), &[1], b"")
 }
 
 /// The write of the answers to the ordinary trace that fails, where each line is read alone, and what
 /// was written then.
-const FAILING_WRITES: [(&[u64], &[u8]); 4] = [
+const FAILING_WRITES: &[(&[u64], &[u8])] = &[
     (&[1], b""),
     (&[2], b"key 0\n"),
     (&[4], b"key 0\npending\nnoted\n"),
@@ -383,22 +447,27 @@ const FAILING_WRITES: [(&[u64], &[u8]); 4] = [
     ),
 ];
 
+fn fail_write<R: Wait + Threads + Sync + Send + Copy + AllocGlobal + Abort>(
+    rt: &R,
+    writes: &'static [u64],
+    out: &[u8],
+) -> Result<(), Fail> {
+    let failing = Failing {
+        writes,
+        ..NOTHING_FAILS
+    };
+    let ran = run_over(rt, &["replay"], ORDINARY, 1, failing)?;
+    assert_exit(rt, &ran, 4, writes);
+    assert_why(rt, &ran, Why::WriteFault(FIRST_FAULT), writes);
+    assert_out(rt, &ran, out, writes);
+    assert_told(rt, &ran, b"write fault\n", writes);
+    Ok(())
+}
+
 #[test]
 fn a_failing_write_leaves_the_answers_before_it(rt: HostRuntime) -> Result<(), Fail> {
     for (writes, out) in FAILING_WRITES {
-        let failing = Failing {
-            writes,
-            ..NOTHING_FAILS
-        };
-        let ran = run_over(&rt, &["replay"], ORDINARY, 1, failing)?;
-        let fault = CountFault {
-            before: 0,
-            after: 1,
-        };
-        assert_eq!(rt; ran.status.exit, 4);
-        assert_eq!(rt; ran.status.why, Why::WriteFault(fault), "at {writes:?}");
-        assert_eq!(rt; ran.out.bytes(), out, "at {writes:?}");
-        assert_eq!(rt; ran.err.bytes(), b"write fault\n".as_slice());
+        fail_write(&rt, writes, out)?;
     }
     Ok(())
 }
@@ -414,48 +483,67 @@ fn a_user_who_cannot_be_told_changes_no_status(rt: HostRuntime) -> Result<(), Fa
         line: 1,
         reason: Reason::Header,
     };
-    assert_eq!(rt; ran.status.exit, 2);
-    assert_eq!(rt; ran.status.why, why);
-    assert!(rt; ran.out.bytes().is_empty());
-    assert!(rt; ran.err.bytes().is_empty());
+    assert_exit(&rt, &ran, 2, "no line");
+    assert_why(&rt, &ran, why, "no line");
+    assert_out(&rt, &ran, b"", "no line");
+    assert_told(&rt, &ran, b"", "no line");
     Ok(())
+}
+
+/// Replays a trace that is read to its end, and asserts its answers without writing them where they
+/// differ, as they are many.
+fn replay_whole<R: Wait + Threads + Sync + Send + Copy + AllocGlobal + Abort>(
+    rt: &R,
+    trace: &[u8],
+    answers: &[u8],
+) -> Result<(), Fail> {
+    let ran = run_over(rt, &["replay"], trace, 4096, NOTHING_FAILS)?;
+    assert_exit(rt, &ran, 0, "a long trace");
+    assert!(rt; ran.out.bytes() == answers);
+    Ok(())
+}
+
+/// The header and so many lines `add`, and their answers.
+fn adds(alloc: Global, count: u32) -> Result<(Vec<u8>, Vec<u8>), Fail> {
+    let mut trace = b"trace 1\n".to_vec(alloc)?;
+    let mut answers = Vec::new(alloc);
+    for key in 0..count {
+        trace.extend_from_slice(b"add\n")?;
+        answers.extend_from_slice(format!(in alloc; "key {key}\n")?.as_bytes())?;
+    }
+    Ok((trace, answers))
 }
 
 #[test]
 fn a_reactor_holds_4096_sources(rt: HostRuntime) -> Result<(), Fail> {
-    let mut trace = b"trace 1\n".to_vec(rt.alloc())?;
-    let mut answers = Vec::new(rt.alloc());
-    for key in 0..4096 {
-        trace.extend_from_slice(b"add\n")?;
-        answers.extend_from_slice(format!(in rt.alloc(); "key {key}\n")?.as_bytes())?;
-    }
+    let (mut trace, mut answers) = adds(rt.alloc(), 4096)?;
     trace.extend_from_slice(b"add\ndel 7\nadd\n")?;
     answers.extend_from_slice(b"full\ngone\nkey 7\n")?;
-    let ran = run_over(&rt, &["replay"], trace.as_slice(), 4096, NOTHING_FAILS)?;
-    assert_eq!(rt; ran.status.exit, 0);
-    assert!(rt; ran.out.bytes() == answers.as_slice());
-    Ok(())
+    replay_whole(&rt, trace.as_slice(), answers.as_slice())
+}
+
+/// A trace in which so many listeners and as many timers wait, and its answers.
+fn waiting(alloc: Global, count: u32) -> Result<(Vec<u8>, Vec<u8>), Fail> {
+    let mut trace = b"trace 1\nadd\n".to_vec(alloc)?;
+    let mut answers = b"key 0\n".to_vec(alloc)?;
+    for n in 1..=count {
+        let lines = format!(in alloc; "new 0 r\nstep {n} 5\ntimer at 9\ntick {n} 5\n")?;
+        trace.extend_from_slice(lines.as_bytes())?;
+        let told = format!(in alloc; "listener {n}\npending\ntimer {n}\npending\n")?;
+        answers.extend_from_slice(told.as_bytes())?;
+    }
+    Ok((trace, answers))
 }
 
 #[test]
 fn listeners_and_timers_are_as_many_as_memory_holds(rt: HostRuntime) -> Result<(), Fail> {
-    let mut trace = b"trace 1\nadd\n".to_vec(rt.alloc())?;
-    let mut answers = b"key 0\n".to_vec(rt.alloc())?;
-    let mut woken = b"round 1 events 1 ok\n".to_vec(rt.alloc())?;
-    for n in 1..2001 {
-        let lines = format!(in rt.alloc(); "new 0 r\nstep {n} 5\ntimer at 9\ntick {n} 5\n")?;
-        trace.extend_from_slice(lines.as_bytes())?;
-        let told = format!(in rt.alloc(); "listener {n}\npending\ntimer {n}\npending\n")?;
-        answers.extend_from_slice(told.as_bytes())?;
-        woken.extend_from_slice(b"wake 5\nwake 5\n")?;
-    }
+    let (mut trace, mut answers) = waiting(rt.alloc(), 2000)?;
     trace.extend_from_slice(b"now 9\nevent 0 r\nreact\n")?;
-    answers.extend_from_slice(b"at 9\nnoted\n")?;
-    answers.extend_from_slice(woken.as_slice())?;
-    let ran = run_over(&rt, &["replay"], trace.as_slice(), 4096, NOTHING_FAILS)?;
-    assert_eq!(rt; ran.status.exit, 0);
-    assert!(rt; ran.out.bytes() == answers.as_slice());
-    Ok(())
+    answers.extend_from_slice(b"at 9\nnoted\nround 1 events 1 ok\n")?;
+    for _ in 0..2000 {
+        answers.extend_from_slice(b"wake 5\nwake 5\n")?;
+    }
+    replay_whole(&rt, trace.as_slice(), answers.as_slice())
 }
 
 /// A trace that never ends: its header, and then the line `react` again and again.
@@ -505,27 +593,20 @@ fn endless_byte(place: u64) -> u8 {
 
 #[test]
 fn a_trace_without_end_is_refused_past_its_millionth_line(rt: HostRuntime) -> Result<(), Fail> {
-    let mut words = Vec::new(rt.alloc());
-    words.push(String::from_str(rt.alloc(), "replay")?)?;
     let mut source = Endless { given: 0 };
-    let mut out = MemSink::new(rt.alloc(), Vec::new(rt.alloc()));
-    let mut err = MemSink::new(rt.alloc(), Vec::new(rt.alloc()));
-    let status = run(
-        &rt,
-        rt.alloc(),
-        words.as_slice(),
-        &mut source,
-        &mut out,
-        &mut err,
-    );
+    let ran = run_from(&rt, &["replay"], &mut source, NOTHING_FAILS)?;
     let why = Why::Refused {
         line: 1_000_001,
         reason: Reason::Lines,
     };
-    assert_eq!(rt; status.exit, 2);
-    assert_eq!(rt; status.why, why);
-    assert_eq!(rt; err.bytes(), b"line 1000001: lines\n".as_slice());
-    assert!(rt; out.bytes().ends_with(b"\nround 999999 events 0 ok\n"));
+    assert_exit(&rt, &ran, 2, "no end");
+    assert_why(&rt, &ran, why, "no end");
+    assert_told(&rt, &ran, b"line 1000001: lines\n", "no end");
+    assert_last_round(&rt, &ran);
     assert!(rt; source.given <= 257_000_257, "{}", source.given);
     Ok(())
+}
+
+fn assert_last_round(rt: &impl Abort, ran: &Ran) {
+    assert!(rt; ran.out.bytes().ends_with(b"\nround 999999 events 0 ok\n"));
 }

@@ -4,8 +4,9 @@
 ghost use Rattle.std.specs.Prelude.{◌≡◌, ◌-◌, ◌^◌, ◌≤◌, false, IfSome, None};
 ghost use Rattle.aio_react.specs.Hosts.{NotifierTells, next_id, wake_fault};
 
-use crate::{Host, InsertRefusal, TimerHost};
+use crate::asserts::same;
 use aio_base::{CountFault, Later, Moment, OutOfMemory, TimerId, Waker};
+use aio_react::{Host, InsertRefusal, TimerHost};
 use std::test::Fail;
 
 const LAST_ID: u64 = 0xff_ffff_ffff;
@@ -108,7 +109,7 @@ impl Host for Counting {
 }
 
 /// Registers a timer, where there is an id and nothing fails.
-fn insert<H: TimerHost>(host: &mut H, at: Moment, waker: Waker) -> Option<TimerId>
+pub(crate) fn insert<H: TimerHost>(host: &mut H, at: Moment, waker: Waker) -> Option<TimerId>
     ensures inserted { IfSome result (λ id. H.rules.inserted host.old at waker id host.new) }
     ensures id { IfSome result (λ id.
         id ≡ next_id (H.rules.pass host.old) (H.rules.drawn host.old)) }
@@ -167,12 +168,10 @@ fn ids_count_from_one_behind_the_pass(rt: HostRuntime) -> Result<(), Fail> {
     let mut host = make_counting(0, false);
     let at = Moment::new(10).ok_or("no moment")?;
     let ids = insert_two(&mut host, at, Waker(1), Waker(2));
-    assert_eq!(rt;
-        ids,
-        Some((TimerId(3_298_534_883_329), TimerId(3_298_534_883_330)))
-    );
-    assert_eq!(rt; (host.removals, host.drawn), (1, 2));
-    assert_eq!(rt; count_and_wake(&mut host, Waker(2)), (1, Ok(())));
+    let wanted = (TimerId(3_298_534_883_329), TimerId(3_298_534_883_330));
+    same(&rt, ids, Some(wanted));
+    same(&rt, (host.removals, host.drawn), (1, 2));
+    same(&rt, count_and_wake(&mut host, Waker(2)), (1, Ok(())));
     Ok(())
 }
 
@@ -181,8 +180,8 @@ fn a_pass_ends_at_its_last_id(rt: HostRuntime) -> Result<(), Fail> {
     let mut host = make_counting(LAST_ID - 1, false);
     let at = Moment::new(10).ok_or("no moment")?;
     let last = TimerId(4_398_046_511_103);
-    assert_eq!(rt; insert(&mut host, at, Waker(1)), Some(last));
-    assert_eq!(rt; insert(&mut host, at, Waker(1)), None);
+    same(&rt, insert(&mut host, at, Waker(1)), Some(last));
+    same(&rt, insert(&mut host, at, Waker(1)), None);
     Ok(())
 }
 
@@ -196,10 +195,8 @@ fn a_timer_is_registered_where_the_notifier_fails(rt: HostRuntime) -> Result<(),
         before: 0,
         after: 1,
     };
-    assert_eq!(rt;
-        host.insert_timer(at, Waker(1)),
-        Err(InsertRefusal::Notify { id, fault })
-    );
-    assert_eq!(rt; host.last, Some((at, Waker(1), id)));
+    let refusal = InsertRefusal::Notify { id, fault };
+    same(&rt, host.insert_timer(at, Waker(1)), Err(refusal));
+    same(&rt, host.last, Some((at, Waker(1), id)));
     Ok(())
 }

@@ -1,12 +1,17 @@
 //! In which spellings a line is read, and why a line that reads as no step is refused.
 
-use crate::traces::{NOTHING_FAILS, run_over};
-use aio_bytes::{MemSink, MemSource, Source};
-use aio_run::run;
+use crate::traces::{
+    NOTHING_FAILS, assert_exit, assert_out, assert_told, replay_rows, run_from, run_over,
+};
+use aio_bytes::{MemSource, Source};
+use std::alloc::Global;
+use std::process::Abort;
+use std::sync::Wait;
 use std::test::Fail;
+use std::thread::Threads;
 
 /// Traces that are read to their end, and the answers.
-const READ: [(&[u8], &[u8]); 12] = [
+const READ: &[(&[u8], &[u8])] = &[
     (b"trace 1\n poll  007 r 1 \n", b"no source\n"),
     (b"trace 1\n\tadd\n", b"key 0\n"),
     (b"trace 1\nadd \t \n", b"key 0\n"),
@@ -34,7 +39,7 @@ const READ: [(&[u8], &[u8]); 12] = [
 ];
 
 /// Traces with a line that is refused, the answers to the lines before it, and what is told.
-const REFUSED: [(&[u8], &[u8], &[u8]); 41] = [
+const REFUSED: &[(&[u8], &[u8], &[u8])] = &[
     (
         b"trace 1\nadd\nevent 0 r\npoll 0 x 1\n",
         b"key 0\nnoted\n",
@@ -102,32 +107,44 @@ const REFUSED: [(&[u8], &[u8], &[u8]); 41] = [
 
 #[test]
 fn a_line_is_read_in_each_of_its_spellings(rt: HostRuntime) -> Result<(), Fail> {
-    for piece in [1, 4096] {
-        for (trace, out) in READ {
-            let ran = run_over(&rt, &["replay"], trace, piece, NOTHING_FAILS)?;
-            assert_eq!(rt; ran.out.bytes(), out, "output of {trace:?}");
-            assert!(rt; ran.err.bytes().is_empty(), "text for {trace:?}");
-            assert_eq!(rt; ran.status.exit, 0, "exit of {trace:?}");
-        }
+    replay_rows(&rt, READ, 1)?;
+    replay_rows(&rt, READ, 4096)
+}
+
+/// Replays each refused trace, of which a read gives at most `piece` bytes, and asserts what is told.
+fn refuse_rows<R: Wait + Threads + Sync + Send + Copy + AllocGlobal + Abort>(
+    rt: &R,
+    rows: &[(&[u8], &[u8], &[u8])],
+    piece: usize,
+) -> Result<(), Fail> {
+    for (trace, out, err) in rows {
+        refuse_row(rt, trace, out, err, piece)?;
     }
+    Ok(())
+}
+
+fn refuse_row<R: Wait + Threads + Sync + Send + Copy + AllocGlobal + Abort>(
+    rt: &R,
+    trace: &[u8],
+    out: &[u8],
+    err: &[u8],
+    piece: usize,
+) -> Result<(), Fail> {
+    let ran = run_over(rt, &["replay"], trace, piece, NOTHING_FAILS)?;
+    assert_out(rt, &ran, out, trace);
+    assert_told(rt, &ran, err, trace);
+    assert_exit(rt, &ran, 2, trace);
     Ok(())
 }
 
 #[test]
 fn the_first_refused_line_is_told_with_its_reason(rt: HostRuntime) -> Result<(), Fail> {
-    for piece in [1, 4096] {
-        for (trace, out, err) in REFUSED {
-            let ran = run_over(&rt, &["replay"], trace, piece, NOTHING_FAILS)?;
-            assert_eq!(rt; ran.out.bytes(), out, "output of {trace:?}");
-            assert_eq!(rt; ran.err.bytes(), err, "text for {trace:?}");
-            assert_eq!(rt; ran.status.exit, 2, "exit of {trace:?}");
-        }
-    }
-    Ok(())
+    refuse_rows(&rt, REFUSED, 1)?;
+    refuse_rows(&rt, REFUSED, 4096)
 }
 
 /// Lines of so many bytes, blanks with `add` in front of them, and what is told.
-const LENGTHS: [(usize, &[u8], &[u8]); 5] = [
+const LENGTHS: &[(usize, &[u8], &[u8])] = &[
     (255, b"key 0\n", b""),
     (256, b"key 0\n", b""),
     (257, b"", b"line 2: long\n"),
@@ -135,19 +152,34 @@ const LENGTHS: [(usize, &[u8], &[u8]); 5] = [
     (100_000, b"", b"line 2: long\n"),
 ];
 
+/// A trace with one line `add`, which blanks and this last byte make so many bytes long.
+fn long_line(alloc: Global, len: usize, last: u8) -> Result<Vec<u8>, Fail> {
+    let mut trace = b"trace 1\nadd".to_vec(alloc)?;
+    for _ in 4..len {
+        trace.push(b' ')?;
+    }
+    trace.push(last)?;
+    Ok(trace)
+}
+
+fn read_long_line<R: Wait + Threads + Sync + Send + Copy + AllocGlobal + Abort>(
+    rt: &R,
+    row: &(usize, &[u8], &[u8]),
+    last: u8,
+) -> Result<(), Fail> {
+    let (len, out, err) = *row;
+    let trace = long_line(rt.alloc(), len, last)?;
+    let ran = run_over(rt, &["replay"], trace.as_slice(), 4096, NOTHING_FAILS)?;
+    assert_out(rt, &ran, out, len);
+    assert_told(rt, &ran, err, len);
+    Ok(())
+}
+
 #[test]
 fn a_line_has_at_most_256_bytes(rt: HostRuntime) -> Result<(), Fail> {
-    for (len, out, err) in LENGTHS {
-        for last in [b' ', b'\r'] {
-            let mut trace = b"trace 1\nadd".to_vec(rt.alloc())?;
-            for _ in 4..len {
-                trace.push(b' ')?;
-            }
-            trace.push(last)?;
-            let ran = run_over(&rt, &["replay"], trace.as_slice(), 4096, NOTHING_FAILS)?;
-            assert_eq!(rt; ran.out.bytes(), out, "output of {len} bytes");
-            assert_eq!(rt; ran.err.bytes(), err, "text for {len} bytes");
-        }
+    for row in LENGTHS {
+        read_long_line(&rt, row, b' ')?;
+        read_long_line(&rt, row, b'\r')?;
     }
     Ok(())
 }
@@ -159,30 +191,24 @@ fn a_long_line_of_other_bytes_is_long(rt: HostRuntime) -> Result<(), Fail> {
         trace.push(0)?;
     }
     let ran = run_over(&rt, &["replay"], trace.as_slice(), 4096, NOTHING_FAILS)?;
-    assert_eq!(rt; ran.err.bytes(), b"line 2: long\n".as_slice());
+    assert_told(&rt, &ran, b"line 2: long\n", "257 zeros");
     Ok(())
 }
 
 #[test]
 fn a_first_line_without_end_is_refused_by_its_first_257_bytes(rt: HostRuntime) -> Result<(), Fail> {
     let alloc = rt.alloc();
-    let mut words = Vec::new(alloc);
-    words.push(String::from_str(alloc, "replay")?)?;
     let mut source = MemSource::new([b'a'; 300].to_vec(alloc)?, 4096, Vec::new(alloc));
-    let mut out = MemSink::new(alloc, Vec::new(alloc));
-    let mut err = MemSink::new(alloc, Vec::new(alloc));
-    let status = run(
-        &rt,
-        alloc,
-        words.as_slice(),
-        &mut source,
-        &mut out,
-        &mut err,
-    );
-    assert_eq!(rt; status.exit, 2);
-    assert_eq!(rt; err.bytes(), b"line 1: header\n".as_slice());
+    let ran = run_from(&rt, &["replay"], &mut source, NOTHING_FAILS)?;
+    assert_exit(&rt, &ran, 2, "no end");
+    assert_told(&rt, &ran, b"line 1: header\n", "no end");
+    assert_left(&rt, &mut source, 43);
+    Ok(())
+}
+
+/// Asserts that so many bytes are left in the source at least.
+fn assert_left(rt: &impl Abort, source: &mut MemSource, least: usize) {
     let mut rest = [0; 300];
     let left = source.read(&mut rest).ok().unwrap_or(0);
-    assert!(rt; left >= 43, "{left}");
-    Ok(())
+    assert!(rt; left >= least, "{left}");
 }
