@@ -1,7 +1,7 @@
 //! The steps on sources and listeners.
 //!
-//! The steps that come most often, polls and those of listeners, stay functions of their own: each has
-//! the registers to itself then, which costs less than the calls.
+//! Polls of sources and of listeners, which come most often, stay functions of their own: each has the
+//! registers to itself then, which costs less than the calls.
 
 ghost use Rattle.std.specs.Prelude.{◌≡◌, [], IfOk};
 ghost use Rattle.aio_base.specs.declared.steps.Step.TheVariants as step;
@@ -47,7 +47,6 @@ impl Replayer {
     }
 
     /// Makes a listener of a direction of a source. `AllocError` where memory ran out.
-    #[inline(never)]
     pub fn new_listener(&mut self, key: Key, dir: Dir) -> Result<Answer, AllocError>
         requires { IsWithin 1000000 self.old }
         ensures { IfOk result (λ answer.
@@ -67,7 +66,7 @@ impl Replayer {
     }
 
     /// Gives up a listener.
-    #[inline(never)]
+    #[inline(always)]
     pub fn drop_listener(&mut self, number: u32) -> Answer
         ensures { Replays (step.DropEar number) result [] self.old self.new }
     {
