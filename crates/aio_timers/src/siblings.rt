@@ -2,7 +2,7 @@
 
 ghost use Rattle.std.specs.Prelude.{◌≡◌, ◌<◌, ◌^◌, length, IfSome};
 ghost use Rattle.aio_timers.specs.Held.{node_at};
-ghost use Rattle.aio_timers.specs.Writes.{with_child, with_next, with_prev, with_back, under, alone, skips, without, leads_to};
+ghost use Rattle.aio_timers.specs.Writes.{with_child, with_next, with_prev, with_back, under, leads_or, alone, skips, without, leads_to};
 
 use crate::link::Link;
 use crate::node::Node;
@@ -49,7 +49,9 @@ fn set_back(nodes: &mut [Node], to: Link, link: Link)
     }
 }
 
-/// Makes a node that has no parent the first child of another one.
+/// Makes a node that has no parent the first child of another one. Where that one has no children,
+/// the link back is written to the node itself before its own: a write that is lost costs less than
+/// a jump that cannot be foretold.
 pub(crate) fn put_under(nodes: &mut [Node], parent: usize, at: usize)
     requires few { length nodes.old < 2 ^ 32 }
     requires parent { parent < length nodes.old }
@@ -59,9 +61,17 @@ pub(crate) fn put_under(nodes: &mut [Node], parent: usize, at: usize)
 {
     let first = nodes[parent].child;
     nodes[at].next = first;
+    let behind = leads_or(first, at);
+    nodes[behind].prev = Link::to(at);
     nodes[at].prev = Link::to(parent);
-    set_back(nodes, first, Link::to(at));
     nodes[parent].child = Link::to(at);
+}
+
+/// The node that a link leads to; where it leads to none, the node `at`.
+fn leads_or(link: Link, at: usize) -> usize
+    ensures { result ≡ leads_or link at }
+{
+    link.get().unwrap_or(at)
 }
 
 /// Leaves a root without siblings.
