@@ -7,7 +7,7 @@ ghost use Rattle.aio_timers.specs.Writes.{with_child, with_next, with_prev, with
 use crate::link::Link;
 use crate::node::Node;
 
-/// The first child of a node.
+/// Where the row of the children of a node begins.
 pub(crate) fn child_of(nodes: &[Node], at: usize) -> Link
     requires { at < length nodes.now }
     ensures { result ≡ Node.child (node_at nodes.now at) }
@@ -15,7 +15,7 @@ pub(crate) fn child_of(nodes: &[Node], at: usize) -> Link
     nodes[at].child
 }
 
-/// The sibling behind a node, or, of a free node, the next one in the free list.
+/// Where the row of a node goes on behind it. A free node has the list of free nodes for its row.
 pub(crate) fn next_of(nodes: &[Node], at: usize) -> Link
     requires { at < length nodes.now }
     ensures { result ≡ Node.next (node_at nodes.now at) }
@@ -23,7 +23,8 @@ pub(crate) fn next_of(nodes: &[Node], at: usize) -> Link
     nodes[at].next
 }
 
-/// What leads to a node in the heap: the sibling before it, or for a first child the parent.
+/// The way back from a node of the heap: to the sibling in front of it, or, from the first child of a
+/// row, to the parent.
 pub(crate) fn prev_of(nodes: &[Node], at: usize) -> Link
     requires { at < length nodes.now }
     ensures { result ≡ Node.prev (node_at nodes.now at) }
@@ -31,7 +32,7 @@ pub(crate) fn prev_of(nodes: &[Node], at: usize) -> Link
     nodes[at].prev
 }
 
-/// Lets a node lead to the one behind it.
+/// Writes where the row of a node goes on behind it.
 pub(crate) fn set_next(nodes: &mut [Node], at: usize, link: Link)
     requires { at < length nodes.old }
     ensures { nodes.new ≡ with_next nodes.old at link }
@@ -39,7 +40,7 @@ pub(crate) fn set_next(nodes: &mut [Node], at: usize, link: Link)
     nodes[at].next = link;
 }
 
-/// Lets the node that `to` leads to, if it leads to one, lead back to `link`.
+/// Writes the way back from the node that `to` leads to, if there is one.
 fn set_back(nodes: &mut [Node], to: Link, link: Link)
     requires { IfSome to (λ i. i < length nodes.old) }
     ensures { nodes.new ≡ with_back nodes.old to link }
@@ -74,7 +75,7 @@ fn leads_or(link: Link, at: usize) -> usize
     link.get().unwrap_or(at)
 }
 
-/// Leaves a root without siblings.
+/// Makes a root the only one of its row.
 pub(crate) fn set_alone(nodes: &mut [Node], at: usize)
     requires { at < length nodes.old }
     ensures { nodes.new ≡ alone nodes.old at }
@@ -83,7 +84,7 @@ pub(crate) fn set_alone(nodes: &mut [Node], at: usize)
     nodes[at].prev = Link::none();
 }
 
-/// Tells whether the link is one to the node `at`.
+/// Whether a link goes to the node `at`.
 pub(crate) fn is_link_to(link: Link, at: usize) -> bool
     ensures { result ≡ leads_to link at }
 {
