@@ -6,6 +6,8 @@
 #![tactic(auto)]
 
 pub mod answers;
+mod drawn_id;
+mod span;
 #[cfg(test)]
 mod tests;
 pub mod timer;

@@ -1,12 +1,14 @@
 //! The timer and its calls.
 
-ghost use Rattle.std.specs.Prelude.{◌≡◌, ◌&&◌, Some, None, IfSome, IsTrue, is_some, MatchResult, OnOk, OnErr};
+ghost use Rattle.std.specs.Prelude.{◌≡◌, ◌&&◌, ◌<◌, Some, None, IfSome, IsTrue, is_some, MatchResult, OnOk, OnErr};
 ghost use Rattle.aio_base.specs.Devices.{HasCause};
 ghost use Rattle.aio_base.specs.Machine.{is_waker, next_deadline};
 ghost use Rattle.aio_base.specs.Trace.{IsPeriod};
 ghost use Rattle.aio_future.specs.Timers.{IsTimer, new_timer, registration_of, poll_work, firing, waiting, set_work, change_work, Removes, RefusesRemoval, Worked, poll_fault, poll_answer, set_fault};
 
 use crate::answers::TimerFault;
+use crate::drawn_id::DrawnId;
+use crate::span::Span;
 use aio_base::{Moment, OutOfMemory, Poll, TimerId, Waker};
 use aio_react::{InsertRefusal, TimerHost};
 use std::marker::Model;
@@ -18,9 +20,9 @@ use std::marker::Model;
 /// `close` takes it out.
 #[derive(Debug, Drop)]
 pub struct Timer {
-    deadline: Option<Moment>,
-    period: Option<u64>,
-    id: Option<TimerId>,
+    deadline: Span,
+    period: Span,
+    id: DrawnId,
     kept: Option<Waker>,
 }
 
@@ -40,9 +42,9 @@ impl Timer {
         ensures { result ≡ new_timer (Some t) None }
     {
         Timer {
-            deadline: Some(t),
-            period: None,
-            id: None,
+            deadline: Span::of(t.get()),
+            period: Span::none(),
+            id: DrawnId::none(),
             kept: None,
         }
     }
@@ -54,9 +56,9 @@ impl Timer {
         ensures { result ≡ new_timer (Some first) (Some period) }
     {
         Timer {
-            deadline: Some(first),
-            period: Some(period),
-            id: None,
+            deadline: Span::of(first.get()),
+            period: Span::of(period),
+            id: DrawnId::none(),
             kept: None,
         }
     }
@@ -66,9 +68,9 @@ impl Timer {
         ensures { result ≡ new_timer None None }
     {
         Timer {
-            deadline: None,
-            period: None,
-            id: None,
+            deadline: Span::none(),
+            period: Span::none(),
+            id: DrawnId::none(),
             kept: None,
         }
     }
@@ -77,7 +79,7 @@ impl Timer {
     pub fn will_fire(&self) -> bool
         ensures { result ≡ is_some self.now.deadline }
     {
-        self.deadline.is_some()
+        self.deadline.get().is_some()
     }
 
     /// The moment at which the timer fires next; `None` where it was made without one, or is over.
@@ -85,7 +87,10 @@ impl Timer {
         ensures value { result ≡ self.now.deadline }
         ensures sound { IsTimer self.now }
     {
-        self.deadline
+        match self.deadline.get() {
+            Some(nanoseconds) => Moment::new(nanoseconds),
+            None => None,
+        }
     }
 
     /// Answers `Ready` with the deadline where `now` has reached it, and has the timer go on to its
@@ -108,7 +113,7 @@ impl Timer {
             host.old host.new self.old self.new (poll_fault result) }
         ensures sound { IsTimer self.old }
     {
-        let Some(deadline) = self.deadline else {
+        let Some(deadline) = self.deadline() else {
             return Poll::Pending;
         };
         if deadline <= now {
@@ -186,9 +191,12 @@ impl Timer {
         ensures sound { IsTimer self.old }
     {
         let next = Timer {
-            deadline: Some(deadline),
-            period: period.or(self.period),
-            id: None,
+            deadline: Span::of(deadline.get()),
+            period: match period {
+                Some(given) => Span::of(given),
+                None => self.period,
+            },
+            id: DrawnId::none(),
             kept: self.kept,
         };
         self.change_to(host, next, None)
@@ -205,11 +213,11 @@ impl Timer {
             (firing self.old deadline waker (next_deadline deadline self.old.period))
             host.old host.new self.old self.new (set_fault result) }
     {
-        let next = match moment_after(deadline, self.period) {
+        let next = match moment_after(deadline, self.period.get()) {
             Some(following) => Timer {
-                deadline: Some(following),
+                deadline: Span::of(following.get()),
                 period: self.period,
-                id: None,
+                id: DrawnId::none(),
                 kept: Some(waker),
             },
             None => Timer {
@@ -235,9 +243,9 @@ impl Timer {
             return Ok(());
         }
         let next = Timer {
-            deadline: Some(deadline),
+            deadline: Span::of(deadline.get()),
             period: self.period,
-            id: None,
+            id: DrawnId::none(),
             kept: Some(waker),
         };
         self.change_to(host, next, None)
@@ -247,7 +255,7 @@ impl Timer {
     fn waits_with(&self, waker: Waker) -> bool
         ensures { result ≡ (is_some self.now.id && is_waker waker self.now.kept) }
     {
-        self.id.is_some() && self.kept == Some(waker)
+        self.id.get().is_some() && self.kept == Some(waker)
     }
 
     /// Takes the registration out, where there is one. On a refusal the timer is as it was.
@@ -264,10 +272,10 @@ impl Timer {
         ensures later { H.is_later host.old host.new }
         ensures pass { H.rules.pass host.new ≡ H.rules.pass host.old }
     {
-        if let (Some(deadline), Some(id)) = (self.deadline, self.id) {
+        if let (Some(deadline), Some(id)) = (self.deadline(), self.id.get()) {
             host.remove_timer(deadline, id)?;
         }
-        self.id = None;
+        self.id = DrawnId::none();
         Ok(())
     }
 
@@ -284,7 +292,7 @@ impl Timer {
         ensures { Worked H.rules H.is_later H.notifier_is_sure (change_work self.old next reached)
             host.old host.new self.old self.new (set_fault result) }
     {
-        let wanted = next.deadline.zip(next.kept);
+        let wanted = next.deadline().zip(next.kept);
         if wanted.is_some() && !host.ids_left() {
             return Err(TimerFault::IdsSpent);
         }
@@ -313,11 +321,12 @@ impl Timer {
 
     /// The timer, registered under this id.
     fn with_id(self, id: TimerId) -> Timer
-        requires { IsTrue (is_some self.deadline && is_some self.kept) }
+        requires waits { IsTrue (is_some self.deadline && is_some self.kept) }
+        requires drawn { 0 < id.0 }
         ensures { result ≡ record self { id = Some id } }
     {
         Timer {
-            id: Some(id),
+            id: DrawnId::of(id),
             ..self
         }
     }

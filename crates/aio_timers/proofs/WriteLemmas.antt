@@ -4,7 +4,7 @@ use Rattle.std.proofs.lemmas.List.{get_or-set_same, get_or-set_other}
 use Rattle.std.proofs.lemmas.Bool.Decides.{nat_tests}
 use Rattle.aio_timers.specs.declared.node.Node.{Node}
 use Rattle.aio_timers.specs.Held.{held_of, held_at, node_at, blank_node, gone}
-use Rattle.aio_timers.specs.Writes.{with_child, with_next, with_prev, with_back, under, leads_to, without, released}
+use Rattle.aio_timers.specs.Writes.{with_child, with_next, with_prev, with_back, under, leads_or, leads_to, without, released}
 
 pub leads-same : (i : ℕ) → leads_to (Some i) i ≡ true
 leads-same i = grind (arith, nat_tests)
@@ -63,36 +63,46 @@ pub record Puts (old new : List Node) (p i : ℕ) : Type 0 where
   pub prev_here : (node_at new i).prev ≡ Some p
   pub prev_first : (j : ℕ) → j < length old → (node_at old p).child ≡ Some j → (node_at new j).prev ≡ Some i
 
+leads_or-apart : (l : Option ℕ) (i j : ℕ) → l ≢ Some j → j ≢ i → j ≢ leads_or l i
+leads_or-apart None i j other ne = ne
+leads_or-apart (Some k) i j other ne = λ e. other (ap (λ (x : ℕ). Some x) (sym e))
+
 -- the first three of the four writes
 abbrev forward : List Node → ℕ → ℕ → List Node
 forward ns p i = with_next ns i (node_at ns p).child
 
-abbrev backward : List Node → ℕ → ℕ → List Node
-backward ns p i = with_prev (forward ns p i) i (Some p)
+abbrev behind : List Node → ℕ → ℕ → List Node
+behind ns p i = with_prev (forward ns p i) (leads_or (node_at ns p).child i) (Some i)
 
 abbrev before_last : List Node → ℕ → ℕ → List Node
-before_last ns p i = with_back (backward ns p i) (node_at ns p).child (Some i)
+before_last ns p i = with_prev (behind ns p i) i (Some p)
 
 pub puts : (ns : List Node) (p i : ℕ) → p < length ns → i < length ns → (node_at ns p).child ≢ Some i → Puts ns (under ns p i) p i
 puts ns p i hp hi new =
     let first : Option ℕ = (node_at ns p).child in
+    let to : ℕ = leads_or first i in
     let a : List Node = forward ns p i in
-    let b : List Node = backward ns p i in
+    let b : List Node = behind ns p i in
     let c : List Node = before_last ns p i in
     let a_len : length a ≡ length ns = length-set ns i _ in
-    let b_len : length b ≡ length ns = length-set a i _ ∙ a_len in
-    let c_len : length c ≡ length ns = back-length b first (Some i) ∙ b_len in
+    let b_len : length b ≡ length ns = length-set a to _ ∙ a_len in
+    let c_len : length c ≡ length ns = length-set b i _ ∙ b_len in
     record {
       len = length-set c p _ ∙ c_len;
-      held = λ j. kept held_of c p j _ refl ∙ back-kept held_of b first (Some i) j (λ n. refl) ∙ kept held_of a i j _ refl ∙ kept held_of ns i j _ refl;
-      child = λ j ne. apart (λ (n : Node). n.child) c p j _ ne ∙ back-kept (λ (n : Node). n.child) b first (Some i) j (λ n. refl) ∙ kept (λ (n : Node). n.child) a i j _ refl ∙ kept (λ (n : Node). n.child) ns i j _ refl;
+      held = λ j. kept held_of c p j _ refl ∙ kept held_of b i j _ refl ∙ kept held_of a to j _ refl ∙ kept held_of ns i j _ refl;
+      child = λ j ne. apart (λ (n : Node). n.child) c p j _ ne ∙ kept (λ (n : Node). n.child) b i j _ refl ∙ kept (λ (n : Node). n.child) a to j _ refl ∙ kept (λ (n : Node). n.child) ns i j _ refl;
       child_here = here (λ (n : Node). n.child) c p _ (omega (arith, hp, c_len));
-      next = λ j ne. kept (λ (n : Node). n.next) c p j _ refl ∙ back-kept (λ (n : Node). n.next) b first (Some i) j (λ n. refl) ∙ kept (λ (n : Node). n.next) a i j _ refl ∙ apart (λ (n : Node). n.next) ns i j _ ne;
-      next_here = kept (λ (n : Node). n.next) c p i _ refl ∙ back-kept (λ (n : Node). n.next) b first (Some i) i (λ n. refl) ∙ kept (λ (n : Node). n.next) a i i _ refl ∙ here (λ (n : Node). n.next) ns i _ hi;
-      prev = λ j ne other. kept (λ (n : Node). n.prev) c p j _ refl ∙ back-apart b first (Some i) j other ∙ apart (λ (n : Node). n.prev) a i j _ ne ∙ kept (λ (n : Node). n.prev) ns i j _ refl;
-      prev_here = kept (λ (n : Node). n.prev) c p i _ refl ∙ back-apart b first (Some i) i new ∙ here (λ (n : Node). n.prev) a i _ (omega (arith, hi, a_len));
-      prev_first = λ j lt e. kept (λ (n : Node). n.prev) c p j _ refl ∙ back-here b first (Some i) j e (omega (arith, lt, b_len));
+      next = λ j ne. kept (λ (n : Node). n.next) c p j _ refl ∙ kept (λ (n : Node). n.next) b i j _ refl ∙ kept (λ (n : Node). n.next) a to j _ refl ∙ apart (λ (n : Node). n.next) ns i j _ ne;
+      next_here = kept (λ (n : Node). n.next) c p i _ refl ∙ kept (λ (n : Node). n.next) b i i _ refl ∙ kept (λ (n : Node). n.next) a to i _ refl ∙ here (λ (n : Node). n.next) ns i _ hi;
+      prev = λ j ne other. kept (λ (n : Node). n.prev) c p j _ refl ∙ apart (λ (n : Node). n.prev) b i j _ ne ∙ apart (λ (n : Node). n.prev) a to j _ (leads_or-apart first i j other ne) ∙ kept (λ (n : Node). n.prev) ns i j _ refl;
+      prev_here = kept (λ (n : Node). n.prev) c p i _ refl ∙ here (λ (n : Node). n.prev) b i _ (omega (arith, hi, b_len));
+      prev_first = λ j lt e.
+          let to_is : to ≡ j = ap (λ (l : Option ℕ). leads_or l i) e in
+          kept (λ (n : Node). n.prev) c p j _ refl ∙ apart (λ (n : Node). n.prev) b i j _ (λ d. new (e ∙ ap (λ (x : ℕ). Some x) d)) ∙ written a to j to_is (omega (arith, lt, a_len));
     }
+  where
+    written : (ns : List Node) (to j : ℕ) → to ≡ j → j < length ns → (node_at (with_prev ns to (Some i)) j).prev ≡ Some i
+    written ns to j e lt = rw e (here (λ (n : Node). n.prev) ns j _ lt)
 
 -- ## A node leaves its row
 

@@ -29,13 +29,18 @@ abbrev pub with_back : List Node → Option ℕ → Option ℕ → List Node
 with_back nodes None link = nodes
 with_back nodes (Some i) link = with_prev nodes i link
 
+-- the node that a link leads to, or where it leads to none this one
+abbrev pub leads_or : Option ℕ → ℕ → ℕ
+leads_or None i = i
+leads_or (Some j) i = j
+
 -- a node comes in front of the children of another
 abbrev pub under : List Node → ℕ → ℕ → List Node
 under nodes parent i =
     let first = (node_at nodes parent).child in
     let a = with_next nodes i first in
-    let b = with_prev a i (Some parent) in
-    let c = with_back b first (Some i) in
+    let b = with_prev a (leads_or first i) (Some i) in
+    let c = with_prev b i (Some parent) in
     with_child c parent (Some i)
 
 -- of two roots the one that fires first

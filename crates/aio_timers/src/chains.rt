@@ -20,7 +20,7 @@ pub(crate) fn bucket_of(id: TimerId, buckets: usize) -> usize
     (id.0 & (buckets as u64 - 1)) as usize
 }
 
-/// The bucket of a node, of so many.
+/// The bucket that the chain of a node starts from, of so many.
 fn bucket_at(nodes: &[Node], at: usize, buckets: usize) -> usize
     requires within { at < length nodes.now }
     requires power { IsPowerOfTwo buckets }
@@ -30,7 +30,7 @@ fn bucket_at(nodes: &[Node], at: usize, buckets: usize) -> usize
     bucket_of(nodes[at].id, buckets)
 }
 
-/// The first node of a bucket.
+/// Where the chain of a bucket begins.
 pub(crate) fn head_of(buckets: &[Link], bucket: usize) -> Link
     requires { bucket < length buckets.now }
     ensures { result ≡ slice_index_or buckets.now bucket None }
@@ -38,7 +38,7 @@ pub(crate) fn head_of(buckets: &[Link], bucket: usize) -> Link
     buckets[bucket]
 }
 
-/// The next node of the bucket of a node.
+/// Where a chain goes on behind one of its nodes.
 fn chain_of(nodes: &[Node], at: usize) -> Link
     requires { at < length nodes.now }
     ensures { result ≡ Node.chain (node_at nodes.now at) }
@@ -46,6 +46,7 @@ fn chain_of(nodes: &[Node], at: usize) -> Link
     nodes[at].chain
 }
 
+/// Writes where a chain goes on behind one of its nodes.
 fn set_chain(nodes: &mut [Node], at: usize, link: Link)
     requires { at < length nodes.old }
     ensures { nodes.new ≡ with_chain nodes.old at link }
@@ -69,7 +70,7 @@ pub(crate) fn seek(nodes: &[Node], head: Link, deadline: Moment, id: TimerId) ->
     None
 }
 
-/// Whether a node has this deadline and this id.
+/// Whether the timer of a node is the one with this deadline and this id.
 fn is_pair_at(nodes: &[Node], at: usize, deadline: Moment, id: TimerId) -> bool
     requires { at < length nodes.now }
     ensures { result ≡ is_pair_of deadline id.0 (held_at nodes.now at) }

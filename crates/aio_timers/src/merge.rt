@@ -27,7 +27,9 @@ fn in_order(nodes: &[Node], a: usize, b: usize) -> (usize, usize)
 }
 
 /// Makes one tree of two, with one comparison: the root that fires later becomes the first child of
-/// the other root, which is the answer.
+/// the other root, which is the answer. It stays a function of its own, as the choice cannot be
+/// foretold: made part of the loops below, it would be a jump and no longer a move.
+#[inline(never)]
 pub(crate) fn join(nodes: &mut [Node], a: usize, b: usize) -> usize
     requires few { length nodes.old < 2 ^ 32 }
     requires first { IsInside nodes.old a }

@@ -12,9 +12,9 @@ use aio_base::{Moment, TimerId, Waker};
 /// side by side.
 #[derive(Clone, Copy)]
 pub(crate) struct Node {
-    pub(crate) id: TimerId,
     /// The task to wake, where the node is in use.
     pub(crate) waker: Option<Waker>,
+    pub(crate) id: TimerId,
     pub(crate) deadline: Moment,
     /// The next sibling, or the next free node.
     pub(crate) next: Link,

@@ -2,12 +2,12 @@
 
 ghost use Rattle.std.specs.Prelude.{◌≡◌, ◌<◌, ◌^◌, length, IfSome};
 ghost use Rattle.aio_timers.specs.Held.{node_at};
-ghost use Rattle.aio_timers.specs.Writes.{with_child, with_next, with_prev, with_back, under, alone, skips, without, leads_to};
+ghost use Rattle.aio_timers.specs.Writes.{with_child, with_next, with_prev, with_back, under, leads_or, alone, skips, without, leads_to};
 
 use crate::link::Link;
 use crate::node::Node;
 
-/// The first child of a node.
+/// Where the row of the children of a node begins.
 pub(crate) fn child_of(nodes: &[Node], at: usize) -> Link
     requires { at < length nodes.now }
     ensures { result ≡ Node.child (node_at nodes.now at) }
@@ -15,7 +15,7 @@ pub(crate) fn child_of(nodes: &[Node], at: usize) -> Link
     nodes[at].child
 }
 
-/// The sibling behind a node, or, of a free node, the next one in the free list.
+/// Where the row of a node goes on behind it. A free node has the list of free nodes for its row.
 pub(crate) fn next_of(nodes: &[Node], at: usize) -> Link
     requires { at < length nodes.now }
     ensures { result ≡ Node.next (node_at nodes.now at) }
@@ -23,7 +23,8 @@ pub(crate) fn next_of(nodes: &[Node], at: usize) -> Link
     nodes[at].next
 }
 
-/// What leads to a node in the heap: the sibling before it, or for a first child the parent.
+/// The way back from a node of the heap: to the sibling in front of it, or, from the first child of a
+/// row, to the parent.
 pub(crate) fn prev_of(nodes: &[Node], at: usize) -> Link
     requires { at < length nodes.now }
     ensures { result ≡ Node.prev (node_at nodes.now at) }
@@ -31,7 +32,7 @@ pub(crate) fn prev_of(nodes: &[Node], at: usize) -> Link
     nodes[at].prev
 }
 
-/// Lets a node lead to the one behind it.
+/// Writes where the row of a node goes on behind it.
 pub(crate) fn set_next(nodes: &mut [Node], at: usize, link: Link)
     requires { at < length nodes.old }
     ensures { nodes.new ≡ with_next nodes.old at link }
@@ -39,7 +40,7 @@ pub(crate) fn set_next(nodes: &mut [Node], at: usize, link: Link)
     nodes[at].next = link;
 }
 
-/// Lets the node that `to` leads to, if it leads to one, lead back to `link`.
+/// Writes the way back from the node that `to` leads to, if there is one.
 fn set_back(nodes: &mut [Node], to: Link, link: Link)
     requires { IfSome to (λ i. i < length nodes.old) }
     ensures { nodes.new ≡ with_back nodes.old to link }
@@ -49,7 +50,9 @@ fn set_back(nodes: &mut [Node], to: Link, link: Link)
     }
 }
 
-/// Makes a node that has no parent the first child of another one.
+/// Makes a node that has no parent the first child of another one. Where that one has no children,
+/// the link back is written to the node itself before its own: a write that is lost costs less than
+/// a jump that cannot be foretold.
 pub(crate) fn put_under(nodes: &mut [Node], parent: usize, at: usize)
     requires few { length nodes.old < 2 ^ 32 }
     requires parent { parent < length nodes.old }
@@ -59,12 +62,20 @@ pub(crate) fn put_under(nodes: &mut [Node], parent: usize, at: usize)
 {
     let first = nodes[parent].child;
     nodes[at].next = first;
+    let behind = leads_or(first, at);
+    nodes[behind].prev = Link::to(at);
     nodes[at].prev = Link::to(parent);
-    set_back(nodes, first, Link::to(at));
     nodes[parent].child = Link::to(at);
 }
 
-/// Leaves a root without siblings.
+/// The node that a link leads to; where it leads to none, the node `at`.
+fn leads_or(link: Link, at: usize) -> usize
+    ensures { result ≡ leads_or link at }
+{
+    link.get().unwrap_or(at)
+}
+
+/// Makes a root the only one of its row.
 pub(crate) fn set_alone(nodes: &mut [Node], at: usize)
     requires { at < length nodes.old }
     ensures { nodes.new ≡ alone nodes.old at }
@@ -73,7 +84,7 @@ pub(crate) fn set_alone(nodes: &mut [Node], at: usize)
     nodes[at].prev = Link::none();
 }
 
-/// Tells whether the link is one to the node `at`.
+/// Whether a link goes to the node `at`.
 pub(crate) fn is_link_to(link: Link, at: usize) -> bool
     ensures { result ≡ leads_to link at }
 {

@@ -73,6 +73,7 @@ impl Iterator for Steps {
 
     ghost remaining = { item_count steps_left };
 
+    #[inline(always)]
     fn next(&mut self) -> Option<Step> {
         if self.left == 0 {
             return None;
@@ -85,6 +86,7 @@ impl Iterator for Steps {
 
 impl Steps {
     /// The step of a kind, its numbers drawn from left to right.
+    #[inline(always)]
     fn generated(&mut self, kind: u32) -> Step
         requires kind { kind < 16 }
         requires room { LeavesRoom (self.old.left + 1) self.old.generator }
