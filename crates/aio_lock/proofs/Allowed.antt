@@ -1,20 +1,16 @@
 -- Each step of a lock's table keeps its rule and tells what its play says.
-use Rattle.std.proofs.Common.{◌≡◌, ◌≤◌, ◌==◌, ℕ, zero, suc, true, false, List, [], ◌∷◌, ◌++◌, set, sym, refl, ap, ◌∙◌, subst, Option, Some, None, unwrap_or, slice_index, arith}
+use Rattle.std.proofs.Common.{◌≡◌, ◌≤◌, ◌==◌, ℕ, zero, suc, true, List, [], ◌∷◌, ◌++◌, set, sym, refl, ap, ◌∙◌, subst, Option, Some, None, unwrap_or, slice_index, arith}
 use mathlib.Core.Option.{none, some}
 use prog.Atomic.{either}
 use lib.ListN.{get_elem?}
-use Rattle.atomic_table.specs.Table.{State, Act, keeps, takes, gives, Allows, Splits, Joins, Arrives, opening, stepped, Valid, carried_after, homes_after}
+use Rattle.atomic_table.specs.Table.{State, Act, rest, keeps, takes, gives, Allows, Splits, Joins, Arrives, opening, stepped, Valid, carried_after, homes_after}
 use Rattle.aio_base.specs.declared.notes.LockSeat.{LockSeat}
-use Rattle.aio_base.specs.SharedLock.{nobody, first_owner, second_owner, sole_owner, took_out, put_back, joined, MayPutBack, with_slot, without_slot, has_taken, Place, LockRule}
+use Rattle.aio_base.specs.declared.notes.LockView.{LockView}
+use Rattle.aio_base.specs.SharedLock.{nobody, first_owner, second_owner, sole_owner, took_out, put_back, joined, MayPutBack, with_slot, without_slot, is_inside, Place, LockRule}
 use Rattle.aio_base.specs.LockLaws.{TakesOut}
 use Rattle.aio_base.proofs.SeatLists.{beside_set}
 use Rattle.aio_base.proofs.LockSteps.{start_meets_rule, owners_keep_rule, exchange_keeps_rule, lost_exchange_keeps_rule, arrival_keeps_rule, late_arrival_keeps_rule, slot_goes_back, slot_comes_out, store_keeps_rule, join_keeps_rule}
-use Rattle.aio_lock.specs.Plays.{Sitter, Ruled, Closes, Arrived, Opens, LeavesSlot, FetchesSlot}
-
-by_bit : (n : ℕ) (F : ℕ → Type 0) → n ≤ 1 → (n ≡ 0 → F 0) → (n ≡ 1 → F 1) → F n
-by_bit zero F small a b = a refl
-by_bit (suc zero) F small a b = b refl
-by_bit (suc (suc n)) F small a b = absurd (omega arith)
+use Rattle.aio_lock.specs.Plays.{Sitter, Ruled, Took, Closes, Arrived, Opens, IsLaden, LeavesSlot, FetchesSlot}
 
 module _ {T : Type 0} (n0 n1 : T → List ℕ) where
   abbrev Lists : Type 0
@@ -40,6 +36,19 @@ module _ {T : Type 0} (n0 n1 : T → List ℕ) where
   at_home : (s : Lists) → (k : Ruled n0 n1 s) → (y : Option T) → k.place ≡ some y → get_elem? s.homes 0 ≡ some (some y)
   at_home s k y e = ap (λ l. get_elem? l 0) k.one_slot ∙ ap some e
 
+  -- what is to show of a step of the seat that carries this, where its word was m and becomes f m
+  abbrev Shows : Lists → ℕ → List (ℕ × Option T) → (ℕ → ℕ) → (ℕ → Sitter T → Type 0) → ℕ → Type 0
+  Shows s id c f then m = (w : LockSeat) × (a : Act (Option T)) × Valid s.homes c a × Ruled n0 n1 (stepped s 0 (f m) id c w a) × then m (w, carried_after c a)
+
+  -- the word is 0 or 1, so what is shown of both is shown of it
+  of_both : (s : Lists) → Ruled n0 n1 s → (F : ℕ → Type 0) → (slice_index s.words 0 ≡ 0 → F 0) → (slice_index s.words 0 ≡ 1 → F 1) → F (slice_index s.words 0)
+  of_both s k F at_zero at_one = cases (slice_index s.words 0) (bit_of s k) at_zero at_one
+    where
+      cases : (n : ℕ) → n ≤ 1 → (n ≡ 0 → F 0) → (n ≡ 1 → F 1) → F n
+      cases zero small a b = a refl
+      cases (suc zero) small a b = b refl
+      cases (suc (suc n)) small a b = absurd (omega arith)
+
   pub begins : Ruled n0 n1 (opening (1 ∷ []) (None ∷ []) (without_slot sole_owner))
   begins = record { word = 1; place = some None; one_word = refl; one_slot = refl; rule = start_meets_rule n0 n1 }
 
@@ -53,83 +62,60 @@ module _ {T : Type 0} (n0 n1 : T → List ℕ) where
       let was : get_elem? s.views other ≡ some w = sym (beside_set s.views id other (without_slot (joined v.view w.view)) apart) ∙ two in
       record { word = k.word; place = k.place; one_word = k.one_word; one_slot = k.one_slot; rule = join_keeps_rule n0 n1 k.word k.place s.views id other v w k.rule at free apart was free' }
 
-  closes : (slots id : ℕ) (v : LockSeat) → Allows (Ruled n0 n1) slots id (v, []) 0 (λ n. either (n == 0) 1 n) (λ found after. Closes n0 n1 (v, []) found after)
-  closes slots id v s k len at small =
-      let N = slice_index s.words 0 in
-      let F : ℕ → Type 0 = λ m. (w : LockSeat) × (a : Act (Option T)) × Valid s.homes [] a × Ruled n0 n1 (stepped s 0 (either (m == 0) 1 m) id [] w a) × Closes n0 n1 (v, []) m (w, carried_after [] a) in
-      by_bit N F (bit_of s k)
-      (λ e. let out : TakesOut n0 n1 k.place v (λ after. set s.views id after) = exchange_keeps_rule n0 n1 k.place s.views id v (rule_at s k 0 e) at in (
-        with_slot (took_out (n0 out.value) (n1 out.value) v.view),
-        takes 0 (Some out.value),
-        at_home s k (Some out.value) out.there,
+  -- an exchange from 0 to 1
+  abbrev to_one : ℕ → ℕ
+  to_one n = either (n == 0) 1 n
+
+  closes : (slots id : ℕ) (v : LockSeat) → Allows (Ruled n0 n1) slots id (v, []) 0 to_one (Closes n0 n1 (v, []))
+  closes slots id v s k len at small = of_both s k (Shows s id [] to_one (Closes n0 n1 (v, [])))
+      (λ e. let out : TakesOut n0 n1 k.place v (set s.views id) = exchange_keeps_rule n0 n1 k.place s.views id v (rule_at s k 0 e) at in let x = out.value in (
+        with_slot (took_out (n0 x) (n1 x) v.view),
+        takes 0 (Some x),
+        at_home s k (Some x) out.there,
         record { word = 1; place = none; one_word = words_after s k 1; one_slot = place_after s k none; rule = out.rule },
-        record { value = out.value; now = refl; agrees = out.agrees },
+        record { value = x; now = refl; agrees = out.agrees },
       ))
-      (λ e. (
-        v,
-        keeps,
-        tt,
-        record { word = 1; place = k.place; one_word = words_after s k 1; one_slot = k.one_slot; rule = lost_exchange_keeps_rule n0 n1 k.place s.views id v (rule_at s k 1 e) at },
-        refl,
-      ))
+      (λ e. (v, keeps, tt, record { word = 1; place = k.place; one_word = words_after s k 1; one_slot = k.one_slot; rule = lost_exchange_keeps_rule n0 n1 k.place s.views id v (rule_at s k 1 e) at }, refl))
 
-  pub arrives : (slots : ℕ) → Arrives (Ruled n0 n1) slots 0 (λ _. 1) (λ found after. Arrived n0 n1 found after)
-  arrives slots s k len small =
-      let N = slice_index s.words 0 in
-      let F : ℕ → Type 0 = λ m. (w : LockSeat) × (a : Act (Option T)) × Valid s.homes [] a
-      × Ruled n0 n1 record { words = set s.words 0 1; homes = homes_after s.homes [] a; views = s.views ++ w ∷ [] } × Arrived n0 n1 m (w, carried_after [] a) in
-      by_bit N F (bit_of s k)
-      (λ e. let out : TakesOut n0 n1 k.place (without_slot nobody) (λ new. s.views ++ new ∷ []) = arrival_keeps_rule n0 n1 k.place s.views (rule_at s k 0 e) in (
-        with_slot (took_out (n0 out.value) (n1 out.value) nobody),
-        takes 0 (Some out.value),
-        at_home s k (Some out.value) out.there,
+  -- a seat that found 0 has the slot with the value
+  pub laden_at_zero : (me after : Sitter T) (found : ℕ) → Closes n0 n1 me found after → found ≡ 0 → IsLaden after
+  laden_at_zero me after found closed zero_found = let took : Took n0 n1 me after = subst (λ (n : ℕ). Closes n0 n1 me n after) zero_found closed in
+      (took.value, took.now ∙ ap (λ (m : Sitter T). (with_slot m.0.view, (0, Some took.value) ∷ [])) (sym took.now))
+
+  pub arrives : (slots : ℕ) → Arrives (Ruled n0 n1) slots 0 (λ _. 1) (Arrived n0 n1)
+  arrives slots s k len small = of_both s k (λ m. (w : LockSeat) × (a : Act (Option T)) × Valid s.homes [] a
+      × Ruled n0 n1 record { words = set s.words 0 1; homes = homes_after s.homes [] a; views = s.views ++ w ∷ [] } × Arrived n0 n1 m (w, carried_after [] a))
+      (λ e. let out : TakesOut n0 n1 k.place (without_slot nobody) (λ new. s.views ++ new ∷ []) = arrival_keeps_rule n0 n1 k.place s.views (rule_at s k 0 e) in let x = out.value in (
+        with_slot (took_out (n0 x) (n1 x) nobody),
+        takes 0 (Some x),
+        at_home s k (Some x) out.there,
         record { word = 1; place = none; one_word = words_after s k 1; one_slot = place_after s k none; rule = out.rule },
-        record { value = out.value; now = refl; agrees = out.agrees },
+        record { value = x; now = refl; agrees = out.agrees },
       ))
-      (λ e. (
-        without_slot nobody,
-        keeps,
-        tt,
-        record { word = 1; place = k.place; one_word = words_after s k 1; one_slot = k.one_slot; rule = late_arrival_keeps_rule n0 n1 k.place s.views (rule_at s k 1 e) },
-        refl,
-      ))
+      (λ e. (without_slot nobody, keeps, tt, record { word = 1; place = k.place; one_word = words_after s k 1; one_slot = k.one_slot; rule = late_arrival_keeps_rule n0 n1 k.place s.views (rule_at s k 1 e) }, refl))
 
-  -- a step that finds 1, since its seat has taken
-  finds_one : {A : Type 0} (s : Lists) → (k : Ruled n0 n1 s) → k.word ≡ 1 → slice_index s.words 0 ≡ 0 → A
-  finds_one s k one zero_found = let is = word_of s k in absurd (omega arith)
+  -- a step of a seat that is inside, so that it finds 1
+  inside : (s : Lists) → (k : Ruled n0 n1 s) → k.word ≡ 1 → (F : ℕ → Type 0) → F 1 → F (slice_index s.words 0)
+  inside s k one F shown = subst F (sym (word_of s k ∙ one)) shown
 
-  leaves : (slots id : ℕ) (v : LockSeat) → v.has_slot ≡ true → Allows (Ruled n0 n1) slots id (v, (0, None) ∷ []) 0 (λ n. either (n == 0) 1 n) (λ found after. LeavesSlot (v, (0, None) ∷ []) after)
-  leaves slots id v out s k len at small =
-      let N = slice_index s.words 0 in
-      let w = without_slot v.view in
-      let c : List (ℕ × Option T) = (0, None) ∷ [] in
-      let F : ℕ → Type 0 = λ m. (w : LockSeat) × (a : Act (Option T)) × Valid s.homes c a × Ruled n0 n1 (stepped s 0 (either (m == 0) 1 m) id c w a) × LeavesSlot (v, c) (w, carried_after c a) in
-      let back = slot_goes_back n0 n1 k.word k.place s.views id v k.rule at out in
-      by_bit N F (bit_of s k) (λ e. finds_one s k back.0 e)
-      (λ e. (w, gives, tt, record { word = k.word; place = some None; one_word = words_after s k 1 ∙ ap (λ (n : ℕ). n ∷ []) (sym back.0); one_slot = place_after s k (some None); rule = back.1 }, refl))
+  leaves : (slots id : ℕ) (v : LockView) → Allows (Ruled n0 n1) slots id (with_slot v, (0, None) ∷ []) 0 to_one (λ _. LeavesSlot (with_slot v, (0, None) ∷ []))
+  leaves slots id v s k len at small = let back = slot_goes_back n0 n1 k.word k.place s.views id (with_slot v) k.rule at refl in
+      inside s k back.0 (Shows s id ((0, None) ∷ []) to_one (λ _. LeavesSlot (with_slot v, (0, None) ∷ [])))
+      (without_slot v, gives, tt, record { word = k.word; place = some None; one_word = words_after s k 1 ∙ ap (λ (n : ℕ). n ∷ []) (sym back.0); one_slot = place_after s k (some None); rule = back.1 }, refl)
 
-  fetches : (slots id : ℕ) (v : LockSeat) → has_taken v ≡ true → v.has_slot ≡ false → Allows (Ruled n0 n1) slots id (v, []) 0 (λ n. either (n == 0) 1 n) (λ found after. FetchesSlot (v, []) after)
-  fetches slots id v t in_place s k len at small =
-      let N = slice_index s.words 0 in
-      let F : ℕ → Type 0 = λ m. (w : LockSeat) × (a : Act (Option T)) × Valid s.homes [] a × Ruled n0 n1 (stepped s 0 (either (m == 0) 1 m) id [] w a) × FetchesSlot (v, []) (w, carried_after [] a) in
-      let out = slot_comes_out n0 n1 k.word k.place s.views id v k.rule at t in_place in
-      by_bit N F (bit_of s k) (λ e. finds_one s k out.0 e)
-      (λ e. (
-        with_slot v.view,
-        takes 0 None,
-        at_home s k None out.1,
-        record { word = k.word; place = none; one_word = words_after s k 1 ∙ ap (λ (n : ℕ). n ∷ []) (sym out.0); one_slot = place_after s k none; rule = out.2 },
-        refl,
-      ))
+  fetches : (slots id : ℕ) (v : LockView) → is_inside v ≡ true → Allows (Ruled n0 n1) slots id (without_slot v, []) 0 to_one (λ _. FetchesSlot (without_slot v, []))
+  fetches slots id v t s k len at small = let out = slot_comes_out n0 n1 k.word k.place s.views id (without_slot v) k.rule at t refl in
+      inside s k out.0 (Shows s id [] to_one (λ _. FetchesSlot (without_slot v, [])))
+      (with_slot v, takes 0 None, at_home s k None out.1, record { word = k.word; place = none; one_word = words_after s k 1 ∙ ap (λ (n : ℕ). n ∷ []) (sym out.0); one_slot = place_after s k none; rule = out.2 }, refl)
 
   abbrev value_or : T → List (ℕ × Option T) → T
   value_or x [] = x
   value_or x (y ∷ ys) = unwrap_or y.1 x
 
-  opens : (slots id : ℕ) (v : LockSeat) (y : T) → v.has_slot ≡ true → MayPutBack v.view (n0 y) (n1 y)
-      → Allows (Ruled n0 n1) slots id (v, (0, Some y) ∷ []) 0 (λ _. 0) (λ _ after. Opens n0 n1 (v, (0, Some y) ∷ []) after)
-  opens slots id v y out may s k len at small = (
-    without_slot (put_back (n0 y) (n1 y) v.view),
+  opens : (slots id : ℕ) (v : LockView) (y : T) → MayPutBack v (n0 y) (n1 y)
+      → Allows (Ruled n0 n1) slots id (with_slot v, (0, Some y) ∷ []) 0 (λ _. 0) (λ _. Opens n0 n1 (with_slot v, (0, Some y) ∷ []))
+  opens slots id v y may s k len at small = (
+    without_slot (put_back (n0 y) (n1 y) v),
     gives,
     tt,
     record {
@@ -137,26 +123,28 @@ module _ {T : Type 0} (n0 n1 : T → List ℕ) where
       place = some (Some y);
       one_word = words_after s k 0;
       one_slot = place_after s k (some (Some y));
-      rule = store_keeps_rule n0 n1 k.word k.place s.views id v y k.rule at out may;
+      rule = store_keeps_rule n0 n1 k.word k.place s.views id (with_slot v) y k.rule at refl may;
     },
-    (λ value e. ap (λ (z : T). (without_slot (put_back (n0 z) (n1 z) v.view), [])) (ap (λ l. value_or y l) e)),
+    (λ value e. ap (λ (z : T). (without_slot (put_back (n0 z) (n1 z) v), [])) (ap (value_or y) e)),
   )
 
-  -- the same of a seat as a call has it
-  pub may_close : (slots id : ℕ) (me : Sitter T) → me.1 ≡ [] → Allows (Ruled n0 n1) slots id me 0 (λ n. either (n == 0) 1 n) (λ found after. Closes n0 n1 me found after)
-  may_close slots id me carried =
-      subst (λ (c : List (ℕ × Option T)). Allows (Ruled n0 n1) slots id (me.0, c) 0 (λ n. either (n == 0) 1 n) (λ found after. Closes n0 n1 (me.0, c) found after)) (sym carried) (closes slots id me.0)
+  -- The same of a call's seat, by the way that it came: it began as `start`, without the slot.
+  module _ (slots id : ℕ) (v : LockView) (start : Sitter T) (rests : start ≡ (without_slot v, [])) where
+    pub may_close : Allows (Ruled n0 n1) slots id start 0 to_one (Closes n0 n1 start)
+    may_close = subst (λ (m : Sitter T). Allows (Ruled n0 n1) slots id m 0 to_one (Closes n0 n1 m)) (sym rests) (closes slots id (without_slot v))
 
-  pub may_leave_slot : (slots id : ℕ) (me : Sitter T) → me.1 ≡ (0, None) ∷ [] → me.0.has_slot ≡ true → Allows (Ruled n0 n1) slots id me 0 (λ n. either (n == 0) 1 n) (λ found after. LeavesSlot me after)
-  may_leave_slot slots id me carried out =
-      subst (λ (c : List (ℕ × Option T)). Allows (Ruled n0 n1) slots id (me.0, c) 0 (λ n. either (n == 0) 1 n) (λ found after. LeavesSlot (me.0, c) after)) (sym carried) (leaves slots id me.0 out)
+    pub may_fetch_slot : is_inside v ≡ true → Allows (Ruled n0 n1) slots id start 0 to_one (λ _. FetchesSlot start)
+    may_fetch_slot t = subst (λ (m : Sitter T). Allows (Ruled n0 n1) slots id m 0 to_one (λ _. FetchesSlot m)) (sym rests) (fetches slots id v t)
 
-  pub may_fetch_slot : (slots id : ℕ) (me : Sitter T) → me.1 ≡ [] → has_taken me.0 ≡ true → me.0.has_slot ≡ false
-      → Allows (Ruled n0 n1) slots id me 0 (λ n. either (n == 0) 1 n) (λ found after. FetchesSlot me after)
-  may_fetch_slot slots id me carried t in_place =
-      subst (λ (c : List (ℕ × Option T)). Allows (Ruled n0 n1) slots id (me.0, c) 0 (λ n. either (n == 0) 1 n) (λ found after. FetchesSlot (me.0, c) after)) (sym carried) (fetches slots id me.0 t in_place)
+    -- it fetched the slot, and put a value in
+    pub may_open : (y : T) (fetched filled : Sitter T) → FetchesSlot start fetched → filled ≡ (fetched.0, (0, Some y) ∷ rest fetched.1) → MayPutBack v (n0 y) (n1 y)
+        → Allows (Ruled n0 n1) slots id filled 0 (λ _. 0) (λ _. Opens n0 n1 filled)
+    may_open y fetched filled out put may = let is : filled ≡ (with_slot v, (0, Some y) ∷ []) =
+        put ∙ ap (λ (m : Sitter T). (m.0, (0, Some y) ∷ rest m.1)) out ∙ ap (λ (m : Sitter T). (with_slot m.0.view, (0, Some y) ∷ m.1)) rests in
+        subst (λ (m : Sitter T). Allows (Ruled n0 n1) slots id m 0 (λ _. 0) (λ _. Opens n0 n1 m)) (sym is) (opens slots id v y may)
 
-  pub may_open : (slots id : ℕ) (me : Sitter T) (y : T) → me.1 ≡ (0, Some y) ∷ [] → me.0.has_slot ≡ true → MayPutBack me.0.view (n0 y) (n1 y)
-      → Allows (Ruled n0 n1) slots id me 0 (λ _. 0) (λ _ after. Opens n0 n1 me after)
-  may_open slots id me y carried out may =
-      subst (λ (c : List (ℕ × Option T)). Allows (Ruled n0 n1) slots id (me.0, c) 0 (λ _. 0) (λ _ after. Opens n0 n1 (me.0, c) after)) (sym carried) (opens slots id me.0 y out may)
+  -- and of a seat whose slot was emptied
+  pub may_leave_slot : (slots id : ℕ) (laden emptied : Sitter T) → IsLaden laden → emptied ≡ (laden.0, (0, None) ∷ rest laden.1)
+      → Allows (Ruled n0 n1) slots id emptied 0 to_one (λ _. LeavesSlot emptied)
+  may_leave_slot slots id laden emptied has empty = let is : emptied ≡ (with_slot laden.0.view, (0, None) ∷ []) = empty ∙ ap (λ (m : Sitter T). (m.0, (0, None) ∷ rest m.1)) has.1 in
+      subst (λ (m : Sitter T). Allows (Ruled n0 n1) slots id m 0 to_one (λ _. LeavesSlot m)) (sym is) (leaves slots id laden.0.view)

@@ -36,6 +36,10 @@ module _ {T : Type 0} (first_note second_note : T → List ℕ) where
   Opens me after = (value : T) → me.1 ≡ (0, Some value) ∷ [] → after ≡ (without_slot (put_back (first_note value) (second_note value) me.0.view), [])
 
 module _ {T : Type 0} where
+  -- the slot is out with this seat, and has a value
+  abbrev pub IsLaden : Sitter T → Type 0
+  IsLaden me = (value : T) × (me ≡ (with_slot me.0.view, (0, Some value) ∷ []))
+
   abbrev pub LeavesSlot : Sitter T → Sitter T → Type 0
   LeavesSlot me after = after ≡ (without_slot me.0.view, rest me.1)
 

@@ -1,9 +1,9 @@
 -- What contracts see of the tokens of a lock, and what their types keep.
-use Rattle.std.specs.Prelude.{◌≡◌, ℕ, List, [], ◌∷◌}
+use Rattle.std.specs.Prelude.{◌≡◌, ℕ, List, [], ◌∷◌, None}
 use Rattle.atomic_table.specs.Seated.{TableId}
 use Rattle.aio_base.specs.declared.notes.LockView.{LockView}
 use Rattle.aio_base.specs.declared.notes.LockSeat.{LockSeat}
-use Rattle.aio_base.specs.SharedLock.{nobody, took_out, taken_first, taken_second, without_slot}
+use Rattle.aio_base.specs.SharedLock.{nobody, took_out, taken_first, taken_second, without_slot, Agrees}
 
 -- an owner: the lock to which it belongs, and what it knows
 pub record OwnerValue : Type 0 where
@@ -26,8 +26,8 @@ abbrev pub IsResting : List LockSeat → Type 0
 IsResting views = views ≡ without_slot (view_of views) ∷ []
 
 -- a visitor owns nothing, and is inside
-abbrev pub IsVisiting : List LockSeat → Type 0
-IsVisiting views = views ≡ without_slot (took_out (taken_first (view_of views)) (taken_second (view_of views)) nobody) ∷ []
+abbrev pub IsVisiting : LockView → Type 0
+IsVisiting v = v ≡ took_out (taken_first v) (taken_second v) nobody
 
 -- an owner of this lock that knows this
 abbrev pub owner_of : TableId → LockView → OwnerValue
@@ -40,3 +40,12 @@ visit_of lock view = record { lock = lock; first = taken_first view; second = ta
 -- a table of one word and one slot
 abbrev pub IsLock : TableId → Type 0
 IsLock l = (l.words ≡ 1) × (l.slots ≡ 1)
+
+-- a token of this lock that has taken nothing
+abbrev pub IsOutside : TableId → OwnerValue → Type 0
+IsOutside lock token = (token.lock ≡ lock) × (token.knows.taken ≡ None)
+
+module _ {T : Type 0} (first_note second_note : T → List ℕ) where
+  -- A token of this lock took out this value: it knows the notes, which agree with what it knew before.
+  abbrev pub Entered : TableId → LockView → T → OwnerValue → Type 0
+  Entered lock before value token = (token ≡ owner_of lock (took_out (first_note value) (second_note value) before)) × Agrees before (first_note value) (second_note value)

@@ -7,6 +7,7 @@
 //! other call returns, and only `vacant` takes memory.
 #![tactic(auto)]
 
+mod gate;
 mod lock;
 mod plays;
 #[cfg(test)]

@@ -1,5 +1,5 @@
 -- What contracts see of the words and of their seats, and what each type keeps between calls.
-use Rattle.std.specs.Prelude.{◌≡◌, ◌⊎◌, ℕ, ◌≤◌, ◌<◌, [], Some}
+use Rattle.std.specs.Prelude.{◌≡◌, ◌⊎◌, ℕ, ◌≤◌, ◌<◌, Bool, true, false, [], Some}
 use Rattle.atomic_table.specs.Seated.{TableId}
 use Rattle.aio_base.specs.declared.seats.Role.TheVariants as role
 use Rattle.aio_base.specs.declared.seats.Owed.TheVariants as owed
@@ -49,10 +49,16 @@ pub record IsPass (me : Sitter) : Type 0 where
 abbrev pub HoldsOnly : Mode → ℕ → ℕ → Type 0
 HoldsOnly m parker words = (i : ℕ) → held m ≡ Some i → (i ≡ parker) × (mask_place i < words)
 
--- What the round seat keeps between calls, with its plain numbers of rounds and of the parker that it holds.
-pub record IsRoundSeat (me : Sitter) (rounds parker words : ℕ) : Type 0 where
+abbrev pub is_waiting : Mode → Bool
+is_waiting mode.Idle = false
+is_waiting (mode.Block parker) = false
+is_waiting (mode.Wait parker) = true
+
+-- What the round seat keeps between calls, with its plain numbers of rounds and of the parker that it holds, and whether it waits.
+pub record IsRoundSeat (me : Sitter) (rounds parker words : ℕ) (waits : Bool) : Type 0 where
   pub bare : me.1 ≡ []
   pub role : me.0.role ≡ role.Round
   pub owes : me.0.owes ≡ owed.Nothing
   pub seen : me.0.seen ≡ rounds
   pub holds : HoldsOnly me.0.mode parker words
+  pub waiting : waits ≡ is_waiting me.0.mode

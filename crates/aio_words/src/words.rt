@@ -7,7 +7,7 @@ ghost use Rattle.aio_base.specs.WordCalls.{wake_steps};
 ghost use Rattle.aio_base.specs.declared.seats.Mode.TheVariants as mode;
 ghost use Rattle.aio_base.specs.declared.seats.WordStep.TheVariants as word_step;
 ghost use Rattle.aio_words.specs.Calls.{Offers, Parks, TellsCounts, WakesSlot, notify_steps, told};
-ghost use Rattle.aio_words.specs.Seats.{Belongs, Blocks, IsIdleOrWaits};
+ghost use Rattle.aio_words.specs.Seats.{Belongs, Blocks, IsIdleOrWaits, is_waiting};
 ghost use Rattle.aio_words.specs.Steps.{Sits};
 
 use crate::plays::{NewPass, Rule, TakeIn};
@@ -72,6 +72,8 @@ pub struct RoundSeat {
     rounds: u64,
     // The parker that the seat blocks or waits for, where there is one.
     parker: u32,
+    // Whether the seat waits.
+    waits: bool,
 }
 
 impl Model for RoundSeat {
@@ -81,7 +83,16 @@ impl Model for RoundSeat {
 
     ghost view = { λ s. record { words = s.seat.table_id; view = s.seat.me.0 } };
 
-    ghost invariant = { λ s. IsRoundSeat s.seat.me s.rounds s.parker s.seat.table_id.words };
+    ghost invariant = { λ s. IsRoundSeat s.seat.me s.rounds s.parker s.seat.table_id.words s.waits };
+}
+
+impl RoundSeat {
+    /// Whether the seat waits for a parker.
+    pub fn is_waiting(&self) -> bool
+        ensures { result ≡ is_waiting self.now.view.mode }
+    {
+        self.waits
+    }
 }
 
 impl Words {
@@ -109,6 +120,7 @@ impl Words {
                 seat,
                 rounds: 0,
                 parker: 0,
+                waits: false,
             },
             Pass { seat: pass },
         ))
@@ -269,6 +281,7 @@ impl Words {
             → s.new.view.mode ≡ mode.Wait parker) }
     {
         let mask = load_mask(&self.table.shared, &mut s.seat, s.parker);
+        s.waits = mask == 0;
         if mask == 0 { None } else { Some(mask) }
     }
 
@@ -280,6 +293,7 @@ impl Words {
         ensures view { (found : ℕ) × (s.new.view ≡ after (word_step.SwapNotified found) s.old.view) }
     {
         swap_notified(&self.table.shared, &mut s.seat);
+        s.waits = false;
     }
 
     /// Says that the thread of the parker that the seat blocks no longer waits for events: clears its

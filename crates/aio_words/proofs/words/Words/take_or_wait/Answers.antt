@@ -1,9 +1,9 @@
-use Rattle.std.proofs.Common.{rules, ◌≡◌, ℕ, ap, sym, ◌∙◌, unwrap_or}
+use Rattle.std.proofs.Common.{rules, ◌≡◌, ◌==◌, ℕ, ap, sym, ◌∙◌, unwrap_or}
 use Rattle.aio_base.specs.declared.seats.Mode.TheVariants as mode
 use Rattle.aio_base.specs.declared.seats.WordStep.TheVariants as word_step
 use Rattle.aio_base.specs.SharedWords.{after, word_count}
 use Rattle.aio_base.proofs.WordSteps.{if_is, looking_holds}
-use Rattle.aio_words.proofs.Holding.{after_step, holds_still, the_parker, blocks_it, in_words}
+use Rattle.aio_words.proofs.Holding.{after_step, holds_still, looking_waits, the_parker, blocks_it, in_words}
 use Rattle.aio_words.proofs.words.Words.take_or_wait.Goals as goal
 use Rattle.aio_words.proofs.words.Words.take_or_wait.Goals.{then-mask-eq0, else-mask-eq0}
 
@@ -15,13 +15,14 @@ load_mask-mask-requires-clause-may c = let seat = c.s.inside.seat in let many : 
 pub invariant_of-s : goal.invariant_of-s
 invariant_of-s c = let was = c.s.invariant in let found = c.load_mask-mask.result in let seat = c.s.inside.seat in
     let blocks = blocks_it seat.me.0.mode _ _ was.holds c.requires.1.0 (ap (λ z. z.view.mode) c.s.view_is ∙ c.requires.1.1) in
-    after_step seat c.load_mask-mask.new.seat (word_step.LoadMask c.s.inside.parker found) _ _ c.load_mask-mask.ensures.made
+    after_step seat c.load_mask-mask.new.seat (word_step.LoadMask c.s.inside.parker found) _ _ _ c.load_mask-mask.ensures.made
     (record {
       bare = was.bare;
       role = was.role;
       owes = was.owes;
       seen = was.seen;
       holds = holds_still seat.me.0.mode (after (word_step.LoadMask c.s.inside.parker found) seat.me.0).mode _ _ (looking_holds seat.me.0.mode c.s.inside.parker found blocks) was.holds;
+      waiting = looking_waits (found == 0) seat.me.0.mode c.s.inside.parker blocks;
     })
 
 pub returns-clause-view : goal.returns-clause-view

@@ -1,0 +1,196 @@
+//! The way in and out of a lock: the table, those who sleep at it, and what each token knows.
+
+ghost use Rattle.std.specs.Prelude.{◌≡◌, [], ◌∷◌, Some, IfSome, IfNone, IfOk};
+ghost use Rattle.aio_base.specs.SharedLock.{MayPutBack, first_owner, joined, nobody, put_back, second_owner, took_out, without_slot};
+ghost use Rattle.aio_lock.specs.Plays.{IsLaden};
+ghost use Rattle.aio_lock.specs.Tokens.{Entered, IsOutside, IsResting, owner_of, view_of};
+
+use crate::plays::{Arrive, Close, FetchSlot, LeaveSlot, Open, Rule, TakeIn, TwoOwners};
+use aio_base::{LockSeat, Noted, OutOfMemory};
+use atomic_table::{Badge, Seat, Table};
+use std::alloc::Global;
+use std::marker::Model;
+use std::mem;
+use std::sync::Wait;
+use std::sync::atomic::{AtomicU64, Ordering};
+
+// 0 where the value is in its place, and 1 where it is out.
+const TAKEN: usize = 0;
+
+// The place of the value.
+const PLACE: usize = 0;
+
+/// What owners and visits have in common. It names no type of a value, since it never has the slot.
+#[derive(Drop)]
+pub struct Token {
+    badge: Badge<LockSeat>,
+}
+
+impl Model for Token {
+    ghost use Rattle.aio_lock.specs.Tokens.{IsResting, OwnerValue, owner_of, view_of};
+
+    ghost Value = { OwnerValue };
+
+    ghost view = { λ t. owner_of t.badge.table_id (view_of t.badge.views) };
+
+    ghost invariant = { λ t. IsResting t.badge.views };
+}
+
+impl Token {
+    fn of<T>(seat: Seat<Option<T>, LockSeat>) -> Token
+        requires { seat.me ≡ (without_slot seat.me.0.view, []) }
+        ensures { result ≡ owner_of seat.table_id seat.me.0.view }
+    {
+        let badge = seat.into_badge();
+        Token { badge }
+    }
+
+    // The seat that stands for a token while a call changes what it knows.
+    fn seat<T>(badge: &mut Badge<LockSeat>) -> Seat<Option<T>, LockSeat>
+        requires { IsResting badge.old.views }
+        ensures place { result.table_id ≡ badge.old.table_id }
+        ensures rests { result.me ≡ (without_slot (view_of badge.old.views), []) }
+    {
+        mem::replace(badge, Badge::blank()).into_seat()
+    }
+}
+
+/// Where tokens go in, which takes the value out, and go out again, which puts one back.
+#[derive(Drop)]
+pub struct Gate<T: Noted> {
+    table: Table<Option<T>, LockSeat, (), Rule<T>, Global>,
+    // How many threads sleep on the word, or are about to.
+    sleepers: AtomicU64,
+}
+
+impl<T: Noted> Model for Gate<T> {
+    ghost use Rattle.atomic_table.specs.Seated.{TableId};
+    ghost use Rattle.aio_lock.specs.Tokens.{IsLock};
+
+    ghost Value = { TableId };
+
+    ghost view = { λ g. g.table.shared.table_id };
+
+    ghost invariant = { λ g. IsLock g.table.shared.table_id };
+}
+
+impl<T: Noted> Gate<T> {
+    /// A gate with no value, and the tokens of number 0, which is inside, and of number 1.
+    pub fn shut(alloc: Global) -> Result<(Gate<T>, Token, Token), OutOfMemory>
+        ensures first { IfOk result (λ made.
+            made.1 ≡ owner_of made.0 (took_out [] [] (first_owner []))) }
+        ensures second { IfOk result (λ made. made.2 ≡ owner_of made.0 (second_owner [])) }
+    {
+        match Table::vacant(alloc, &[1], 1, &()) {
+            Ok((table, mut seat)) => {
+                let second = table.shared.split_seat::<TwoOwners>(&mut seat);
+                let sleepers = AtomicU64::new(0);
+                let gate = Gate { table, sleepers };
+                Ok((gate, Token::of(seat), Token::of(second)))
+            }
+            Err(_) => Err(OutOfMemory),
+        }
+    }
+
+    // The value leaves the slot, and the slot goes back to its place.
+    fn unload(&self, mut seat: Seat<Option<T>, LockSeat>) -> (T, Token)
+        requires belongs { seat.table_id ≡ self.now }
+        requires laden { IsLaden seat.me }
+        ensures value { seat.me.1 ≡ (0, Some result.0) ∷ [] }
+        ensures token { result.1 ≡ owner_of self.now seat.me.0.view }
+    {
+        let table = &self.table.shared;
+        let content = table.exchange(&mut seat, PLACE, None);
+        table.compare_exchange::<LeaveSlot>(&mut seat, TAKEN, 0, 1);
+        (content.unwrap(), Token::of(seat))
+    }
+
+    /// Goes in where the value is there.
+    pub fn attempt(&self, token: &mut Token) -> Option<T>
+        requires { token.old.lock ≡ self.now }
+        ensures some { IfSome result (λ value.
+            Entered T.first_note T.second_note self.now token.old.knows value token.new) }
+        ensures none { IfNone result (token.new ≡ token.old) }
+    {
+        let mut seat = Token::seat(&mut token.badge);
+        let found = self
+            .table
+            .shared
+            .compare_exchange::<Close<T>>(&mut seat, TAKEN, 0, 1);
+        if found != 0 {
+            token.badge = seat.into_badge();
+            return None;
+        }
+        let (value, inside) = self.unload(seat);
+        *token = inside;
+        Some(value)
+    }
+
+    /// Goes in as soon as an attempt succeeds. A sleep begins only where the value is still out, and the
+    /// count of sleepers was raised before, so that whoever goes out sees it.
+    pub fn enter<R: Wait>(&self, rt: &R, token: &mut Token) -> T
+        requires { token.old.lock ≡ self.now }
+        ensures { Entered T.first_note T.second_note self.now token.old.knows result token.new }
+    {
+        for _ in rt.forever() {
+            if let Some(value) = self.attempt(token) {
+                return value;
+            }
+            self.sleepers.fetch_add(1, Ordering::SeqCst);
+            self.table.shared.park(rt, TAKEN, 1);
+            self.sleepers.fetch_sub(1, Ordering::SeqCst);
+        }
+        unreachable!()
+    }
+
+    /// A token that owns no number, and the value where it was there: the token is then inside.
+    pub fn arrive(&self) -> (Option<T>, Token)
+        ensures some { IfSome result.0 (λ value.
+            Entered T.first_note T.second_note self.now nobody value result.1) }
+        ensures none { IfNone result.0 (result.1 ≡ owner_of self.now nobody) }
+    {
+        let (taken, seat) = self.table.shared.swap_new_seat::<Arrive<T>>(TAKEN, 1);
+        if taken != 0 {
+            return (None, Token::of(seat));
+        }
+        let (value, token) = self.unload(seat);
+        (Some(value), token)
+    }
+
+    /// Puts a value into its place and goes out.
+    pub fn leave(&self, token: &mut Token, value: T)
+        requires belongs { token.old.lock ≡ self.now }
+        requires may { MayPutBack token.old.knows (T.first_note value) (T.second_note value) }
+        ensures { token.new ≡ owner_of self.now
+            (put_back (T.first_note value) (T.second_note value) token.old.knows) }
+    {
+        let table = &self.table.shared;
+        let mut seat = Token::seat(&mut token.badge);
+        table.compare_exchange::<FetchSlot>(&mut seat, TAKEN, 0, 1);
+        match table.exchange(&mut seat, PLACE, Some(value)) {
+            None => table.store::<Open<T>>(&mut seat, TAKEN, 0),
+            Some(_) => unreachable!(),
+        }
+        token.badge = seat.into_badge();
+        self.call_sleeper();
+    }
+
+    fn call_sleeper(&self) {
+        if self.sleepers.load(Ordering::SeqCst) != 0 {
+            self.table.shared.wake_one(TAKEN);
+        }
+    }
+
+    /// A token that is outside takes in another.
+    pub fn merge(&self, into: &mut Token, other: Token)
+        requires into { IsOutside self.now into.old }
+        requires other { IsOutside self.now other }
+        ensures { into.new ≡ owner_of self.now (joined into.old.knows other.knows) }
+    {
+        let Token { badge } = other;
+        let other = badge.into_seat::<Option<T>>();
+        let mut seat = Token::seat(&mut into.badge);
+        self.table.shared.join_seat::<TakeIn>(&mut seat, other);
+        into.badge = seat.into_badge();
+    }
+}
