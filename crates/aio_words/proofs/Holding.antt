@@ -1,19 +1,9 @@
 -- The round seat between calls: which parker it holds, and what stays of it over a step.
-use Rattle.std.proofs.Common.{◌≡◌, ℕ, ◌+◌, ◌*◌, ◌<◌, Bool, true, false, if◌then◌else◌, refl, sym, ap, ◌∙◌, subst, arith}
-use Rattle.atomic_table.specs.declared.shared.Seat.{Seat}
+use Rattle.std.proofs.Common.{◌≡◌, ℕ, ◌+◌, ◌*◌, ◌<◌, Bool, true, false, if◌then◌else◌, refl, sym, ap, ◌∙◌, arith}
 use Rattle.aio_base.specs.declared.seats.Mode.{Mode}
 use Rattle.aio_base.specs.declared.seats.Mode.TheVariants as mode
-use Rattle.aio_base.specs.declared.seats.WordStep.{WordStep}
-use Rattle.aio_base.specs.declared.seats.SeatView.{SeatView}
-use Rattle.aio_base.specs.SharedWords.{after, held, word_count}
-use Rattle.aio_words.specs.Plays.{Sitter}
-use Rattle.aio_words.specs.Seats.{HoldsOnly, IsRoundSeat, is_waiting}
-use Rattle.aio_words.specs.Steps.{Made}
-
--- what the seat keeps as the step makes it, it keeps after the step
-pub after_step : (old new : Seat (Unit {0}) SeatView) (s : WordStep) (rounds parker : ℕ) (waits : Bool) → Made s old new
-    → IsRoundSeat (after s old.me.0, old.me.1) rounds parker old.table_id.words waits → IsRoundSeat new.me rounds parker new.table_id.words waits
-after_step old new s rounds parker waits made is = subst (λ (x : Sitter × ℕ). IsRoundSeat x.0 rounds parker x.1 waits) (λ k. (sym made.1 k, sym (ap (λ t. t.words) made.0) k)) is
+use Rattle.aio_base.specs.SharedWords.{held, word_count}
+use Rattle.aio_words.specs.Seats.{HoldsOnly, is_waiting}
 
 -- a seat that holds the parker that it held
 pub holds_still : (old new : Mode) (parker words : ℕ) → held new ≡ held old → HoldsOnly old parker words → HoldsOnly new parker words

@@ -8,7 +8,8 @@ use Rattle.aio_base.specs.declared.seats.SeatView.{SeatView}
 use Rattle.aio_base.specs.SharedWords.{after}
 use Rattle.aio_base.specs.WordCalls.{and_did, Found, slot_steps, wake_steps, wins}
 use Rattle.aio_base.proofs.WordSteps.{if_is, if_is_not}
-use Rattle.aio_words.specs.Plays.{Sitter, Makes}
+use Rattle.aio_words.specs.Seats.{SeatValue}
+use Rattle.aio_words.specs.Steps.{stepped, did_all}
 use Rattle.aio_words.specs.Calls.{WakesSlot}
 
 -- a view of which only the debt and the list of steps changed, where the debt is nothing again
@@ -45,32 +46,34 @@ module _ (parker slot in_mask in_blocked in_notified : ℕ) where
   exchanges_last : in_mask ≡ 0 → in_blocked ≡ 1 → slot_steps parker slot found ≡ sets ∷ looks ∷ exchanges ∷ []
   exchanges_last none set = looks_too none ∙ ap (λ (l : List WordStep). sets ∷ looks ∷ l) (if_is in_blocked 1 (exchanges ∷ []) [] set)
 
-  module _ (old : Sitter) (owes : old.0.owes ≡ owed.Nothing) where
-    pub woke_by_bit : (new : Sitter) → Makes sets old new → in_mask ≢ 0 → WakesSlot parker slot old new false
-    woke_by_bit new made some = let steps = sets_alone some in record {
+  -- Each case over the seats that contracts see.
+  module _ (old : SeatValue) (owes : old.view.owes ≡ owed.Nothing) where
+    at_last : (steps : List WordStep) (new : SeatValue) → new ≡ record old { view = and_did steps old.view } → slot_steps parker slot found ≡ steps → (won : Bool) → won ≡ wins steps
+        → WakesSlot parker slot old new won
+    at_last steps new did steps_are won won_is = record {
       found = found;
-      did = made ∙ ap (λ (w : SeatView). (w, old.1)) (settled old.0 (after sets old.0) (slot_steps parker slot found) refl refl
-          (if_is_not in_mask 0 (owed.Look parker) owed.Nothing some ∙ sym owes) refl (ap (λ l. old.0.did ++ l) (sym steps)));
-      won_is = sym (ap wins steps);
+      did = did ∙ ap (λ (l : List WordStep). did_all l old) (sym steps_are);
+      won_is = won_is ∙ ap wins (sym steps_are);
     }
 
-    pub woke_by_look : (mid new : Sitter) → Makes sets old mid → Makes looks mid new → in_mask ≡ 0 → in_blocked ≢ 1 → WakesSlot parker slot old new false
-    woke_by_look mid new first second none clear = let steps = looks_last none clear in record {
-      found = found;
-      did = second ∙ ap (λ (x : Sitter). (after looks x.0, x.1)) first ∙ ap (λ (w : SeatView). (w, old.1)) (settled old.0 (after looks (after sets old.0)) (slot_steps parker slot found) refl refl
-          (if_is_not in_blocked 1 (owed.Tell parker) owed.Nothing clear ∙ sym owes) refl (append_assoc old.0.did (sets ∷ []) (looks ∷ []) ∙ ap (λ l. old.0.did ++ l) (sym steps)));
-      won_is = sym (ap wins steps);
-    }
+    pub woke_by_bit : (new : SeatValue) → new ≡ stepped sets old → in_mask ≢ 0 → WakesSlot parker slot old new false
+    woke_by_bit new made some = at_last (sets ∷ []) new
+        (made ∙ ap (λ (w : SeatView). record old { view = w }) (settled old.view (after sets old.view) (sets ∷ []) refl refl (if_is_not in_mask 0 (owed.Look parker) owed.Nothing some ∙ sym owes) refl refl))
+        (sets_alone some) false refl
 
-    pub woke_by_exchange : (mid late new : Sitter) → Makes sets old mid → Makes looks mid late → Makes exchanges late new → in_mask ≡ 0 → in_blocked ≡ 1
+    pub woke_by_look : (mid new : SeatValue) → mid ≡ stepped sets old → new ≡ stepped looks mid → in_mask ≡ 0 → in_blocked ≢ 1 → WakesSlot parker slot old new false
+    woke_by_look mid new first second none clear = at_last (sets ∷ looks ∷ []) new
+        (second ∙ ap (stepped looks) first ∙ ap (λ (w : SeatView). record old { view = w }) (settled old.view (after looks (after sets old.view)) (sets ∷ looks ∷ []) refl refl
+        (if_is_not in_blocked 1 (owed.Tell parker) owed.Nothing clear ∙ sym owes) refl (append_assoc old.view.did (sets ∷ []) (looks ∷ []))))
+        (looks_last none clear) false refl
+
+    pub woke_by_exchange : (mid late new : SeatValue) → mid ≡ stepped sets old → late ≡ stepped looks mid → new ≡ stepped exchanges late → in_mask ≡ 0 → in_blocked ≡ 1
         → WakesSlot parker slot old new (eqb in_notified 0)
-    woke_by_exchange mid late new first second third none set = let steps = exchanges_last none set in record {
-      found = found;
-      did = third ∙ ap (λ (x : Sitter). (after exchanges x.0, x.1)) (second ∙ ap (λ (x : Sitter). (after looks x.0, x.1)) first)
-          ∙ ap (λ (w : SeatView). (w, old.1)) (settled old.0 (after exchanges (after looks (after sets old.0))) (slot_steps parker slot found) refl refl (sym owes) refl
-          (append_assoc (old.0.did ++ sets ∷ []) (looks ∷ []) (exchanges ∷ []) ∙ append_assoc old.0.did (sets ∷ []) (looks ∷ exchanges ∷ []) ∙ ap (λ l. old.0.did ++ l) (sym steps)));
-      won_is = sym (ap wins steps ∙ or_false (eqb in_notified 0));
-    }
+    woke_by_exchange mid late new first second third none set = at_last (sets ∷ looks ∷ exchanges ∷ []) new
+        (third ∙ ap (stepped exchanges) (second ∙ ap (stepped looks) first) ∙ ap (λ (w : SeatView). record old { view = w })
+        (settled old.view (after exchanges (after looks (after sets old.view))) (sets ∷ looks ∷ exchanges ∷ []) refl refl (sym owes) refl
+        (append_assoc (old.view.did ++ sets ∷ []) (looks ∷ []) (exchanges ∷ []) ∙ append_assoc old.view.did (sets ∷ []) (looks ∷ exchanges ∷ []))))
+        (exchanges_last none set) (eqb in_notified 0) (sym (or_false (eqb in_notified 0)))
 
 -- a waker of no parker takes no step
 module _ (waker parkers : ℕ) (none : parkers ≤ waker / 64) where
@@ -80,11 +83,13 @@ module _ (waker parkers : ℕ) (none : parkers ≤ waker / 64) where
   pub untouched : (f : Found) (v : SeatView) → v ≡ and_did (wake_steps waker parkers f) v
   untouched f v = settled v v (wake_steps waker parkers f) refl refl refl refl (sym (ap (λ l. v.did ++ l) (no_steps f) ∙ append-nil v.did))
 
--- one more swap that found no woken slot
-module _ (s : WordStep) where
-  one_more : (k : ℕ) → replicate k s ++ s ∷ [] ≡ s ∷ replicate k s
-  one_more zero = refl
-  one_more (suc k) = ap (λ (l : List WordStep). s ∷ l) (one_more k)
+-- a step at the end of some that are the same is one at their head
+at_head : (s : WordStep) (k : ℕ) → replicate k s ++ s ∷ [] ≡ s ∷ replicate k s
+at_head s zero = refl
+at_head s (suc k) = ap (λ (l : List WordStep). s ∷ l) (at_head s k)
 
-  pub again : (k : ℕ) (v : SeatView) → and_did (s ∷ []) (and_did (replicate k s) v) ≡ and_did (replicate (suc k) s) v
-  again k v = settled v (and_did (s ∷ []) (and_did (replicate k s) v)) (replicate (suc k) s) refl refl refl refl (append_assoc v.did (replicate k s) (s ∷ []) ∙ ap (λ l. v.did ++ l) (one_more k))
+-- a view after swaps of a mask that found no woken slot, so many, and after one more
+pub looked_again : (parker found idle : ℕ) (before mid new : SeatView) → mid ≡ and_did (replicate idle (word_step.SwapMask parker 0)) before
+    → new ≡ after (word_step.SwapMask parker found) mid → found ≡ 0 → new ≡ and_did (replicate (suc idle) (word_step.SwapMask parker 0)) before
+looked_again parker found idle before mid new so_far made none = let s = word_step.SwapMask parker 0 in
+    made ∙ (λ k. after (word_step.SwapMask parker (none k)) (so_far k)) ∙ ap (λ steps. record before { did = steps }) (append_assoc before.did (replicate idle s) (s ∷ []) ∙ ap (λ l. before.did ++ l) (at_head s idle))

@@ -7,7 +7,8 @@ use Rattle.aio_base.specs.declared.seats.WordStep.TheVariants as word_step
 use Rattle.aio_base.specs.declared.seats.SeatView.{SeatView}
 use Rattle.aio_base.specs.Devices.{raised}
 use Rattle.aio_base.specs.WordCalls.{and_did, Found, slot_steps, wins, park_steps}
-use Rattle.aio_words.specs.Plays.{Sitter}
+use Rattle.aio_words.specs.Seats.{SeatValue}
+use Rattle.aio_words.specs.Steps.{did_all}
 
 -- the answer of a notifier, which a fault tells by its two counts
 abbrev pub told : Result (Unit {0}) CountFault → Result (Unit {0}) Failed
@@ -35,9 +36,9 @@ abbrev pub TellsCounts : ℕ → ℕ → CountFault → Type 0
 TellsCounts before after fault = (fault.before ≡ before) × (fault.after ≡ after)
 
 -- A wake of one slot of a parker made these steps, by what they found, and says whether they won notified.
-pub record WakesSlot (parker slot : ℕ) (old new : Sitter) (won : Bool) : Type 0 where
+pub record WakesSlot (parker slot : ℕ) (old new : SeatValue) (won : Bool) : Type 0 where
   pub found : Found
-  pub did : new ≡ (and_did (slot_steps parker slot found) old.0, old.1)
+  pub did : new ≡ did_all (slot_steps parker slot found) old
   pub won_is : won ≡ wins (slot_steps parker slot found)
 
 -- a park made swaps of the parker's mask, of which only the last found woken slots: these

@@ -1,4 +1,4 @@
 pub mod Plays
-pub mod Steps
 pub mod Seats
+pub mod Steps
 pub mod Calls

@@ -1,5 +1,5 @@
 -- What contracts see of the words and of their seats, and what each type keeps between calls.
-use Rattle.std.specs.Prelude.{◌≡◌, ◌⊎◌, ℕ, ◌≤◌, ◌<◌, Bool, true, false, [], Some}
+use Rattle.std.specs.Prelude.{◌≡◌, ◌⊎◌, ℕ, ◌≤◌, ◌<◌, Bool, true, false, Some}
 use Rattle.atomic_table.specs.Seated.{TableId}
 use Rattle.aio_base.specs.declared.seats.Role.TheVariants as role
 use Rattle.aio_base.specs.declared.seats.Owed.TheVariants as owed
@@ -7,7 +7,6 @@ use Rattle.aio_base.specs.declared.seats.Mode.{Mode}
 use Rattle.aio_base.specs.declared.seats.Mode.TheVariants as mode
 use Rattle.aio_base.specs.declared.seats.SeatView.{SeatView}
 use Rattle.aio_base.specs.SharedWords.{word_count, mask_place, held, IsFree}
-use Rattle.aio_words.specs.Plays.{Sitter}
 
 -- words: which they are, and for how many parkers
 pub record WordsValue : Type 0 where
@@ -31,19 +30,22 @@ Blocks seat = (parker : ℕ) × (seat.view.mode ≡ mode.Block parker)
 abbrev pub IsIdleOrWaits : SeatValue → Type 0
 IsIdleOrWaits seat = (seat.view.mode ≡ mode.Idle) ⊎ ((parker : ℕ) × (seat.view.mode ≡ mode.Wait parker))
 
--- What all words keep: the table is told the number of parkers, 1 to 16, and there is a count of wakes for each of them.
-pub record IsWords (table : TableId) (told parkers counts : ℕ) : Type 0 where
-  pub sized : table.words ≡ word_count parkers
-  pub told_parkers : told ≡ parkers
+-- a seat of these words that knows this
+abbrev pub seat_at : WordsValue → SeatView → SeatValue
+seat_at words view = record { words = words.identity; view = view }
+
+-- What all words keep: 1 to 16 parkers, which is also what the table was told, and a count of wakes for each of them.
+pub record IsWords (words : WordsValue) (parkers counts : ℕ) : Type 0 where
+  pub told : words.parkers ≡ parkers
+  pub sized : words.identity.words ≡ word_count parkers
   pub least : 1 ≤ parkers
   pub most : parkers ≤ 16
   pub count_each : counts ≡ parkers
 
 -- What a pass keeps between calls: it owes nothing.
-pub record IsPass (me : Sitter) : Type 0 where
-  pub bare : me.1 ≡ []
-  pub free : IsFree me.0
-  pub idle : me.0.mode ≡ mode.Idle
+pub record IsPass (seat : SeatValue) : Type 0 where
+  pub free : IsFree seat.view
+  pub idle : seat.view.mode ≡ mode.Idle
 
 -- the parker that a seat holds is this one, and has a mask among so many words
 abbrev pub HoldsOnly : Mode → ℕ → ℕ → Type 0
@@ -55,10 +57,9 @@ is_waiting (mode.Block parker) = false
 is_waiting (mode.Wait parker) = true
 
 -- What the round seat keeps between calls, with its plain numbers of rounds and of the parker that it holds, and whether it waits.
-pub record IsRoundSeat (me : Sitter) (rounds parker words : ℕ) (waits : Bool) : Type 0 where
-  pub bare : me.1 ≡ []
-  pub role : me.0.role ≡ role.Round
-  pub owes : me.0.owes ≡ owed.Nothing
-  pub seen : me.0.seen ≡ rounds
-  pub holds : HoldsOnly me.0.mode parker words
-  pub waiting : waits ≡ is_waiting me.0.mode
+pub record IsRoundSeat (seat : SeatValue) (rounds parker : ℕ) (waits : Bool) : Type 0 where
+  pub role : seat.view.role ≡ role.Round
+  pub owes : seat.view.owes ≡ owed.Nothing
+  pub seen : seat.view.seen ≡ rounds
+  pub holds : HoldsOnly seat.view.mode parker seat.words.words
+  pub waiting : waits ≡ is_waiting seat.view.mode

@@ -1,16 +1,18 @@
--- What the private calls for one step ask, and what they say.
-use Rattle.std.specs.Prelude.{◌≡◌, ℕ}
-use Rattle.atomic_table.specs.Seated.{TableId}
-use Rattle.atomic_table.specs.declared.shared.Seat.{Seat}
+-- A step of a seat, in what contracts see: which steps it may make, and what it is after them.
 use Rattle.aio_base.specs.declared.seats.WordStep.{WordStep}
-use Rattle.aio_base.specs.declared.seats.SeatView.{SeatView}
-use Rattle.aio_base.specs.SharedWords.{word_count}
-use Rattle.aio_words.specs.Plays.{Makes}
+use Rattle.aio_base.specs.SharedWords.{May, after}
+use Rattle.aio_base.specs.WordCalls.{and_did}
+use Rattle.std.specs.Prelude.{List}
+use Rattle.aio_words.specs.Seats.{WordsValue, SeatValue, Belongs}
 
--- the seat sits at this table, which has the words of so many parkers
-abbrev pub Sits : TableId → ℕ → Seat (Unit {0}) SeatView → Type 0
-Sits table parkers seat = (seat.table_id ≡ table) × (table.words ≡ word_count parkers)
+-- the seat is one of these words, by whose rule it may make this step
+abbrev pub MayStep : WordsValue → SeatValue → WordStep → Type 0
+MayStep words seat s = Belongs words seat × May words.parkers seat.view s
 
--- the seat made this one step, and sits where it sat
-abbrev pub Made : WordStep → Seat (Unit {0}) SeatView → Seat (Unit {0}) SeatView → Type 0
-Made s old new = (new.table_id ≡ old.table_id) × Makes s old.me new.me
+-- the seat after one step
+abbrev pub stepped : WordStep → SeatValue → SeatValue
+stepped s seat = record seat { view = after s seat.view }
+
+-- the seat after steps that left nothing behind but themselves
+abbrev pub did_all : List WordStep → SeatValue → SeatValue
+did_all steps seat = record seat { view = and_did steps seat.view }

@@ -8,7 +8,7 @@
 #![tactic(auto)]
 
 mod plays;
-mod steps;
+mod table;
 #[cfg(test)]
 mod tests;
 mod words;

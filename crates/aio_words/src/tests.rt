@@ -1,6 +1,6 @@
-//! What no clause says: worked rows, a notifier that counts and one that fails, and threads that park.
+//! What no clause says: worked rows, a bell that rings and one that is broken, and threads that park.
 
-ghost use Rattle.std.specs.Prelude.{◌≡◌, ◌+◌, ◌-◌, ◌^◌, ◌<◌, IsFalse, IsTrue, min};
+ghost use Rattle.std.specs.Prelude.{◌≡◌, ◌<◌, if◌then◌else◌};
 ghost use Rattle.std.specs.Thread.{IsSync};
 ghost use Rattle.aio_base.specs.declared.seats.Mode.TheVariants as mode;
 ghost use Rattle.aio_words.specs.Seats.{Belongs};
@@ -16,181 +16,190 @@ use std::thread::{Threads, join};
 // How often each of the 64 slots is woken while its thread parks.
 const ROUNDS: u64 = 200;
 
-/// A notifier that counts its calls, each of which fails where it is made to fail.
+/// A notifier that counts its rings; a broken one makes no sound, which is a fault each time.
 #[derive(Drop)]
-struct Counter {
-    calls: u64,
-    faults: u64,
-    fails: bool,
+struct Bell {
+    rings: u64,
+    silent: u64,
+    broken: bool,
 }
 
-impl Counter {
-    fn new(fails: bool) -> Counter {
-        Counter {
-            calls: 0,
-            faults: 0,
-            fails,
-        }
-    }
-}
+const WHOLE: Bell = Bell {
+    rings: 0,
+    silent: 0,
+    broken: false,
+};
 
-fn one_more(count: u64) -> u64
-    ensures { result ≡ min (count + 1) (2 ^ 64 - 1) }
-{
-    if count == u64::MAX { count } else { count + 1 }
-}
-
-impl Faults for Counter {
-    ghost use Rattle.std.specs.Prelude.{false};
-
-    ghost fault_count = { λ c. c.faults };
-
-    ghost is_sure = { λ c. false };
-
-    ghost all_sure = { false };
-
-    fn faults(&self) -> u64 {
-        self.faults
-    }
-
-    ghost sure_below_top = { λ c sure. Prim.cc };
-
-    ghost each_sure = { λ c sure. sure };
-}
-
-impl Notify for Counter {
-    ghost call_count = { λ c. c.calls };
+impl Notify for Bell {
+    ghost call_count = { λ bell. bell.rings };
 
     ghost notify_step = { λ old answer new. Unit {0} };
 
-    fn notify(&mut self) -> Result<(), Failed> {
-        self.calls = one_more(self.calls);
-        if self.fails {
-            self.faults = one_more(self.faults);
-            return Err(Failed);
-        }
-        Ok(())
-    }
-
     fn calls(&self) -> u64 {
-        self.calls
+        self.rings
     }
 
-    fn twin(&self) -> Result<Counter, OutOfMemory> {
-        Ok(Counter::new(self.fails))
+    fn notify(&mut self) -> Result<(), Failed> {
+        self.rings = self.rings.saturating_add(1);
+        if !self.broken {
+            return Ok(());
+        }
+        self.silent = self.silent.saturating_add(1);
+        Err(Failed)
+    }
+
+    fn twin(&self) -> Result<Bell, OutOfMemory> {
+        let broken = self.broken;
+        Ok(Bell { broken, ..WHOLE })
     }
 }
 
-fn twin_of<N: Notify>(notifier: &N) -> Result<N, OutOfMemory> {
+impl Faults for Bell {
+    ghost use Rattle.std.specs.Prelude.{false};
+
+    ghost all_sure = { false };
+
+    ghost is_sure = { λ bell. false };
+
+    ghost each_sure = { λ bell sure. sure };
+
+    ghost sure_below_top = { λ bell sure. Prim.cc };
+
+    ghost fault_count = { λ bell. bell.silent };
+
+    fn faults(&self) -> u64 {
+        self.silent
+    }
+}
+
+fn another<N: Notify>(notifier: &N) -> Result<N, OutOfMemory> {
     notifier.twin()
 }
 
-fn may_be_shared<T: Send + Sync>(_value: &T) {}
+fn works_for_threads<W: Send + Sync, S: Send, P: Send>(_words: &W, _seat: &S, _pass: &P) {}
 
-fn may_be_sent<T: Send>(_value: &T) {}
-
-/// Blocks parker 0 and looks at its mask: whether the seat waits now.
-fn waits_for_first(words: &Words, seat: &mut RoundSeat) -> bool
-    requires idle { Belongs words.now seat.old × (seat.old.view.mode ≡ mode.Idle) }
-    requires parker { 0 < words.now.parkers }
-    ensures words { seat.new.words ≡ seat.old.words }
-    ensures waits { IsTrue result → seat.new.view.mode ≡ mode.Wait 0 }
-    ensures blocks { IsFalse result → seat.new.view.mode ≡ mode.Block 0 }
+/// Wakes these slots in order. Whether no call failed.
+fn wake_each(words: &Words, p: &mut Pass, slots: &[u32], bell: &mut Bell) -> bool
+    requires { Belongs words.now p.old }
+    ensures { p.new.words ≡ p.old.words }
 {
-    words.block(seat, 0);
-    words.take_or_wait(seat).is_none()
+    let mut told = true;
+    for slot in slots {
+        let answer = words.wake(p, Waker(*slot), bell);
+        told = told && answer.is_ok();
+    }
+    told
+}
+
+/// Goes to sleep for parker 0, up to the wait itself. Whether the seat waits, and does not just block.
+fn goes_to_wait(words: &Words, s: &mut RoundSeat) -> bool
+    requires { Belongs words.now s.old × (s.old.view.mode ≡ mode.Idle) × (0 < words.now.parkers) }
+    ensures words { s.new.words ≡ s.old.words }
+    ensures mode { s.new.view.mode ≡ (if result then mode.Wait 0 else mode.Block 0) }
+{
+    words.block(s, 0);
+    if words.take_or_wait(s).is_some() {
+        return false;
+    }
+    true
 }
 
 #[test]
 fn slots_of_a_parker_are_taken_together(rt: HostRuntime) -> Result<(), Fail> {
+    let mut bell = WHOLE;
     let (words, seat, mut pass) = Words::new(rt.alloc(), 1)?;
-    let mut note = Counter::new(false);
-    assert_eq!(rt; words.wake(&mut pass, Waker(3), &mut note), Ok(()));
-    assert_eq!(rt; words.wake(&mut pass, Waker(5), &mut note), Ok(()));
-    assert_eq!(rt; words.take(&mut pass, 0), 40);
-    assert_eq!(rt; words.take(&mut pass, 0), 0);
-    assert_eq!(rt; words.wake(&mut pass, Waker(64), &mut note), Ok(()));
-    assert_eq!(rt; words.take(&mut pass, 0), 0);
-    assert_eq!(rt; note.calls(), 0);
-    may_be_shared(&words);
-    may_be_sent(&pass);
-    may_be_sent(&seat);
+    works_for_threads(&words, &seat, &pass);
+    // slot 64 is of a parker that is not there
+    let told = wake_each(&words, &mut pass, &[3, 64, 5], &mut bell);
+    let together = words.take(&mut pass, 0);
+    let left = words.take(&mut pass, 0);
+    assert!(rt; told);
+    assert_eq!(rt; (together, left, bell.rings), (40, 0, 0));
     Ok(())
 }
 
 #[test]
 fn one_wake_ends_a_wait(rt: HostRuntime) -> Result<(), Fail> {
-    let (words, mut seat, mut pass) = Words::new(rt.alloc(), 1)?;
-    let mut note = Counter::new(false);
-    let waits = waits_for_first(&words, &mut seat);
-    assert!(rt; waits);
-    assert_eq!(rt; words.wake(&mut pass, Waker(0), &mut note), Ok(()));
-    assert_eq!(rt; note.calls(), 1);
-    words.waited(&mut seat);
-    assert_eq!(rt; words.take_or_wait(&mut seat), Some(1));
-    words.unblock(&mut seat);
+    let mut bell = WHOLE;
+    let (words, mut round, mut pass) = Words::new(rt.alloc(), 1)?;
+    if goes_to_wait(&words, &mut round) {
+        let told = wake_each(&words, &mut pass, &[0], &mut bell);
+        words.waited(&mut round);
+        let found = words.take_or_wait(&mut round);
+        assert!(rt; told);
+        assert_eq!(rt; (bell.rings, found), (1, Some(1)));
+        words.unblock(&mut round);
+        return Ok(());
+    }
+    assert!(rt; false);
     Ok(())
+}
+
+/// Notifies so often. How often the bell has rung after that.
+fn notify_times(words: &Words, p: &mut Pass, times: u32, bell: &mut Bell) -> u64
+    requires { Belongs words.now p.old }
+    ensures { p.new.words ≡ p.old.words }
+{
+    for _ in 0..times {
+        let _answer = words.notify(p, bell);
+    }
+    bell.rings
 }
 
 #[test]
 fn a_wait_is_told_once(rt: HostRuntime) -> Result<(), Fail> {
-    let (words, mut seat, mut pass) = Words::new(rt.alloc(), 1)?;
-    let mut note = Counter::new(false);
-    assert!(rt; words.notify(&mut pass, &mut note).is_ok());
-    assert!(rt; words.notify(&mut pass, &mut note).is_ok());
-    assert_eq!(rt; note.calls(), 1);
-    words.waited(&mut seat);
-    let waits = waits_for_first(&words, &mut seat);
+    let mut bell = WHOLE;
+    let (words, mut round, mut pass) = Words::new(rt.alloc(), 1)?;
+    assert_eq!(rt; notify_times(&words, &mut pass, 2, &mut bell), 1);
+    words.waited(&mut round);
+    let waits = goes_to_wait(&words, &mut round);
     assert!(rt; waits);
-    assert!(rt; words.wake(&mut pass, Waker(1), &mut note).is_ok());
-    assert!(rt; words.wake(&mut pass, Waker(2), &mut note).is_ok());
-    assert_eq!(rt; note.calls(), 2);
-    assert!(rt; words.notify(&mut pass, &mut note).is_ok());
-    assert_eq!(rt; note.calls(), 2);
-    words.waited(&mut seat);
-    assert!(rt; words.notify(&mut pass, &mut note).is_ok());
-    assert_eq!(rt; note.calls(), 3);
+    let told = wake_each(&words, &mut pass, &[1, 2], &mut bell);
+    assert_eq!(rt; (told, bell.rings), (true, 2));
+    assert_eq!(rt; notify_times(&words, &mut pass, 1, &mut bell), 2);
+    words.waited(&mut round);
+    assert_eq!(rt; notify_times(&words, &mut pass, 1, &mut bell), 3);
     Ok(())
 }
 
 #[test]
 fn a_failing_notifier_leaves_the_slot_woken(rt: HostRuntime) -> Result<(), Fail> {
-    let (words, mut seat, mut pass) = Words::new(rt.alloc(), 1)?;
-    let mut note = twin_of(&Counter::new(true))?;
-    let waits = waits_for_first(&words, &mut seat);
+    let mut bell = another(&Bell {
+        broken: true,
+        ..WHOLE
+    })?;
+    let (words, mut round, mut pass) = Words::new(rt.alloc(), 1)?;
+    let waits = goes_to_wait(&words, &mut round);
     assert!(rt; waits);
-    let told = words.wake(&mut pass, Waker(7), &mut note);
-    assert_eq!(rt;
-        told,
-        Err(CountFault {
-            before: 0,
-            after: 1
-        })
-    );
+    let fault = words.wake(&mut pass, Waker(7), &mut bell).err();
+    let (before, after) = (0, 1);
+    assert_eq!(rt; fault, Some(CountFault { before, after }));
     assert_eq!(rt; words.take(&mut pass, 0), 128);
     Ok(())
 }
 
 #[test]
 fn passes_see_each_round_that_began(rt: HostRuntime) -> Result<(), Fail> {
-    let (words, mut seat, mut pass) = Words::new(rt.alloc(), 1)?;
-    assert_eq!(rt; words.ticker(&mut pass), 0);
-    assert_eq!(rt; words.bump(&mut seat), Ok(1));
-    assert_eq!(rt; words.bump(&mut seat), Ok::<u64, RoundsSpent>(2));
-    assert_eq!(rt; words.rounds(&mut seat), 2);
-    let mut other = words.pass(&mut pass);
-    assert_eq!(rt; words.ticker(&mut other), 2);
-    words.join(&mut pass, other);
-    assert_eq!(rt; words.ticker(&mut pass), 2);
+    let (words, mut round, mut first) = Words::new(rt.alloc(), 1)?;
+    let none_yet = words.ticker(&mut first);
+    let begun = [words.bump(&mut round), words.bump(&mut round)];
+    let mut later = words.pass(&mut first);
+    assert_eq!(rt; begun, [Ok(1), Ok::<u64, RoundsSpent>(2)]);
+    assert_eq!(rt;
+        (none_yet, words.rounds(&mut round), words.ticker(&mut later)),
+        (0, 2, 2)
+    );
+    words.join(&mut first, later);
+    assert_eq!(rt; words.ticker(&mut first), 2);
     Ok(())
 }
 
 #[test]
 fn a_wake_before_the_park_is_found(rt: HostRuntime) -> Result<(), Fail> {
-    let (words, _seat, mut pass) = Words::new(rt.alloc(), 2)?;
-    let mut note = Counter::new(false);
-    assert!(rt; words.wake(&mut pass, Waker(104), &mut note).is_ok());
-    assert_eq!(rt; words.park(&rt, &mut pass, 1), 1 << 40);
+    let (words, _round, mut pass) = Words::new(rt.alloc(), 2)?;
+    let told = wake_each(&words, &mut pass, &[104], &mut Bell { ..WHOLE });
+    let found = words.park(&rt, &mut pass, 1);
+    assert_eq!(rt; (told, found), (true, 1 << 40));
     Ok(())
 }
 
@@ -220,9 +229,7 @@ fn parked_beside<R: Threads + Wait + Sync>(
             requires { Belongs words.now mine.now }
         {
             let_others_run();
-            words
-                .wake(mine, Waker(104), &mut Counter::new(false))
-                .is_ok()
+            wake_each(words, mine, &[104], &mut Bell { ..WHOLE })
         },
     );
     found
@@ -272,9 +279,9 @@ fn wake_every_other(words: &Words, p: &mut Pass, first: u32)
     requires { Belongs words.now p.old × (first < 2) }
     ensures { p.new.words ≡ p.old.words }
 {
-    let mut note = Counter::new(false);
+    let mut bell = WHOLE;
     for i in 0..32u32 {
-        let _told = words.wake(p, Waker(2 * i + first), &mut note);
+        let _told = words.wake(p, Waker(2 * i + first), &mut bell);
     }
 }
 

@@ -1,22 +1,17 @@
 //! The words, the seat of each thread, and the one seat that begins rounds and waits.
 
-ghost use Rattle.std.specs.Prelude.{◌≡◌, ◌≢◌, ◌↔◌, ℕ, ◌+◌, ◌-◌, ◌/◌, ◌^◌, ◌≤◌, ◌<◌, ◌*◌, replicate, vec_len, unwrap_or, IfSome, IfNone, IfOk, IsOk, IsErr, IfErr, OnErr, OnOk};
+ghost use Rattle.std.specs.Prelude.{◌≡◌, ◌≢◌, ◌↔◌, ℕ, ◌+◌, ◌-◌, ◌/◌, ◌^◌, ◌≤◌, ◌<◌, vec_len, unwrap_or, IfSome, IfNone, IfOk, IsOk, IsErr, IfErr, OnErr, OnOk};
 ghost use Rattle.aio_base.specs.Devices.{TellsFaults, raised};
-ghost use Rattle.aio_base.specs.SharedWords.{May, after, first_view, joined, new_view, word_count};
+ghost use Rattle.aio_base.specs.SharedWords.{after, first_view, joined, new_view};
 ghost use Rattle.aio_base.specs.WordCalls.{wake_steps};
 ghost use Rattle.aio_base.specs.declared.seats.Mode.TheVariants as mode;
 ghost use Rattle.aio_base.specs.declared.seats.WordStep.TheVariants as word_step;
-ghost use Rattle.aio_words.specs.Calls.{Offers, Parks, TellsCounts, WakesSlot, notify_steps, told};
+ghost use Rattle.aio_words.specs.Calls.{Called, Offers, Parks, TellsCounts, WakesSlot, notify_steps, told};
 ghost use Rattle.aio_words.specs.Seats.{Belongs, Blocks, IsIdleOrWaits, is_waiting};
-ghost use Rattle.aio_words.specs.Steps.{Sits};
+ghost use Rattle.aio_words.specs.Steps.{MayStep};
 
-use crate::plays::{NewPass, Rule, TakeIn};
-use crate::steps::{
-    Board, Place, add_ticker, exchange_notified, load_blocked, load_mask, load_ticker, set_bit,
-    store_blocked, swap_mask, swap_notified,
-};
-use aio_base::{CountFault, Notify, OutOfMemory, SeatView, Waker};
-use atomic_table::{Seat, Table};
+use crate::table::{WordSeat, WordTable};
+use aio_base::{CountFault, Notify, OutOfMemory, Waker};
 use std::alloc::Global;
 use std::marker::Model;
 use std::sync::Wait;
@@ -30,7 +25,7 @@ pub struct RoundsSpent;
 /// and for how many parkers.
 #[derive(Drop)]
 pub struct Words {
-    table: Table<(), SeatView, u32, Rule, Global>,
+    table: WordTable,
     parkers: u32,
     // One for each parker, on which a parked thread sleeps: how often its mask got its first bit. A
     // sleep sees only the low 32 bits of its word, so a mask itself would hide the slots above.
@@ -43,15 +38,15 @@ impl Model for Words {
 
     ghost Value = { WordsValue };
 
-    ghost view = { λ w. record { identity = w.table.shared.table_id; parkers = w.parkers } };
+    ghost view = { λ w. w.table };
 
-    ghost invariant = { λ w. IsWords w.table.shared.table_id w.table.shared.key w.parkers (vec_len w.wakes) };
+    ghost invariant = { λ w. IsWords w.table w.parkers (vec_len w.wakes) };
 }
 
 /// The seat of one thread. Between calls it owes nothing, so each wake that it made was told.
 #[derive(Drop)]
 pub struct Pass {
-    seat: Seat<(), SeatView>,
+    seat: WordSeat,
 }
 
 impl Model for Pass {
@@ -59,15 +54,15 @@ impl Model for Pass {
 
     ghost Value = { SeatValue };
 
-    ghost view = { λ p. record { words = p.seat.table_id; view = p.seat.me.0 } };
+    ghost view = { λ p. p.seat };
 
-    ghost invariant = { λ p. IsPass p.seat.me };
+    ghost invariant = { λ p. IsPass p.seat };
 }
 
 /// The one seat that begins rounds and waits for events. It is idle, blocks a parker or waits for one.
 #[derive(Drop)]
 pub struct RoundSeat {
-    seat: Seat<(), SeatView>,
+    seat: WordSeat,
     // The ticker, which no other seat raises.
     rounds: u64,
     // The parker that the seat blocks or waits for, where there is one.
@@ -81,9 +76,9 @@ impl Model for RoundSeat {
 
     ghost Value = { SeatValue };
 
-    ghost view = { λ s. record { words = s.seat.table_id; view = s.seat.me.0 } };
+    ghost view = { λ s. s.seat };
 
-    ghost invariant = { λ s. IsRoundSeat s.seat.me s.rounds s.parker s.seat.table_id.words s.waits };
+    ghost invariant = { λ s. IsRoundSeat s.seat s.rounds s.parker s.waits };
 }
 
 impl RoundSeat {
@@ -104,12 +99,9 @@ impl Words {
         ensures round { IfOk result (λ made. Belongs made.0 made.1 × (made.1.view ≡ first_view)) }
         ensures pass { IfOk result (λ made. Belongs made.0 made.2 × (made.2.view ≡ new_view 0)) }
     {
-        let zeros = zero_words(alloc, parkers)?;
         let wakes = no_wakes(alloc, parkers)?;
-        let Ok((table, mut seat)) = Table::of_words(alloc, zeros.as_slice(), &parkers) else {
-            return Err(OutOfMemory);
-        };
-        let pass = table.shared.split_seat::<NewPass>(&mut seat);
+        let (table, mut seat) = WordTable::new(alloc, parkers)?;
+        let pass = table.split(&mut seat);
         Ok((
             Words {
                 table,
@@ -132,9 +124,8 @@ impl Words {
         ensures made { Belongs self.now result × (result.view ≡ new_view from.old.view.seen) }
         ensures from { from.new ≡ from.old }
     {
-        Pass {
-            seat: self.table.shared.split_seat::<NewPass>(&mut from.seat),
-        }
+        let seat = self.table.split(&mut from.seat);
+        Pass { seat }
     }
 
     /// Takes a pass in: `into` has then seen what either has seen.
@@ -143,8 +134,7 @@ impl Words {
         ensures words { into.new.words ≡ into.old.words }
         ensures view { into.new.view ≡ joined into.old.view old.view }
     {
-        let Pass { seat } = old;
-        self.table.shared.join_seat::<TakeIn>(&mut into.seat, seat);
+        self.table.merge(&mut into.seat, old.seat);
     }
 
     /// The number of rounds begun, by one load: no less than the pass has seen before
@@ -155,7 +145,7 @@ impl Words {
         ensures view { p.new.view ≡ after (word_step.LoadTicker result) p.old.view }
         ensures least { p.old.view.seen ≤ result }
     {
-        load_ticker(&self.table.shared, &mut p.seat)
+        self.table.load_ticker(&mut p.seat)
     }
 
     /// Wakes a task: sets bit `w % 64` in the mask of parker `w / 64`. Where that mask was 0, its
@@ -176,11 +166,8 @@ impl Words {
         if parker >= self.parkers {
             return Ok(());
         }
-        let wakes = &self.wakes[parker as usize];
-        if wake_slot(&self.table.shared, &mut p.seat, wakes, parker, w.0 % 64) {
-            return call(n);
-        }
-        Ok(())
+        let won = self.wake_slot(&mut p.seat, parker, w.0 % 64);
+        call_where(won, n)
     }
 
     /// Sets `notified`, and calls `n` only where it was not set yet (`polling` 3, `lib.rs`,
@@ -194,10 +181,8 @@ impl Words {
         ensures faults { TellsFaults N.fault_count N.is_sure n.old n.new (IsErr result) }
         ensures counts { IfErr result (TellsCounts (N.fault_count n.old) (N.fault_count n.new)) }
     {
-        if exchange_notified(&self.table.shared, &mut p.seat) == 0 {
-            return call(n);
-        }
-        Ok(())
+        let found = self.table.exchange_notified(&mut p.seat);
+        call_where(found == 0, n)
     }
 
     /// The woken slots of a parker, which are woken no longer.
@@ -206,7 +191,7 @@ impl Words {
         ensures words { p.new.words ≡ p.old.words }
         ensures view { p.new.view ≡ after (word_step.SwapMask parker result) p.old.view }
     {
-        swap_mask(&self.table.shared, &mut p.seat, parker)
+        self.table.swap_mask(&mut p.seat, parker)
     }
 
     /// Waits until slots of a parker are woken, and answers them; they are woken no longer
@@ -216,14 +201,15 @@ impl Words {
         ensures words { p.new.words ≡ p.old.words }
         ensures view { Parks parker result p.old.view p.new.view }
     {
-        let wakes = &self.wakes[parker as usize];
         for _ in rt.forever() {
-            let seen = wakes.load(Ordering::SeqCst);
-            let found = self.take(p, parker);
-            if found != 0 {
-                return found;
+            // Read before the look at the mask, so that no wake after that look is slept through.
+            let count = self.wakes[parker as usize].load(Ordering::SeqCst);
+            let slots = self.take(p, parker);
+            if slots == 0 {
+                self.wakes[parker as usize].park(rt, (count & 0xffff_ffff) as u32);
+            } else {
+                return slots;
             }
-            wakes.park(rt, (seen & 0xffff_ffff) as u32);
         }
         unreachable!()
     }
@@ -242,8 +228,8 @@ impl Words {
         if s.rounds == u64::MAX {
             return Err(RoundsSpent);
         }
-        let found = add_ticker(&self.table.shared, &mut s.seat);
-        s.rounds = found + 1;
+        let before = self.table.add_ticker(&mut s.seat);
+        s.rounds = before + 1;
         Ok(s.rounds)
     }
 
@@ -254,7 +240,7 @@ impl Words {
         ensures exact { result ≡ s.old.view.seen }
         ensures view { s.new.view ≡ after (word_step.LoadTicker result) s.old.view }
     {
-        load_ticker(&self.table.shared, &mut s.seat)
+        self.table.load_ticker(&mut s.seat)
     }
 
     /// Says that a parker's thread is about to wait for events: sets the parker's blocked flag.
@@ -264,7 +250,7 @@ impl Words {
         ensures words { s.new.words ≡ s.old.words }
         ensures view { s.new.view ≡ after (word_step.StoreBlocked parker 1 0) s.old.view }
     {
-        store_blocked(&self.table.shared, &mut s.seat, parker, 1);
+        self.table.store_blocked(&mut s.seat, parker, 1);
         s.parker = parker;
     }
 
@@ -280,7 +266,7 @@ impl Words {
         ensures none { IfNone result ((parker : ℕ) → s.old.view.mode ≡ mode.Block parker
             → s.new.view.mode ≡ mode.Wait parker) }
     {
-        let mask = load_mask(&self.table.shared, &mut s.seat, s.parker);
+        let mask = self.table.load_mask(&mut s.seat, s.parker);
         s.waits = mask == 0;
         if mask == 0 { None } else { Some(mask) }
     }
@@ -292,7 +278,7 @@ impl Words {
         ensures words { s.new.words ≡ s.old.words }
         ensures view { (found : ℕ) × (s.new.view ≡ after (word_step.SwapNotified found) s.old.view) }
     {
-        swap_notified(&self.table.shared, &mut s.seat);
+        self.table.swap_notified(&mut s.seat);
         s.waits = false;
     }
 
@@ -304,17 +290,25 @@ impl Words {
         ensures view { (parker : ℕ) → s.old.view.mode ≡ mode.Block parker
             → s.new.view ≡ after (word_step.StoreBlocked parker 0 1) s.old.view }
     {
-        store_blocked(&self.table.shared, &mut s.seat, s.parker, 0);
+        self.table.store_blocked(&mut s.seat, s.parker, 0);
     }
-}
 
-// The words for so many parkers, all 0.
-fn zero_words(alloc: Global, parkers: u32) -> Result<Vec<u64>, OutOfMemory>
-    ensures { IfOk result (λ words. words.items ≡ replicate (word_count parkers) 0) }
-{
-    match vec![in alloc; 0u64; 2 + 2 * parkers as usize] {
-        Ok(words) => Ok(words),
-        Err(_) => Err(OutOfMemory),
+    // Sets the bit of a slot. Where it is the first, tells the parked thread and looks at the blocked
+    // flag; where that is set, sets `notified`. Whether it was this call that set `notified`.
+    fn wake_slot(&self, s: &mut WordSeat, parker: u32, slot: u32) -> bool
+        requires { MayStep self.now s.old (word_step.SetBit parker slot 0) }
+        ensures { WakesSlot parker slot s.old s.new result }
+    {
+        let others = self.table.set_bit(s, parker, slot);
+        if others != 0 {
+            return false;
+        }
+        tell_parked(&self.wakes[parker as usize]);
+        let waits = self.table.load_blocked(s, parker);
+        if waits != 1 {
+            return false;
+        }
+        self.table.exchange_notified(s) == 0
     }
 }
 
@@ -333,40 +327,21 @@ fn no_wakes(alloc: Global, parkers: u32) -> Result<Vec<AtomicU64>, OutOfMemory>
     Ok(wakes)
 }
 
-// Calls the notifier, and tells its fault by the two counts.
-fn call<N: Notify>(n: &mut N) -> Result<(), CountFault>
-    ensures step { N.notify_step n.old (told result) n.new }
-    ensures calls { N.call_count n.new ≡ raised (N.call_count n.old) }
+// Calls the notifier where it is to be called, and tells its fault by the two counts.
+fn call_where<N: Notify>(due: bool, n: &mut N) -> Result<(), CountFault>
+    ensures called { Called N.call_count N.notify_step due n.old n.new result }
     ensures faults { TellsFaults N.fault_count N.is_sure n.old n.new (IsErr result) }
     ensures counts { IfErr result (TellsCounts (N.fault_count n.old) (N.fault_count n.new)) }
 {
+    if !due {
+        return Ok(());
+    }
     let before = n.faults();
-    match n.notify() {
-        Ok(()) => Ok(()),
-        Err(_) => Err(CountFault {
-            before,
-            after: n.faults(),
-        }),
+    if n.notify().is_ok() {
+        return Ok(());
     }
-}
-
-// Sets the bit of a slot. Where it is the first, tells the parked thread and looks at the blocked flag;
-// where that is set, sets `notified`. Whether it was this call that set `notified`.
-fn wake_slot(board: &Board, seat: &mut Place, wakes: &AtomicU64, parker: u32, slot: u32) -> bool
-    requires sits { Sits board.now.table_id board.now.key seat.old }
-    requires may { May board.now.key seat.old.me.0 (word_step.SetBit parker slot 0) }
-    ensures place { seat.new.table_id ≡ seat.old.table_id }
-    ensures woke { WakesSlot parker slot seat.old.me seat.new.me result }
-{
-    let mask = set_bit(board, seat, parker, slot);
-    if mask != 0 {
-        return false;
-    }
-    tell_parked(wakes);
-    if load_blocked(board, seat, parker) == 1 {
-        return exchange_notified(board, seat) == 0;
-    }
-    false
+    let after = n.faults();
+    Err(CountFault { before, after })
 }
 
 // Ends the sleep of each thread that is parked on this count, or is about to sleep.
