@@ -4,7 +4,6 @@ use Rattle.aio_base.specs.declared.seats.WordStep.TheVariants as word_step
 use Rattle.aio_base.specs.SharedWords.{after, word_count}
 use Rattle.aio_base.proofs.WordSteps.{if_is, looking_holds}
 use Rattle.aio_words.specs.Seats.{IsRoundSeat}
-use Rattle.aio_words.specs.Steps.{stepped}
 use Rattle.aio_words.proofs.Holding.{holds_still, looking_waits, the_parker, blocks_it, in_words}
 use Rattle.aio_words.proofs.words.Words.take_or_wait.Goals as goal
 use Rattle.aio_words.proofs.words.Words.take_or_wait.Goals.{then-mask-eq0, else-mask-eq0}
