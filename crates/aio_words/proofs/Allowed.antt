@@ -6,7 +6,7 @@ use mathlib.Core.Option.{some, none}
 use mathlib.Core.Logic.{dite}
 use native.Mathlib.Decide.{ℕ_discrete}
 use lib.ListN.{get_elem?}
-use Rattle.atomic_table.specs.Table.{State, step, keeps, Allows, Splits, Joins}
+use Rattle.atomic_table.specs.Table.{step, keeps, Allows, Splits, Joins}
 use Rattle.aio_base.specs.declared.seats.WordStep.{WordStep}
 use Rattle.aio_base.specs.declared.seats.WordStep.TheVariants as word_step
 use Rattle.aio_base.specs.declared.seats.SeatView.{SeatView}

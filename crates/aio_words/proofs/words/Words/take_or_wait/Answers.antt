@@ -2,10 +2,9 @@ use Rattle.std.proofs.Common.{rules, ◌≡◌, ◌==◌, ◌<◌, ℕ, ap, sym,
 use Rattle.aio_base.specs.declared.seats.Mode.TheVariants as mode
 use Rattle.aio_base.specs.declared.seats.WordStep.TheVariants as word_step
 use Rattle.aio_base.specs.SharedWords.{after, word_count}
-use Rattle.aio_base.proofs.WordSteps.{if_is, looking_holds}
+use Rattle.aio_base.proofs.WordSteps.{looking_holds}
 use Rattle.aio_words.specs.Seats.{IsRoundSeat}
-use Rattle.aio_words.specs.Steps.{stepped}
-use Rattle.aio_words.proofs.Holding.{holds_still, looking_waits, the_parker, blocks_it, in_words}
+use Rattle.aio_words.proofs.Holding.{holds_still, looking_waits, the_parker, blocks_it, in_words, saw, waits_at_zero}
 use Rattle.aio_words.proofs.words.Words.take_or_wait.Goals as goal
 use Rattle.aio_words.proofs.words.Words.take_or_wait.Goals.{then-mask-eq0, else-mask-eq0}
 
@@ -27,15 +26,20 @@ invariant_of-s c = let was = c.s.invariant in let found = c.load_mask-mask.resul
     })
 
 pub returns-clause-view : goal.returns-clause-view
-returns-clause-view c parker blocks = let mask = c.load_mask-mask.result in
-    let value : mask ≡ unwrap_or c.if-mask-eq0.result 0 =
-    elim c.if-mask-eq0.branch [ then-mask-eq0 w ↦ w.if-mask-eq0.true ∙ sym (ap (λ r. unwrap_or r 0) w.result-is) | else-mask-eq0 w ↦ sym (ap (λ r. unwrap_or r 0) w.result-is) ] in
-    let same : parker ≡ c.s.inside.parker = the_parker c.s.inside.seat.view.mode _ _ c.s.invariant.holds parker (ap (λ s. s.view.mode) c.s.view_is ∙ blocks) in
-    ap (λ s. s.view) c.load_mask-mask.ensures ∙ (λ k. after (word_step.LoadMask (sym same k) (value k)) (c.s.view_is k).view)
+returns-clause-view c parker blocks = let seat = c.s.inside.seat in let mask = c.load_mask-mask.result in let answer = c.if-mask-eq0.result in
+    let named : parker ≡ c.s.inside.parker = the_parker seat.view.mode _ _ c.s.invariant.holds parker (ap (λ s. s.view.mode) c.s.view_is ∙ blocks) in
+    let found : mask ≡ unwrap_or answer 0 = elim c.if-mask-eq0.branch [
+      | then-mask-eq0 w ↦ w.if-mask-eq0.true ∙ ap (λ r. unwrap_or r 0) (sym w.result-is)
+      | else-mask-eq0 w ↦ ap (λ r. unwrap_or r 0) (sym w.result-is)
+    ] in
+    saw seat c.load_mask-mask.new.s _ mask c.load_mask-mask.ensures parker named (unwrap_or answer 0) found ∙ ap (λ s. after (word_step.LoadMask parker (unwrap_or answer 0)) s.view) c.s.view_is
 
 pub returns-clause-none : goal.returns-clause-none
-returns-clause-none c = let mask = c.load_mask-mask.result in let was = c.s.inside.seat.view.mode in
-    let waits : mask ≡ 0 → (parker : ℕ) → c.args.s.now.view.mode ≡ mode.Block parker → c.load_mask-mask.new.s.view.mode ≡ mode.Wait parker = λ z parker blocks.
-    let same : parker ≡ c.s.inside.parker = the_parker was _ _ c.s.invariant.holds parker (ap (λ s. s.view.mode) c.s.view_is ∙ blocks) in
-    ap (λ s. s.view.mode) c.load_mask-mask.ensures ∙ if_is mask 0 (mode.Wait c.s.inside.parker) was z ∙ ap mode.Wait (sym same) in
-    elim c.if-mask-eq0.branch [ then-mask-eq0 w ↦ (let fact = waits w.if-mask-eq0.true in rw w.result-is fact) | else-mask-eq0 w ↦ rw w.result-is (search rules) ]
+returns-clause-none c = let seat = c.s.inside.seat in let new = c.load_mask-mask.new.s in let mask = c.load_mask-mask.result in
+    elim c.if-mask-eq0.branch [
+      | then-mask-eq0 w ↦ (
+          let fact : (parker : ℕ) → c.args.s.now.view.mode ≡ mode.Block parker → new.view.mode ≡ mode.Wait parker = λ parker blocks.
+          waits_at_zero seat new _ mask c.load_mask-mask.ensures parker (the_parker seat.view.mode _ _ c.s.invariant.holds parker (ap (λ s. s.view.mode) c.s.view_is ∙ blocks)) w.if-mask-eq0.true in
+          rw w.result-is fact)
+      | else-mask-eq0 w ↦ rw w.result-is (search rules)
+    ]
