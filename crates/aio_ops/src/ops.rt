@@ -1,6 +1,6 @@
 //! The queue of operations and its passes.
 
-ghost use Rattle.std.specs.Prelude.{◌≡◌, ◌↔◌, ℕ, ◌+◌, ◌<◌, ◌≤◌, ◌^◌, [], IfOk, IfErr, OnOk, OnErr, Err};
+ghost use Rattle.std.specs.Prelude.{◌≡◌, ◌==◌, ◌↔◌, ℕ, ◌+◌, ◌<◌, ◌≤◌, ◌^◌, [], IfOk, IfErr, OnOk, OnErr, Err};
 ghost use Rattle.aio_ops.specs.Passes.{Drains, Pops, RoseBy, new_pass, pass_limit, pushed};
 
 use crate::queue::{Entry, Hand, NewPass, OpQueue, Pop, Push};
@@ -222,5 +222,12 @@ impl OpPass {
         ensures bound { result < pass_limit }
     {
         self.number
+    }
+
+    /// Whether no further pass can be made, as far as this pass has counted them: it counts 2^24.
+    pub fn is_spent(&self) -> bool
+        ensures { result ≡ (self.now.made == pass_limit) }
+    {
+        self.made == PASSES
     }
 }

@@ -89,6 +89,7 @@ fn passes_are_numbered_in_the_order_in_which_they_are_made(rt: HostRuntime) -> R
         return Ok(());
     };
     assert_eq!(rt; third.number(), 2);
+    assert!(rt; !first.is_spent());
     assert!(rt; PassRefusal::PassesSpent != PassRefusal::OutOfMemory);
     Ok(())
 }

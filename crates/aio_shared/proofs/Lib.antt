@@ -1,0 +1,8 @@
+mod Keys
+mod Skipping
+mod Beginning
+pub mod Turning
+pub mod Draining
+pub mod Handling
+pub mod WakingEach
+pub mod Rounding

@@ -1,0 +1,20 @@
+use Rattle.std.proofs.Common.{sym, subst, ◌∙◌, IsSome, IfSome}
+use Rattle.aio_base.specs.Devices.{HasCause}
+use Rattle.aio_shared.specs.Reacting.{IsFaultWithin}
+use Rattle.aio_shared.proofs.WakingEach.{wakes_further, cause_further, within_further}
+use Rattle.aio_shared.proofs.waking.wake_each.Goals as goal
+
+pub loop-waker-preserved : goal.loop-waker-preserved
+loop-waker-preserved g c =
+    let so_far = c.loop-waker.invariant in
+    let woken = c.wake-woken.ensures in
+    let before = g.N.Faults.fault_count c.args.n.now in
+    let after = g.N.Faults.fault_count c.wake-woken.new.n in
+    let first = sym c.first_of-first.ensures in (
+      wakes_further c.args.wakers.now c.args.words.now.parkers c.loop-waker.waker-index _ c.args.p.now c.loop-waker.p c.wake-woken.new.p woken.woke.found c.loop-waker-test.true so_far.0 woken.words woken.woke.did,
+      record {
+        cause = subst (λ r. HasCause before after (g.N.Faults.is_sure c.args.n.now) (IsSome r)) first (cause_further c.loop-waker.first c.wake-woken.result _ _ _ _ _ so_far.1.cause so_far.1.sure woken.faults.cause);
+        sure = woken.faults.sure ∙ so_far.1.sure;
+      },
+      subst (λ r. IfSome r (IsFaultWithin before after)) first (within_further c.loop-waker.first c.wake-woken.result _ _ _ _ so_far.1.cause.later so_far.2 woken.faults.cause woken.counts),
+    )

@@ -1,0 +1,11 @@
+pub mod Members
+pub mod Lending
+pub mod TimerCalls
+pub mod Cells
+pub mod OneCell
+pub mod CellLending
+pub mod Inside
+pub mod Later
+pub mod Sources
+pub mod Starting
+pub mod Reacting

@@ -1,0 +1,255 @@
+-- What a whole round, or the rest of one, makes of the round cell and of the member that holds it.
+use Rattle.std.specs.Prelude.{◌≡◌, ◌≢◌, ◌⊎◌, ℕ, ◌+◌, ◌-◌, ◌^◌, ◌<◌, ◌≤◌, ⊤, Bool, true, false, if◌then◌else◌, List, [], ◌∷◌, ◌++◌, length, Option, None, Some, Result, Ok, Err}
+use Rattle.aio_base.specs.declared.names.Event.{Event}
+use Rattle.aio_base.specs.declared.names.Waker.{Waker}
+use Rattle.aio_base.specs.declared.outcomes.CountFault.{CountFault}
+use Rattle.aio_base.specs.declared.seats.WordStep.{WordStep}
+use Rattle.aio_base.specs.declared.seats.WordStep.TheVariants as word_step
+use Rattle.aio_base.specs.declared.seats.SeatView.{SeatView}
+use Rattle.aio_base.specs.Devices.{Rose, raised}
+use Rattle.aio_base.specs.SharedWords.{after, blocking}
+use Rattle.aio_base.specs.Timers.{due_wakers, limit_of}
+use Rattle.aio_base.specs.WordCalls.{Found, and_did, all_wake_steps, count_of, is_raise}
+use Rattle.aio_base.specs.World.{Registration}
+use Rattle.aio_ops.specs.Passes.{PassView}
+use Rattle.aio_react.specs.declared.round.RoundFault.{RoundFault}
+use Rattle.aio_react.specs.declared.round.RoundFault.TheVariants as round_fault
+use Rattle.aio_react.specs.Rounds.{RoundValue, begun, finished, given_by, second_wakers}
+use Rattle.aio_words.specs.Seats.{SeatValue, is_waiting}
+use Rattle.aio_shared.specs.declared.reacting.ReactedIn.{ReactedIn}
+use Rattle.aio_shared.specs.declared.reacting.ReactFault.{ReactFault}
+use Rattle.aio_shared.specs.declared.reacting.ReactFault.TheVariants as react_fault
+use Rattle.aio_shared.specs.Cells.{CellValue, Awaits}
+use Rattle.aio_shared.specs.Members.{MemberValue}
+use Rattle.aio_shared.specs.Sources.{KeepsFault}
+use Rattle.aio_shared.specs.TimerCalls.{Drained, PushedNothing}
+
+-- ## The round
+
+-- A round of this number began, by a pass over a book of timers at a moment that is not before the earliest.
+pub record BeginsAs (number earliest : ℕ) (given : Option ℕ) (new : RoundValue) : Type 0 where
+  pub now : ℕ
+  pub moment : earliest ≤ now
+  pub book : List Registration
+  pub round : new ≡ begun number (limit_of now book given) (due_wakers now book)
+
+-- Some events are in hand no longer, the first ones; the wakers that their sources gave joined those taken, at their end. The first fault stays.
+pub record HandlesSome (all_sure : Bool) (old new : RoundValue) : Type 0 where
+  pub handled : List Event
+  pub hand : old.hand ≡ handled ++ new.hand
+  pub more : List Waker
+  pub taken : new.taken ≡ old.taken ++ more
+  pub fault : KeepsFault all_sure old.fault new.fault
+  pub running : new.running ≡ old.running
+  pub number : new.number ≡ old.number
+  pub limit : new.limit ≡ old.limit
+  pub last : new.last ≡ old.last
+
+-- A round ended, where it is asked by a second pass over a book of timers at a moment that is not before the earliest.
+pub record Finishes (earliest : ℕ) (old new : RoundValue) : Type 0 where
+  pub now : ℕ
+  pub moment : earliest ≤ now
+  pub book : List Registration
+  pub round : new ≡ finished old (second_wakers old now book)
+
+-- ## The seat
+
+-- A call that made no wait leaves the seat so: one that waits clears notified and blocks again, any other stays as it is.
+abbrev pub Settles : Bool → SeatView → SeatView → Type 0
+Settles true old new = (found : ℕ) × (new ≡ after (word_step.SwapNotified found) old)
+Settles false old new = new ≡ old
+
+-- the seat after a look at the ticker, which it knows
+abbrev pub looked : SeatView → SeatView
+looked v = after (word_step.LoadTicker v.seen) v
+
+-- and once it raised the ticker
+abbrev pub rose : SeatView → SeatView
+rose v = after (word_step.AddTicker v.seen) (looked v)
+
+-- The steps by which a seat did something, of which exactly one raised the ticker.
+pub record RaisesOnce (old new : SeatView) : Type 0 where
+  pub steps : List WordStep
+  pub did : new.did ≡ old.did ++ steps
+  pub once : count_of is_raise steps ≡ 1
+  pub seen : new.seen ≡ old.seen + 1
+
+-- why no round began: the ticker stands at its end, and nothing else was done; or memory ran out, after a drain at most
+abbrev pub BeginRefused : ReactFault → SeatView → SeatView → RoundValue → RoundValue → PassView → PassView → Type 0
+BeginRefused react_fault.RoundsSpent seat seat_after round round_after ops ops_after =
+    (seat.seen ≡ 2 ^ 64 - 1) × (seat_after ≡ looked seat) × (round_after ≡ round) × (ops_after ≡ ops)
+BeginRefused react_fault.OutOfMemory seat seat_after round round_after ops ops_after =
+    (seat.seen ≢ 2 ^ 64 - 1) × (seat_after ≡ looked seat) × (round_after ≡ round) × PushedNothing ops ops_after
+BeginRefused (react_fault.Wait fault) seat seat_after round round_after ops ops_after = ⊥
+BeginRefused (react_fault.Arm fault) seat seat_after round round_after ops ops_after = ⊥
+BeginRefused (react_fault.Notify fault) seat seat_after round round_after ops ops_after = ⊥
+
+-- ## The cell
+
+-- how a call of `react_in` is told of its start: the limit that it was given, and the latest moment of its clock
+pub record Start : Type 0 where
+  pub given : Option ℕ
+  pub earliest : ℕ
+
+module _ {W : Type 0} where
+  -- A round began in this call and made its wait, after a drain: it has the number to which its seat raised the ticker.
+  pub record Begins (start : Start) (old new : CellValue W) (ops ops_after : PassView) : Type 0 where
+    pub room : old.seat.view.seen < 2 ^ 64 - 1
+    pub begun : RoundValue
+    pub begins : BeginsAs (old.seat.view.seen + 1) start.earliest start.given begun
+    -- the seat looked at the ticker, raised it, and cleared notified after the wait
+    pub found : ℕ
+    pub seat : new.seat.view ≡ after (word_step.SwapNotified found) (rose old.seat.view)
+    pub waits : Awaits begun new.round old.waits old.faults new.waits new.faults old.sure
+    pub drained : Drained ops ops_after
+
+  -- A call goes on with the round that ran: it begins none and makes no wait.
+  pub record GoesOn (old new : CellValue W) (ops ops_after : PassView) : Type 0 where
+    pub cell : new ≡ record old { seat = new.seat }
+    pub seat : Settles (is_waiting old.seat.view.mode) old.seat.view new.seat.view
+    pub pass : ops_after ≡ ops
+
+  -- A round runs that has made its wait, in this call where none ran before.
+  pub record Enters (start : Start) (old new : CellValue W) (ops ops_after : PassView) : Type 0 where
+    pub begins : old.round.running ≡ false → Begins start old new ops ops_after
+    pub goes_on : old.round.running ≡ true → GoesOn old new ops ops_after
+    pub running : new.round.running ≡ true
+    pub words : new.seat.words ≡ old.seat.words
+    pub mode : new.seat.view.mode ≡ blocking old.seat.view.mode
+    pub sure : new.sure ≡ old.sure
+
+  -- No round ran, and none began: of the cell nothing changed but its seat, which looked at the ticker.
+  pub record BeginsNone (old new : CellValue W) : Type 0 where
+    pub was_idle : old.round.running ≡ false
+    pub cell : new ≡ record old { seat = new.seat }
+    pub words : new.seat.words ≡ old.seat.words
+    pub seat : Settles (is_waiting old.seat.view.mode) (looked old.seat.view) new.seat.view
+    pub mode : new.seat.view.mode ≡ blocking old.seat.view.mode
+
+  -- the same of the cell, whose seat blocks again where it waited
+  abbrev pub EnterRefused : ReactFault → CellValue W → CellValue W → PassView → PassView → Type 0
+  EnterRefused react_fault.RoundsSpent old new ops ops_after = BeginsNone old new × (old.seat.view.seen ≡ 2 ^ 64 - 1) × (ops_after ≡ ops)
+  EnterRefused react_fault.OutOfMemory old new ops ops_after = BeginsNone old new × (old.seat.view.seen ≢ 2 ^ 64 - 1) × PushedNothing ops ops_after
+  EnterRefused (react_fault.Wait fault) old new ops ops_after = ⊥
+  EnterRefused (react_fault.Arm fault) old new ops ops_after = ⊥
+  EnterRefused (react_fault.Notify fault) old new ops ops_after = ⊥
+
+  -- The three things of a round that began in this call: its seat raised the ticker exactly once, the half that waits made a wait, and the member
+  -- drained the queue of operations, before each of the two passes over the timers.
+  pub record WholeRound (old new : CellValue W) (ops ops_after : PassView) : Type 0 where
+    pub seat : RaisesOnce old.seat.view new.seat.view
+    pub waits : new.waits ≡ raised old.waits
+    pub between : PassView
+    pub first : Drained ops between
+    pub second : Drained between ops_after
+
+  -- A round ended in this call. It was entered, its events in hand were handled, and it was finished after a drain.
+  pub record Ends (all_sure : Bool) (start : Start) (old new : CellValue W) (ops ops_after : PassView) : Type 0 where
+    pub entered : CellValue W
+    pub between : PassView
+    pub enters : Enters start old entered ops between
+    pub handled : RoundValue
+    pub handles : HandlesSome all_sure entered.round handled
+    pub none_left : handled.hand ≡ []
+    pub finishes : Finishes start.earliest handled new.round
+    pub cell : new ≡ record entered { round = new.round }
+    pub drained : Drained between ops_after
+    pub idle : new.round.running ≡ false
+    pub whole : old.round.running ≡ false → WholeRound old new ops ops_after
+
+  -- A round runs on for want of memory, with the events and the wakers that it has: some of its events were handled.
+  pub record RunsOn (all_sure : Bool) (start : Start) (old new : CellValue W) (ops ops_after : PassView) : Type 0 where
+    pub entered : CellValue W
+    pub between : PassView
+    pub enters : Enters start old entered ops between
+    pub handles : HandlesSome all_sure entered.round new.round
+    pub cell : new ≡ record entered { round = new.round }
+    pub drained : PushedNothing between ops_after
+    pub running : new.round.running ≡ true
+
+-- the wait failed in this call: the fault tells the two counts, and the count rose
+abbrev pub WaitFailed : {W : Type 0} → CellValue W → CellValue W → CountFault → Type 0
+WaitFailed old new fault = (fault ≡ record { before = old.faults; after = new.faults }) × Rose old.faults new.faults
+
+-- ## The wakes
+
+-- Of a pass only its steps changed: it made those of the wakes of these wakers, in order.
+pub record Wakes (parkers : ℕ) (wakers : List Waker) (old new : SeatValue) : Type 0 where
+  pub founds : List Found
+  pub each : length founds ≡ length wakers
+  pub seat : new ≡ record old { view = and_did (all_wake_steps wakers parkers founds) old.view }
+
+-- The two counts of a fault stand between those of a notifier before and after the call, in which its count rose.
+pub record IsFaultWithin (before after : ℕ) (fault : CountFault) : Type 0 where
+  pub least : before ≤ fault.before
+  pub most : fault.after ≤ after
+  pub rose : Rose fault.before fault.after
+
+-- the first of some faults of a notifier, and one more
+abbrev pub first_fault : Option CountFault → Result (Unit {0}) CountFault → Option CountFault
+first_fault (Some fault) answer = Some fault
+first_fault None (Ok done) = None
+first_fault None (Err fault) = Some fault
+
+-- ## The whole call
+
+-- the counts of faults of a member's notifier before and after a call
+pub record NoteCounts : Type 0 where
+  pub before : ℕ
+  pub after : ℕ
+
+-- What is answered for a round that ended: its first fault, or else that of its wakes, or else what was done, by whether the round had been running,
+-- with so many events in hand.
+abbrev pub Tells : RoundValue → Bool → ℕ → NoteCounts → Result ReactedIn ReactFault → Type 0
+Tells round resumed in_hand note (Ok reacted) = (round.fault ≡ None) × (reacted.resumed ≡ resumed)
+    × (reacted.events ≡ (if resumed then in_hand else given_by round.last)) × (reacted.events ≤ 1024) × (reacted.woken ≡ length round.taken)
+Tells round resumed in_hand note (Err (react_fault.Wait fault)) = round.fault ≡ Some (round_fault.Wait fault)
+Tells round resumed in_hand note (Err (react_fault.Arm fault)) = round.fault ≡ Some (round_fault.Arm fault)
+Tells round resumed in_hand note (Err (react_fault.Notify fault)) = (round.fault ≡ None) × IsFaultWithin note.before note.after fault
+Tells round resumed in_hand note (Err react_fault.RoundsSpent) = ⊥
+Tells round resumed in_hand note (Err react_fault.OutOfMemory) = ⊥
+
+-- the answer is that a call of the notifier failed
+abbrev pub NotifyFailed : Result ReactedIn ReactFault → Type 0
+NotifyFailed (Ok reacted) = ⊥
+NotifyFailed (Err (react_fault.Wait fault)) = ⊥
+NotifyFailed (Err (react_fault.Arm fault)) = ⊥
+NotifyFailed (Err (react_fault.Notify fault)) = ⊤
+NotifyFailed (Err react_fault.RoundsSpent) = ⊥
+NotifyFailed (Err react_fault.OutOfMemory) = ⊥
+
+module _ {N W : Type 0} where
+  -- A round ended in this call, and each waker that it took was given to `wake`, in order, also past one that failed.
+  pub record Finished (parkers : ℕ) (all_sure : Bool) (start : Start) (old new : CellValue W) (m later : MemberValue N) : Type 0 where
+    pub ends : Ends all_sure start old new m.ops later.ops
+    pub woke : Wakes parkers new.round.taken m.pass later.pass
+
+  -- Memory ran out: nobody was woken, and the member did nothing but drain. No round runs, as before, or one runs on.
+  pub record RanOut (all_sure : Bool) (start : Start) (old new : CellValue W) (m later : MemberValue N) : Type 0 where
+    pub member : later ≡ record m { ops = later.ops }
+    pub ops : PushedNothing m.ops later.ops
+    pub round : BeginsNone old new ⊎ RunsOn all_sure start old new m.ops later.ops
+
+  -- what a call answers that ended its round, with the causes of a round's fault
+  abbrev pub AnswersAs : CellValue W → CellValue W → MemberValue N → NoteCounts → Result ReactedIn ReactFault → Type 0
+  AnswersAs old new m note (Ok reacted) = Tells new.round old.round.running (length old.round.hand) note (Ok reacted)
+  AnswersAs old new m note (Err (react_fault.Wait fault)) = Tells new.round old.round.running (length old.round.hand) note (Err (react_fault.Wait fault))
+      × (m.turn.sure_of_wait ≡ false) × (old.round.running ≡ false → WaitFailed old new fault)
+  AnswersAs old new m note (Err (react_fault.Arm fault)) = Tells new.round old.round.running (length old.round.hand) note (Err (react_fault.Arm fault))
+      × (m.turn.sure_of_arms ≡ false)
+  AnswersAs old new m note (Err (react_fault.Notify fault)) = Tells new.round old.round.running (length old.round.hand) note (Err (react_fault.Notify fault))
+  AnswersAs old new m note (Err react_fault.RoundsSpent) = ⊥
+  AnswersAs old new m note (Err react_fault.OutOfMemory) = ⊥
+
+  -- what a call of `react_in` does, by its answer
+  abbrev pub Reacts : ℕ → Bool → Start → CellValue W → CellValue W → MemberValue N → MemberValue N → NoteCounts → Result ReactedIn ReactFault → Type 0
+  Reacts parkers all_sure start old new m later note (Ok reacted) =
+      Finished parkers all_sure start old new m later × AnswersAs old new m note (Ok reacted)
+  Reacts parkers all_sure start old new m later note (Err (react_fault.Wait fault)) =
+      Finished parkers all_sure start old new m later × AnswersAs old new m note (Err (react_fault.Wait fault))
+  Reacts parkers all_sure start old new m later note (Err (react_fault.Arm fault)) =
+      Finished parkers all_sure start old new m later × AnswersAs old new m note (Err (react_fault.Arm fault))
+  Reacts parkers all_sure start old new m later note (Err (react_fault.Notify fault)) =
+      Finished parkers all_sure start old new m later × AnswersAs old new m note (Err (react_fault.Notify fault))
+  Reacts parkers all_sure start old new m later note (Err react_fault.RoundsSpent) = BeginsNone old new × (later ≡ m)
+  Reacts parkers all_sure start old new m later note (Err react_fault.OutOfMemory) = RanOut all_sure start old new m later

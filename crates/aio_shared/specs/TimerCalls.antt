@@ -1,0 +1,89 @@
+-- What a member's calls on timers make of its pass of the queue of operations, and of the member.
+use Rattle.std.specs.Prelude.{◌≡◌, ◌⊎◌, ℕ, ◌+◌, ◌≤◌, Bool, true, false, List, ◌++◌, length, Result, Ok, Err}
+use Rattle.aio_base.specs.declared.names.TimerId.{TimerId}
+use Rattle.aio_base.specs.declared.names.Waker.{Waker}
+use Rattle.aio_base.specs.declared.outcomes.CountFault.{CountFault}
+use Rattle.aio_base.specs.declared.outcomes.Failed.{Failed}
+use Rattle.aio_base.specs.declared.outcomes.OutOfMemory.{OutOfMemory}
+use Rattle.aio_timers.specs.declared.op.TimerOp.{TimerOp}
+use Rattle.aio_timers.specs.declared.op.TimerOp.TheVariants as timer_op
+use Rattle.aio_ops.specs.declared.queue.Entry.{Entry}
+use Rattle.aio_ops.specs.Passes.{PassView, RoseBy, pushed}
+use Rattle.aio_react.specs.declared.hosts.InsertRefusal.{InsertRefusal}
+use Rattle.aio_react.specs.declared.hosts.InsertRefusal.TheVariants as refusal
+use Rattle.aio_react.specs.Hosts.{next_id}
+use Rattle.aio_words.specs.Calls.{Offers, notify_steps}
+use Rattle.aio_shared.specs.Members.{MemberValue}
+
+-- ## The pass of a member
+
+-- One drain by a pass: it took these entries out of the queue, at most 1,000, and pushed nothing. It ended after 1,000 of them, or at a pop that
+-- found the queue empty.
+pub record Drained (before after : PassView) : Type 0 where
+  pub entries : List Entry
+  pub most : length entries ≤ 1000
+  pub pass : after ≡ record before { pulled = before.pulled ++ entries; empties = after.empties }
+  pub ends : (length entries ≡ 1000) ⊎ RoseBy 1 before.empties after.empties
+  pub empties : before.empties ≤ after.empties
+
+-- A pass that pushed nothing in between: it took these entries out of the queue, and may have found it full and empty.
+pub record PushedNothing (before after : PassView) : Type 0 where
+  pub entries : List Entry
+  pub pass : after ≡ record before { pulled = before.pulled ++ entries; fulls = after.fulls; empties = after.empties }
+  pub fulls : before.fulls ≤ after.fulls
+  pub empties : before.empties ≤ after.empties
+
+-- An operation joined the queue: the pass pushed it, and nothing else.
+pub record Queued (operation : TimerOp) (before after : PassView) : Type 0 where
+  pub last : PassView
+  pub first : PushedNothing before last
+  pub pushed : after ≡ pushed operation last
+
+-- An operation was kept out of the queue: at least 1,000 pushes found it full, and then the pass drained it once more. It is left to the call to
+-- apply the operation to the book itself.
+pub record KeptOut (before after : PassView) : Type 0 where
+  pub last : PassView
+  pub first : PushedNothing before last
+  pub fulls : RoseBy 1000 before.fulls last.fulls
+  pub drained : Drained last after
+
+-- one operation was carried out: it joined the queue, or the call applied it itself
+abbrev pub CarriesOut : TimerOp → PassView → PassView → Type 0
+CarriesOut operation before after = Queued operation before after ⊎ KeptOut before after
+
+-- an operation was not carried out: a push found the queue full, and there was no room for a drain
+abbrev pub GivesUp : PassView → PassView → Type 0
+GivesUp before after = PushedNothing before after × RoseBy 1 before.fulls after.fulls
+
+-- one more try of a pass to push an operation, after a drain: it pushed it, or found the queue full, or there was no room to drain
+abbrev pub TriesAgain : TimerOp → PassView → PassView → Result Bool OutOfMemory → Type 0
+TriesAgain operation before after (Ok true) = Queued operation before after
+TriesAgain operation before after (Ok false) = PushedNothing before after × RoseBy 1 before.fulls after.fulls
+TriesAgain operation before after (Err refused) = after ≡ before
+
+-- ## The member
+
+-- a member's operation was not carried out, and nothing of the member changed but its pass
+abbrev pub NotCarriedOut : {N : Type 0} → MemberValue N → MemberValue N → Type 0
+NotCarriedOut old new = (new ≡ record old { ops = new.ops }) × GivesUp old.ops new.ops
+
+-- A member registered a timer under the next id of its pass: it carried out the insert, and then set notified by one exchange, and called its
+-- notifier exactly where that had not been set.
+pub record Inserted {N : Type 0} (calls : N → ℕ) (step : N → Result (Unit {0}) Failed → N → Type 0) (at : ℕ) (waker : Waker)
+    (old new : MemberValue N) (id : TimerId) (told : Result (Unit {0}) CountFault) : Type 0 where
+  pub next : id ≡ next_id old.ops.number old.ids
+  pub ids : new.ids ≡ old.ids + 1
+  pub ops : CarriesOut (timer_op.Insert at id waker) old.ops new.ops
+  pub notified : Offers calls step notify_steps old.pass.view new.pass.view old.note new.note told
+
+-- an insert by its answer: the timer is registered, also where the notifier failed; where memory ran out it is not, and no id was drawn
+abbrev pub Inserts : {N : Type 0} → (N → ℕ) → (N → Result (Unit {0}) Failed → N → Type 0) → ℕ → Waker → MemberValue N → MemberValue N
+    → Result TimerId InsertRefusal → Type 0
+Inserts calls step at waker old new (Ok id) = Inserted calls step at waker old new id (Ok tt)
+Inserts calls step at waker old new (Err (refusal.Notify id fault)) = Inserted calls step at waker old new id (Err fault)
+Inserts calls step at waker old new (Err refusal.OutOfMemory) = NotCarriedOut old new
+
+-- a removal by its answer: it was carried out, and nothing changed but the member's pass; where memory ran out it was not
+abbrev pub Removes : {N : Type 0} → ℕ → TimerId → MemberValue N → MemberValue N → Result (Unit {0}) OutOfMemory → Type 0
+Removes at id old new (Ok done) = (new ≡ record old { ops = new.ops }) × CarriesOut (timer_op.Remove at id) old.ops new.ops
+Removes at id old new (Err refused) = NotCarriedOut old new

@@ -1,0 +1,337 @@
+//! A round of a shared reactor, by the member that holds its cell.
+
+ghost use Rattle.std.specs.Prelude.{◌≡◌, ◌≢◌, ◌↔◌, ℕ, ◌+◌, ◌-◌, ◌^◌, ◌<◌, ◌≤◌, [], true, false, Err, OnOk, OnErr, IfErr};
+ghost use Rattle.aio_base.specs.Devices.{TellsFaults};
+ghost use Rattle.aio_base.specs.SharedWords.{blocking};
+ghost use Rattle.aio_words.specs.Seats.{Belongs, IsIdleOrWaits, is_waiting};
+ghost use Rattle.aio_shared.specs.Members.{IsLaterMember, IsMemberOf};
+ghost use Rattle.aio_shared.specs.OneCell.{IsCellOf};
+ghost use Rattle.aio_shared.specs.Reacting.{BeginRefused, BeginsAs, EnterRefused, Enters, Finishes, HandlesSome, NotifyFailed, Reacts, Settles, Tells, Wakes, rose};
+ghost use Rattle.aio_shared.specs.TimerCalls.{Drained, PushedNothing};
+
+use crate::cell::RoundCell;
+use crate::members::Member;
+use crate::shared::Shared;
+use crate::source_table::SourceTable;
+use crate::waking::wake_each;
+use aio_base::{Arm, ArmFault, Clock, CountFault, EventWait, Notify, OutOfMemory};
+use aio_ops::OpPass;
+use aio_react::{Round, RoundFault};
+use aio_words::RoundSeat;
+use std::sync::Wait;
+
+/// What a call of `Shared::react_in` did.
+#[derive(Clone, Copy, Debug, PartialEq, Eq)]
+pub struct ReactedIn {
+    /// Whether it went on with a round that an earlier call left running.
+    pub resumed: bool,
+    /// How many events it handled, at most 1,024, those of unknown keys among them.
+    pub events: u32,
+    /// How many wakers the round woke.
+    pub woken: u64,
+}
+
+/// Why a call of `Shared::react_in` did not end its round, or what failed in it first.
+#[derive(Clone, Copy, Debug, PartialEq, Eq)]
+pub enum ReactFault {
+    /// The wait of the round failed, between these two counts of its faults.
+    Wait(CountFault),
+    /// A source could not be armed again, between these two counts of its faults.
+    Arm(ArmFault),
+    /// A call of the member's notifier failed, between these two counts of its faults.
+    Notify(CountFault),
+    /// 2^64 - 1 rounds have begun.
+    RoundsSpent,
+    /// Memory ran out.
+    OutOfMemory,
+}
+
+impl<A: Arm, W: EventWait> Shared<A, W> {
+    /// A whole round, or the rest of one that an earlier call left running for want of memory
+    /// (`async-io` 2, `reactor.rs`, `ReactorLock::react`); then each waker that the round took is woken,
+    /// in order. The cell's round seat is idle, or waits for the parker whose thread calls; it is idle
+    /// afterwards, or blocks that parker.
+    ///
+    /// A round that begins raises the ticker once, and makes one wait, for at most `limit` nanoseconds
+    /// where a limit is given. The queue of operations is drained before each pass over the timers.
+    ///
+    /// # Errors
+    ///
+    /// `Wait`, `Arm` and `Notify` tell the first fault, a round's before one of its wakes; the round has
+    /// ended all the same, and each waker was given to `wake`. `RoundsSpent` exactly where a round would
+    /// have to begin and the ticker stands at 2^64 - 1; nothing changes but the round seat.
+    /// `OutOfMemory`: no round runs, as before, or one runs on with the events and wakers that it has;
+    /// nobody was woken.
+    pub fn react_in<R: Wait, N: Notify, C: Clock>(
+        &self,
+        rt: &R,
+        m: &mut Member<N, W>,
+        cell: &mut RoundCell<W>,
+        clock: &mut C,
+        limit: Option<u64>,
+    ) -> Result<ReactedIn, ReactFault>
+        requires belongs { IsMemberOf self.now m.old }
+        requires cell { IsCellOf m.old.turn cell.old }
+        requires seat { IsIdleOrWaits cell.old.seat }
+        ensures reacts { Reacts self.now.words.parkers self.now.sure_of_arms
+            (record { given = limit; earliest = C.latest clock.old }) cell.old cell.new m.old m.new
+            (record { before = N.fault_count m.old.note; after = N.fault_count m.new.note })
+            result }
+        ensures spent { (result ≡ Err ReactFault.RoundsSpent)
+            ↔ ((cell.old.round.running ≡ false) × (cell.old.seat.view.seen ≡ 2 ^ 64 - 1)) }
+        ensures seat { cell.new.seat.view.mode ≡ blocking cell.old.seat.view.mode }
+        ensures kept { m.new ≡ record m.old {
+          pass = m.new.pass;
+          ops = m.new.ops;
+          note = m.new.note;
+        } }
+        ensures belongs { IsMemberOf self.now m.new }
+        ensures cell { IsCellOf m.new.turn cell.new }
+        ensures later { IsLaterMember N.fault_count N.is_sure m.old m.new }
+        ensures faults { TellsFaults N.fault_count N.is_sure m.old.note m.new.note
+            (NotifyFailed result) }
+        ensures bounds { C.bounds clock.new ≡ C.bounds clock.old }
+        ensures latest { C.latest clock.old ≤ C.latest clock.new }
+    {
+        let resumed = !cell.round().is_idle();
+        let in_hand = cell.round().in_hand() as u32;
+        match self.enter_round(rt, m, cell, clock, limit) {
+            Err(fault) => return Err(fault),
+            Ok(()) => {}
+        }
+        match self.handle_in_hand(rt, cell) {
+            Err(_) => return Err(ReactFault::OutOfMemory),
+            Ok(()) => {}
+        }
+        match self.end_round(rt, m, cell, clock) {
+            Err(_) => return Err(ReactFault::OutOfMemory),
+            Ok(()) => {}
+        }
+        self.wake_taken(m, cell, resumed, in_hand)
+    }
+
+    /// Begins a round and makes its wait, or goes on with the one that runs. Then a seat that waited
+    /// blocks again, on every answer.
+    fn enter_round<R: Wait, N: Notify, C: Clock>(
+        &self,
+        rt: &R,
+        m: &mut Member<N, W>,
+        cell: &mut RoundCell<W>,
+        clock: &mut C,
+        limit: Option<u64>,
+    ) -> Result<(), ReactFault>
+        requires ops { m.old.ops.queue ≡ self.now.ops }
+        requires words { Belongs self.now.words cell.old.seat }
+        requires seat { IsIdleOrWaits cell.old.seat }
+        ensures kept { m.new ≡ record m.old { ops = m.new.ops } }
+        ensures entered { OnOk result (Enters (record { given = limit; earliest = C.latest clock.old })
+            cell.old cell.new m.old.ops m.new.ops) }
+        ensures refused { IfErr result (λ fault.
+            EnterRefused fault cell.old cell.new m.old.ops m.new.ops) }
+        ensures bounds { C.bounds clock.new ≡ C.bounds clock.old }
+        ensures latest { C.latest clock.old ≤ C.latest clock.new }
+    {
+        if cell.round.is_idle() {
+            match self.begin_round(
+                rt,
+                &mut m.ops,
+                &mut cell.seat,
+                &mut cell.round,
+                clock,
+                limit,
+            ) {
+                Err(fault) => {
+                    self.settle(&mut cell.seat);
+                    return Err(fault);
+                }
+                Ok(()) => {
+                    RoundCell::wait_once(&cell.seat, &mut cell.round, &mut cell.wait);
+                    self.words.waited(&mut cell.seat);
+                    return Ok(());
+                }
+            }
+        }
+        self.settle(&mut cell.seat);
+        Ok(())
+    }
+
+    /// Looks at the ticker, begins a round after a drain, and raises the ticker to its number.
+    fn begin_round<R: Wait, C: Clock>(
+        &self,
+        rt: &R,
+        ops: &mut OpPass,
+        seat: &mut RoundSeat,
+        round: &mut Round,
+        clock: &mut C,
+        limit: Option<u64>,
+    ) -> Result<(), ReactFault>
+        requires ops { ops.old.queue ≡ self.now.ops }
+        requires words { Belongs self.now.words seat.old }
+        requires idle { round.old.running ≡ false }
+        ensures words { seat.new.words ≡ seat.old.words }
+        ensures begun { OnOk result (BeginsAs (seat.old.view.seen + 1) (C.latest clock.old) limit
+            round.new) }
+        ensures drained { OnOk result (Drained ops.old ops.new) }
+        ensures seat { OnOk result (seat.new.view ≡ rose seat.old.view) }
+        ensures room { OnOk result (seat.old.view.seen < 2 ^ 64 - 1) }
+        ensures refused { IfErr result (λ fault. BeginRefused fault
+            seat.old.view seat.new.view round.old round.new ops.old ops.new) }
+        ensures bounds { C.bounds clock.new ≡ C.bounds clock.old }
+        ensures latest { C.latest clock.old ≤ C.latest clock.new }
+    {
+        let rounds = self.words.rounds(seat);
+        if rounds == u64::MAX {
+            return Err(ReactFault::RoundsSpent);
+        }
+        match self.drain_and_begin(rt, ops, round, clock, limit, rounds + 1) {
+            Err(_) => return Err(ReactFault::OutOfMemory),
+            Ok(()) => {}
+        }
+        match self.words.bump(seat) {
+            Ok(_) => Ok(()),
+            Err(_) => unreachable!(),
+        }
+    }
+
+    /// Drains the queue of operations and begins a round, under the lock of the book.
+    fn drain_and_begin<R: Wait, C: Clock>(
+        &self,
+        rt: &R,
+        ops: &mut OpPass,
+        round: &mut Round,
+        clock: &mut C,
+        limit: Option<u64>,
+        number: u64,
+    ) -> Result<(), OutOfMemory>
+        requires ops { ops.old.queue ≡ self.now.ops }
+        requires idle { round.old.running ≡ false }
+        ensures begun { OnOk result (BeginsAs number (C.latest clock.old) limit round.new) }
+        ensures drained { OnOk result (Drained ops.old ops.new) }
+        ensures refused { OnErr result (round.new ≡ round.old) }
+        ensures pushed { OnErr result (PushedNothing ops.old ops.new) }
+        ensures bounds { C.bounds clock.new ≡ C.bounds clock.old }
+        ensures latest { C.latest clock.old ≤ C.latest clock.new }
+    {
+        let mut guard = self.timers.lock(rt);
+        let book = &mut *guard;
+        match self.drain(rt, ops, book, 0) {
+            Err(refused) => return Err(refused),
+            Ok(_) => {}
+        }
+        let now = clock.now();
+        match round.begin(book, now, limit, number) {
+            Err(refused) => Err(refused),
+            Ok(_) => Ok(()),
+        }
+    }
+
+    /// Handles each event in hand. `OutOfMemory` leaves in hand what was not handled.
+    fn handle_in_hand<R: Wait>(&self, rt: &R, cell: &mut RoundCell<W>) -> Result<(), OutOfMemory>
+        ensures cell { cell.new ≡ record cell.old { round = cell.new.round } }
+        ensures handled { HandlesSome self.now.sure_of_arms cell.old.round cell.new.round }
+        ensures none_left { OnOk result (cell.new.round.hand ≡ []) }
+    {
+        let guard = self.sources.lock(rt);
+        handle_each(rt, &*guard, &mut cell.round)
+    }
+
+    /// Ends the round, after a drain, under the lock of the book.
+    fn end_round<R: Wait, N: Notify, C: Clock>(
+        &self,
+        rt: &R,
+        m: &mut Member<N, W>,
+        cell: &mut RoundCell<W>,
+        clock: &mut C,
+    ) -> Result<(), OutOfMemory>
+        requires ops { m.old.ops.queue ≡ self.now.ops }
+        requires running { cell.old.round.running ≡ true }
+        requires hand { cell.old.round.hand ≡ [] }
+        ensures kept { m.new ≡ record m.old { ops = m.new.ops } }
+        ensures cell { cell.new ≡ record cell.old { round = cell.new.round } }
+        ensures finished { OnOk result
+            (Finishes (C.latest clock.old) cell.old.round cell.new.round) }
+        ensures drained { OnOk result (Drained m.old.ops m.new.ops) }
+        ensures refused { OnErr result (cell.new ≡ cell.old) }
+        ensures pushed { OnErr result (PushedNothing m.old.ops m.new.ops) }
+        ensures bounds { C.bounds clock.new ≡ C.bounds clock.old }
+        ensures latest { C.latest clock.old ≤ C.latest clock.new }
+    {
+        let mut guard = self.timers.lock(rt);
+        let book = &mut *guard;
+        match self.drain(rt, &mut m.ops, book, 0) {
+            Err(refused) => return Err(refused),
+            Ok(_) => {}
+        }
+        let now = clock.now();
+        match cell.round.finish(book, now) {
+            Err(refused) => Err(refused),
+            Ok(_) => Ok(()),
+        }
+    }
+
+    /// Wakes each waker that the ended round took, and answers the first fault or what was done.
+    fn wake_taken<N: Notify>(
+        &self,
+        m: &mut Member<N, W>,
+        cell: &RoundCell<W>,
+        resumed: bool,
+        in_hand: u32,
+    ) -> Result<ReactedIn, ReactFault>
+        requires words { Belongs self.now.words m.old.pass }
+        requires few { in_hand ≤ 1024 }
+        ensures kept { m.new ≡ record m.old { pass = m.new.pass; note = m.new.note } }
+        ensures woke { Wakes self.now.words.parkers cell.now.round.taken m.old.pass m.new.pass }
+        ensures tells { Tells cell.now.round resumed in_hand
+            (record { before = N.fault_count m.old.note; after = N.fault_count m.new.note })
+            result }
+        ensures faults { TellsFaults N.fault_count N.is_sure m.old.note m.new.note
+            (NotifyFailed result) }
+    {
+        let failed = wake_each(&self.words, &mut m.pass, cell.round.woken(), &mut m.note);
+        match cell.round.fault() {
+            Some(RoundFault::Wait(fault)) => return Err(ReactFault::Wait(fault)),
+            Some(RoundFault::Arm(fault)) => return Err(ReactFault::Arm(fault)),
+            None => {}
+        }
+        if let Some(fault) = failed {
+            return Err(ReactFault::Notify(fault));
+        }
+        let events = if resumed { in_hand } else { cell.round.given() };
+        Ok(ReactedIn {
+            resumed,
+            events,
+            woken: cell.round.woken().len() as u64,
+        })
+    }
+
+    /// Clears `notified` for a seat that waits, in a call that made no wait; it blocks again. Any other
+    /// seat is let be.
+    fn settle(&self, seat: &mut RoundSeat)
+        requires { Belongs self.now.words seat.old × IsIdleOrWaits seat.old }
+        ensures words { seat.new.words ≡ seat.old.words }
+        ensures settled { Settles (is_waiting seat.old.view.mode) seat.old.view seat.new.view }
+        ensures mode { seat.new.view.mode ≡ blocking seat.old.view.mode }
+    {
+        if seat.is_waiting() {
+            self.words.waited(seat);
+        }
+    }
+}
+
+/// Handles each event in hand of a round, while the caller has the table of sources.
+fn handle_each<A: Arm, R: Wait>(
+    rt: &R,
+    table: &SourceTable<A>,
+    round: &mut Round,
+) -> Result<(), OutOfMemory>
+    ensures handled { HandlesSome A.all_sure round.old round.new }
+    ensures none_left { OnOk result (round.new.hand ≡ []) }
+{
+    while round.in_hand() > 0 {
+        match table.handle(rt, round) {
+            Err(refused) => return Err(refused),
+            Ok(()) => {}
+        }
+    }
+    Ok(())
+}

@@ -1,0 +1,175 @@
+//! The reactor, and how it is made.
+
+ghost use Rattle.std.specs.Prelude.{◌≡◌, ◌≤◌, [], IfOk, IfErr};
+ghost use Rattle.std.specs.Arc.{arc_value};
+ghost use Rattle.aio_base.specs.SharedWords.{first_view};
+ghost use Rattle.aio_shared.specs.OneCell.{first_turn};
+ghost use Rattle.aio_shared.specs.Starting.{AreParts, IsFirstMember, IsNewReactor, new_about};
+
+use crate::cell::RoundCell;
+use crate::members::Member;
+use crate::round_lock::{RoundLock, Turn};
+use crate::source_table::SourceTable;
+use aio_base::{Arm, EventWait, Notify, OutOfMemory};
+use aio_ops::{OpPass, Ops};
+use aio_react::Round;
+use aio_timers::TimerBook;
+use aio_words::{Pass, RoundSeat, Words};
+use std::alloc::Global;
+use std::marker::Model;
+use std::sync::{Arc, Mutex};
+
+/// A reactor that several threads share by reference. Contracts see which words it has, and which
+/// queue of operations on timers.
+#[derive(Drop)]
+pub struct Shared<A: Arm, W: EventWait> {
+    pub(crate) lock: RoundLock<W>,
+    pub(crate) words: Arc<Words, Global>,
+    pub(crate) ops: Ops,
+    pub(crate) sources: Mutex<SourceTable<A>>,
+    pub(crate) timers: Mutex<TimerBook>,
+}
+
+impl<A: Arm, W: EventWait> Model for Shared<A, W> {
+    ghost use Rattle.std.specs.Arc.{arc_value};
+    ghost use Rattle.aio_shared.specs.Members.{SharedValue};
+
+    ghost Value = { SharedValue };
+
+    ghost view = { λ s. record {
+      lock = s.lock;
+      words = arc_value s.words;
+      ops = s.ops;
+      sure_of_arms = A.all_sure;
+    } };
+}
+
+/// What a reactor and its first member are made of, but for the lock of the rounds.
+#[derive(Drop)]
+pub(crate) struct Parts<A: Arm> {
+    pub(crate) words: Arc<Words, Global>,
+    pub(crate) pass: Pass,
+    pub(crate) ops: Ops,
+    pub(crate) first: OpPass,
+    pub(crate) table: SourceTable<A>,
+}
+
+impl<A: Arm + Drop> Parts<A> {
+    /// Parts for so many parkers, with no source and no operation, and the seat of the rounds.
+    /// `OutOfMemory` where memory ran out.
+    pub(crate) fn new(alloc: Global, parkers: u32) -> Result<(Parts<A>, RoundSeat), OutOfMemory>
+        requires { (1 ≤ parkers) × (parkers ≤ 16) }
+        ensures parts { IfOk result (λ made. AreParts parkers (arc_value made.0.words) made.1
+            made.0.pass made.0.ops made.0.first) }
+        ensures sources { IfOk result (λ made. made.0.table ≡ []) }
+    {
+        let (words, seat, pass) = Words::new(alloc, parkers)?;
+        let (ops, first) = Ops::new(alloc)?;
+        let Ok(words) = Arc::new(alloc, words) else {
+            return Err(OutOfMemory);
+        };
+        let table = SourceTable::new(alloc)?;
+        let parts = Parts {
+            words,
+            pass,
+            ops,
+            first,
+            table,
+        };
+        Ok((parts, seat))
+    }
+
+    /// The reactor of these parts, with this lock, and its first member, with this notifier.
+    pub(crate) fn assemble<W: EventWait, N>(
+        self,
+        alloc: Global,
+        lock: RoundLock<W>,
+        turn: Turn<W>,
+        note: N,
+    ) -> (Shared<A, W>, Member<N, W>)
+        ensures shared { result.0 ≡ record {
+          lock = lock;
+          words = arc_value self.words;
+          ops = self.ops;
+          sure_of_arms = A.all_sure;
+        } }
+        ensures member { result.1 ≡ record {
+          turn = turn;
+          pass = self.pass;
+          ops = self.first;
+          note = note;
+          ids = 0;
+        } }
+    {
+        let Parts {
+            words,
+            pass,
+            ops,
+            first,
+            table,
+        } = self;
+        let shared = Shared {
+            lock,
+            words,
+            ops,
+            sources: Mutex::new(table),
+            timers: Mutex::new(TimerBook::new(alloc)),
+        };
+        let member = Member {
+            turn,
+            pass,
+            ops: first,
+            note,
+            ids: 0,
+        };
+        (shared, member)
+    }
+}
+
+/// The lock of a new reactor whose connections are of the type `A`: an idle round over this wait lies in
+/// it. The wait comes back as it was where memory ran out.
+pub(crate) fn open_lock<A: Arm, W: EventWait + Drop>(
+    alloc: Global,
+    seat: RoundSeat,
+    wait: W,
+) -> Result<(RoundLock<W>, Turn<W>), W>
+    requires { seat.view ≡ first_view }
+    ensures opened { IfOk result (λ made. made.1
+        ≡ first_turn made.0 (new_about seat.words (W.is_sure wait) A.all_sure)) }
+    ensures back { IfErr result (λ back. back ≡ wait) }
+{
+    let Ok(round) = Round::new(alloc) else {
+        return Err(wait);
+    };
+    match RoundLock::new::<A>(alloc, RoundCell::new(seat, round, wait)) {
+        Ok(made) => Ok(made),
+        Err(cell) => Err(cell.wait),
+    }
+}
+
+impl<A: Arm + Drop, W: EventWait + Drop> Shared<A, W> {
+    /// A reactor for so many parkers, 1 to 16, and its first member, which has pass 0 of the queue of
+    /// operations and this notifier, and has drawn no id (`async-io` 2, `reactor.rs`, `Reactor::get`). It
+    /// has no source, no timer and no operation, and its round is idle, over this wait. Where memory ran
+    /// out, the one refusal, wait and notifier come back as they were.
+    pub fn new<N: Notify>(
+        alloc: Global,
+        parkers: u32,
+        wait: W,
+        note: N,
+    ) -> Result<(Shared<A, W>, Member<N, W>), (W, N)>
+        requires { (1 ≤ parkers) × (parkers ≤ 16) }
+        ensures reactor { IfOk result (λ made. IsNewReactor parkers A.all_sure made.0) }
+        ensures member { IfOk result (λ made.
+            IsFirstMember made.0 (W.is_sure wait) note made.1) }
+        ensures back { IfErr result (λ back. back ≡ (wait, note)) }
+    {
+        let Ok((parts, seat)) = Parts::new(alloc, parkers) else {
+            return Err((wait, note));
+        };
+        match open_lock::<A, W>(alloc, seat, wait) {
+            Err(wait) => Err((wait, note)),
+            Ok((lock, turn)) => Ok(parts.assemble(alloc, lock, turn, note)),
+        }
+    }
+}

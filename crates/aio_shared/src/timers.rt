@@ -1,0 +1,164 @@
+//! The calls on timers: an operation joins the queue, or is applied to the book by the call itself.
+
+ghost use Rattle.std.specs.Prelude.{◌≡◌, ◌+◌, ◌≤◌, IsTrue, IfOk, OnOk, OnErr};
+ghost use Rattle.aio_ops.specs.Passes.{Drains};
+ghost use Rattle.aio_react.specs.Hosts.{NotifierTells, has_id_left, insert_fault};
+ghost use Rattle.aio_shared.specs.Members.{IsLaterMember, IsMemberOf};
+ghost use Rattle.aio_shared.specs.TimerCalls.{CarriesOut, Drained, GivesUp, Inserts, Removes, TriesAgain};
+
+use crate::members::Member;
+use crate::shared::Shared;
+use aio_base::{Arm, EventWait, Moment, Notify, OutOfMemory, TimerId, Waker};
+use aio_ops::OpPass;
+use aio_react::InsertRefusal;
+use aio_timers::{TimerBook, TimerOp};
+use std::sync::Wait;
+
+/// How many operations a drain takes at most.
+const DRAINED: u32 = 1_000;
+
+/// How often a call drains the queue and pushes its operation again, at most.
+const TRIES: u32 = 1_000;
+
+impl<A: Arm, W: EventWait> Shared<A, W> {
+    /// Registers a timer for a deadline, with the waker of the task that waits for it, under the next
+    /// id of the member: 2^40 times the number of its pass, and its count of ids after the call
+    /// (`async-io` 2, `reactor.rs`, `Reactor::insert_timer`). Whoever waits for events is told. A
+    /// member draws at most 2^40 - 1 ids.
+    ///
+    /// The operation joins the queue. Where that is full, it is drained, at most 1,000 times; where it
+    /// is full all the same, the call applies the operation itself after one more drain.
+    ///
+    /// # Errors
+    ///
+    /// `OutOfMemory`, only where the queue was full at a step of this call: nothing is registered, and
+    /// no id is drawn. `Notify`, only where the member's notifier failed: the timer is registered all
+    /// the same.
+    pub fn insert_timer<R: Wait, N: Notify>(
+        &self,
+        rt: &R,
+        m: &mut Member<N, W>,
+        at: Moment,
+        waker: Waker,
+    ) -> Result<TimerId, InsertRefusal>
+        requires belongs { IsMemberOf self.now m.old }
+        requires ids { IsTrue (has_id_left m.old.ids) }
+        ensures inserts { Inserts N.call_count N.notify_step at waker m.old m.new result }
+        ensures kept { m.new ≡ record m.old {
+          pass = m.new.pass;
+          ops = m.new.ops;
+          note = m.new.note;
+          ids = m.new.ids;
+        } }
+        ensures notifier { NotifierTells (N.is_sure m.old.note)
+            (N.fault_count m.old.note) (N.fault_count m.new.note) (insert_fault result) }
+        ensures belongs { IsMemberOf self.now m.new }
+        ensures later { IsLaterMember N.fault_count N.is_sure m.old m.new }
+    {
+        let id = TimerId(((m.ops.number() as u64) << 40) + m.ids + 1);
+        match self.carry_out(rt, &mut m.ops, &TimerOp::Insert(at, id, waker)) {
+            Err(_) => Err(InsertRefusal::OutOfMemory),
+            Ok(()) => {
+                m.ids += 1;
+                match self.words.notify(&mut m.pass, &mut m.note) {
+                    Ok(()) => Ok(id),
+                    Err(fault) => Err(InsertRefusal::Notify { id, fault }),
+                }
+            }
+        }
+    }
+
+    /// Takes the registration with this deadline and id out, where there is one, by an operation that
+    /// goes the way of an insert (`async-io` 2, `reactor.rs`, `Reactor::remove_timer`). Nobody is told.
+    /// `OutOfMemory`, only where the queue was full at a step of this call: nothing is taken out.
+    pub fn remove_timer<R: Wait, N: Notify>(
+        &self,
+        rt: &R,
+        m: &mut Member<N, W>,
+        at: Moment,
+        id: TimerId,
+    ) -> Result<(), OutOfMemory>
+        requires belongs { IsMemberOf self.now m.old }
+        ensures removes { Removes at id m.old m.new result }
+        ensures belongs { IsMemberOf self.now m.new }
+        ensures later { IsLaterMember N.fault_count N.is_sure m.old m.new }
+    {
+        self.carry_out(rt, &mut m.ops, &TimerOp::Remove(at, id))
+    }
+
+    /// Carries an operation out: it joins the queue, or is applied by this call. `OutOfMemory` where
+    /// there was no room for a drain; then neither.
+    fn carry_out<R: Wait>(&self, rt: &R, p: &mut OpPass, op: &TimerOp) -> Result<(), OutOfMemory>
+        requires belongs { p.old.queue ≡ self.now.ops }
+        ensures done { OnOk result (CarriesOut op.now p.old p.new) }
+        ensures refused { OnErr result (GivesUp p.old p.new) }
+    {
+        if self.ops.push(rt, p, *op).is_ok() {
+            return Ok(());
+        }
+        let mut tries = 0;
+        while tries < TRIES {
+            if self.drain_and_push(rt, p, op)? {
+                return Ok(());
+            }
+            tries += 1;
+        }
+        self.drain_and_apply(rt, p, op)
+    }
+
+    /// Drains the queue and pushes an operation, under the lock of the book. Whether the queue took it.
+    fn drain_and_push<R: Wait>(
+        &self,
+        rt: &R,
+        p: &mut OpPass,
+        op: &TimerOp,
+    ) -> Result<bool, OutOfMemory>
+        requires belongs { p.old.queue ≡ self.now.ops }
+        ensures tries { TriesAgain op.now p.old p.new result }
+    {
+        let mut guard = self.timers.lock(rt);
+        let book = &mut *guard;
+        self.drain(rt, p, book, 0)?;
+        Ok(self.ops.push(rt, p, *op).is_ok())
+    }
+
+    /// Drains the queue and applies an operation to the book, under its lock.
+    pub(crate) fn drain_and_apply<R: Wait>(
+        &self,
+        rt: &R,
+        p: &mut OpPass,
+        op: &TimerOp,
+    ) -> Result<(), OutOfMemory>
+        requires belongs { p.old.queue ≡ self.now.ops }
+        ensures drained { OnOk result (Drained p.old p.new) }
+        ensures refused { OnErr result (p.new ≡ p.old) }
+    {
+        let mut guard = self.timers.lock(rt);
+        let book = &mut *guard;
+        self.drain(rt, p, book, 1)?;
+        book.apply(*op);
+        Ok(())
+    }
+
+    /// Drains the queue of operations into the book, in which there is room for `more` timers then. The
+    /// answer is how many operations were taken out of the queue and applied. `OutOfMemory` where there
+    /// was no room; then none was taken.
+    pub(crate) fn drain<R: Wait>(
+        &self,
+        rt: &R,
+        p: &mut OpPass,
+        book: &mut TimerBook,
+        more: u32,
+    ) -> Result<u32, OutOfMemory>
+        requires belongs { p.old.queue ≡ self.now.ops }
+        requires few { more ≤ 1 }
+        ensures drains { IfOk result (λ count. Drains count p.old p.new book.old book.new) }
+        ensures pass { OnOk result (Drained p.old p.new) }
+        ensures room { OnOk result (more ≤ book.new.spare) }
+        ensures refused { OnErr result (p.new ≡ p.old) }
+        ensures kept { OnErr result (book.new.entries ≡ book.old.entries) }
+    {
+        book.reserve(DRAINED + more)?;
+        Ok(self.ops.drain_into(rt, p, book))
+    }
+}
