@@ -1,5 +1,5 @@
 -- What drains leave of a pass, one after the other.
-use Rattle.std.proofs.Common.{◌≡◌, ◌≤◌, ℕ, List, [], ◌++◌, refl, sym, ap, ◌∙◌, append-nil, append_assoc, le_refl, le_trans, arith}
+use Rattle.std.proofs.Common.{◌≡◌, ℕ, List, [], ◌++◌, sym, ap, ◌∙◌, append-nil, append_assoc, le_refl, le_trans, arith}
 use Rattle.aio_ops.specs.Passes.{PassView}
 use Rattle.aio_ops.specs.declared.queue.Entry.{Entry}
 use Rattle.aio_shared.specs.TimerCalls.{Drained, PushedNothing}

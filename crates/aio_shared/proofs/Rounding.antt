@@ -1,31 +1,28 @@
 -- A round of a shared reactor, section by section.
-use Rattle.std.proofs.Common.{◌≡◌, ◌≢◌, ◌⊎◌, inl, inr, ℕ, ◌+◌, ◌-◌, ◌^◌, ◌<◌, ◌≤◌, Bool, true, false, true≢false, if◌then◌else◌, List, [], ◌∷◌, ◌++◌, length, append_assoc, append-nil, refl, sym, ap, ◌∙◌, subst, le_trans, Option, Some, None, is_some, Result, Ok, Err, IsErr, arith}
-use Rattle.std.proofs.lemmas.Option.{same_Some, none-some}
+use Rattle.std.proofs.Common.{◌≡◌, inr, ℕ, ◌≤◌, Bool, true, false, true≢false, List, [], ◌∷◌, ◌++◌, length, append_assoc, append-nil, refl, sym, ap, ◌∙◌, subst, le_trans, Option, Some, None, Result, Ok, Err, IsErr, arith}
 use Rattle.aio_base.specs.declared.outcomes.CountFault.{CountFault}
 use Rattle.aio_base.specs.declared.outcomes.Waited.{Waited}
-use Rattle.aio_base.specs.declared.seats.Mode.{Mode}
-use Rattle.aio_base.specs.declared.seats.Mode.TheVariants as mode
 use Rattle.aio_base.specs.declared.seats.SeatView.{SeatView}
 use Rattle.aio_base.specs.declared.seats.WordStep.{WordStep}
 use Rattle.aio_base.specs.declared.seats.WordStep.TheVariants as word_step
-use Rattle.aio_base.specs.Devices.{HasCause, Rose, TellsFaults, raised}
-use Rattle.aio_base.specs.SharedWords.{after, blocking}
+use Rattle.aio_base.specs.Devices.{HasCause, Rose, TellsFaults}
+use Rattle.aio_base.specs.SharedWords.{after}
 use Rattle.aio_base.specs.WordCalls.{all_wake_steps}
 use Rattle.aio_ops.specs.Passes.{PassView}
 use Rattle.aio_react.specs.declared.round.RoundFault.{RoundFault}
 use Rattle.aio_react.specs.declared.round.RoundFault.TheVariants as round_fault
 use Rattle.aio_react.specs.Rounds.{RoundValue, poller_told, wait_fault, wait_told, waited}
-use Rattle.aio_words.specs.Seats.{SeatValue, is_waiting}
+use Rattle.aio_words.specs.Seats.{SeatValue}
 use Rattle.aio_shared.specs.declared.reacting.ReactedIn.{ReactedIn}
 use Rattle.aio_shared.specs.declared.reacting.ReactFault.{ReactFault}
 use Rattle.aio_shared.specs.declared.reacting.ReactFault.TheVariants as react_fault
-use Rattle.aio_shared.specs.Cells.{CellValue, CellSays, IsCell, Awaits, MayTell}
+use Rattle.aio_shared.specs.Cells.{CellValue, CellSays, Awaits, MayTell}
 use Rattle.aio_shared.specs.Members.{IsLaterMember, MemberValue}
 use Rattle.aio_shared.specs.OneCell.{TurnValue, about, with_empties}
 use Rattle.aio_shared.specs.Sources.{KeepsFault}
 use Rattle.aio_shared.specs.TimerCalls.{Drained, PushedNothing}
 use Rattle.aio_shared.proofs.Draining.{drained_pushed_nothing, pushed_nothing_itself, pushed_nothing_further}
-use Rattle.aio_shared.specs.Reacting.{AnswersAs, Begins, BeginsAs, BeginsNone, Ends, Enters, EnterRefused, Finished, Finishes, GoesOn, HandlesSome, NoteCounts, RaisesOnce, RanOut, Reacts, RunsOn, Settles, Start, Tells, WaitFailed, Wakes, WholeRound, looked, rose}
+use Rattle.aio_shared.specs.Reacting.{BeginsAs, Ends, Enters, Finished, Finishes, HandlesSome, NoteCounts, RaisesOnce, RanOut, Reacts, RunsOn, Start, Tells, WaitFailed, Wakes, WholeRound, rose}
 
 by_bool : {A : Type 0} (b : Bool) → (b ≡ true → A) → (b ≡ false → A) → A
 by_bool true t f = t refl
@@ -70,8 +67,8 @@ told_wait all_sure (Err told_fault) before after sure f g fault was keeps is cou
     error_of (Err x) = x
     error_of (Ok x) = told_fault
 
-module _ (number earliest : ℕ) (given : Option ℕ) (begun new : RoundValue) (waits faults after_waits after_faults : ℕ) (sure : Bool)
-    (b : BeginsAs number earliest given begun) (a : Awaits begun new waits faults after_waits after_faults sure) where
+module _ (number earliest : ℕ) (given : Option ℕ) (ops ops_after : PassView) (begun new : RoundValue) (waits faults after_waits after_faults : ℕ) (sure : Bool)
+    (b : BeginsAs number earliest given ops ops_after begun) (a : Awaits begun new waits faults after_waits after_faults sure) where
   fault_is : new.fault ≡ wait_fault a.answer
   fault_is = ap (λ (r : RoundValue). r.fault) a.round ∙ ap (λ (r : RoundValue). (waited r a.answer new.hand).fault) b.round
 
@@ -89,7 +86,7 @@ module _ {W : Type 0} where
   entered_may : (start : Start) (old new : CellValue W) (ops ops_after : PassView) (arms : Bool) → Enters start old new ops ops_after → MayTell old.sure arms old.round.fault → MayTell old.sure arms new.round.fault
   entered_may start old new ops ops_after arms e may = by_bool old.round.running
       (λ runs. subst (λ (r : RoundValue). MayTell old.sure arms r.fault) (sym (ap (λ (c : CellValue W). c.round) (e.goes_on runs).cell)) may)
-      (λ idle. let b = e.begins idle in begun_may _ _ _ b.begun new.round _ _ _ _ old.sure b.begins b.waits arms)
+      (λ idle. let b = e.begins idle in begun_may _ _ _ _ _ b.begun new.round _ _ _ _ old.sure b.begins b.waits arms)
 
   -- what it did to the queue of operations
   pub entered_pushed : (start : Start) (old new : CellValue W) (ops ops_after : PassView) → Enters start old new ops ops_after → PushedNothing ops ops_after
@@ -104,7 +101,7 @@ module _ {W : Type 0} where
     pub runs_on : (ops_after : PassView) → PushedNothing between ops_after → RunsOn all_sure start old handled ops ops_after
     runs_on ops_after d = record { entered = entered; between = between; enters = e; handles = h; cell = hc; drained = d; running = h.running ∙ e.running }
 
-    module _ (new : CellValue W) (ops_after : PassView) (later : ℕ) (on : start.earliest ≤ later) (f : Finishes later handled.round new.round) (fc : new ≡ record handled { round = new.round })
+    module _ (new : CellValue W) (ops_after : PassView) (later : ℕ) (on : start.earliest ≤ later) (f : Finishes later between ops_after handled.round new.round) (fc : new ≡ record handled { round = new.round })
         (none : handled.round.hand ≡ []) (d : Drained between ops_after) where
       new_is : new ≡ record entered { round = new.round }
       new_is = fc ∙ (λ i. record (hc i) { round = new.round })
@@ -126,7 +123,7 @@ module _ {W : Type 0} where
         handled = handled.round;
         handles = h;
         none_left = none;
-        finishes = record { now = f.now; moment = le_trans on f.moment; book = f.book; round = f.round };
+        finishes = record { count = f.count; found = f.found; book = f.book; drains = f.drains; now = f.now; moment = le_trans on f.moment; round = f.round };
         cell = new_is;
         drained = d;
         idle = ap (λ (r : RoundValue). r.running) f.round;
@@ -142,7 +139,7 @@ module _ {W : Type 0} where
           let faults : new.faults ≡ entered.faults = ap (λ (c : CellValue W). c.faults) new_is in
           subst (λ (k : ℕ). (fault ≡ record { before = old.faults; after = k }) × Rose old.faults k) (sym faults)
           (told_wait all_sure b.waits.answer old.faults entered.faults old.sure entered.round.fault handled.round.fault fault
-          (fault_is _ _ _ b.begun entered.round _ _ _ _ old.sure b.begins b.waits) h.fault (sym fault_kept ∙ told_is) b.waits.fault b.waits.cause)
+          (fault_is _ _ _ _ _ b.begun entered.round _ _ _ _ old.sure b.begins b.waits) h.fault (sym fault_kept ∙ told_is) b.waits.fault b.waits.cause)
 
 module _ {N W : Type 0} (all_sure : Bool) (start : Start) (old entered handled : CellValue W) (m m1 m2 : MemberValue N)
     (e : Enters start old entered m.ops m1.ops) (h : HandlesSome all_sure entered.round handled.round) (hc : handled ≡ record entered { round = handled.round })
@@ -163,7 +160,7 @@ module _ {N W : Type 0} (all_sure : Bool) (start : Start) (old entered handled :
   pub ran_out : m1 ≡ record m { ops = m1.ops } → m2 ≡ record m1 { ops = m2.ops } → PushedNothing m.ops m2.ops → PushedNothing m1.ops m2.ops → RanOut all_sure start old handled m m2
   ran_out one two all last = record { member = two ∙ (λ i. record (one i) { ops = m2.ops }); ops = all; round = inr (runs_on all_sure start old entered handled m.ops m1.ops e h hc m2.ops last) }
 
-  module _ (new : CellValue W) (m3 : MemberValue N) (later : ℕ) (on : start.earliest ≤ later) (f : Finishes later handled.round new.round) (fc : new ≡ record handled { round = new.round })
+  module _ (new : CellValue W) (m3 : MemberValue N) (later : ℕ) (on : start.earliest ≤ later) (f : Finishes later m1.ops m2.ops handled.round new.round) (fc : new ≡ record handled { round = new.round })
       (none : handled.round.hand ≡ []) (d : Drained m1.ops m2.ops) (one : m1 ≡ record m { ops = m1.ops }) (two : m2 ≡ record m1 { ops = m2.ops }) (three : m3 ≡ record m2 { pass = m3.pass; note = m3.note }) where
     ended : Ends all_sure start old new m.ops m2.ops
     ended = ends all_sure start old entered handled m.ops m1.ops e h hc new m2.ops later on f fc none d

@@ -3,9 +3,9 @@ use Rattle.std.proofs.Common.{◌≡◌, ℕ, Bool, true, false, List, [], refl,
 use Rattle.atomic_table.specs.Seated.{TableId}
 use Rattle.crossbeam_queue.specs.Fifo.{Pushes, Pops, Forks, Learns}
 use Rattle.aio_base.specs.declared.turns.TurnView.{TurnView}
-use Rattle.aio_base.specs.RoundLock.{About, RoundLockRule, about_of, holding, knowing, released}
+use Rattle.aio_base.specs.RoundLock.{RoundLockRule, about_of, holding, knowing, released}
 use Rattle.aio_base.specs.RoundLockLaws.{MayBePushed}
-use Rattle.aio_base.proofs.RoundLockSteps.{turn_starts, turn_opens, turn_pops, turn_pushes, turn_makes, turn_finds_none}
+use Rattle.aio_base.proofs.RoundLockSteps.{turn_opens, turn_pops, turn_pushes, turn_makes, turn_finds_none}
 use Rattle.aio_shared.specs.Cells.{CellValue, CellSays, IsIdle, MayTell, said_by}
 use Rattle.aio_shared.specs.OneCell.{PopsCell}
 

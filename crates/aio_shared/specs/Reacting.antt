@@ -1,5 +1,5 @@
 -- What a whole round, or the rest of one, makes of the round cell and of the member that holds it.
-use Rattle.std.specs.Prelude.{◌≡◌, ◌≢◌, ◌⊎◌, ℕ, ◌+◌, ◌-◌, ◌^◌, ◌<◌, ◌≤◌, ⊤, Bool, true, false, if◌then◌else◌, List, [], ◌∷◌, ◌++◌, length, Option, None, Some, Result, Ok, Err}
+use Rattle.std.specs.Prelude.{◌≡◌, ◌≢◌, ◌⊎◌, ℕ, ◌+◌, ◌-◌, ◌^◌, ◌<◌, ◌≤◌, ⊤, Bool, true, false, if◌then◌else◌, List, [], ◌++◌, length, Option, None, Some, Result, Ok, Err}
 use Rattle.aio_base.specs.declared.names.Event.{Event}
 use Rattle.aio_base.specs.declared.names.Waker.{Waker}
 use Rattle.aio_base.specs.declared.outcomes.CountFault.{CountFault}
@@ -10,11 +10,10 @@ use Rattle.aio_base.specs.Devices.{Rose, raised}
 use Rattle.aio_base.specs.SharedWords.{after, blocking}
 use Rattle.aio_base.specs.Timers.{due_wakers, limit_of}
 use Rattle.aio_base.specs.WordCalls.{Found, and_did, all_wake_steps, count_of, is_raise}
-use Rattle.aio_base.specs.World.{Registration}
-use Rattle.aio_ops.specs.Passes.{PassView}
-use Rattle.aio_react.specs.declared.round.RoundFault.{RoundFault}
+use Rattle.aio_ops.specs.Passes.{PassView, Drains}
 use Rattle.aio_react.specs.declared.round.RoundFault.TheVariants as round_fault
 use Rattle.aio_react.specs.Rounds.{RoundValue, begun, finished, given_by, second_wakers}
+use Rattle.aio_timers.specs.Room.{Book}
 use Rattle.aio_words.specs.Seats.{SeatValue, is_waiting}
 use Rattle.aio_shared.specs.declared.reacting.ReactedIn.{ReactedIn}
 use Rattle.aio_shared.specs.declared.reacting.ReactFault.{ReactFault}
@@ -26,12 +25,16 @@ use Rattle.aio_shared.specs.TimerCalls.{Drained, PushedNothing}
 
 -- ## The round
 
--- A round of this number began, by a pass over a book of timers at a moment that is not before the earliest.
-pub record BeginsAs (number earliest : ℕ) (given : Option ℕ) (new : RoundValue) : Type 0 where
+-- A round of this number began: the queue of operations was drained into a book of timers, and then a pass over the book that the drain left was made,
+-- at a moment that is not before the earliest.
+pub record BeginsAs (number earliest : ℕ) (given : Option ℕ) (ops ops_after : PassView) (new : RoundValue) : Type 0 where
+  pub count : ℕ
+  pub found : Book
+  pub book : Book
+  pub drains : Drains count ops ops_after found book
   pub now : ℕ
   pub moment : earliest ≤ now
-  pub book : List Registration
-  pub round : new ≡ begun number (limit_of now book given) (due_wakers now book)
+  pub round : new ≡ begun number (limit_of now book.entries given) (due_wakers now book.entries)
 
 -- Some events are in hand no longer, the first ones; the wakers that their sources gave joined those taken, at their end. The first fault stays.
 pub record HandlesSome (all_sure : Bool) (old new : RoundValue) : Type 0 where
@@ -45,12 +48,16 @@ pub record HandlesSome (all_sure : Bool) (old new : RoundValue) : Type 0 where
   pub limit : new.limit ≡ old.limit
   pub last : new.last ≡ old.last
 
--- A round ended, where it is asked by a second pass over a book of timers at a moment that is not before the earliest.
-pub record Finishes (earliest : ℕ) (old new : RoundValue) : Type 0 where
+-- A round ended: the queue of operations was drained into a book of timers, and then, where the round asks for it, a second pass over the book that the
+-- drain left was made, at a moment that is not before the earliest.
+pub record Finishes (earliest : ℕ) (ops ops_after : PassView) (old new : RoundValue) : Type 0 where
+  pub count : ℕ
+  pub found : Book
+  pub book : Book
+  pub drains : Drains count ops ops_after found book
   pub now : ℕ
   pub moment : earliest ≤ now
-  pub book : List Registration
-  pub round : new ≡ finished old (second_wakers old now book)
+  pub round : new ≡ finished old (second_wakers old now book.entries)
 
 -- ## The seat
 
@@ -96,7 +103,7 @@ module _ {W : Type 0} where
   pub record Begins (start : Start) (old new : CellValue W) (ops ops_after : PassView) : Type 0 where
     pub room : old.seat.view.seen < 2 ^ 64 - 1
     pub begun : RoundValue
-    pub begins : BeginsAs (old.seat.view.seen + 1) start.earliest start.given begun
+    pub begins : BeginsAs (old.seat.view.seen + 1) start.earliest start.given ops ops_after begun
     -- the seat looked at the ticker, raised it, and cleared notified after the wait
     pub found : ℕ
     pub seat : new.seat.view ≡ after (word_step.SwapNotified found) (rose old.seat.view)
@@ -151,7 +158,7 @@ module _ {W : Type 0} where
     pub handled : RoundValue
     pub handles : HandlesSome all_sure entered.round handled
     pub none_left : handled.hand ≡ []
-    pub finishes : Finishes start.earliest handled new.round
+    pub finishes : Finishes start.earliest between ops_after handled new.round
     pub cell : new ≡ record entered { round = new.round }
     pub drained : Drained between ops_after
     pub idle : new.round.running ≡ false

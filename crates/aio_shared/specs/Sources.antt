@@ -3,6 +3,7 @@ use Rattle.std.specs.Prelude.{◌≡◌, ℕ, suc, ◌<◌, Bool, true, false, n
 use Rattle.std.specs.List.{Contains, insert}
 use Rattle.atomic_table.specs.Seated.{TableId}
 use Rattle.aio_base.specs.declared.names.Waker.{Waker}
+use Rattle.aio_base.specs.declared.outcomes.ArmFault.{ArmFault}
 use Rattle.aio_base.specs.declared.outcomes.CountFault.{CountFault}
 use Rattle.aio_base.specs.declared.outcomes.Failed.{Failed}
 use Rattle.aio_base.specs.declared.notes.LockView.{LockView}
@@ -10,7 +11,8 @@ use Rattle.aio_base.specs.Devices.{ArmCall, AddOf, RemoveOf, Rose}
 use Rattle.aio_base.specs.SharedLock.{taken_second}
 use Rattle.aio_react.specs.declared.round.RoundFault.{RoundFault}
 use Rattle.aio_react.specs.declared.round.RoundFault.TheVariants.{Wait, Arm}
-use Rattle.aio_react.specs.Rounds.{RoundValue}
+use Rattle.aio_react.specs.Rounds.{RoundValue, handled, taken_first}
+use Rattle.aio_source.specs.Values.{SourceValue}
 use Rattle.aio_words.specs.Calls.{told}
 use Rattle.aio_shared.specs.declared.sources.InsertFault.{InsertFault}
 use Rattle.aio_shared.specs.declared.sources.InsertFault.TheVariants.{Full, AddFault, OutOfMemory}
@@ -132,3 +134,8 @@ pub record HandlesOne (all_sure : Bool) (old new : RoundValue) : Type 0 where
   pub number : new.number ≡ old.number
   pub limit : new.limit ≡ old.limit
   pub last : new.last ≡ old.last
+
+-- The first event in hand was handled on this source: the wakers that it gave joined those taken, and the first fault stays.
+pub record HandlesOn (source : SourceValue) (old new : RoundValue) : Type 0 where
+  pub fault : Option ArmFault
+  pub round : new ≡ handled old (taken_first old source) fault

@@ -1,5 +1,6 @@
 -- What a member's calls on timers make of its pass of the queue of operations, and of the member.
-use Rattle.std.specs.Prelude.{◌≡◌, ◌⊎◌, ℕ, ◌+◌, ◌≤◌, Bool, true, false, List, ◌++◌, length, Result, Ok, Err}
+use Rattle.std.specs.Prelude.{◌≡◌, ◌⊎◌, ℕ, ◌+◌, ◌≤◌, Bool, true, false, List, ◌∷◌, [], ◌++◌, length, Result, Ok, Err}
+use Rattle.aio_base.specs.Timers.{fold_changes}
 use Rattle.aio_base.specs.declared.names.TimerId.{TimerId}
 use Rattle.aio_base.specs.declared.names.Waker.{Waker}
 use Rattle.aio_base.specs.declared.outcomes.CountFault.{CountFault}
@@ -8,7 +9,9 @@ use Rattle.aio_base.specs.declared.outcomes.OutOfMemory.{OutOfMemory}
 use Rattle.aio_timers.specs.declared.op.TimerOp.{TimerOp}
 use Rattle.aio_timers.specs.declared.op.TimerOp.TheVariants as timer_op
 use Rattle.aio_ops.specs.declared.queue.Entry.{Entry}
-use Rattle.aio_ops.specs.Passes.{PassView, RoseBy, pushed}
+use Rattle.aio_timers.specs.Book.{change_of}
+use Rattle.aio_timers.specs.Room.{Book}
+use Rattle.aio_ops.specs.Passes.{PassView, Drains, RoseBy, pushed}
 use Rattle.aio_react.specs.declared.hosts.InsertRefusal.{InsertRefusal}
 use Rattle.aio_react.specs.declared.hosts.InsertRefusal.TheVariants as refusal
 use Rattle.aio_react.specs.Hosts.{next_id}
@@ -25,6 +28,13 @@ pub record Drained (before after : PassView) : Type 0 where
   pub pass : after ≡ record before { pulled = before.pulled ++ entries; empties = after.empties }
   pub ends : (length entries ≡ 1000) ⊎ RoseBy 1 before.empties after.empties
   pub empties : before.empties ≤ after.empties
+
+-- A drain of a book by a pass, and then this operation, applied to the book that the drain left.
+pub record DrainsAndApplies (operation : TimerOp) (before after : PassView) (old new : Book) : Type 0 where
+  pub count : ℕ
+  pub book : Book
+  pub drains : Drains count before after old book
+  pub applied : new.entries ≡ fold_changes book.entries (change_of operation ∷ [])
 
 -- A pass that pushed nothing in between: it took these entries out of the queue, and may have found it full and empty.
 pub record PushedNothing (before after : PassView) : Type 0 where

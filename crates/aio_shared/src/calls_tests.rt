@@ -410,3 +410,14 @@ fn timers_of_two_threads_are_all_registered(rt: HostRuntime) -> Result<(), Fail>
     assert_eq!(rt; registered, 1600);
     Ok(())
 }
+
+#[test]
+fn an_operation_is_applied_after_those_that_are_queued(rt: HostRuntime) -> Result<(), Fail> {
+    let (shared, mut m) = reactor(rt.alloc(), false)?;
+    let at = moment(&rt, 5);
+    assert_eq!(rt; insert(&rt, &shared, &mut m, at), Ok(TimerId(1)));
+    let op = TimerOp::Remove(at, TimerId(1));
+    assert_eq!(rt; shared.drain_and_apply(&rt, &mut m.ops, &op), Ok(()));
+    assert_eq!(rt; drain(&rt, &shared, &mut m), Ok((0, 0)));
+    Ok(())
+}

@@ -170,7 +170,7 @@ impl<A: Arm, W: EventWait> Shared<A, W> {
         requires idle { round.old.running ≡ false }
         ensures words { seat.new.words ≡ seat.old.words }
         ensures begun { OnOk result (BeginsAs (seat.old.view.seen + 1) (C.latest clock.old) limit
-            round.new) }
+            ops.old ops.new round.new) }
         ensures drained { OnOk result (Drained ops.old ops.new) }
         ensures seat { OnOk result (seat.new.view ≡ rose seat.old.view) }
         ensures room { OnOk result (seat.old.view.seen < 2 ^ 64 - 1) }
@@ -205,7 +205,8 @@ impl<A: Arm, W: EventWait> Shared<A, W> {
     ) -> Result<(), OutOfMemory>
         requires ops { ops.old.queue ≡ self.now.ops }
         requires idle { round.old.running ≡ false }
-        ensures begun { OnOk result (BeginsAs number (C.latest clock.old) limit round.new) }
+        ensures begun { OnOk result
+            (BeginsAs number (C.latest clock.old) limit ops.old ops.new round.new) }
         ensures drained { OnOk result (Drained ops.old ops.new) }
         ensures refused { OnErr result (round.new ≡ round.old) }
         ensures pushed { OnErr result (PushedNothing ops.old ops.new) }
@@ -249,7 +250,7 @@ impl<A: Arm, W: EventWait> Shared<A, W> {
         ensures kept { m.new ≡ record m.old { ops = m.new.ops } }
         ensures cell { cell.new ≡ record cell.old { round = cell.new.round } }
         ensures finished { OnOk result
-            (Finishes (C.latest clock.old) cell.old.round cell.new.round) }
+            (Finishes (C.latest clock.old) m.old.ops m.new.ops cell.old.round cell.new.round) }
         ensures drained { OnOk result (Drained m.old.ops m.new.ops) }
         ensures refused { OnErr result (cell.new ≡ cell.old) }
         ensures pushed { OnErr result (PushedNothing m.old.ops m.new.ops) }

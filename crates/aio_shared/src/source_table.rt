@@ -5,7 +5,8 @@ ghost use Rattle.std.specs.List.{Contains, position_or_len};
 ghost use Rattle.std.specs.List.Sorted.{IsStrictlyIncreasing};
 ghost use Rattle.std.specs.Arc.{arc_value};
 ghost use Rattle.aio_base.specs.declared.names.Event.{Event};
-ghost use Rattle.aio_shared.specs.Sources.{Adds, FailsToAdd, HandlesOne, IsLeastFree, live_keys, outside, with_key, without_key};
+ghost use Rattle.aio_react.specs.Rounds.{skipped};
+ghost use Rattle.aio_shared.specs.Sources.{Adds, FailsToAdd, HandlesOn, HandlesOne, IsLeastFree, live_keys, outside, with_key, without_key};
 
 use crate::sources::SourceRef;
 use aio_base::{Arm, CountFault, Key, OutOfMemory};
@@ -249,6 +250,9 @@ fn handle_in<A: Arm>(
     ensures key { cell.new.state.key ≡ cell.old.state.key }
     ensures rest { A.rest cell.new.io ≡ A.rest cell.old.io }
     ensures handled { OnOk result (HandlesOne A.all_sure round.old round.new) }
+    ensures own { cell.old.state.key ≡ key
+        → OnOk result (HandlesOn cell.old.state round.old round.new) }
+    ensures other { cell.old.state.key ≢ key → OnOk result (round.new ≡ skipped round.old) }
     ensures refused { OnErr result (round.new ≡ round.old) }
 {
     if cell.state.key() != key {

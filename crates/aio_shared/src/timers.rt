@@ -4,7 +4,7 @@ ghost use Rattle.std.specs.Prelude.{◌≡◌, ◌+◌, ◌≤◌, IsTrue, IfOk,
 ghost use Rattle.aio_ops.specs.Passes.{Drains};
 ghost use Rattle.aio_react.specs.Hosts.{NotifierTells, has_id_left, insert_fault};
 ghost use Rattle.aio_shared.specs.Members.{IsLaterMember, IsMemberOf};
-ghost use Rattle.aio_shared.specs.TimerCalls.{CarriesOut, Drained, GivesUp, Inserts, Removes, TriesAgain};
+ghost use Rattle.aio_shared.specs.TimerCalls.{CarriesOut, Drained, DrainsAndApplies, GivesUp, Inserts, Removes, TriesAgain};
 
 use crate::members::Member;
 use crate::shared::Shared;
@@ -134,7 +134,25 @@ impl<A: Arm, W: EventWait> Shared<A, W> {
         ensures refused { OnErr result (p.new ≡ p.old) }
     {
         let mut guard = self.timers.lock(rt);
-        let book = &mut *guard;
+        self.drain_then_apply(rt, p, &mut *guard, op)
+    }
+
+    /// Drains the queue into the book, and then applies an operation to it. `OutOfMemory` where there
+    /// was no room; then neither.
+    fn drain_then_apply<R: Wait>(
+        &self,
+        rt: &R,
+        p: &mut OpPass,
+        book: &mut TimerBook,
+        op: &TimerOp,
+    ) -> Result<(), OutOfMemory>
+        requires belongs { p.old.queue ≡ self.now.ops }
+        ensures applied { OnOk result
+            (DrainsAndApplies op.now p.old p.new book.old book.new) }
+        ensures drained { OnOk result (Drained p.old p.new) }
+        ensures refused { OnErr result (p.new ≡ p.old) }
+        ensures kept { OnErr result (book.new.entries ≡ book.old.entries) }
+    {
         self.drain(rt, p, book, 1)?;
         book.apply(*op);
         Ok(())

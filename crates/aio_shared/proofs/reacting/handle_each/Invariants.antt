@@ -1,4 +1,4 @@
-use Rattle.std.proofs.Common.{ℕ, length}
+use Rattle.std.proofs.Common.{length}
 use Rattle.aio_shared.specs.Reacting.{HandlesSome}
 use Rattle.aio_shared.proofs.reacting.handle_each.Given as goal
 

@@ -1,4 +1,4 @@
-use Rattle.std.proofs.Common.{◌≡◌, IfSome, IsSome, take}
+use Rattle.std.proofs.Common.{IfSome, IsSome, take}
 use Rattle.aio_base.specs.Devices.{TellsFaults}
 use Rattle.aio_shared.specs.Reacting.{IsFaultWithin, Wakes}
 use Rattle.aio_shared.proofs.waking.wake_each.Given as goal
