@@ -1,5 +1,5 @@
 -- What a call on a seat of the shared words adds to the steps of the seat, and how such steps are counted.
-use Rattle.std.specs.Prelude.{◌≡◌, ◌≢◌, ℕ, ◌+◌, ◌/◌, ◌%◌, ◌==◌, nat_lt, Bool, true, false, not, if◌then◌else◌, List, [], ◌∷◌, ◌++◌, length, replicate, filter}
+use Rattle.std.specs.Prelude.{◌≡◌, ◌≢◌, ℕ, ◌-◌, ◌^◌, ◌/◌, ◌%◌, ◌==◌, nat_lt, Bool, true, false, if◌then◌else◌, List, [], ◌∷◌, ◌++◌, length, replicate, filter}
 use Rattle.std.specs.List.{list_any}
 use Rattle.aio_base.specs.declared.names.Waker.{Waker}
 use Rattle.aio_base.specs.declared.seats.WordStep.{WordStep}
@@ -57,13 +57,19 @@ abbrev pub is_raise : WordStep → Bool
 is_raise (word_step.AddTicker found) = true
 is_raise s = false
 
--- a swap that took woken slots out of a mask
-abbrev pub is_taking : WordStep → Bool
-is_taking (word_step.SwapMask i found) = not (found == 0)
-is_taking s = false
+-- a load of the ticker that found the last round begun that there can be
+abbrev pub is_look_at_end : WordStep → Bool
+is_look_at_end (word_step.LoadTicker found) = found == 2 ^ 64 - 1
+is_look_at_end s = false
+
+-- what the swaps among these steps took out of a mask, in order, where they took woken slots
+abbrev pub taken_masks : List WordStep → List ℕ
+taken_masks [] = []
+taken_masks (word_step.SwapMask i found ∷ steps) = if found == 0 then taken_masks steps else found ∷ taken_masks steps
+taken_masks (s ∷ steps) = taken_masks steps
 
 -- one park takes woken slots out of a mask exactly once, and raises no ticker
 abbrev pub ParkTakesOnce : Type 0
 ParkTakesOnce = (before : List WordStep) (parker idle found : ℕ) → found ≢ 0
-    → (count_of is_taking (before ++ park_steps parker idle found) ≡ count_of is_taking before + 1)
+    → (taken_masks (before ++ park_steps parker idle found) ≡ taken_masks before ++ found ∷ [])
     × (count_of is_raise (before ++ park_steps parker idle found) ≡ count_of is_raise before)

@@ -37,9 +37,11 @@ impl Cx {
 
 /// Work that is polled until it has an output (`core::future::Future`).
 ///
-/// What a task tells of itself, contracts alone see. A task that has nothing to say of what a poll
-/// leaves takes for `follows` the relation that always holds.
+/// What a task tells of itself, contracts alone see. A task that has nothing to say of its polls takes
+/// for `poll_step` the relation that always holds.
 pub trait Task<H: Later> {
+    ghost use Rattle.aio_base.specs.declared.outcomes.Poll.{Poll};
+    ghost use Rattle.aio_base.specs.declared.tasks.Cx.{Cx};
     ghost use Rattle.aio_base.specs.Devices.{raised};
     ghost use Rattle.aio_base.specs.Polls.{IfReady, WhilePending};
 
@@ -47,11 +49,12 @@ pub trait Task<H: Later> {
     type Output;
 
     /// Which outputs the task allows at a moment. Of the host it is told only whether its notifier is
-    /// sure, which no call changes.
+    /// sure, which no call changes. What is allowed after a poll that answers `Pending`, at its moment
+    /// or later, was allowed before.
     ghost gives: { Self → Bool → ℕ → Self.Output → Type 0 };
 
-    /// The second state follows the first: what no poll changes is as it was.
-    ghost follows: { Self → Self → Type 0 };
+    /// The relation of the state before a poll, what the poll is told, its answer, and the state after.
+    ghost poll_step: { Self → Cx → Poll Self.Output → Self → Type 0 };
 
     /// The number of its polls so far.
     ghost poll_count: { Self → ℕ };
@@ -59,8 +62,10 @@ pub trait Task<H: Later> {
     /// Polls the task. Its answers are its own, so want of memory too may stand in its output.
     fn poll(&mut self, host: &mut H, cx: Cx) -> Poll<Self::Output>
         ensures ready { IfReady result (λ output. gives self.old (H.notifier_is_sure host.old) cx.now output) }
-        ensures pending { WhilePending result ((sure : Bool) (moment : ℕ) (output : Self.Output) → gives self.new sure moment output → gives self.old sure moment output) }
-        ensures follows { follows self.old self.new }
+        ensures pending { WhilePending result ((moment : ℕ) (output : Self.Output) → cx.now ≤ moment
+            → gives self.new (H.notifier_is_sure host.old) moment output
+            → gives self.old (H.notifier_is_sure host.old) moment output) }
+        ensures step { poll_step self.old cx result self.new }
         ensures polls { poll_count self.new ≡ raised (poll_count self.old) }
         ensures host { H.is_later host.old host.new };
 
@@ -70,10 +75,6 @@ pub trait Task<H: Later> {
         ensures { result ≡ poll_count self.now };
 
     ghost gives_later: { (s : Self) (sure : Bool) (a b : ℕ) (output : Self.Output) → a ≤ b → gives s sure a output → gives s sure b output };
-
-    ghost follows_itself: { (s : Self) → follows s s };
-
-    ghost follows_on: { (a b c : Self) → follows a b → follows b c → follows a c };
 }
 
 #[cfg(test)]
