@@ -1,5 +1,7 @@
 -- Each step of a member keeps the rule of the reactor lock's queue.
-use Rattle.std.proofs.Common.{◌≡◌, ℕ, Bool, true, false, List, [], refl, None, subst, sym}
+use Rattle.std.proofs.Common.{◌≡◌, ℕ, suc, Bool, true, false, List, [], ◌∷◌, length, refl, None, ap, subst, sym, arith}
+use mathlib.Core.Option.{some}
+use lib.ListN.{get_elem?}
 use Rattle.atomic_table.specs.Seated.{TableId}
 use Rattle.crossbeam_queue.specs.Fifo.{Pushes, Pops, Forks, Learns}
 use Rattle.aio_base.specs.declared.turns.TurnView.{TurnView}
@@ -9,12 +11,26 @@ use Rattle.aio_base.proofs.RoundLockSteps.{turn_opens, turn_pops, turn_pushes, t
 use Rattle.aio_shared.specs.Cells.{CellValue, CellSays, IsIdle, MayTell, said_by}
 use Rattle.aio_shared.specs.OneCell.{PopsCell}
 
+by_bool : (F : Bool → Type 0) → F true → F false → (b : Bool) → F b
+by_bool F t f true = t
+by_bool F t f false = f
+
 module _ {W : Type 0} where
   abbrev pub Rule : List (CellValue W) → List (TurnView TableId) → Type 0
   Rule = RoundLockRule CellSays IsIdle
 
+  -- a member that finds a cell in the queue holds none
+  held_none : (x : CellValue W) (items : List (CellValue W)) (turns : List (TurnView TableId)) (id : ℕ) (v : TurnView TableId)
+      → Rule (x ∷ items) turns → get_elem? turns id ≡ some v → v.holds ≡ false
+  held_none x items turns id v rule stands =
+      by_bool (λ holds. v.holds ≡ holds → v.holds ≡ false)
+      (λ holds. let none = turn_finds_none CellSays IsIdle (x ∷ items) turns id v rule stands holds in let count : suc (length items) ≡ 0 = ap length none in absurd (omega arith))
+      (λ not_held. not_held) v.holds refl
+
   pub pops : (id : ℕ) (v : TurnView TableId) → Pops Rule id v (λ x w. PopsCell v x w)
-  pops id v x items turns rule stands = let done = turn_pops CellSays IsIdle x items turns id v rule stands in (holding v, done.1, (refl, done.0))
+  pops id v x items turns rule stands =
+      let done = turn_pops CellSays IsIdle x items turns id v rule stands in
+      (holding v, done.1, (held_none x items turns id v rule stands, refl, done.0))
 
   pub pushes : (n id : ℕ) (v : TurnView TableId) (x : CellValue W) → v.holds ≡ true → v.opening ≡ false → MayBePushed CellSays IsIdle x (about_of v) → Pushes Rule n id v x (λ w. w ≡ released v)
   pushes n id v x holds begun may items turns room rule stands = (released v, turn_pushes CellSays IsIdle items turns id v x rule stands holds begun may, refl)

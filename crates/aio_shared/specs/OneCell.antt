@@ -54,16 +54,17 @@ abbrev pub no_words : TableId
 no_words = record { words = 0; slots = 0; views_name = 0; atom = 0; block = 0; offset = 0; slot_names = [] }
 
 module _ {W : Type 0} where
-  -- a pop that gives: the member holds the cell, which is idle and says what the member knows
+  -- a pop that gives: the member, which did not hold the cell, holds it now; it is idle and says what the member knows
   abbrev pub PopsCell : TurnView TableId → CellValue W → TurnView TableId → Type 0
-  PopsCell knows cell after = (after ≡ holding knows) × MayBePushed CellSays IsIdle cell (about_of knows)
+  PopsCell knows cell after = (knows.holds ≡ false) × (after ≡ holding knows) × MayBePushed CellSays IsIdle cell (about_of knows)
 
   -- The cell is one that this member may hold: it says what the member knows.
   abbrev pub IsCellOf : TurnValue → CellValue W → Type 0
   IsCellOf turn cell = CellSays cell (about turn)
 
-  -- The member holds the cell, whose seat is idle and which says what the member knows.
+  -- The member, which did not hold the cell before, holds it now; its seat is idle and it says what the member knows.
   pub record TakesCell (old new : TurnValue) (cell : CellValue W) : Type 0 where
+    pub before : old.holds ≡ false
     pub turn : new ≡ record old { holds = true }
     pub idle : IsIdle cell
     pub says : IsCellOf old cell

@@ -130,9 +130,10 @@ impl<W: EventWait> RoundLock<W> {
 }
 
 impl<A: Arm, W: EventWait> Shared<A, W> {
-    /// The round cell, where the reactor lock has it. The member holds the cell then; its seat is idle,
-    /// and it says what the member knows of its words, its wait and its arms. `None` only where the
-    /// lock's queue was empty at a step of this call, which the member counts. It takes no memory.
+    /// The round cell, where the reactor lock has it. The member, which did not hold it before, holds it
+    /// then; its seat is idle, and it says what the member knows of its words, its wait and its arms.
+    /// `None` only where the lock's queue was empty at a step of this call, which the member counts. It
+    /// takes no memory.
     pub fn try_round<R: Wait, N: Notify>(
         &self,
         rt: &R,
