@@ -72,6 +72,33 @@ impl<A: Arm> Model for Vacancy<A> {
         × (v.owner ≡ owner_of (arc_value v.kept) (took_out [] [] (first_owner []))) };
 }
 
+/// The key of a source that went out of the table. `SourceTable::take_out` alone makes one, so that what
+/// follows on it cannot be done without it. Contracts see the key.
+#[derive(Drop)]
+pub(crate) struct TakenOut {
+    key: Key,
+}
+
+impl Model for TakenOut {
+    ghost use Rattle.std.specs.Prelude.{ℕ, ◌<◌};
+
+    ghost Value = { ℕ };
+
+    ghost view = { λ t. t.key.0 };
+
+    ghost invariant = { λ t. t.key.0 < 4096 };
+}
+
+impl TakenOut {
+    /// The key.
+    pub(crate) fn key(&self) -> Key
+        ensures value { result.0 ≡ self.now }
+        ensures bound { result.0 < 4096 }
+    {
+        self.key
+    }
+}
+
 impl<A: Arm + Drop> Vacancy<A> {
     /// Takes all the memory of a source. `OutOfMemory` where it is not there, or where too many tokens
     /// share the words.
@@ -145,13 +172,17 @@ impl<A: Arm + Drop> SourceTable<A> {
         self.first_free = at + 1;
     }
 
-    /// Lets the lock of a key go, where there is one.
-    pub(crate) fn take_out(&mut self, key: Key)
-        ensures { self.new ≡ without_key self.old key.0 }
+    /// Lets the lock of a key go, where there is one: no source of the table has the key then. The
+    /// answer says so of this key.
+    pub(crate) fn take_out(&mut self, key: Key) -> TakenOut
+        requires { key.0 < 4096 }
+        ensures keys { self.new ≡ without_key self.old key.0 }
+        ensures out { result ≡ key.0 }
     {
         let at = key.0 as usize;
         clear_place(&mut self.places, at);
         self.first_free = self.first_free.min(at);
+        TakenOut { key }
     }
 
     /// Adds a connection under the least free key, and gives it to its lock. Takes no memory. Where the

@@ -10,7 +10,7 @@ ghost use Rattle.aio_words.specs.Calls.{told};
 ghost use Rattle.aio_shared.specs.Sources.{Adds, HandsBack, IsUnsure, Joins, Removes, outside, refusal_of, rest_of};
 
 use crate::shared::Shared;
-use crate::source_table::{SourceLock, SourceTable};
+use crate::source_table::{SourceLock, SourceTable, TakenOut};
 use aio_base::{Arm, CountFault, EventWait, Key};
 use aio_lock::Owner;
 use aio_source::SourceCell;
@@ -58,7 +58,7 @@ impl<A: Arm> Model for SourceRef<A> {
     } };
 
     ghost invariant = { λ s. (s.owner.lock ≡ arc_value s.lock)
-        × IsSourceOwner s.key.0 s.owner.knows };
+        × IsSourceOwner s.key.0 s.owner.knows × (s.key.0 < 4096) };
 }
 
 impl<A: Arm> SourceRef<A> {
@@ -69,8 +69,9 @@ impl<A: Arm> SourceRef<A> {
         lock: SourceLock<A>,
         owner: Owner,
     ) -> SourceRef<A>
-        requires { owner
+        requires owner { owner
             ≡ owner_of (arc_value lock) (first_owner (key.0 ∷ rest_of owner.knows)) }
+        requires bound { key.0 < 4096 }
         ensures { result ≡ outside (arc_value words).identity key.0 (rest_of owner.knows) }
     {
         SourceRef {
@@ -194,16 +195,15 @@ impl<A: Arm + Drop, W: EventWait> Shared<A, W> {
             lock,
             mut owner,
         } = s;
-        self.sources.lock(rt).take_out(key);
-        let SourceCell { state, mut io } = lock.take(rt, &mut owner);
-        remove_from(&mut io, state.key())
+        let out = self.sources.lock(rt).take_out(key);
+        let SourceCell { state: _, mut io } = lock.take(rt, &mut owner);
+        remove_from(&mut io, &out)
     }
 }
 
-/// Makes one `remove` of a key on a connection.
-fn remove_from<A: Arm>(io: &mut A, key: Key) -> Result<(), CountFault>
-    requires { key.0 < 4096 }
-    ensures step { A.arm_step io.old (RemoveOf key) (told result) io.new }
+/// Makes one `remove` on a connection, of the key of its source, which is out of the table.
+fn remove_from<A: Arm>(io: &mut A, out: &TakenOut) -> Result<(), CountFault>
+    ensures step { A.arm_step io.old (RemoveOf (record { 0 = out.now })) (told result) io.new }
     ensures counts { IfErr result (λ fault. fault ≡ record {
       before = A.fault_count io.old;
       after = A.fault_count io.new;
@@ -211,7 +211,7 @@ fn remove_from<A: Arm>(io: &mut A, key: Key) -> Result<(), CountFault>
     ensures cause { IfErr result (λ fault. IsUnsure A.all_sure fault) }
 {
     let before = io.faults();
-    match io.remove(key) {
+    match io.remove(out.key()) {
         Ok(()) => Ok(()),
         Err(_) => Err(CountFault {
             before,

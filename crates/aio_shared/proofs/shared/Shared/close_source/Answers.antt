@@ -1,5 +1,4 @@
-use Rattle.std.proofs.Common.{◌≡◌, ℕ, List, drop, get_or, ap, ◌∙◌, subst}
-use Rattle.aio_base.specs.declared.names.Key.{Key}
+use Rattle.std.proofs.Common.{◌≡◌, ℕ, drop, ap, ◌∙◌, subst}
 use Rattle.aio_base.specs.Devices.{RemoveOf}
 use Rattle.aio_words.specs.Calls.{told}
 use Rattle.aio_shared.specs.Sources.{SourceRefValue}
@@ -7,11 +6,10 @@ use Rattle.aio_shared.proofs.shared.Shared.close_source.Goals as goal
 
 pub returns-clause-removed : goal.returns-clause-removed
 returns-clause-removed g c =
-    let io = c.take-state.result.io in
+    let io = c.take-io.result.io in
     let after = c.remove_from.new.io in
-    let note = c.take-state.ensures.notes.first c.s.invariant.1.owns_first ∙ c.s.invariant.1.first in
-    let key : c.key.result.0 ≡ c.args.s.key =
-    ap (λ (k : Key). k.0) c.key.ensures.value ∙ (ap (λ (ks : List ℕ). get_or ks 0 0) note ∙ ap (λ (s : SourceRefValue). s.key) c.s.view_is) in
+    let note = c.take-io.ensures.notes.first c.s.invariant.1.owns_first ∙ c.s.invariant.1.first in
+    let key : c.take_out-out.result ≡ c.args.s.key = c.take_out-out.ensures.out ∙ ap (λ (s : SourceRefValue). s.key) c.s.view_is in
     record {
       io = io;
       after = after;
