@@ -1,6 +1,7 @@
 -- What contracts see of a pass, and what its calls do.
 use Rattle.std.specs.Prelude.{◌≡◌, ◌⊎◌, ℕ, ◌+◌, ◌-◌, ◌^◌, ◌≤◌, List, [], ◌∷◌, ◌++◌, length, map, min, Option, None, Some}
 use Rattle.atomic_table.specs.Seated.{TableId}
+use Rattle.aio_base.specs.Devices.{raised}
 use Rattle.aio_base.specs.Timers.{fold_changes}
 use Rattle.aio_base.specs.World.{Registration}
 use Rattle.aio_timers.specs.Book.{change_of}
@@ -40,6 +41,12 @@ next_entry p op = record { pass = p.number; number = length p.own + 1; empties =
 -- a pass whose operation is in the queue
 abbrev pub pushed : TimerOp → PassView → PassView
 pushed op p = record p { own = p.own ++ record { entry = next_entry p op; pulled = length p.pulled } ∷ [] }
+
+-- A push of a pass found the queue full, which the pass counted, and nothing joined the queue.
+pub record FindsFull (before after : PassView) : Type 0 where
+  pub pass : after ≡ record before { fulls = after.fulls }
+  pub counted : after.fulls ≡ raised before.fulls
+  pub later : before.fulls ≤ after.fulls
 
 -- the changes of the book that these entries are
 abbrev pub changed_by : List Entry → List Registration → List Registration

@@ -1,7 +1,7 @@
 //! The queue of operations and its passes.
 
 ghost use Rattle.std.specs.Prelude.{◌≡◌, ◌==◌, ◌↔◌, ℕ, ◌+◌, ◌<◌, ◌≤◌, ◌^◌, [], IfOk, IfErr, OnOk, OnErr, Err};
-ghost use Rattle.aio_ops.specs.Passes.{Drains, Pops, RoseBy, new_pass, pass_limit, pushed};
+ghost use Rattle.aio_ops.specs.Passes.{Drains, FindsFull, Pops, new_pass, pass_limit, pushed};
 
 use crate::queue::{Entry, Hand, NewPass, OpQueue, Pop, Push};
 use aio_base::OutOfMemory;
@@ -138,13 +138,12 @@ impl Ops {
     /// # Errors
     ///
     /// The operation comes back only where the queue held 1,000 operations at a step of this call,
-    /// which the pass counts.
+    /// which the pass counts once.
     pub fn push<R: Wait>(&self, rt: &R, p: &mut OpPass, op: TimerOp) -> Result<(), TimerOp>
         requires belongs { p.old.queue ≡ self.now }
         ensures pushed { OnOk result (p.new ≡ pushed op p.old) }
         ensures back { IfErr result (λ back. back ≡ op) }
-        ensures kept { OnErr result (p.new ≡ record p.old { fulls = p.new.fulls }) }
-        ensures full { OnErr result (RoseBy 1 p.old.fulls p.new.fulls) }
+        ensures full { OnErr result (FindsFull p.old p.new) }
     {
         let number = next_number(rt, p.pushes);
         let pass = p.number;

@@ -3,6 +3,7 @@ mod Skipping
 mod Beginning
 pub mod Turning
 pub mod Draining
+pub mod Trying
 pub mod Handling
 pub mod WakingEach
 pub mod Rounding

@@ -4,10 +4,10 @@ use Rattle.aio_shared.specs.OneCell.{with_empties}
 use Rattle.aio_shared.specs.Members.{Extends, IsLaterMember, MemberValue}
 use Rattle.aio_shared.specs.Inside.{InsideValue, IsLaterInside}
 
-extends_itself : {X : Type 0} (xs : List X) → Extends xs xs
+pub extends_itself : {X : Type 0} (xs : List X) → Extends xs xs
 extends_itself xs = ([], sym (append-nil xs))
 
-extends_further : {X : Type 0} (xs ys zs : List X) → Extends xs ys → Extends ys zs → Extends xs zs
+pub extends_further : {X : Type 0} (xs ys zs : List X) → Extends xs ys → Extends ys zs → Extends xs zs
 extends_further xs ys zs (more, first) (yet, second) = (more ++ yet, second ∙ ap (λ l. l ++ yet) first ∙ append_assoc xs more yet)
 
 module _ {N : Type 0} (faults : N → ℕ) (is_sure : N → Bool) where

@@ -1,5 +1,5 @@
 -- What a member's calls on timers make of its pass of the queue of operations, and of the member.
-use Rattle.std.specs.Prelude.{◌≡◌, ◌⊎◌, ℕ, ◌+◌, ◌≤◌, Bool, true, false, List, ◌∷◌, [], ◌++◌, length, Result, Ok, Err}
+use Rattle.std.specs.Prelude.{◌≡◌, ◌⊎◌, ℕ, zero, suc, ◌+◌, ◌<◌, ◌≤◌, Bool, true, false, List, ◌∷◌, [], ◌++◌, length, Result, Ok, Err}
 use Rattle.aio_base.specs.Timers.{fold_changes}
 use Rattle.aio_base.specs.declared.names.TimerId.{TimerId}
 use Rattle.aio_base.specs.declared.names.Waker.{Waker}
@@ -11,12 +11,12 @@ use Rattle.aio_timers.specs.declared.op.TimerOp.TheVariants as timer_op
 use Rattle.aio_ops.specs.declared.queue.Entry.{Entry}
 use Rattle.aio_timers.specs.Book.{change_of}
 use Rattle.aio_timers.specs.Room.{Book}
-use Rattle.aio_ops.specs.Passes.{PassView, Drains, RoseBy, pushed}
+use Rattle.aio_ops.specs.Passes.{PassView, Drains, FindsFull, RoseBy, pushed}
 use Rattle.aio_react.specs.declared.hosts.InsertRefusal.{InsertRefusal}
 use Rattle.aio_react.specs.declared.hosts.InsertRefusal.TheVariants as refusal
 use Rattle.aio_react.specs.Hosts.{next_id}
 use Rattle.aio_words.specs.Calls.{Offers, notify_steps}
-use Rattle.aio_shared.specs.Members.{MemberValue}
+use Rattle.aio_shared.specs.Members.{Extends, MemberValue}
 
 -- ## The pass of a member
 
@@ -43,33 +43,70 @@ pub record PushedNothing (before after : PassView) : Type 0 where
   pub fulls : before.fulls ≤ after.fulls
   pub empties : before.empties ≤ after.empties
 
--- An operation joined the queue: the pass pushed it, and nothing else.
+-- One try more of a pass: it drained the queue, and then its push found it full.
+pub record TriesInVain (before after : PassView) : Type 0 where
+  pub room : PassView
+  pub drained : Drained before room
+  pub full : FindsFull room after
+
+-- so many tries more, one after the other, each of which was in vain
+abbrev pub TriesAgain : ℕ → PassView → PassView → Type 0
+TriesAgain zero before after = after ≡ before
+TriesAgain (suc tries) before after = (mid : PassView) × TriesAgain tries before mid × TriesInVain mid after
+
+-- A push found the queue full, and so did that of each of so many tries more: so each push but the first came after a drain since the one before.
+pub record FoundFull (tries : ℕ) (before after : PassView) : Type 0 where
+  pub first : PassView
+  pub full : FindsFull before first
+  pub again : TriesAgain tries first after
+
+-- A push found the queue full, and so did that of each of fewer than 1,000 tries more, and then the pass drained the queue once more.
+pub record DrainsAgain (before after : PassView) : Type 0 where
+  pub tries : ℕ
+  pub few : tries < 1000
+  pub last : PassView
+  pub full : FoundFull tries before last
+  pub drained : Drained last after
+
+-- An operation joined the queue: the pass pushed it, at once or at one of at most 1,000 tries more, and pushed nothing else.
 pub record Queued (operation : TimerOp) (before after : PassView) : Type 0 where
   pub last : PassView
-  pub first : PushedNothing before last
+  pub first : (last ≡ before) ⊎ DrainsAgain before last
   pub pushed : after ≡ pushed operation last
 
--- An operation was kept out of the queue: at least 1,000 pushes found it full, and then the pass drained it once more. It is left to the call to
--- apply the operation to the book itself.
+-- An operation was kept out of the queue: its first push found it full, and so did that of each of 1,000 tries more, and then the pass drained it
+-- once more. It is left to the call to apply the operation to the book itself.
 pub record KeptOut (before after : PassView) : Type 0 where
   pub last : PassView
-  pub first : PushedNothing before last
-  pub fulls : RoseBy 1000 before.fulls last.fulls
+  pub full : FoundFull 1000 before last
   pub drained : Drained last after
 
 -- one operation was carried out: it joined the queue, or the call applied it itself
 abbrev pub CarriesOut : TimerOp → PassView → PassView → Type 0
 CarriesOut operation before after = Queued operation before after ⊎ KeptOut before after
 
--- an operation was not carried out: a push found the queue full, and there was no room for a drain
-abbrev pub GivesUp : PassView → PassView → Type 0
-GivesUp before after = PushedNothing before after × RoseBy 1 before.fulls after.fulls
+-- An operation was not carried out: its first push found the queue full, and so did that of each of at most 1,000 tries more, and then there was no
+-- room for a drain.
+pub record GivesUp (before after : PassView) : Type 0 where
+  pub tries : ℕ
+  pub most : tries ≤ 1000
+  pub full : FoundFull tries before after
 
--- one more try of a pass to push an operation, after a drain: it pushed it, or found the queue full, or there was no room to drain
-abbrev pub TriesAgain : TimerOp → PassView → PassView → Result Bool OutOfMemory → Type 0
-TriesAgain operation before after (Ok true) = Queued operation before after
-TriesAgain operation before after (Ok false) = PushedNothing before after × RoseBy 1 before.fulls after.fulls
-TriesAgain operation before after (Err refused) = after ≡ before
+-- one try more of a pass to push an operation: it drained the queue and pushed it, or found the queue full, or there was no room to drain
+abbrev pub Tries : TimerOp → PassView → PassView → Result Bool OutOfMemory → Type 0
+Tries operation before after (Ok true) = (room : PassView) × Drained before room × (after ≡ pushed operation room)
+Tries operation before after (Ok false) = TriesInVain before after
+Tries operation before after (Err refused) = after ≡ before
+
+-- What carrying an operation out, or giving it up, leaves of a pass: its queue, its number and how many passes it made; what it pushed and popped still
+-- stands at the front, and no count has fallen.
+pub record IsLaterPass (old new : PassView) : Type 0 where
+  pub queue : new.queue ≡ old.queue
+  pub number : new.number ≡ old.number
+  pub own : Extends old.own new.own
+  pub pulled : Extends old.pulled new.pulled
+  pub fulls : old.fulls ≤ new.fulls
+  pub empties : old.empties ≤ new.empties
 
 -- ## The member
 

@@ -19,8 +19,8 @@ use std::alloc::Global;
 use std::marker::Model;
 use std::sync::{Arc, Mutex};
 
-/// A reactor that several threads share by reference. Contracts see which words it has, and which
-/// queue of operations on timers.
+/// A reactor that several threads share by reference. Contracts see its lock, its words, which queue of
+/// operations on timers it has, and whether it is sure of its arms.
 #[derive(Drop)]
 pub struct Shared<A: Arm, W: EventWait> {
     pub(crate) lock: RoundLock<W>,

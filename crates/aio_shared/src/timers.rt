@@ -4,7 +4,7 @@ ghost use Rattle.std.specs.Prelude.{◌≡◌, ◌+◌, ◌≤◌, IsTrue, IfOk,
 ghost use Rattle.aio_ops.specs.Passes.{Drains};
 ghost use Rattle.aio_react.specs.Hosts.{NotifierTells, has_id_left, insert_fault};
 ghost use Rattle.aio_shared.specs.Members.{IsLaterMember, IsMemberOf};
-ghost use Rattle.aio_shared.specs.TimerCalls.{CarriesOut, Drained, DrainsAndApplies, GivesUp, Inserts, Removes, TriesAgain};
+ghost use Rattle.aio_shared.specs.TimerCalls.{CarriesOut, Drained, DrainsAndApplies, GivesUp, Inserts, IsLaterPass, Removes, Tries};
 
 use crate::members::Member;
 use crate::shared::Shared;
@@ -26,8 +26,9 @@ impl<A: Arm, W: EventWait> Shared<A, W> {
     /// (`async-io` 2, `reactor.rs`, `Reactor::insert_timer`). Whoever waits for events is told. A
     /// member draws at most 2^40 - 1 ids.
     ///
-    /// The operation joins the queue. Where that is full, it is drained, at most 1,000 times; where it
-    /// is full all the same, the call applies the operation itself after one more drain.
+    /// The operation joins the queue. Where that is full, it is drained and the operation is pushed once
+    /// more, at most 1,000 times; where it is full all the same, the call applies the operation itself
+    /// after one more drain.
     ///
     /// # Errors
     ///
@@ -92,6 +93,7 @@ impl<A: Arm, W: EventWait> Shared<A, W> {
         requires belongs { p.old.queue ≡ self.now.ops }
         ensures done { OnOk result (CarriesOut op.now p.old p.new) }
         ensures refused { OnErr result (GivesUp p.old p.new) }
+        ensures later { IsLaterPass p.old p.new }
     {
         if self.ops.push(rt, p, *op).is_ok() {
             return Ok(());
@@ -114,7 +116,7 @@ impl<A: Arm, W: EventWait> Shared<A, W> {
         op: &TimerOp,
     ) -> Result<bool, OutOfMemory>
         requires belongs { p.old.queue ≡ self.now.ops }
-        ensures tries { TriesAgain op.now p.old p.new result }
+        ensures tries { Tries op.now p.old p.new result }
     {
         let mut guard = self.timers.lock(rt);
         let book = &mut *guard;
