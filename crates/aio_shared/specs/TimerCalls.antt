@@ -59,6 +59,9 @@ pub record FoundFull (tries : ℕ) (before after : PassView) : Type 0 where
   pub first : PassView
   pub full : FindsFull before first
   pub again : TriesAgain tries first after
+  -- so nothing joined the queue, and each push was counted
+  pub nothing : PushedNothing before after
+  pub fulls : RoseBy (tries + 1) before.fulls after.fulls
 
 -- A push found the queue full, and so did that of each of fewer than 1,000 tries more, and then the pass drained the queue once more.
 pub record DrainsAgain (before after : PassView) : Type 0 where
