@@ -1,0 +1,190 @@
+-- The steps of a member's seat, one list of them after another, what the swaps among them took, and the causes that they show.
+use Rattle.std.proofs.Common.{◌≡◌, ◌≢◌, ◌==◌, ◌^◌, ◌-◌, ◌≤◌, ℕ, Bool, true, false, ◌||◌, if◌then◌else◌, nat_lt, ◌/◌, ◌%◌, List, [], ◌∷◌, ◌++◌, length, drop, refl, sym, ap, ◌∙◌, subst, append-nil, append_assoc, le_refl, le_trans, Result, Ok, Err, IfOk, IfErr, ne_eqb}
+use Rattle.std.proofs.Math.Bool.{or-true}
+use Rattle.std.proofs.Math.Seq.{drop-append_seam}
+use Rattle.std.proofs.lemmas.List.Folds.{list_any-append}
+use Rattle.std.specs.List.{list_any}
+use Rattle.aio_base.specs.declared.names.Waker.{Waker}
+use Rattle.aio_base.specs.declared.seats.SeatView.{SeatView}
+use Rattle.aio_base.specs.declared.seats.WordStep.{WordStep}
+use Rattle.aio_base.specs.declared.seats.WordStep.TheVariants as word_step
+use Rattle.aio_base.specs.SharedWords.{after}
+use Rattle.aio_base.specs.WordCalls.{Found, all_wake_steps, is_look_at_end, park_steps, slot_steps, taken_masks, wake_steps}
+use Rattle.aio_base.proofs.WordCounts.{taken-append, taken-park}
+use Rattle.aio_words.specs.Calls.{Parks}
+use Rattle.aio_words.specs.Seats.{SeatValue}
+use Rattle.aio_shared.specs.declared.reacting.ReactedIn.{ReactedIn}
+use Rattle.aio_shared.specs.declared.reacting.ReactFault.{ReactFault}
+use Rattle.aio_shared.specs.declared.reacting.ReactFault.TheVariants as react_fault
+use Rattle.aio_shared.specs.Cells.{CellValue}
+use Rattle.aio_shared.specs.Inside.{InsideValue}
+use Rattle.aio_shared.specs.Later.{later_itself, later_further}
+use Rattle.aio_shared.specs.Members.{Extends, IsLaterMember, MemberValue, SharedValue}
+use Rattle.aio_shared.specs.Reacting.{NoteCounts, Reacts, Start, Wakes}
+use Rattle.aio_park.specs.Blocking.{HasFaultCause, gained}
+use Rattle.aio_park.specs.Driving.{Gains, mask_list}
+
+-- ## What the steps of a wake take: nothing
+
+exchange_takes : (b : Bool) (n : ℕ) → taken_masks (if b then word_step.ExchangeNotified n ∷ [] else []) ≡ []
+exchange_takes true n = refl
+exchange_takes false n = refl
+
+look_takes : (b c : Bool) (i n m : ℕ) → taken_masks (if b then word_step.LoadBlocked i n ∷ (if c then word_step.ExchangeNotified m ∷ [] else []) else []) ≡ []
+look_takes true c i n m = exchange_takes c m
+look_takes false c i n m = refl
+
+chosen_takes : (b : Bool) (steps : List WordStep) → taken_masks steps ≡ [] → taken_masks (if b then steps else []) ≡ []
+chosen_takes true steps none = none
+chosen_takes false steps none = refl
+
+slot_takes : (parker slot : ℕ) (f : Found) → taken_masks (slot_steps parker slot f) ≡ []
+slot_takes parker slot f = look_takes (f.in_mask == 0) (f.in_blocked == 1) parker f.in_blocked f.in_notified
+
+wake_takes : (waker parkers : ℕ) (f : Found) → taken_masks (wake_steps waker parkers f) ≡ []
+wake_takes waker parkers f = chosen_takes (nat_lt (waker / 64) parkers) (slot_steps (waker / 64) (waker % 64) f) (slot_takes (waker / 64) (waker % 64) f)
+
+wakes_take : (wakers : List Waker) (parkers : ℕ) (founds : List Found) → taken_masks (all_wake_steps wakers parkers founds) ≡ []
+wakes_take [] parkers founds = refl
+wakes_take (w ∷ wakers) parkers [] = refl
+wakes_take (w ∷ wakers) parkers (f ∷ founds) =
+    taken-append (wake_steps w.0 parkers f) (all_wake_steps wakers parkers founds) ∙ (λ i. wake_takes w.0 parkers f i ++ wakes_take wakers parkers founds i)
+
+-- ## What a seat gains
+
+pub gains_itself : (v : SeatView) → Gains v v []
+gains_itself v = record { steps = []; did = sym (append-nil v.did); taken = refl }
+
+pub gains_further : (a b c : SeatView) (xs ys : List ℕ) → Gains a b xs → Gains b c ys → Gains a c (xs ++ ys)
+gains_further a b c xs ys x y = record {
+  steps = x.steps ++ y.steps;
+  did = y.did ∙ ap (λ l. l ++ y.steps) x.did ∙ append_assoc a.did x.steps y.steps;
+  taken = taken-append x.steps y.steps ∙ (λ i. x.taken i ++ y.taken i);
+}
+
+-- a seat that is the same has gained nothing
+pub gains_same : (p q : SeatValue) → q ≡ p → Gains p.view q.view []
+gains_same p q same = subst (λ (s : SeatValue). Gains p.view s.view []) (sym same) (gains_itself p.view)
+
+-- one step
+pub gains_step : (s : WordStep) (v w : SeatView) → w ≡ after s v → Gains v w (taken_masks (s ∷ []))
+gains_step s v w stepped = record { steps = s ∷ []; did = ap (λ (x : SeatView). x.did) stepped; taken = refl }
+
+-- a swap that found nothing took nothing, and any other took what it found
+pub mask_none : (mask : ℕ) → mask ≡ 0 → mask_list mask ≡ []
+mask_none mask none = ap mask_list none
+
+pub mask_some : (mask : ℕ) → mask ≢ 0 → mask_list mask ≡ mask ∷ []
+mask_some mask some = ap (λ (b : Bool). if b then [] else mask ∷ []) (ne_eqb mask 0 some)
+
+pub gains_park : (parker found : ℕ) (v w : SeatView) → Parks parker found v w → Gains v w (mask_list found)
+gains_park parker found v w parked = subst (Gains v w) (sym (mask_some found parked.0)) record {
+  steps = park_steps parker parked.1.0 found;
+  did = ap (λ (x : SeatView). x.did) parked.1.1;
+  taken = taken-park parker parked.1.0 found parked.0;
+}
+
+-- and then nothing more
+pub gains_before : (a b c : SeatView) (xs : List ℕ) → Gains a b xs → Gains b c [] → Gains a c xs
+gains_before a b c xs x y = subst (Gains a c) (append-nil xs) (gains_further a b c xs [] x y)
+
+-- nothing, and then this
+pub gains_after : (a b c : SeatView) (xs ys : List ℕ) → xs ≡ [] → Gains a b xs → Gains b c ys → Gains a c ys
+gains_after a b c xs ys none x y = subst (λ l. Gains a c (l ++ ys)) none (gains_further a b c xs ys x y)
+
+-- the member took the cell, took what it took while it held it, and gave it back
+pub gains_locked : {N : Type 0} (a b c d : MemberValue N) (xs : List ℕ) → b ≡ record a { turn = b.turn } → Gains b.pass.view c.pass.view xs → d ≡ record c { turn = record c.turn { holds = false } }
+    → Gains a.pass.view d.pass.view xs
+gains_locked {N} a b c d xs taken took gave =
+    gains_after a.pass.view b.pass.view d.pass.view [] xs refl (gains_same a.pass b.pass (ap (λ (x : MemberValue N). x.pass) taken))
+    (gains_before b.pass.view c.pass.view d.pass.view xs took (gains_same c.pass d.pass (ap (λ (x : MemberValue N). x.pass) gave)))
+
+-- a wait that began where nothing was taken
+pub gains_where : (a b c : SeatView) (none : ℕ) (r : Result ℕ ReactFault) → none ≡ 0 → Gains a b (mask_list none) → IfOk r (λ mask. Gains b c (mask_list mask)) → IfOk r (λ mask. Gains a c (mask_list mask))
+gains_where a b c none (Ok mask) is x y = gains_after a b c (mask_list none) (mask_list mask) (mask_none none is) x y
+gains_where a b c none (Err fault) is x y = tt
+
+pub gains_wakes : (parkers : ℕ) (wakers : List Waker) (p q : SeatValue) → Wakes parkers wakers p q → Gains p.view q.view []
+gains_wakes parkers wakers p q woken = record {
+  steps = all_wake_steps wakers parkers woken.founds;
+  did = ap (λ (x : SeatValue). x.view.did) woken.seat;
+  taken = wakes_take wakers parkers woken.founds;
+}
+
+-- ## Causes
+
+any_within : {X : Type 0} (p : X → Bool) (xs ys zs : List X) → list_any p ys ≡ true → list_any p (xs ++ (ys ++ zs)) ≡ true
+any_within p xs ys zs some = list_any-append p xs (ys ++ zs) ∙ ap (λ b. list_any p xs || b) (list_any-append p ys zs ∙ ap (λ b. b || list_any p zs) some) ∙ or-true (list_any p xs)
+
+pub gained_is : (a b : SeatView) (steps : List WordStep) → b.did ≡ a.did ++ steps → gained a b ≡ steps
+gained_is a b steps did = ap (drop (length a.did)) did ∙ drop-append_seam a.did steps
+
+module _ {N W : Type 0} where
+  -- a call of `react_in` takes no mask
+  pub gains_reacts : (parkers : ℕ) (all_sure : Bool) (start : Start) (old new : CellValue W) (m later : MemberValue N) (note : NoteCounts) (r : Result ReactedIn ReactFault)
+      → Reacts parkers all_sure start old new m later note r → Gains m.pass.view later.pass.view []
+  gains_reacts parkers all_sure start old new m later note (Ok reacted) r = gains_wakes parkers new.round.taken m.pass later.pass r.0.woke
+  gains_reacts parkers all_sure start old new m later note (Err (react_fault.Wait fault)) r = gains_wakes parkers new.round.taken m.pass later.pass r.0.woke
+  gains_reacts parkers all_sure start old new m later note (Err (react_fault.Arm fault)) r = gains_wakes parkers new.round.taken m.pass later.pass r.0.woke
+  gains_reacts parkers all_sure start old new m later note (Err (react_fault.Notify fault)) r = gains_wakes parkers new.round.taken m.pass later.pass r.0.woke
+  gains_reacts parkers all_sure start old new m later note (Err react_fault.RoundsSpent) r = gains_same m.pass later.pass (ap (λ (x : MemberValue N). x.pass) r.1)
+  gains_reacts parkers all_sure start old new m later note (Err react_fault.OutOfMemory) r = gains_same m.pass later.pass (ap (λ (x : MemberValue N). x.pass) r.member)
+
+-- What holds of a member's state and a later one, also where it took or gave the cell between them.
+pub record Follows {N : Type 0} (faults : N → ℕ) (old new : MemberValue N) : Type 0 where
+  pub wait : new.turn.sure_of_wait ≡ old.turn.sure_of_wait
+  pub arms : new.turn.sure_of_arms ≡ old.turn.sure_of_arms
+  pub did : Extends old.pass.view.did new.pass.view.did
+  pub note : faults old.note ≤ faults new.note
+
+module _ {N : Type 0} (faults : N → ℕ) where
+  abbrev pub counts_of : MemberValue N → MemberValue N → NoteCounts
+  counts_of old new = record { before = faults old.note; after = faults new.note }
+
+  -- a cause in the middle of some steps is one over all of them
+  pub cause_within : (a b c d : MemberValue N) (fault : ReactFault) → Follows faults a b → Follows faults b c → HasFaultCause b c (counts_of b c) fault → Follows faults c d
+      → HasFaultCause a d (counts_of a d) fault
+  cause_within a b c d (react_fault.Wait fault) first mid cause last = sym first.wait ∙ cause
+  cause_within a b c d (react_fault.Arm fault) first mid cause last = sym first.arms ∙ cause
+  cause_within a b c d (react_fault.Notify fault) first mid cause last = record { least = le_trans first.note cause.least; most = le_trans cause.most last.note; rose = cause.rose }
+  cause_within a b c d react_fault.RoundsSpent first mid cause last =
+      let xs = first.did.0 in let ys = mid.did.0 in let zs = last.did.0 in
+      let whole : d.pass.view.did ≡ a.pass.view.did ++ (xs ++ (ys ++ zs)) = last.did.1 ∙ ap (λ l. l ++ zs) (mid.did.1 ∙ ap (λ l. l ++ ys) first.did.1)
+      ∙ append_assoc (a.pass.view.did ++ xs) ys zs ∙ append_assoc a.pass.view.did xs (ys ++ zs) in
+      ap (list_any is_look_at_end) (gained_is a.pass.view d.pass.view (xs ++ (ys ++ zs)) whole)
+      ∙ any_within is_look_at_end xs ys zs (sym (ap (list_any is_look_at_end) (gained_is b.pass.view c.pass.view ys mid.did.1)) ∙ cause)
+  cause_within a b c d react_fault.OutOfMemory first mid cause last = tt
+
+  pub follows_itself : (a : MemberValue N) → Follows faults a a
+  follows_itself a = record { wait = refl; arms = refl; did = ([], sym (append-nil a.pass.view.did)); note = le_refl (faults a.note) }
+
+  pub cause_where : (a b c : MemberValue N) (r : Result ℕ ReactFault) → Follows faults a b → Follows faults b c → IfErr r (HasFaultCause b c (counts_of b c)) → IfErr r (HasFaultCause a c (counts_of a c))
+  cause_where a b c (Ok mask) x y cause = tt
+  cause_where a b c (Err fault) x y cause = cause_within a b c c fault x y cause (follows_itself c)
+
+  pub follows_further : (a b c : MemberValue N) → Follows faults a b → Follows faults b c → Follows faults a c
+  follows_further a b c x y = record {
+    wait = y.wait ∙ x.wait;
+    arms = y.arms ∙ x.arms;
+    did = (x.did.0 ++ y.did.0, y.did.1 ∙ ap (λ l. l ++ y.did.0) x.did.1 ∙ append_assoc a.pass.view.did x.did.0 y.did.0);
+    note = le_trans x.note y.note;
+  }
+
+  module _ (is_sure : N → Bool) where
+    pub follows_later : (a b : MemberValue N) → IsLaterMember faults is_sure a b → Follows faults a b
+    follows_later a b later = record {
+      wait = ap (λ t. t.sure_of_wait) later.turn;
+      arms = ap (λ t. t.sure_of_arms) later.turn;
+      did = later.did;
+      note = later.note;
+    }
+
+    any_shared : MemberValue N → SharedValue
+    any_shared a = record { lock = a.turn.lock; words = record { identity = a.pass.words; parkers = 0 }; ops = a.ops.queue; sure_of_arms = a.turn.sure_of_arms }
+
+    pub member_itself : (a : MemberValue N) → IsLaterMember faults is_sure a a
+    member_itself a = (later_itself faults is_sure (record { shared = any_shared a; member = a })).member
+
+    pub member_further : (a b c : MemberValue N) → IsLaterMember faults is_sure a b → IsLaterMember faults is_sure b c → IsLaterMember faults is_sure a c
+    member_further a b c x y = let s = any_shared a in
+        (later_further faults is_sure (record { shared = s; member = a }) (record { shared = s; member = b }) (record { shared = s; member = c }) (record { shared = refl; member = x }) (record { shared = refl; member = y })).member

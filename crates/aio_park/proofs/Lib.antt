@@ -1,0 +1,4 @@
+pub mod Gaining
+pub mod Holding
+pub mod Asking
+pub mod Polling

@@ -1,0 +1,59 @@
+-- The polls of a group's slots one after the other, and what slots allow before one of them was polled and after.
+use Rattle.std.proofs.Common.{◌≡◌, ℕ, zero, suc, ◌+◌, ◌<◌, Bool, List, [], ◌∷◌, ◌++◌, map, length, take, drop, set, get_or, take_all, drop-set-lt, append_assoc, append-nil, refl, sym, ap, ◌∙◌, subst, arith}
+use Rattle.std.proofs.lemmas.List.{drop_more, take_more_set}
+use Rattle.aio_base.specs.declared.tasks.Cx.{Cx}
+use Rattle.aio_base.specs.declared.outcomes.Poll.{Poll}
+use Rattle.aio_park.specs.declared.group.Slot.{Slot}
+use Rattle.aio_park.specs.declared.group.Slot.TheVariants.{Ended}
+use Rattle.aio_park.specs.Groups.{is_woken, slot_cx, SlotAfter, SlotsAfter, SlotGives, SlotsGive}
+
+drop_whole : {X : Type 0} (xs : List X) → drop (length xs) xs ≡ []
+drop_whole [] = refl
+drop_whole (x ∷ xs) = drop_whole xs
+
+-- the slots that a list has for its own, where others follow
+pub own_front : {X : Type 0} (xs others : List X) (n : ℕ) → n ≡ length xs → take n (xs ++ others) ≡ xs
+own_front [] others zero all = refl
+own_front [] others (suc n) all = absurd (omega arith)
+own_front (x ∷ xs) others zero all = absurd (omega arith)
+own_front (x ∷ xs) others (suc n) all = ap (λ l. x ∷ l) (own_front xs others n (omega arith))
+
+module _ {T O : Type 0} (step : T → Cx → Poll O → T → Type 0) (polls : T → ℕ) where
+  -- The slots before this one were polled: whatever the polls of the others make of them, it joins what was made of those.
+  abbrev pub PolledBefore : ℕ → Cx → ℕ → List (Slot T O) → List (Slot T O) → Type 0
+  PolledBefore parker cx i old now =
+      (after : List (Slot T O)) → SlotsAfter step polls parker i cx (drop i now) after → SlotsAfter step polls parker 0 cx old (take i now ++ after)
+
+  pub polled_further : (parker i : ℕ) (cx : Cx) (old now : List (Slot T O)) (d new : Slot T O) → i < length now → PolledBefore parker cx i old now
+      → SlotAfter step polls (is_woken cx.mask i) (slot_cx parker i cx) (get_or now i d) new → PolledBefore parker cx (i + 1) old (set now i new)
+  polled_further parker i cx old now d new below so_far one = λ after rest.
+      let same : drop (i + 1) (set now i new) ≡ drop (i + 1) now = drop-set-lt (i + 1) now i new (omega arith) in
+      let others : SlotsAfter step polls parker (i + 1) cx (drop (i + 1) now) after = subst (λ l. SlotsAfter step polls parker (i + 1) cx l after) same rest in
+      let from : SlotsAfter step polls parker i cx (drop i now) (new ∷ after) =
+      subst (λ l. SlotsAfter step polls parker i cx l (new ∷ after)) (sym (drop_more now i d below)) (one, others) in
+      let joined : take (i + 1) (set now i new) ++ after ≡ take i now ++ new ∷ after =
+      ap (λ l. l ++ after) (take_more_set now i new below) ∙ append_assoc (take i now) (new ∷ []) after in
+      subst (λ l. SlotsAfter step polls parker 0 cx old l) (sym joined) (so_far (new ∷ after) from)
+
+  pub polled_all : (parker i : ℕ) (cx : Cx) (old now : List (Slot T O)) → i ≡ length now → PolledBefore parker cx i old now → SlotsAfter step polls parker 0 cx old now
+  polled_all parker i cx old now all so_far =
+      let none : drop i now ≡ [] = ap (λ k. drop k now) all ∙ drop_whole now in
+      let whole : take i now ++ [] ≡ now = append-nil (take i now) ∙ take_all i now (omega arith) in
+      subst (λ l. SlotsAfter step polls parker 0 cx old l) whole (so_far [] (subst (λ l. SlotsAfter step polls parker i cx l []) (sym none) tt))
+
+module _ {T O : Type 0} (gives : T → Bool → ℕ → O → Type 0) where
+  -- what slots allow of which one was polled they allowed before, if that one did
+  pub give_before : (now : List (Slot T O)) (i : ℕ) (d new : Slot T O) (sure : Bool) (moment : ℕ) → i < length now
+      → ((output : O) → SlotGives gives new sure moment output → SlotGives gives (get_or now i d) sure moment output)
+      → (outputs : List O) → SlotsGive gives (set now i new) sure moment outputs → SlotsGive gives now sure moment outputs
+  give_before [] i d new sure moment below one outputs given = absurd (omega arith)
+  give_before (slot ∷ slots) zero d new sure moment below one [] given = given
+  give_before (slot ∷ slots) zero d new sure moment below one (output ∷ outputs) given = (one output given.0, given.1)
+  give_before (slot ∷ slots) (suc i) d new sure moment below one [] given = given
+  give_before (slot ∷ slots) (suc i) d new sure moment below one (output ∷ outputs) given =
+      (given.0, give_before slots i d new sure moment (omega arith) one outputs given.1)
+
+  -- slots that have all ended allow their answers
+  pub ended_give : (outputs : List O) (sure : Bool) (moment : ℕ) → SlotsGive gives (map Ended outputs) sure moment outputs
+  ended_give [] sure moment = tt
+  ended_give (output ∷ outputs) sure moment = (refl, ended_give outputs sure moment)

@@ -1,0 +1,23 @@
+use Rattle.std.proofs.Common.{◌≡◌, true, false, sym, ap, ◌∙◌}
+use Rattle.aio_shared.specs.Members.{MemberValue}
+use Rattle.aio_shared.specs.OneCell.{TurnValue}
+use Rattle.aio_park.proofs.Holding.{drives_where, locked_later}
+use Rattle.aio_park.proofs.rounds.drive.Goals as goal
+
+pub returns-clause-drives : goal.returns-clause-drives
+returns-clause-drives g c =
+    drives_where g.N.Faults.fault_count c.args.shared.now.words.parkers c.args.shared.now.sure_of_arms (g.C.Clock.latest c.args.clock.now) c.args.rounds c.args.m.now c.take_round-cell.new.m
+    c.drive_rounds-driven.new.m c.give_round.new.m c.take_round-cell.result c.drive_rounds-driven.new.cell c.drive_rounds-driven.result
+    c.take_round-cell.ensures.takes c.take_round-cell.ensures.kept c.give_round.ensures.gave c.drive_rounds-driven.ensures.rounds
+
+pub returns-clause-cell : goal.returns-clause-cell
+returns-clause-cell g c =
+    let free : c.args.m.now.turn.holds ≡ false = sym (ap (λ (t : TurnValue). t.holds) c.take_round-cell.ensures.takes.waited) ∙ c.take_round-cell.ensures.takes.takes.before in
+    ap (λ (x : MemberValue g.row.N.Denot). x.turn.holds) c.give_round.ensures.gave ∙ sym free
+
+pub returns-clause-later : goal.returns-clause-later
+returns-clause-later g c =
+    let free : c.args.m.now.turn.holds ≡ false = sym (ap (λ (t : TurnValue). t.holds) c.take_round-cell.ensures.takes.waited) ∙ c.take_round-cell.ensures.takes.takes.before in
+    locked_later g.N.Faults.fault_count g.N.Faults.is_sure c.args.m.now c.take_round-cell.new.m c.drive_rounds-driven.new.m c.give_round.new.m c.take_round-cell.ensures.takes.last.empties free
+    c.take_round-cell.ensures.kept (c.take_round-cell.ensures.takes.takes.turn ∙ ap (λ (t : TurnValue). record t { holds = true }) c.take_round-cell.ensures.takes.waited)
+    c.drive_rounds-driven.ensures.later c.give_round.ensures.gave

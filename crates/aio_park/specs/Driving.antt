@@ -1,0 +1,65 @@
+-- Rounds that a member makes one after the other, while it holds the round cell.
+use Rattle.std.specs.Prelude.{◌≡◌, ℕ, zero, suc, ◌+◌, ◌≤◌, Bool, true, false, ◌==◌, if◌then◌else◌, List, [], ◌∷◌, ◌++◌, Option, None, Some, Result, Ok, Err, ⊤}
+use Rattle.aio_base.specs.declared.seats.SeatView.{SeatView}
+use Rattle.aio_base.specs.declared.seats.WordStep.{WordStep}
+use Rattle.aio_base.specs.WordCalls.{taken_masks}
+use Rattle.aio_shared.specs.declared.reacting.ReactedIn.{ReactedIn}
+use Rattle.aio_shared.specs.declared.reacting.ReactFault.{ReactFault}
+use Rattle.aio_shared.specs.Cells.{CellValue}
+use Rattle.aio_shared.specs.Members.{MemberValue}
+use Rattle.aio_shared.specs.OneCell.{Takes}
+use Rattle.aio_shared.specs.Reacting.{NoteCounts, Reacts, Start}
+
+-- A seat made some steps, by whose swaps it took these masks that were not 0.
+pub record Gains (old new : SeatView) (masks : List ℕ) : Type 0 where
+  pub steps : List WordStep
+  pub did : new.did ≡ old.did ++ steps
+  pub taken : taken_masks steps ≡ masks
+
+-- what a swap of a mask took that found this
+abbrev pub mask_list : ℕ → List ℕ
+mask_list mask = if mask == 0 then [] else mask ∷ []
+
+module _ {N W : Type 0} where
+  -- Tries to begin a round came to nothing: of the cell changed nothing but its seat, and of the member nothing but its seat, which looked at the ticker.
+  pub record ComesToNothing (old new : CellValue W) (m later : MemberValue N) : Type 0 where
+    pub cell : new ≡ record old { seat = new.seat }
+    pub member : later ≡ record m { pass = later.pass }
+
+  -- a call of `react_in`, and a look at the ticker where that answered that no round can begin
+  abbrev pub Tries : ℕ → Bool → Start → CellValue W → CellValue W → MemberValue N → MemberValue N → NoteCounts → Result (Option ReactedIn) ReactFault → Type 0
+  Tries parkers all_sure start old new m later note (Ok (Some reacted)) = Reacts parkers all_sure start old new m later note (Ok reacted)
+  Tries parkers all_sure start old new m later note (Ok None) = ComesToNothing old new m later
+  Tries parkers all_sure start old new m later note (Err fault) = ⊤
+
+  module _ (faults : N → ℕ) (parkers : ℕ) (all_sure : Bool) (earliest : ℕ) where
+    -- A whole round without a limit, or the rest of one that ran, after tries that came to nothing. It handled so many events.
+    pub record DrivesRound (old new : CellValue W) (m later : MemberValue N) (events : ℕ) : Type 0 where
+      pub from : CellValue W
+      pub by : MemberValue N
+      pub first : ComesToNothing old from m by
+      pub moment : ℕ
+      pub not_before : earliest ≤ moment
+      pub reacted : ReactedIn
+      pub reacts : Reacts parkers all_sure (record { given = None; earliest = moment }) from new by later
+          (record { before = faults by.note; after = faults later.note }) (Ok reacted)
+      pub events_are : events ≡ reacted.events
+
+    -- so many rounds, one after the other, which handled so many events together
+    abbrev pub DrivesRounds : ℕ → CellValue W → CellValue W → MemberValue N → MemberValue N → ℕ → Type 0
+    DrivesRounds zero old new m later events = (new ≡ old) × (later ≡ m) × (events ≡ 0)
+    DrivesRounds (suc rounds) old new m later events = (last : CellValue W) × (by : MemberValue N) × (before more : ℕ)
+        × DrivesRounds rounds old last m by before × DrivesRound last new by later more × (events ≡ before + more)
+
+-- the kinds of cell are those of one half that waits
+module _ {N : Type 0} (W : Type 0) (faults : N → ℕ) where
+  -- A member took the cell, made so many rounds without a limit, which handled so many events together, and gave the cell back.
+  pub record Drives (parkers : ℕ) (all_sure : Bool) (earliest rounds : ℕ) (m later : MemberValue N) (events : ℕ) : Type 0 where
+    pub taken : CellValue W
+    pub left : CellValue W
+    pub holding : MemberValue N
+    pub done : MemberValue N
+    pub takes : Takes m.turn holding.turn taken
+    pub rest : holding ≡ record m { turn = holding.turn }
+    pub rounds_are : DrivesRounds faults parkers all_sure earliest rounds taken left holding done events
+    pub gave : later ≡ record done { turn = record done.turn { holds = false } }

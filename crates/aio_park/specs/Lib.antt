@@ -1,0 +1,4 @@
+pub mod Blocking
+pub mod Driving
+pub mod Polls
+pub mod Groups

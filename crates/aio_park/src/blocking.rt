@@ -1,0 +1,357 @@
+//! A thread that polls a task until it ends, and makes rounds of a shared reactor in between.
+
+ghost use Rattle.std.specs.Prelude.{◌≡◌, ◌+◌, ◌^◌, ◌<◌, ◌≤◌, [], ◌∷◌, length, IfOk, IfErr, IfSome, OnErr};
+ghost use Rattle.aio_base.specs.WordCalls.{taken_masks};
+ghost use Rattle.aio_shared.specs.Cells.{IsIdle};
+ghost use Rattle.aio_shared.specs.Inside.{IsLaterInside};
+ghost use Rattle.aio_shared.specs.Members.{IsLaterMember, IsMemberOf};
+ghost use Rattle.aio_shared.specs.OneCell.{IsCellOf};
+ghost use Rattle.aio_words.specs.Seats.{Blocks};
+ghost use Rattle.aio_park.specs.Blocking.{HasFaultCause, PolledUntil, gained};
+ghost use Rattle.aio_park.specs.Driving.{Gains, mask_list};
+ghost use Rattle.aio_park.specs.Polls.{Polled};
+
+use crate::rounds::{BlockFault, react_once};
+use aio_base::{Arm, Clock, Cx, EventWait, Notify, Poll, Task};
+use aio_shared::{Inside, Member, ReactFault, RoundCell, Shared};
+use std::sync::Wait;
+
+/// Polls a task until it ends, and answers its output (`async-io` 2, `driver.rs`, `block_on`). The
+/// first poll comes at once, with a mask of all ones. Each later one comes after the thread took
+/// woken slots of its parker: those are its mask. In between the thread makes rounds where it has
+/// the reactor lock by a try, and parks where it has not. The clock is read once just before each
+/// poll.
+///
+/// A member that already holds the round cell never has the lock, so it parks, for ever where
+/// nobody else makes rounds. Where the call returns, by an answer or by a fault, other threads may
+/// be parked with nobody to make rounds for them: the caller knows of them, and hands over by a
+/// wake of a slot of each other parker.
+///
+/// # Errors
+///
+/// The fault of a round, handed on once the round seat is idle and the cell given back. The task is
+/// as its last poll left it, so a further call may go on with it. After `OutOfMemory` a round may
+/// run on in the cell, which the next one that makes a round resumes.
+pub fn block_on<
+    R: Wait + Copy,
+    N: Notify,
+    C: Clock,
+    A: Arm,
+    W: EventWait,
+    T: Task<Inside<R, N, A, W>>,
+>(
+    host: &mut Inside<R, N, A, W>,
+    parker: u32,
+    clock: &mut C,
+    task: &mut T,
+) -> Result<T::Output, BlockFault>
+    requires { parker < host.old.shared.words.parkers }
+    ensures output { IfOk result (λ output.
+        T.gives task.old (N.is_sure host.old.member.note) (10 ^ 18) output) }
+    ensures greatest { IfOk result (λ output. IfSome (C.bounds clock.old).greatest (λ moment.
+        T.gives task.old (N.is_sure host.old.member.note) moment output)) }
+    ensures polled { PolledUntil T.poll_step parker
+        (record {
+          bounds = C.bounds clock.old;
+          before = C.latest clock.old;
+          after = C.latest clock.new;
+        })
+        (gained host.old.member.pass.view host.new.member.pass.view)
+        task.old task.new result }
+    ensures polls { T.poll_count task.new ≤ T.poll_count task.old
+        + length (taken_masks (gained host.old.member.pass.view host.new.member.pass.view)) + 1 }
+    ensures pending { OnErr result ((output : T.Output)
+        → T.gives task.new (N.is_sure host.old.member.note) (10 ^ 18) output
+        → T.gives task.old (N.is_sure host.old.member.note) (10 ^ 18) output) }
+    ensures cause { IfErr result (HasFaultCause host.old.member host.new.member (record {
+      before = N.fault_count host.old.member.note;
+      after = N.fault_count host.new.member.note;
+    })) }
+    ensures cell { host.new.member.turn.holds ≡ host.old.member.turn.holds }
+    ensures later { IsLaterInside N.fault_count N.is_sure host.old host.new }
+    ensures bounds { C.bounds clock.new ≡ C.bounds clock.old }
+    ensures latest { C.latest clock.old ≤ C.latest clock.new }
+{
+    let rt = host.rt;
+    let mut mask = u64::MAX;
+    for _ in rt.forever() {
+        match poll_once(host, parker, mask, clock, task) {
+            Poll::Ready(output) => return Ok(output),
+            Poll::Pending => {}
+        }
+        match next_mask(host, parker, clock) {
+            Err(fault) => return Err(fault),
+            Ok(found) => mask = found,
+        }
+    }
+    unreachable!()
+}
+
+/// Polls the task once, at one reading of the clock.
+fn poll_once<R: Wait, N: Notify, C: Clock, A: Arm, W: EventWait, T: Task<Inside<R, N, A, W>>>(
+    host: &mut Inside<R, N, A, W>,
+    parker: u32,
+    mask: u64,
+    clock: &mut C,
+    task: &mut T,
+) -> Poll<T::Output>
+    ensures polled { Polled T.poll_step T.gives parker mask
+        (record {
+          bounds = C.bounds clock.old;
+          before = C.latest clock.old;
+          after = C.latest clock.new;
+        })
+        (N.is_sure host.old.member.note) task.old task.new result }
+    ensures polls { T.poll_count task.new ≤ T.poll_count task.old + 1 }
+    ensures later { IsLaterInside N.fault_count N.is_sure host.old host.new }
+    ensures bounds { C.bounds clock.new ≡ C.bounds clock.old }
+    ensures latest { C.latest clock.old ≤ C.latest clock.new }
+{
+    let now = clock.now();
+    let _bound = now.get();
+    task.poll(host, Cx { parker, mask, now })
+}
+
+/// The next woken slots of the parker, whose thread makes rounds or parks until there are some.
+fn next_mask<R: Wait + Copy, N: Notify, C: Clock, A: Arm, W: EventWait>(
+    host: &mut Inside<R, N, A, W>,
+    parker: u32,
+    clock: &mut C,
+) -> Result<u64, ReactFault>
+    requires { parker < host.old.shared.words.parkers }
+    ensures took { IfOk result (λ mask.
+        Gains host.old.member.pass.view host.new.member.pass.view (mask ∷ [])) }
+    ensures cause { IfErr result (HasFaultCause host.old.member host.new.member (record {
+      before = N.fault_count host.old.member.note;
+      after = N.fault_count host.new.member.note;
+    })) }
+    ensures later { IsLaterInside N.fault_count N.is_sure host.old host.new }
+    ensures bounds { C.bounds clock.new ≡ C.bounds clock.old }
+    ensures latest { C.latest clock.old ≤ C.latest clock.new }
+{
+    next_mask_of(&host.rt, &host.shared, &mut host.member, clock, parker)
+}
+
+/// Turns until one took woken slots.
+fn next_mask_of<R: Wait, N: Notify, C: Clock, A: Arm, W: EventWait>(
+    rt: &R,
+    shared: &Shared<A, W>,
+    m: &mut Member<N, W>,
+    clock: &mut C,
+    parker: u32,
+) -> Result<u64, ReactFault>
+    requires belongs { IsMemberOf shared.now m.old }
+    requires parker { parker < shared.now.words.parkers }
+    ensures took { IfOk result (λ mask. Gains m.old.pass.view m.new.pass.view (mask ∷ [])) }
+    ensures cause { IfErr result (HasFaultCause m.old m.new
+        (record { before = N.fault_count m.old.note; after = N.fault_count m.new.note })) }
+    ensures belongs { IsMemberOf shared.now m.new }
+    ensures later { IsLaterMember N.fault_count N.is_sure m.old m.new }
+    ensures bounds { C.bounds clock.new ≡ C.bounds clock.old }
+    ensures latest { C.latest clock.old ≤ C.latest clock.new }
+{
+    for _ in rt.forever() {
+        match turn(rt, shared, m, clock, parker) {
+            Err(fault) => return Err(fault),
+            Ok(mask) => {
+                if mask != 0 {
+                    return Ok(mask);
+                }
+            }
+        }
+    }
+    unreachable!()
+}
+
+/// One turn: takes the parker's woken slots. Where there are some, it makes a round that does not
+/// wait, if it has the reactor lock; where there are none, it waits for some. The slots that it
+/// took, or 0.
+fn turn<R: Wait, N: Notify, C: Clock, A: Arm, W: EventWait>(
+    rt: &R,
+    shared: &Shared<A, W>,
+    m: &mut Member<N, W>,
+    clock: &mut C,
+    parker: u32,
+) -> Result<u64, ReactFault>
+    requires belongs { IsMemberOf shared.now m.old }
+    requires parker { parker < shared.now.words.parkers }
+    ensures took { IfOk result (λ mask.
+        Gains m.old.pass.view m.new.pass.view (mask_list mask)) }
+    ensures cause { IfErr result (HasFaultCause m.old m.new
+        (record { before = N.fault_count m.old.note; after = N.fault_count m.new.note })) }
+    ensures belongs { IsMemberOf shared.now m.new }
+    ensures later { IsLaterMember N.fault_count N.is_sure m.old m.new }
+    ensures bounds { C.bounds clock.new ≡ C.bounds clock.old }
+    ensures latest { C.latest clock.old ≤ C.latest clock.new }
+{
+    let mask = take(shared, m, parker);
+    if mask == 0 {
+        return wait_for_slots(rt, shared, m, clock, parker);
+    }
+    match react_in_passing(rt, shared, m, clock) {
+        Err(fault) => Err(fault),
+        Ok(()) => Ok(mask),
+    }
+}
+
+/// The woken slots of the parker, by one swap of the member.
+fn take<N: Notify, A: Arm, W: EventWait>(
+    shared: &Shared<A, W>,
+    m: &mut Member<N, W>,
+    parker: u32,
+) -> u64
+    requires belongs { IsMemberOf shared.now m.old }
+    requires parker { parker < shared.now.words.parkers }
+    ensures took { Gains m.old.pass.view m.new.pass.view (mask_list result) }
+    ensures kept { m.new ≡ record m.old { pass = m.new.pass } }
+    ensures belongs { IsMemberOf shared.now m.new }
+    ensures later { IsLaterMember N.fault_count N.is_sure m.old m.new }
+{
+    shared.words().take(m.words_pass(), parker)
+}
+
+/// A round that does not wait, where the member has the reactor lock by a try.
+fn react_in_passing<R: Wait, N: Notify, C: Clock, A: Arm, W: EventWait>(
+    rt: &R,
+    shared: &Shared<A, W>,
+    m: &mut Member<N, W>,
+    clock: &mut C,
+) -> Result<(), ReactFault>
+    requires belongs { IsMemberOf shared.now m.old }
+    ensures took { Gains m.old.pass.view m.new.pass.view [] }
+    ensures cause { IfErr result (HasFaultCause m.old m.new
+        (record { before = N.fault_count m.old.note; after = N.fault_count m.new.note })) }
+    ensures belongs { IsMemberOf shared.now m.new }
+    ensures later { IsLaterMember N.fault_count N.is_sure m.old m.new }
+    ensures bounds { C.bounds clock.new ≡ C.bounds clock.old }
+    ensures latest { C.latest clock.old ≤ C.latest clock.new }
+{
+    match shared.try_round(rt, m) {
+        None => Ok(()),
+        Some(mut cell) => {
+            let reacted = react_once(rt, shared, m, &mut cell, clock, Some(0));
+            shared.give_round(rt, m, cell);
+            match reacted {
+                Err(fault) => Err(fault),
+                Ok(_) => Ok(()),
+            }
+        }
+    }
+}
+
+/// Waits until slots of the parker are woken: by rounds, where the member has the reactor lock by a
+/// try, else parked. The slots that it took then, or 0.
+fn wait_for_slots<R: Wait, N: Notify, C: Clock, A: Arm, W: EventWait>(
+    rt: &R,
+    shared: &Shared<A, W>,
+    m: &mut Member<N, W>,
+    clock: &mut C,
+    parker: u32,
+) -> Result<u64, ReactFault>
+    requires belongs { IsMemberOf shared.now m.old }
+    requires parker { parker < shared.now.words.parkers }
+    ensures took { IfOk result (λ mask.
+        Gains m.old.pass.view m.new.pass.view (mask_list mask)) }
+    ensures cause { IfErr result (HasFaultCause m.old m.new
+        (record { before = N.fault_count m.old.note; after = N.fault_count m.new.note })) }
+    ensures belongs { IsMemberOf shared.now m.new }
+    ensures later { IsLaterMember N.fault_count N.is_sure m.old m.new }
+    ensures bounds { C.bounds clock.new ≡ C.bounds clock.old }
+    ensures latest { C.latest clock.old ≤ C.latest clock.new }
+{
+    match shared.try_round(rt, m) {
+        None => Ok(park(rt, shared, m, parker)),
+        Some(mut cell) => {
+            let reacted = react_blocking(rt, shared, m, &mut cell, clock, parker);
+            shared.give_round(rt, m, cell);
+            match reacted {
+                Err(fault) => Err(fault),
+                Ok(()) => Ok(take(shared, m, parker)),
+            }
+        }
+    }
+}
+
+/// The woken slots of the parker, once there are some.
+fn park<R: Wait, N: Notify, A: Arm, W: EventWait>(
+    rt: &R,
+    shared: &Shared<A, W>,
+    m: &mut Member<N, W>,
+    parker: u32,
+) -> u64
+    requires belongs { IsMemberOf shared.now m.old }
+    requires parker { parker < shared.now.words.parkers }
+    ensures took { Gains m.old.pass.view m.new.pass.view (mask_list result) }
+    ensures belongs { IsMemberOf shared.now m.new }
+    ensures later { IsLaterMember N.fault_count N.is_sure m.old m.new }
+{
+    shared.words().park(rt, m.words_pass(), parker)
+}
+
+/// Says that the parker's thread is about to wait, makes rounds until slots of it are woken, and
+/// says that it waits no longer, also after a fault.
+fn react_blocking<R: Wait, N: Notify, C: Clock, A: Arm, W: EventWait>(
+    rt: &R,
+    shared: &Shared<A, W>,
+    m: &mut Member<N, W>,
+    cell: &mut RoundCell<W>,
+    clock: &mut C,
+    parker: u32,
+) -> Result<(), ReactFault>
+    requires belongs { IsMemberOf shared.now m.old }
+    requires cell { IsCellOf m.old.turn cell.old }
+    requires idle { IsIdle cell.old }
+    requires parker { parker < shared.now.words.parkers }
+    ensures took { Gains m.old.pass.view m.new.pass.view [] }
+    ensures cause { IfErr result (HasFaultCause m.old m.new
+        (record { before = N.fault_count m.old.note; after = N.fault_count m.new.note })) }
+    ensures idle { IsIdle cell.new }
+    ensures turn { m.new.turn ≡ m.old.turn }
+    ensures belongs { IsMemberOf shared.now m.new }
+    ensures cell { IsCellOf m.new.turn cell.new }
+    ensures later { IsLaterMember N.fault_count N.is_sure m.old m.new }
+    ensures bounds { C.bounds clock.new ≡ C.bounds clock.old }
+    ensures latest { C.latest clock.old ≤ C.latest clock.new }
+{
+    shared.words().block(cell.seat(), parker);
+    let reacted = react_until_woken(rt, shared, m, cell, clock);
+    shared.words().unblock(cell.seat());
+    reacted
+}
+
+/// Makes rounds until slots of the parker that the cell's seat blocks are woken. Before each round
+/// the seat looks at the mask, so that it waits only where no slot is woken; it blocks the same
+/// parker again on every answer.
+fn react_until_woken<R: Wait, N: Notify, C: Clock, A: Arm, W: EventWait>(
+    rt: &R,
+    shared: &Shared<A, W>,
+    m: &mut Member<N, W>,
+    cell: &mut RoundCell<W>,
+    clock: &mut C,
+) -> Result<(), ReactFault>
+    requires belongs { IsMemberOf shared.now m.old }
+    requires cell { IsCellOf m.old.turn cell.old }
+    requires blocks { Blocks cell.old.seat }
+    ensures took { Gains m.old.pass.view m.new.pass.view [] }
+    ensures cause { IfErr result (HasFaultCause m.old m.new
+        (record { before = N.fault_count m.old.note; after = N.fault_count m.new.note })) }
+    ensures mode { cell.new.seat.view.mode ≡ cell.old.seat.view.mode }
+    ensures turn { m.new.turn ≡ m.old.turn }
+    ensures belongs { IsMemberOf shared.now m.new }
+    ensures cell { IsCellOf m.new.turn cell.new }
+    ensures later { IsLaterMember N.fault_count N.is_sure m.old m.new }
+    ensures bounds { C.bounds clock.new ≡ C.bounds clock.old }
+    ensures latest { C.latest clock.old ≤ C.latest clock.new }
+{
+    for _ in rt.forever() {
+        match shared.words().take_or_wait(cell.seat()) {
+            Some(_) => return Ok(()),
+            None => {}
+        }
+        match react_once(rt, shared, m, cell, clock, None) {
+            Err(fault) => return Err(fault),
+            Ok(_) => {}
+        }
+    }
+    unreachable!()
+}

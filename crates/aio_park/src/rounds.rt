@@ -1,0 +1,190 @@
+//! A thread that does nothing but make rounds of a shared reactor.
+
+ghost use Rattle.std.specs.Prelude.{◌≡◌, ◌≤◌, [], IfOk, IfErr};
+ghost use Rattle.aio_base.specs.SharedWords.{blocking};
+ghost use Rattle.aio_shared.specs.Cells.{IsIdle};
+ghost use Rattle.aio_shared.specs.Members.{IsLaterMember, IsMemberOf};
+ghost use Rattle.aio_shared.specs.OneCell.{IsCellOf};
+ghost use Rattle.aio_words.specs.Seats.{IsIdleOrWaits};
+ghost use Rattle.aio_park.specs.Blocking.{HasFaultCause};
+ghost use Rattle.aio_park.specs.Driving.{Drives, DrivesRound, DrivesRounds, Gains, Tries};
+
+use aio_base::{Arm, Clock, EventWait, Notify};
+use aio_shared::{Member, ReactFault, ReactedIn, RoundCell, Shared};
+use std::sync::Wait;
+
+/// Why `block_on` or `drive` stops before its work is done: a fault of a round, handed on. `Wait`
+/// comes only in a reactor that is not sure of its wait, `Arm` only in one that is not sure of its
+/// arms, `Notify` only where the count of faults of the member's notifier rose, `RoundsSpent` only
+/// where the member found the ticker at 2^64 - 1, and `OutOfMemory` where memory ran out.
+pub type BlockFault = ReactFault;
+
+/// Makes so many rounds of a reactor, and answers how many events they handled together (`async-io`
+/// 2, `driver.rs`, `main_loop`). The call waits until its member has the reactor lock, makes the
+/// rounds without a limit in time, and gives the cell back on every answer. A round that an earlier
+/// call left running is resumed and counts as one of them.
+///
+/// A member that already holds the cell waits for itself. Where the call returns, other threads may
+/// be parked with nobody to make rounds for them: the caller knows of them, and hands over by a
+/// wake of a slot of each other parker.
+///
+/// # Errors
+///
+/// The fault of a round, handed on at once: `Wait`, `Arm` and `Notify` after a round that has
+/// ended, `RoundsSpent` where no round can begin any more, `OutOfMemory` with a round that may run
+/// on in the cell, which the next call resumes.
+pub fn drive<R: Wait, N: Notify, C: Clock, A: Arm, W: EventWait>(
+    rt: &R,
+    shared: &Shared<A, W>,
+    m: &mut Member<N, W>,
+    clock: &mut C,
+    rounds: u32,
+) -> Result<u64, BlockFault>
+    requires belongs { IsMemberOf shared.now m.old }
+    ensures drives { IfOk result (Drives W N.fault_count shared.now.words.parkers
+        shared.now.sure_of_arms (C.latest clock.old) rounds m.old m.new) }
+    ensures cause { IfErr result (HasFaultCause m.old m.new
+        (record { before = N.fault_count m.old.note; after = N.fault_count m.new.note })) }
+    ensures belongs { IsMemberOf shared.now m.new }
+    ensures kept { m.new ≡ record m.old {
+      turn = m.new.turn;
+      pass = m.new.pass;
+      ops = m.new.ops;
+      note = m.new.note;
+    } }
+    ensures cell { m.new.turn.holds ≡ m.old.turn.holds }
+    ensures later { IsLaterMember N.fault_count N.is_sure m.old m.new }
+    ensures bounds { C.bounds clock.new ≡ C.bounds clock.old }
+    ensures latest { C.latest clock.old ≤ C.latest clock.new }
+{
+    let mut cell = shared.take_round(rt, m);
+    let driven = drive_rounds(rt, shared, m, &mut cell, clock, rounds);
+    shared.give_round(rt, m, cell);
+    driven
+}
+
+/// Makes so many rounds with a cell, and answers the sum of their events. The cell is idle
+/// afterwards.
+fn drive_rounds<R: Wait, N: Notify, C: Clock, A: Arm, W: EventWait>(
+    rt: &R,
+    shared: &Shared<A, W>,
+    m: &mut Member<N, W>,
+    cell: &mut RoundCell<W>,
+    clock: &mut C,
+    rounds: u32,
+) -> Result<u64, ReactFault>
+    requires belongs { IsMemberOf shared.now m.old }
+    requires cell { IsCellOf m.old.turn cell.old }
+    requires idle { IsIdle cell.old }
+    ensures rounds { IfOk result (DrivesRounds N.fault_count shared.now.words.parkers
+        shared.now.sure_of_arms (C.latest clock.old) rounds cell.old cell.new m.old m.new) }
+    ensures cause { IfErr result (HasFaultCause m.old m.new
+        (record { before = N.fault_count m.old.note; after = N.fault_count m.new.note })) }
+    ensures idle { IsIdle cell.new }
+    ensures kept { m.new ≡ record m.old {
+      pass = m.new.pass;
+      ops = m.new.ops;
+      note = m.new.note;
+    } }
+    ensures belongs { IsMemberOf shared.now m.new }
+    ensures cell { IsCellOf m.new.turn cell.new }
+    ensures later { IsLaterMember N.fault_count N.is_sure m.old m.new }
+    ensures bounds { C.bounds clock.new ≡ C.bounds clock.old }
+    ensures latest { C.latest clock.old ≤ C.latest clock.new }
+{
+    let mut events = 0;
+    for _ in 0..rounds {
+        match drive_round(rt, shared, m, cell, clock) {
+            Err(fault) => return Err(fault),
+            Ok(handled) => events += handled as u64,
+        }
+    }
+    Ok(events)
+}
+
+/// Makes one round with a cell, and answers how many events it handled. A try that comes to nothing
+/// is none: it tries again.
+fn drive_round<R: Wait, N: Notify, C: Clock, A: Arm, W: EventWait>(
+    rt: &R,
+    shared: &Shared<A, W>,
+    m: &mut Member<N, W>,
+    cell: &mut RoundCell<W>,
+    clock: &mut C,
+) -> Result<u32, ReactFault>
+    requires belongs { IsMemberOf shared.now m.old }
+    requires cell { IsCellOf m.old.turn cell.old }
+    requires idle { IsIdle cell.old }
+    ensures round { IfOk result (DrivesRound N.fault_count shared.now.words.parkers
+        shared.now.sure_of_arms (C.latest clock.old) cell.old cell.new m.old m.new) }
+    ensures few { IfOk result (λ events. events ≤ 1024) }
+    ensures cause { IfErr result (HasFaultCause m.old m.new
+        (record { before = N.fault_count m.old.note; after = N.fault_count m.new.note })) }
+    ensures idle { IsIdle cell.new }
+    ensures kept { m.new ≡ record m.old {
+      pass = m.new.pass;
+      ops = m.new.ops;
+      note = m.new.note;
+    } }
+    ensures belongs { IsMemberOf shared.now m.new }
+    ensures cell { IsCellOf m.new.turn cell.new }
+    ensures later { IsLaterMember N.fault_count N.is_sure m.old m.new }
+    ensures bounds { C.bounds clock.new ≡ C.bounds clock.old }
+    ensures latest { C.latest clock.old ≤ C.latest clock.new }
+{
+    for _ in rt.forever() {
+        match react_once(rt, shared, m, cell, clock, None) {
+            Err(fault) => return Err(fault),
+            Ok(Some(reacted)) => return Ok(reacted.events),
+            Ok(None) => {}
+        }
+    }
+    unreachable!()
+}
+
+/// A call of `react_in`. Where that answers that no round can begin, the member looks at the
+/// ticker; where it finds less than its end, that call is as if it had not been made, and `None` is
+/// answered.
+pub(crate) fn react_once<R: Wait, N: Notify, C: Clock, A: Arm, W: EventWait>(
+    rt: &R,
+    shared: &Shared<A, W>,
+    m: &mut Member<N, W>,
+    cell: &mut RoundCell<W>,
+    clock: &mut C,
+    limit: Option<u64>,
+) -> Result<Option<ReactedIn>, ReactFault>
+    requires belongs { IsMemberOf shared.now m.old }
+    requires cell { IsCellOf m.old.turn cell.old }
+    requires seat { IsIdleOrWaits cell.old.seat }
+    ensures tries { Tries shared.now.words.parkers shared.now.sure_of_arms
+        (record { given = limit; earliest = C.latest clock.old }) cell.old cell.new m.old m.new
+        (record { before = N.fault_count m.old.note; after = N.fault_count m.new.note })
+        result }
+    ensures cause { IfErr result (HasFaultCause m.old m.new
+        (record { before = N.fault_count m.old.note; after = N.fault_count m.new.note })) }
+    ensures took { Gains m.old.pass.view m.new.pass.view [] }
+    ensures seat { cell.new.seat.view.mode ≡ blocking cell.old.seat.view.mode }
+    ensures kept { m.new ≡ record m.old {
+      pass = m.new.pass;
+      ops = m.new.ops;
+      note = m.new.note;
+    } }
+    ensures belongs { IsMemberOf shared.now m.new }
+    ensures cell { IsCellOf m.new.turn cell.new }
+    ensures later { IsLaterMember N.fault_count N.is_sure m.old m.new }
+    ensures bounds { C.bounds clock.new ≡ C.bounds clock.old }
+    ensures latest { C.latest clock.old ≤ C.latest clock.new }
+{
+    match shared.react_in(rt, m, cell, clock, limit) {
+        Ok(reacted) => Ok(Some(reacted)),
+        Err(ReactFault::RoundsSpent) => {
+            if shared.words().ticker(m.words_pass()) == u64::MAX {
+                return Err(ReactFault::RoundsSpent);
+            }
+            Ok(None)
+        }
+        Err(ReactFault::Wait(fault)) => Err(ReactFault::Wait(fault)),
+        Err(ReactFault::Arm(fault)) => Err(ReactFault::Arm(fault)),
+        Err(ReactFault::Notify(fault)) => Err(ReactFault::Notify(fault)),
+        Err(ReactFault::OutOfMemory) => Err(ReactFault::OutOfMemory),
+    }
+}
