@@ -12,26 +12,18 @@
 //! timers. So whoever is inside a source does not ask for the table.
 #![tactic(auto)]
 
-#[cfg(test)]
-mod calls_tests;
 mod cell;
-#[cfg(test)]
-mod devices;
 mod inside;
 mod members;
 mod reacting;
 mod round_lock;
-#[cfg(test)]
-mod round_tests;
 mod seats;
 mod shared;
-#[cfg(test)]
-mod shared_tests;
 mod source_table;
 mod sources;
-#[cfg(test)]
-mod sources_tests;
 mod starting;
+#[cfg(test)]
+mod tests;
 mod timers;
 mod waking;
 

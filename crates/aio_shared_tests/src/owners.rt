@@ -1,0 +1,86 @@
+//! A thread with a source of its own.
+
+ghost use Rattle.std.specs.Prelude.{◌≡◌, false, IfOk};
+
+use crate::callers::Caller;
+use aio_base::{Arm, Dir, EventWait, Notify, Poll, Waker};
+use aio_devices::SureArm;
+use aio_shared::{InsertFault, Shared, SourceRef};
+use aio_source::notes::calls_keep_the_notes_of_their_cell;
+use aio_source::{Polled, SourceCell};
+use std::sync::Wait;
+use std::test::Fail;
+
+/// Inserts a connection, which is let go where it is refused.
+pub(crate) fn insert_io<A: Arm + Drop, W: EventWait, R: Wait>(
+    rt: &R,
+    shared: &Shared<A, W>,
+    io: A,
+) -> Result<SourceRef<A>, InsertFault>
+    ensures belongs { IfOk result (λ s. s.words ≡ shared.now.words.identity) }
+    ensures outside { IfOk result (λ s. s.inside ≡ false) }
+{
+    match shared.sources(rt).insert(io) {
+        Ok(token) => Ok(token),
+        Err((_, fault)) => Err(fault),
+    }
+}
+
+/// A caller with the token of a source of its own, which is outside.
+#[derive(Drop)]
+pub(crate) struct Owner<R: Wait, N: Notify, A: Arm, W: EventWait> {
+    pub(crate) caller: Caller<R, N, A, W>,
+    source: SourceRef<A>,
+    ghost belongs: { source.words ≡ caller.host.shared.words.identity },
+    ghost outside: { source.inside ≡ false },
+}
+
+/// Polls a direction of an entered source.
+fn poll_cell<A: Arm>(cell: &mut SourceCell<A>, dir: Dir, waker: Waker, ticker: u64) -> Polled
+    ensures { cell.new.state.key ≡ cell.old.state.key }
+{
+    calls_keep_the_notes_of_their_cell::<A>();
+    cell.state.poll_dir(&mut cell.io, dir, waker, ticker)
+}
+
+impl<R: Wait + Copy, N: Notify + Drop, A: Arm + Drop, W: EventWait + Drop> Owner<R, N, A, W> {
+    /// Inserts a connection.
+    pub(crate) fn new(caller: Caller<R, N, A, W>, io: A) -> Result<Owner<R, N, A, W>, InsertFault> {
+        let source = insert_io(&caller.host.rt, &caller.host.shared, io)?;
+        Ok(Owner { caller, source })
+    }
+}
+
+impl<R: Wait, N: Notify, A: Arm, W: EventWait> Owner<R, N, A, W> {
+    /// Enters the source, polls a direction of it, and leaves it.
+    pub(crate) fn poll(&mut self, dir: Dir, waker: Waker) -> Polled {
+        let ticker = self.caller.ticker();
+        let host = &self.caller.host;
+        let mut cell = host.shared.enter(&host.rt, &mut self.source);
+        let polled = poll_cell(&mut cell, dir, waker, ticker);
+        host.shared.leave(&mut self.source, cell);
+        polled
+    }
+}
+
+impl<R: Wait, N: Notify, W: EventWait> Owner<R, N, SureArm, W> {
+    /// Enters the source, polls it with waker 3, raises its connection's number by one, and leaves it.
+    /// Whether the poll was pending.
+    pub(crate) fn poll_and_count(&mut self) -> bool {
+        let host = &self.caller.host;
+        let mut cell = host.shared.enter(&host.rt, &mut self.source);
+        let polled = poll_cell(&mut cell, Dir::Read, Waker(3), 0);
+        cell.io.number = cell.io.number.saturating_add(1);
+        host.shared.leave(&mut self.source, cell);
+        polled.answer == Poll::Pending
+    }
+
+    /// Enters and leaves the source. The number of its connection.
+    pub(crate) fn number(&mut self) -> u64 {
+        let host = &self.caller.host;
+        let cell = host.shared.enter(&host.rt, &mut self.source);
+        let number = cell.io.number;
+        host.shared.leave(&mut self.source, cell);
+        number
+    }
+}

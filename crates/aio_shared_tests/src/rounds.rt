@@ -1,0 +1,68 @@
+//! What no clause says of rounds: that they end with ample memory, and what one that meets a failing device
+//! answers.
+
+use crate::asserts::same;
+use crate::callers::{
+    Caller, Reaction, clock_at, enter, enter_quiet, fault_after, insert, moment, reacted,
+};
+use aio_base::{TimerId, Waker};
+use aio_devices::{
+    FailingNotify, FailingWait, MemNotify, MemWait, ScriptedWait, SureArm, WaitAnswer,
+};
+use aio_react::TimerHost;
+use aio_shared::ReactFault;
+use std::test::Fail;
+
+#[test]
+fn a_round_wakes_no_timer_that_was_taken_out(rt: HostRuntime) -> Result<(), Fail> {
+    let mut caller = enter_quiet(&rt, rt.alloc())?;
+    let mut clock = clock_at(&rt, rt.alloc(), 10)?;
+    let nine = moment(&rt, 9);
+    let Ok(id) = insert(&mut caller.host, nine, Waker(0)) else {
+        return Err(Fail::from("no timer"));
+    };
+    same(&rt, caller.host.remove_timer(nine, id), Ok(()));
+    same(&rt, caller.react(&mut clock), reacted(0, 0));
+    Ok(())
+}
+
+/// A round whose wait failed, after so many faults of it.
+fn wait_failed_after(before: u64) -> Reaction {
+    Some(Err(ReactFault::Wait(fault_after(before))))
+}
+
+#[test]
+fn a_failed_wait_is_told_and_the_due_timer_woken(rt: HostRuntime) -> Result<(), Fail> {
+    let wait = FailingWait::new(0, vec![in rt.alloc(); 1, 2]?);
+    let mut caller: Caller<_, _, SureArm, _> = enter(&rt, rt.alloc(), wait, MemNotify::new())?;
+    let mut clock = clock_at(&rt, rt.alloc(), 5)?;
+    let inserted = insert(&mut caller.host, moment(&rt, 5), Waker(3));
+    same(&rt, inserted, Ok(TimerId(1)));
+    same(&rt, caller.react(&mut clock), wait_failed_after(0));
+    same(&rt, caller.take(), 8);
+    same(&rt, caller.react(&mut clock), wait_failed_after(1));
+    Ok(())
+}
+
+#[test]
+fn an_interrupted_wait_is_no_fault(rt: HostRuntime) -> Result<(), Fail> {
+    let wait = ScriptedWait::new(vec![in rt.alloc(); WaitAnswer::Interrupted]?);
+    let mut caller: Caller<_, _, SureArm, _> = enter(&rt, rt.alloc(), wait, MemNotify::new())?;
+    let mut clock = clock_at(&rt, rt.alloc(), 5)?;
+    same(&rt, caller.react(&mut clock), reacted(0, 0));
+    same(&rt, caller.look_at_cell(), (1, true, 1));
+    Ok(())
+}
+
+#[test]
+fn a_seat_that_waits_blocks_again_and_is_notified(rt: HostRuntime) -> Result<(), Fail> {
+    let note = FailingNotify::new();
+    let mut caller: Caller<_, _, SureArm, _> = enter(&rt, rt.alloc(), MemWait::new(0), note)?;
+    let mut clock = clock_at(&rt, rt.alloc(), 5)?;
+    let inserted = insert(&mut caller.host, moment(&rt, 5), Waker(0));
+    same(&rt, inserted.is_err(), true);
+    let answer = caller.react_waiting(&mut clock);
+    same(&rt, answer, Some(Err(ReactFault::Notify(fault_after(1)))));
+    same(&rt, caller.take(), 1);
+    Ok(())
+}
