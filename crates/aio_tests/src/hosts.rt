@@ -1,25 +1,27 @@
-//! What no clause says: that the traits can be met, and that code over the bounds alone knows what
-//! its calls have done.
+//! A host of timers and tasks, and code over the bounds of hosts. That they are proved shows that the traits
+//! can be met, and that such code knows what its calls have done.
 
 ghost use Rattle.std.specs.Prelude.{◌≡◌, ◌-◌, ◌^◌, ◌≤◌, false, IfSome, None};
 ghost use Rattle.aio_react.specs.Hosts.{NotifierTells, next_id, wake_fault};
 
-use crate::asserts::same;
 use aio_base::{CountFault, Later, Moment, OutOfMemory, TimerId, Waker};
 use aio_react::{Host, InsertRefusal, TimerHost};
-use std::test::Fail;
 
-const LAST_ID: u64 = 0xff_ffff_ffff;
+/// The id after which a pass draws none.
+pub const LAST_ID: u64 = 0xff_ffff_ffff;
 
 const PASS: u64 = 3;
 
 /// A host in its third pass that keeps the timer that it registered last and counts what else it
 /// does. Its notifier fails where it is told to.
 #[derive(Drop)]
-struct Counting {
-    drawn: u64,
-    last: Option<(Moment, Waker, TimerId)>,
-    removals: u64,
+pub struct Counting {
+    /// How many ids it has drawn.
+    pub drawn: u64,
+    /// What it registered last.
+    pub last: Option<(Moment, Waker, TimerId)>,
+    /// How many timers it has taken out.
+    pub removals: u64,
     wakes: u64,
     fails: bool,
     faults: u64,
@@ -109,7 +111,7 @@ impl Host for Counting {
 }
 
 /// Registers a timer, where there is an id and nothing fails.
-pub(crate) fn insert<H: TimerHost>(host: &mut H, at: Moment, waker: Waker) -> Option<TimerId>
+pub fn insert<H: TimerHost>(host: &mut H, at: Moment, waker: Waker) -> Option<TimerId>
     ensures inserted { IfSome result (λ id. H.rules.inserted host.old at waker id host.new) }
     ensures id { IfSome result (λ id.
         id ≡ next_id (H.rules.pass host.old) (H.rules.drawn host.old)) }
@@ -123,7 +125,7 @@ pub(crate) fn insert<H: TimerHost>(host: &mut H, at: Moment, waker: Waker) -> Op
 }
 
 /// Registers a timer with each of two wakers, and takes the first out again.
-pub(crate) fn insert_two<H: TimerHost>(
+pub fn insert_two<H: TimerHost>(
     host: &mut H,
     at: Moment,
     first: Waker,
@@ -141,7 +143,7 @@ pub(crate) fn insert_two<H: TimerHost>(
 }
 
 /// Counts the rounds, and wakes a task.
-fn count_and_wake<H: Host>(host: &mut H, waker: Waker) -> (u64, Result<(), CountFault>)
+pub fn count_and_wake<H: Host>(host: &mut H, waker: Waker) -> (u64, Result<(), CountFault>)
     ensures later { H.is_later host.old host.new }
     ensures sure { H.notifier_is_sure host.new ≡ H.notifier_is_sure host.old }
     ensures ids { H.rules.drawn host.new ≡ H.rules.drawn host.old }
@@ -150,7 +152,8 @@ fn count_and_wake<H: Host>(host: &mut H, waker: Waker) -> (u64, Result<(), Count
     (rounds, host.wake(waker))
 }
 
-fn make_counting(drawn: u64, fails: bool) -> Counting
+/// A host that has drawn so many ids and done nothing else, whose notifier fails or does not.
+pub fn make_counting(drawn: u64, fails: bool) -> Counting
     requires { drawn ≤ 2 ^ 40 - 1 }
 {
     Counting {
@@ -161,42 +164,4 @@ fn make_counting(drawn: u64, fails: bool) -> Counting
         fails,
         faults: 0,
     }
-}
-
-#[test]
-fn ids_count_from_one_behind_the_pass(rt: HostRuntime) -> Result<(), Fail> {
-    let mut host = make_counting(0, false);
-    let at = Moment::new(10).ok_or("no moment")?;
-    let ids = insert_two(&mut host, at, Waker(1), Waker(2));
-    let wanted = (TimerId(3_298_534_883_329), TimerId(3_298_534_883_330));
-    same(&rt, ids, Some(wanted));
-    same(&rt, (host.removals, host.drawn), (1, 2));
-    same(&rt, count_and_wake(&mut host, Waker(2)), (1, Ok(())));
-    Ok(())
-}
-
-#[test]
-fn a_pass_ends_at_its_last_id(rt: HostRuntime) -> Result<(), Fail> {
-    let mut host = make_counting(LAST_ID - 1, false);
-    let at = Moment::new(10).ok_or("no moment")?;
-    let last = TimerId(4_398_046_511_103);
-    same(&rt, insert(&mut host, at, Waker(1)), Some(last));
-    same(&rt, insert(&mut host, at, Waker(1)), None);
-    Ok(())
-}
-
-#[test]
-fn a_timer_is_registered_where_the_notifier_fails(rt: HostRuntime) -> Result<(), Fail> {
-    let mut host = make_counting(0, true);
-    let at = Moment::new(10).ok_or("no moment")?;
-    assert!(rt; host.ids_left());
-    let id = TimerId(3_298_534_883_329);
-    let fault = CountFault {
-        before: 0,
-        after: 1,
-    };
-    let refusal = InsertRefusal::Notify { id, fault };
-    same(&rt, host.insert_timer(at, Waker(1)), Err(refusal));
-    same(&rt, host.last, Some((at, Waker(1), id)));
-    Ok(())
 }

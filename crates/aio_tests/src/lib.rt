@@ -2,7 +2,8 @@
 //! the poller in memory, and a source in a lock.
 //!
 //! They stand above every crate that they use, so that none of those is proved a second time for its
-//! tests. There is no other code here.
+//! tests. Of other code there is a host of the tests' own, with code over any host: it has contracts, so
+//! that wrong ones are refused.
 #![tactic(auto)]
 
 #[cfg(test)]
@@ -12,7 +13,10 @@ mod cells;
 #[cfg(test)]
 mod core_rounds;
 #[cfg(test)]
-mod hosts;
+mod devices;
+#[cfg(test)]
+mod host_tests;
+pub mod hosts;
 #[cfg(test)]
 mod listeners;
 #[cfg(test)]

@@ -3,9 +3,9 @@
 
 use crate::asserts::same;
 use crate::reactors::new_core;
-use crate::rounds::OneEvent;
-use aio_base::{ArmFault, Dir, Key, Poll, Poller, Waker};
+use aio_base::{ArmFault, Dir, Key, Poll, Poller, Waker, Which};
 use aio_react::{Core, CoreRefusal};
+use aio_script::ScriptPoller;
 use std::process::Abort;
 use std::test::Fail;
 
@@ -113,8 +113,10 @@ fn assert_fails<P: Poller>(rt: &impl Abort, core: &mut Core<P>, before: u64, aft
     same(rt, step(core, 1, 11), Ok(Poll::Ready(Err(fault))));
 }
 
-fn set_failing(core: &mut Core<OneEvent>, fails: bool) {
-    core.poller().fails = fails;
+/// Asserts that the next arm fails, the poller's fault after so many.
+fn fail_next(rt: &impl Abort, core: &mut Core<ScriptPoller>, before: u64, after: u64) {
+    core.poller().fail_next(Which::Arm);
+    assert_fails(rt, core, before, after);
 }
 
 #[test]
@@ -122,10 +124,8 @@ fn a_listener_stays_where_its_arm_failed(rt: HostRuntime) -> Result<(), Fail> {
     let mut core = new_core(rt.alloc())?;
     same(&rt, add(&mut core), Ok(SOURCE));
     assert_listens(&rt, &mut core, Dir::Read, 1);
-    set_failing(&mut core, true);
-    assert_fails(&rt, &mut core, 0, 1);
-    assert_fails(&rt, &mut core, 1, 2);
-    set_failing(&mut core, false);
+    fail_next(&rt, &mut core, 0, 1);
+    fail_next(&rt, &mut core, 1, 2);
     assert_waits(&rt, &mut core, 1, 11);
     same(&rt, unlisten(&mut core, 1), Ok(()));
     Ok(())

@@ -3,16 +3,17 @@
 
 use crate::asserts::same;
 use crate::hosts::insert_two;
-use crate::rounds::{OneEvent, moment, quiet};
+use crate::rounds::moment;
 use aio_base::{EventWait, Key, Poller, TimerId, Waited, Waker};
 use aio_react::{Core, CoreRefusal};
+use aio_script::ScriptPoller;
 use std::alloc::Global;
 use std::process::Abort;
 use std::test::Fail;
 
 /// A core over a poller that has no event.
-pub(crate) fn new_core(alloc: Global) -> Result<Core<OneEvent>, Fail> {
-    match Core::new(alloc, quiet()) {
+pub(crate) fn new_core(alloc: Global) -> Result<Core<ScriptPoller>, Fail> {
+    match Core::new(alloc, ScriptPoller::new(alloc)?) {
         Ok(core) => Ok(core),
         Err(_) => Err(Fail::from("there is no memory")),
     }

@@ -1,14 +1,14 @@
 //! What no clause says of a round: that its calls succeed with ample memory, through the bounds of
 //! what they are lent too, and how they follow one another.
 
-ghost use Rattle.std.specs.Prelude.{◌≡◌, [], true, false, IsErr};
-ghost use Rattle.aio_base.specs.Devices.{HasCause};
+ghost use Rattle.std.specs.Prelude.{◌≡◌, [], true};
 
 use crate::asserts::same;
 use aio_base::{
-    Arm, ArmFault, CountFault, Dir, Event, EventWait, Failed, Faults, Interest, Key, Moment,
-    OutOfMemory, Poll, Poller, TimerId, Waited, Waker,
+    Arm, ArmFault, CountFault, Dir, Event, EventWait, Interest, Key, Moment, OutOfMemory, Poll,
+    TimerId, Waited, Waker,
 };
+use aio_devices::{FailingArm, ScriptedWait, WaitAnswer};
 use aio_react::{Round, RoundFault};
 use aio_source::SourceState;
 use aio_timers::{TimerBook, TimerOp};
@@ -24,120 +24,10 @@ const READABLE: Event = Event {
     on: Interest::READ,
 };
 
-/// A poller that gives one event, where it has one. It is interrupted or fails where it is told to.
-#[derive(Drop)]
-pub(crate) struct OneEvent {
-    event: Option<Event>,
-    interrupts: bool,
-    pub(crate) fails: bool,
-    faults: u64,
-    waits: u64,
-}
-
-impl OneEvent {
-    /// A call that fails where the poller was told to fail.
-    fn try_call(&mut self) -> Result<(), Failed>
-        ensures cause { HasCause self.old.faults self.new.faults false (IsErr result) }
-        ensures rest { self.new ≡ record self.old { faults = self.new.faults } }
-    {
-        if self.fails {
-            self.faults = self.faults.saturating_add(1);
-            return Err(Failed);
-        }
-        Ok(())
-    }
-}
-
-impl Faults for OneEvent {
-    ghost fault_count = { λ p. p.faults };
-
-    ghost is_sure = { λ p. false };
-
-    ghost all_sure = { false };
-
-    ghost use Rattle.std.proofs.lemmas.Bool.{false≢true};
-
-    ghost sure_below_top = { λ p sure. absurd (false≢true sure) };
-
-    ghost each_sure = { λ p sure. sure };
-
-    fn faults(&self) -> u64 {
-        self.faults
-    }
-}
-
-impl Arm for OneEvent {
-    ghost use Rattle.std.specs.Prelude.{[], ◌∷◌, None};
-
-    ghost interests = { λ p. None };
-
-    ghost rest = { λ p. p.waits ∷ [] };
-
-    ghost arm_step = { λ old call answer new. Unit {0} };
-
-    fn add(&mut self, _key: Key) -> Result<(), Failed> {
-        self.try_call()
-    }
-
-    fn arm(&mut self, _key: Key, _on: Interest) -> Result<(), Failed> {
-        self.try_call()
-    }
-
-    fn remove(&mut self, _key: Key) -> Result<(), Failed> {
-        self.try_call()
-    }
-}
-
-impl EventWait for OneEvent {
-    ghost wait_count = { λ p. p.waits };
-
-    ghost wait_step = { λ old call answer added new. Unit {0} };
-
-    fn wait(
-        &mut self,
-        out: &mut Vec<Event>,
-        room: u32,
-        _limit: Option<u64>,
-    ) -> Result<Waited, Failed> {
-        self.waits = self.waits.saturating_add(1);
-        self.try_call()?;
-        if self.interrupts {
-            return Ok(Waited::Interrupted);
-        }
-        match self.event.take() {
-            Some(event) if room > 0 => {
-                out.push_reserved(event);
-                Ok(Waited::Given(1))
-            }
-            _ => Ok(Waited::Given(0)),
-        }
-    }
-
-    fn waits(&self) -> u64 {
-        self.waits
-    }
-}
-
-impl Poller for OneEvent {
-    ghost use Rattle.std.specs.Prelude.{slice_index_or};
-    ghost use Rattle.std.proofs.Common.{ap};
-
-    ghost wait_clears = { λ old new call answer added did. tt };
-
-    ghost waits_in_rest = { λ a b same. ap (λ rest. slice_index_or rest 0 0) same };
-}
-
-pub(crate) fn quiet() -> OneEvent {
-    OneEvent {
-        event: None,
-        interrupts: false,
-        fails: false,
-        faults: 0,
-        waits: 0,
-    }
-}
-
-pub(crate) fn moment(rt: &impl Abort, nanoseconds: u64) -> Moment {
+/// The moment so many nanoseconds after the clock's start.
+pub(crate) fn moment(rt: &impl Abort, nanoseconds: u64) -> Moment
+    ensures { result ≡ nanoseconds }
+{
     Moment::new(nanoseconds).expect(rt, "the moment is at most 10^18")
 }
 
@@ -149,10 +39,10 @@ fn insert(rt: &impl Abort, book: &mut TimerBook, deadline: u64, waker: u32) -> R
 }
 
 /// Asserts that a poll waits.
-fn poll_pending(
+fn poll_pending<A: Arm>(
     rt: &impl Abort,
     source: &mut SourceState,
-    arm: &mut OneEvent,
+    arm: &mut A,
     dir: Dir,
     waker: Waker,
 ) {
@@ -161,7 +51,7 @@ fn poll_pending(
 }
 
 /// A source whose reader is the second waker and whose writer the third.
-fn waited_for(rt: &impl Abort, alloc: Global, arm: &mut OneEvent) -> SourceState {
+fn waited_for<A: Arm>(rt: &impl Abort, alloc: Global, arm: &mut A) -> SourceState {
     let mut source = SourceState::new(alloc, KEY);
     poll_pending(rt, &mut source, arm, Dir::Read, Waker(2));
     poll_pending(rt, &mut source, arm, Dir::Write, Waker(3));
@@ -199,22 +89,33 @@ fn serve<W: EventWait, A: Arm>(
 struct Lending {
     round: Round,
     book: TimerBook,
-    wait: OneEvent,
+    wait: ScriptedWait,
     source: SourceState,
-    arm: OneEvent,
+    arm: FailingArm,
 }
 
-/// An idle round, and a source that two tasks wait for.
-fn make_lending(rt: &impl Abort, alloc: Global) -> Result<Lending, Fail> {
-    let mut arm = quiet();
+/// An idle round over a wait with these answers, and a source that two tasks wait for. Each of them polled,
+/// which armed the source; the arms with the numbers in `fails` fail.
+fn make_lending(
+    rt: &impl Abort,
+    alloc: Global,
+    answers: Vec<WaitAnswer>,
+    fails: Vec<u64>,
+) -> Result<Lending, Fail> {
+    let mut arm = FailingArm::new(0, fails);
     let source = waited_for(rt, alloc, &mut arm);
     Ok(Lending {
         round: Round::new(alloc)?,
         book: TimerBook::new(alloc),
-        wait: quiet(),
+        wait: ScriptedWait::new(answers),
         source,
         arm,
     })
+}
+
+/// A wait that gives one event.
+fn gives(alloc: Global, event: Event) -> Result<WaitAnswer, Fail> {
+    Ok(WaitAnswer::Gives(vec![in alloc; event]?))
 }
 
 impl Lending {
@@ -271,11 +172,11 @@ fn assert_ended(rt: &impl Abort, round: &Round) {
 
 #[test]
 fn a_round_wakes_what_it_took(rt: HostRuntime) -> Result<(), Fail> {
-    let mut lending = make_lending(&rt, rt.alloc())?;
+    let answers = vec![in rt.alloc(); gives(rt.alloc(), READABLE)?]?;
+    let mut lending = make_lending(&rt, rt.alloc(), answers, Vec::new(rt.alloc()))?;
     insert(&rt, &mut lending.book, 10, 1)?;
     assert_new(&rt, &lending.round);
     same(&rt, lending.begin(&rt, 10, None), Ok(Some(0)));
-    lending.wait.event = Some(READABLE);
     same(
         &rt,
         lending.serve(&rt),
@@ -294,9 +195,7 @@ fn fail_wait(rt: &impl Abort, lending: &mut Lending) -> CountFault {
         before: 0,
         after: 1,
     };
-    lending.wait.fails = true;
     same(rt, lending.serve(rt), Ok((Err(failed), None)));
-    lending.wait.fails = false;
     failed
 }
 
@@ -307,8 +206,6 @@ fn fail_arm(rt: &impl Abort, lending: &mut Lending) {
         before: 0,
         after: 1,
     };
-    lending.wait.event = Some(READABLE);
-    lending.arm.fails = true;
     same(
         rt,
         lending.serve(rt),
@@ -318,7 +215,8 @@ fn fail_arm(rt: &impl Abort, lending: &mut Lending) {
 
 #[test]
 fn the_first_fault_of_a_round_stays(rt: HostRuntime) -> Result<(), Fail> {
-    let mut lending = make_lending(&rt, rt.alloc())?;
+    let answers = vec![in rt.alloc(); WaitAnswer::Fails, gives(rt.alloc(), READABLE)?]?;
+    let mut lending = make_lending(&rt, rt.alloc(), answers, vec![in rt.alloc(); 3]?)?;
     same(&rt, lending.begin(&rt, 0, None), Ok(None));
     let first = Some(RoundFault::Wait(fail_wait(&rt, &mut lending)));
     fail_arm(&rt, &mut lending);
@@ -342,18 +240,16 @@ fn assert_left(rt: &impl Abort, lending: &Lending, given: u32, timers: usize) {
     same(rt, lending.round.woken().len().saturating_add(timers), 1);
 }
 
-/// A round whose timer is reached while it waits; the wait is interrupted, or gives this event.
+/// A round whose timer is reached while it waits, for this answer.
 fn assert_second_pass(
     rt: &impl Abort,
-    mut lending: Lending,
-    interrupts: bool,
-    event: Option<Event>,
+    alloc: Global,
+    answer: WaitAnswer,
     given: u32,
     timers: usize,
 ) -> Result<(), Fail> {
+    let mut lending = make_lending(rt, alloc, vec![in alloc; answer]?, Vec::new(alloc))?;
     begin_before_a_timer(rt, &mut lending)?;
-    lending.wait.interrupts = interrupts;
-    lending.wait.event = event;
     same(rt, lending.serve(rt)?.1, None);
     same(rt, lending.finish(rt, 10), Ok(None));
     assert_left(rt, &lending, given, timers);
@@ -367,7 +263,7 @@ fn only_a_wait_that_gave_no_event_asks_for_a_second_pass(rt: HostRuntime) -> Res
         key: Key(9),
         on: Interest::READ,
     };
-    assert_second_pass(&rt, make_lending(&rt, alloc)?, false, None, 0, 0)?;
-    assert_second_pass(&rt, make_lending(&rt, alloc)?, true, None, 0, 1)?;
-    assert_second_pass(&rt, make_lending(&rt, alloc)?, false, Some(stray), 1, 1)
+    assert_second_pass(&rt, alloc, WaitAnswer::Gives(Vec::new(alloc)), 0, 0)?;
+    assert_second_pass(&rt, alloc, WaitAnswer::Interrupted, 0, 1)?;
+    assert_second_pass(&rt, alloc, gives(alloc, stray)?, 1, 1)
 }
