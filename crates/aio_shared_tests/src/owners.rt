@@ -63,24 +63,58 @@ impl<R: Wait, N: Notify, A: Arm, W: EventWait> Owner<R, N, A, W> {
     }
 }
 
+/// Polls the read direction of a source with waker 3, raises its connection's number by one, and leaves it.
+/// Whether the poll was pending.
+fn poll_and_count_in<R: Wait, W: EventWait>(
+    rt: &R,
+    shared: &Shared<SureArm, W>,
+    token: &mut SourceRef<SureArm>,
+) -> bool
+    requires belongs { token.old.words ≡ shared.now.words.identity }
+    requires outside { token.old.inside ≡ false }
+    ensures belongs { token.new.words ≡ shared.now.words.identity }
+    ensures outside { token.new.inside ≡ false }
+{
+    let mut cell = shared.enter(rt, token);
+    let polled = poll_cell(&mut cell, Dir::Read, Waker(3), 0);
+    cell.io.number = cell.io.number.saturating_add(1);
+    shared.leave(token, cell);
+    polled.answer == Poll::Pending
+}
+
+/// Enters and leaves a source. The number of its connection.
+fn number_in<R: Wait, W: EventWait>(
+    rt: &R,
+    shared: &Shared<SureArm, W>,
+    token: &mut SourceRef<SureArm>,
+) -> u64
+    requires belongs { token.old.words ≡ shared.now.words.identity }
+    requires outside { token.old.inside ≡ false }
+    ensures belongs { token.new.words ≡ shared.now.words.identity }
+    ensures outside { token.new.inside ≡ false }
+{
+    let cell = shared.enter(rt, token);
+    let number = cell.io.number;
+    shared.leave(token, cell);
+    number
+}
+
 impl<R: Wait, N: Notify, W: EventWait> Owner<R, N, SureArm, W> {
-    /// Enters the source, polls it with waker 3, raises its connection's number by one, and leaves it.
-    /// Whether the poll was pending.
+    /// Polls the source and raises its connection's number by one. Whether the poll was pending.
     pub(crate) fn poll_and_count(&mut self) -> bool {
-        let host = &self.caller.host;
-        let mut cell = host.shared.enter(&host.rt, &mut self.source);
-        let polled = poll_cell(&mut cell, Dir::Read, Waker(3), 0);
-        cell.io.number = cell.io.number.saturating_add(1);
-        host.shared.leave(&mut self.source, cell);
-        polled.answer == Poll::Pending
+        poll_and_count_in(
+            &self.caller.host.rt,
+            &self.caller.host.shared,
+            &mut self.source,
+        )
     }
 
-    /// Enters and leaves the source. The number of its connection.
+    /// The number of the source's connection.
     pub(crate) fn number(&mut self) -> u64 {
-        let host = &self.caller.host;
-        let cell = host.shared.enter(&host.rt, &mut self.source);
-        let number = cell.io.number;
-        host.shared.leave(&mut self.source, cell);
-        number
+        number_in(
+            &self.caller.host.rt,
+            &self.caller.host.shared,
+            &mut self.source,
+        )
     }
 }
