@@ -7,14 +7,16 @@ ghost use Rattle.aio_listen.specs.Nodes.{node_at, with_node, with_next, with_pre
 use crate::link::Link;
 use slab::Slab;
 
-/// A listener in its list: its serial, the waker that it waits with, if any, and the links to its
-/// neighbours in the order of arrival.
+/// A listener in its list: the waker that it waits with, if any, the links to its neighbours in the
+/// order of arrival, and its serial.
 #[derive(Clone, Copy)]
 pub(crate) struct Node<W: Copy> {
-    pub(crate) serial: u64,
+    // Fields lie in this order: a poll writes the waker alone, which lies beside the slab's own mark
+    // of the entry, so that the two are never in two lines of the cache.
     pub(crate) waker: Option<W>,
     pub(crate) previous: Link,
     pub(crate) next: Link,
+    pub(crate) serial: u64,
 }
 
 /// Has the node at the end of a link, if there is one, lead on to another.

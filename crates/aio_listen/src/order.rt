@@ -24,10 +24,10 @@ pub(crate) fn append<W: Copy>(nodes: &mut Slab<Node<W>>, last: Link, serial: u64
         return None;
     }
     let node = Node {
-        serial,
         waker: None,
         previous: last,
         next: Link::none(),
+        serial,
     };
     match nodes.insert(node) {
         Err(_) => None,
