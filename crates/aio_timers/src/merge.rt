@@ -2,6 +2,7 @@
 
 ghost use Rattle.std.specs.Prelude.{◌≡◌, ◌≢◌, ◌<◌, ◌^◌, ◌++◌, length, ℕ, List, [], ◌∷◌, None, Some, IfSome};
 ghost use Rattle.aio_timers.specs.Held.{held_at, node_at};
+ghost use Rattle.aio_timers.specs.Precedes.{precedes};
 ghost use Rattle.aio_timers.specs.Writes.{joined, lower, upper, paired, behind_pair, upper_of_pair};
 ghost use Rattle.aio_timers.specs.Rows.{IsInside};
 ghost use Rattle.aio_timers.specs.Family.{Family, AreTops, Pairs, Gathers, Merges};
@@ -17,13 +18,27 @@ fn in_order(nodes: &[Node], a: usize, b: usize) -> (usize, usize)
     ensures upper { result.0 ≡ upper nodes.now a b }
     ensures lower { result.1 ≡ lower nodes.now a b }
 {
-    let one = nodes[a];
-    let other = nodes[b];
-    if other.is_before(&one) {
+    if is_before(nodes, b, a) {
         (b, a)
     } else {
         (a, b)
     }
+}
+
+/// Whether a node fires before another one. The ids are read only where the deadlines are equal: of
+/// most nodes a merge then uses 20 bytes side by side, which seldom lie across two lines of the
+/// cache.
+fn is_before(nodes: &[Node], at: usize, other: usize) -> bool
+    requires here { at < length nodes.now }
+    requires other { other < length nodes.now }
+    ensures { result ≡ precedes (held_at nodes.now at) (held_at nodes.now other) }
+{
+    let own = nodes[at].deadline.get();
+    let limit = nodes[other].deadline.get();
+    if own == limit {
+        return nodes[at].id.0 < nodes[other].id.0;
+    }
+    own < limit
 }
 
 /// Makes one tree of two, with one comparison: the root that fires later becomes the first child of

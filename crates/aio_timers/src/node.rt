@@ -2,7 +2,6 @@
 
 ghost use Rattle.std.specs.Prelude.{◌≡◌, Some, None, ◌==◌, ◌&&◌, nat_le};
 ghost use Rattle.aio_timers.specs.Held.{held_of, lone_node, free_node, is_pair_of};
-ghost use Rattle.aio_timers.specs.Precedes.{precedes};
 
 use crate::link::Link;
 use aio_base::{Moment, TimerId, Waker};
@@ -56,18 +55,6 @@ impl Node {
             next,
             prev: Link::none(),
         }
-    }
-
-    /// Whether it fires before another node.
-    pub(crate) fn is_before(&self, other: &Node) -> bool
-        ensures { result ≡ precedes (held_of self.now) (held_of other.now) }
-    {
-        let own = self.deadline.get();
-        let limit = other.deadline.get();
-        if own == limit {
-            return self.id.0 < other.id.0;
-        }
-        own < limit
     }
 
     /// Whether it has this deadline and this id.
