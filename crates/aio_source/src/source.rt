@@ -145,6 +145,7 @@ impl SourceState {
             } }
         ensures after { let p = polling self.old dir w ticker in
             self.new ≡ settled p.arms (told (armed_in result.answer)) p.source }
+        ensures key { self.new.key ≡ self.old.key }
         ensures lent { let p = polling self.old dir w ticker in
             UsesArm A.arm_step A.interests A.rest A.fault_count A.is_sure
             p.arms (arm_of p.source) (told (armed_in result.answer)) arm.old arm.new }
@@ -191,6 +192,7 @@ impl SourceState {
             (A.fault_count arm.new) (told (armed_first result)) }
         ensures after { let p = listening_first self.old dir w (ticket_in result) in
             self.new ≡ settled p.arms (told (armed_first result)) p.source }
+        ensures key { self.new.key ≡ self.old.key }
         ensures lent { let p = listening_first self.old dir w (ticket_in result) in
             UsesArm A.arm_step A.interests A.rest A.fault_count A.is_sure
             p.arms (arm_of p.source) (told (armed_first result)) arm.old arm.new }
@@ -231,6 +233,7 @@ impl SourceState {
             (A.fault_count arm.new) (told (armed_in result))) }
         ensures after { let p = polling_again self.old dir l w in
             self.new ≡ settled p.arms (told (armed_in result)) p.source }
+        ensures key { self.new.key ≡ self.old.key }
         ensures lent { let p = polling_again self.old dir l w in
             UsesArm A.arm_step A.interests A.rest A.fault_count A.is_sure
             p.arms (arm_of p.source) (told (armed_in result)) arm.old arm.new }
