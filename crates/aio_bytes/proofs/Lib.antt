@@ -1,3 +1,4 @@
 pub mod LineLaws
 pub mod LineLemmas
 pub mod Written
+pub mod BufferedReads

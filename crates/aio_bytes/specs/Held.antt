@@ -1,5 +1,5 @@
 -- What a reader of lines holds of a source, and what a read of it adds.
-use Rattle.std.specs.Prelude.{◌≡◌, ℕ, ◌==◌, ◌||◌, Bool, false, List, ◌++◌, length, take, Option, Result, Ok, Err}
+use Rattle.std.specs.Prelude.{◌≡◌, ℕ, ◌==◌, ◌≤◌, Bool, false, List, ◌++◌, length, take, min, Option, Result, Ok, Err, IfOk}
 use Rattle.std.specs.List.{list_any}
 use Rattle.std.specs.Io.KnownBytes.{Consumes, IsAtEnd}
 use Rattle.aio_base.specs.declared.outcomes.Failed.{Failed}
@@ -9,15 +9,14 @@ abbrev pub with_bytes : Result ℕ Failed → List ℕ → Result (List ℕ) Fai
 with_bytes (Ok count) bytes = Ok (take count bytes)
 with_bytes (Err failed) bytes = Err failed
 
--- The line found last without its line feed, the bytes read after it, and whether the last read gave less than it was asked for. A read that failed, or that was not made yet, counts as short.
+-- a read that has room for so many bytes, of a source with so many in hand: where it succeeds it gives those, as far as there is room
+abbrev pub GivesInHand : ℕ → ℕ → Result ℕ Failed → Type 0
+GivesInHand in_hand room answer = IfOk answer (λ n. min room in_hand ≤ n)
+
+-- the line found last without its line feed, and the bytes read after it
 pub record Held : Type 0 where
   pub line : List ℕ
   pub ahead : List ℕ
-  pub short : Bool
-
--- whether the next read may have to wait: the last one was short, or no byte of an unfinished line is in hand
-abbrev pub may_wait : Held → Bool
-may_wait held = held.short || length held.ahead == 0
 
 abbrev pub is_line_feed : ℕ → Bool
 is_line_feed byte = byte == 10

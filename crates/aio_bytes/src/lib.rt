@@ -17,7 +17,7 @@ mod tests;
 pub mod traits;
 pub mod writing;
 
-pub use adapters::{StdSink, StdSource};
+pub use adapters::{BufferedSource, StdSink, StdSource};
 pub use lines::{LONGEST, LineReader};
 pub use memory::{MemSink, MemSource};
 pub use sure::{SureSink, SureSource};

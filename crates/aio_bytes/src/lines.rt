@@ -1,11 +1,11 @@
 //! A reader of the lines of a source, which holds a bounded number of bytes of it.
 
-ghost use Rattle.std.specs.Prelude.{◌≡◌, ◌+◌, ◌-◌, ◌<◌, ◌≤◌, ◌==◌, ◌++◌, ◌∷◌, [], ◌||◌, ◌↔◌, true, length, take, drop, slice_range, nat_lt, position, IsTrue, IsErr, IfOk, OnErr};
+ghost use Rattle.std.specs.Prelude.{◌≡◌, ◌+◌, ◌-◌, ◌<◌, ◌≤◌, ◌==◌, ◌++◌, ◌∷◌, [], ◌↔◌, length, take, drop, slice_range, position, IsTrue, IsErr, IfOk, OnErr};
 ghost use Rattle.std.specs.List.{position_or_len};
 ghost use Rattle.std.specs.Bool.{OnTrue, OnFalse};
 ghost use Rattle.std.specs.Io.KnownBytes.{Keeps, ReadConsumes};
 ghost use Rattle.aio_base.specs.Devices.{TellsFaults};
-ghost use Rattle.aio_bytes.specs.Held.{HasNoLineFeed, PutsAhead, may_wait, with_bytes};
+ghost use Rattle.aio_bytes.specs.Held.{HasNoLineFeed, PutsAhead, with_bytes};
 
 use crate::traits::Source;
 use aio_base::Failed;
@@ -23,7 +23,7 @@ pub const LONGEST: usize = 257;
 /// found by a scan of its bytes and lies in place: nothing is copied and no memory is taken. What
 /// is in hand of an unfinished line is moved to the front of the buffer when more is read.
 ///
-/// Contracts see the line found last, the bytes read after it, and whether the last read was short.
+/// Contracts see the line found last and the bytes read after it.
 #[derive(Drop)]
 pub struct LineReader {
     buffer: Vec<u8>,
@@ -31,7 +31,6 @@ pub struct LineReader {
     line_end: usize,
     start: usize,
     end: usize,
-    short: bool,
 }
 
 impl Model for LineReader {
@@ -40,7 +39,7 @@ impl Model for LineReader {
 
     ghost Value = { Held };
 
-    ghost view = { λ r. record { line = slice_range r.buffer.items r.line_start r.line_end; ahead = slice_range r.buffer.items r.start r.end; short = r.short } };
+    ghost view = { λ r. record { line = slice_range r.buffer.items r.line_start r.line_end; ahead = slice_range r.buffer.items r.start r.end } };
 
     ghost invariant = { λ r. (vec_len r.buffer ≡ 257) × (r.line_start ≤ r.line_end) × (r.line_end ≤ 257) × (r.start ≤ r.end) × (r.end ≤ 257) };
 }
@@ -50,7 +49,6 @@ impl LineReader {
     pub fn new(alloc: Global) -> Result<LineReader, AllocError>
         ensures line { IfOk result (λ reader. reader.line ≡ []) }
         ensures ahead { IfOk result (λ reader. reader.ahead ≡ []) }
-        ensures short { IfOk result (λ reader. reader.short ≡ true) }
     {
         let buffer = Vec::from_array(alloc, [0; LONGEST])?;
         Ok(LineReader {
@@ -59,7 +57,6 @@ impl LineReader {
             line_end: 0,
             start: 0,
             end: 0,
-            short: true,
         })
     }
 
@@ -71,7 +68,6 @@ impl LineReader {
         ensures none { OnFalse result (HasNoLineFeed self.old.ahead) }
         ensures kept { OnFalse result (self.new.ahead ≡ self.old.ahead) }
         ensures no_line { OnFalse result (self.new.line ≡ []) }
-        ensures short { self.new.short ≡ self.old.short }
         ensures bound { length self.new.ahead ≤ LONGEST }
     {
         self.line_start = self.start;
@@ -98,11 +94,8 @@ impl LineReader {
             (with_bytes result (drop (length self.old.ahead) self.new.ahead)) source.new }
         ensures ok { IfOk result (PutsAhead (S.remaining source.old) (S.remaining source.new)
             self.old.ahead self.new.ahead) }
-        ensures short { IfOk result (λ n.
-            self.new.short ≡ nat_lt n (LONGEST - length self.old.ahead)) }
         ensures ahead { OnErr result (self.new.ahead ≡ self.old.ahead) }
         ensures kept { OnErr result (Keeps (S.remaining source.old) (S.remaining source.new)) }
-        ensures failed { OnErr result (self.new.short ≡ true) }
         ensures line { self.new.line ≡ [] }
         ensures bound { length self.new.ahead ≤ LONGEST }
         ensures faults { TellsFaults S.Faults.fault_count S.Faults.is_sure
@@ -117,13 +110,9 @@ impl LineReader {
         match read_behind(source, self.buffer.as_mut_slice(), held) {
             Ok(n) => {
                 self.end = held + n;
-                self.short = n < LONGEST - held;
                 Ok(n)
             }
-            Err(failed) => {
-                self.short = true;
-                Err(failed)
-            }
+            Err(failed) => Err(failed),
         }
     }
 
@@ -131,7 +120,6 @@ impl LineReader {
     pub fn take_rest(&mut self)
         ensures line { self.new.line ≡ self.old.ahead }
         ensures ahead { self.new.ahead ≡ [] }
-        ensures short { self.new.short ≡ self.old.short }
     {
         self.line_start = self.start;
         self.line_end = self.end;
@@ -160,14 +148,6 @@ impl LineReader {
         ensures room { OnFalse result (length self.now.ahead < LONGEST) }
     {
         self.end - self.start == LONGEST
-    }
-
-    /// Whether the next read may have to wait: the last one gave less than it was asked for or
-    /// failed, or none was made yet, or no byte of an unfinished line is in hand.
-    pub fn may_wait(&self) -> bool
-        ensures { result ≡ may_wait self.now }
-    {
-        self.short || self.end == self.start
     }
 }
 

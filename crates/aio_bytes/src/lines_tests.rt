@@ -38,7 +38,13 @@ impl Faults for Pieces<'_> {
 impl Source for Pieces<'_> {
     ghost remaining = { λ _. None };
 
+    ghost in_hand = { λ _. 0 };
+
     ghost read_step = { λ old room answer new. Unit {0} };
+
+    fn in_hand(&self) -> usize {
+        0
+    }
 
     fn read(&mut self, buf: &mut [u8]) -> Result<usize, Failed> {
         if self.fails {
@@ -133,7 +139,6 @@ fn takes_a_line_of_256_bytes_and_no_longer_one(rt: HostRuntime) -> Result<(), Fa
 fn finds_several_lines_of_one_read(rt: HostRuntime) -> Result<(), Fail> {
     let mut source = source_of(b"a\nbb\nc", 300);
     let mut reader = LineReader::new(rt.alloc())?;
-    assert!(rt; reader.may_wait());
     assert!(rt; !reader.is_full());
     assert_eq!(rt; reader.read(&mut source), Ok(6));
     assert_eq!(rt; reader.ahead_len(), 6);
@@ -144,34 +149,6 @@ fn finds_several_lines_of_one_read(rt: HostRuntime) -> Result<(), Fail> {
     assert!(rt; !reader.find_line());
     assert_eq!(rt; reader.line(), b"".as_slice());
     assert_eq!(rt; reader.ahead_len(), 1);
-    assert!(rt; reader.may_wait());
-    Ok(())
-}
-
-#[test]
-fn waits_only_after_a_short_read_or_at_the_end_of_a_line(rt: HostRuntime) -> Result<(), Fail> {
-    let mut text = vec![in rt.alloc(); b'x'; 600]?;
-    assert_eq!(rt; text.len(), 600);
-    text[99] = b'\n';
-    text[256] = b'\n';
-    text[400] = b'\n';
-    let mut source = source_of(text.as_slice(), 300);
-    let mut reader = LineReader::new(rt.alloc())?;
-    assert!(rt; !reader.is_full());
-    assert_eq!(rt; reader.read(&mut source), Ok(257));
-    assert!(rt; reader.find_line());
-    assert!(rt; !reader.may_wait());
-    assert!(rt; reader.find_line());
-    assert_eq!(rt; reader.ahead_len(), 0);
-    assert!(rt; reader.may_wait());
-    assert!(rt; !reader.is_full());
-    assert_eq!(rt; reader.read(&mut source), Ok(257));
-    assert!(rt; reader.find_line());
-    assert_eq!(rt; reader.ahead_len(), 113);
-    assert!(rt; !reader.may_wait());
-    assert!(rt; !reader.is_full());
-    assert_eq!(rt; reader.read(&mut source), Ok(86));
-    assert!(rt; reader.may_wait());
     Ok(())
 }
 

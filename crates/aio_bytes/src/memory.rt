@@ -4,7 +4,7 @@ ghost use Rattle.std.specs.Prelude.{◌≡◌, ◌<◌, ◌≤◌, [], ◌++◌,
 ghost use Rattle.std.specs.Io.KnownBytes.{ReadConsumes, WriteAppends};
 ghost use Rattle.aio_base.specs.Devices.{HasCause, raised};
 ghost use Rattle.aio_bytes.specs.Sinks.{HasFailed};
-ghost use Rattle.aio_bytes.specs.Held.{with_bytes};
+ghost use Rattle.aio_bytes.specs.Held.{GivesInHand, with_bytes};
 ghost use Rattle.aio_bytes.specs.Memory.{ScriptedSource, ScriptedSink, ScriptedReads, ScriptedWrites, is_next_failing};
 
 use crate::traits::{Sink, SinkRefusal, Source};
@@ -110,7 +110,14 @@ impl Faults for MemSource {
 impl Source for MemSource {
     ghost remaining = { λ s. Some s.left };
 
+    ghost in_hand = { λ _. 0 };
+
     ghost read_step = { ScriptedReads };
+
+    /// None: each call stands for one that may have to wait.
+    fn in_hand(&self) -> usize {
+        0
+    }
 
     /// Gives the least of the room in `buf`, the piece and what is left. `Failed` exactly where the
     /// call's number stands in the script; then no byte is taken.
@@ -119,6 +126,7 @@ impl Source for MemSource {
         ensures step { ScriptedReads self.old (length buf.old)
             (with_bytes result buf.new) self.new }
         ensures bound { IfOk result (λ n. n ≤ length buf.new) }
+        ensures given { GivesInHand 0 (length buf.old) result }
         ensures bytes { ReadConsumes (Some self.old.left) (Some self.new.left) result buf.new }
         ensures cause { HasCause self.old.fault_count self.new.fault_count false (IsErr result) }
     {

@@ -4,7 +4,7 @@ ghost use Rattle.std.specs.Prelude.{◌≡◌, ◌<◌, ◌≤◌, List, ℕ, []
 ghost use Rattle.std.proofs.Common.{arith};
 ghost use Rattle.std.specs.Io.KnownBytes.{ReadConsumes, WriteAppends};
 ghost use Rattle.aio_base.specs.Devices.{HasCause};
-ghost use Rattle.aio_bytes.specs.Held.{with_bytes};
+ghost use Rattle.aio_bytes.specs.Held.{GivesInHand, with_bytes};
 ghost use Rattle.aio_bytes.specs.Memory.{SureWrites};
 ghost use Rattle.aio_bytes.specs.Sinks.{HasFailed};
 
@@ -57,7 +57,14 @@ impl Faults for SureSource {
 impl Source for SureSource {
     ghost remaining = { λ s. Some s };
 
+    ghost in_hand = { λ s. length s };
+
     ghost read_step = { λ old room answer new. (answer ≡ Ok (take room old)) × (new ≡ drop room old) };
+
+    /// All that are left.
+    fn in_hand(&self) -> usize {
+        self.bytes.len() - self.position
+    }
 
     /// Gives the least of the room in `buf` and what is left. Never fails.
     fn read(&mut self, buf: &mut [u8]) -> Result<usize, Failed>
@@ -65,6 +72,7 @@ impl Source for SureSource {
         ensures step { (with_bytes result buf.new ≡ Ok (take (length buf.old) self.old))
             × (self.new ≡ drop (length buf.old) self.old) }
         ensures bound { IfOk result (λ n. n ≤ length buf.new) }
+        ensures given { GivesInHand (length self.old) (length buf.old) result }
         ensures bytes { ReadConsumes (Some self.old) (Some self.new) result buf.new }
         ensures cause { HasCause 0 0 true (IsErr result) }
     {

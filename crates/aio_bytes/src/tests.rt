@@ -1,12 +1,12 @@
 //! What no clause says: that calls succeed where memory is left, and how often an adapter tries again.
 
 use crate::{
-    MemSink, MemSource, Sink, SinkRefusal, Source, StdSink, StdSource, SureSink, SureSource,
-    write_all,
+    BufferedSource, MemSink, MemSource, Sink, SinkRefusal, Source, StdSink, StdSource, SureSink,
+    SureSource, write_all,
 };
 use aio_base::{Failed, Faults};
 use std::alloc::Global;
-use std::io::{self, ErrorKind};
+use std::io::{self, BufReader, ErrorKind};
 use std::process::Abort;
 use std::test::Fail;
 
@@ -78,6 +78,34 @@ fn adapters_hand_on_bytes(rt: HostRuntime) {
     writes_hello(&rt, &mut sink);
     assert_eq!(rt; sink.faults(), 0);
     assert_eq!(rt; written.as_slice(), b"hello".as_slice());
+}
+
+#[test]
+fn a_buffered_source_has_its_buffer_in_hand(rt: HostRuntime) -> Result<(), Fail> {
+    let reader = BufReader::with_capacity(rt.alloc(), 4, b"abcde".as_slice())?;
+    let mut source = BufferedSource::new(reader);
+    assert_eq!(rt; source.in_hand(), 0);
+    for (answer, bytes, in_hand) in [
+        (Ok(2), *b"ab", 2),
+        (Ok(2), *b"cd", 0),
+        (Ok(1), [b'e', 0], 0),
+        (Ok(0), [0, 0], 0),
+    ] {
+        assert_eq!(rt; read_two(&mut source), (answer, bytes));
+        assert_eq!(rt; source.in_hand(), in_hand);
+    }
+    Ok(())
+}
+
+#[test]
+fn a_buffered_source_counts_the_faults_behind_its_buffer(rt: HostRuntime) -> Result<(), Fail> {
+    let halting = Halting::new(ErrorKind::WouldBlock, 1);
+    let mut source = BufferedSource::new(BufReader::with_capacity(rt.alloc(), 4, halting)?);
+    assert_eq!(rt; read_two(&mut source), (Err(Failed), [0, 0]));
+    assert_eq!(rt; source.faults(), 1);
+    assert_eq!(rt; read_two(&mut source), (Ok(1), [b'x', 0]));
+    assert_eq!(rt; source.faults(), 1);
+    Ok(())
 }
 
 /// A reader and writer whose first tries end in an error of this kind, and which then moves a byte.

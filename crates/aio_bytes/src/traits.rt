@@ -1,6 +1,6 @@
 //! What a source of bytes and a sink of bytes promise.
 
-ghost use Rattle.std.specs.Prelude.{ℕ, ◌<◌, ◌≤◌, List, Option, Result, length, IfOk, IsErr};
+ghost use Rattle.std.specs.Prelude.{◌≡◌, ℕ, ◌<◌, ◌≤◌, List, Option, Result, length, IfOk, IsErr};
 ghost use Rattle.std.specs.Io.KnownBytes.{ReadConsumes, WriteAppends};
 
 use aio_base::{Failed, Faults};
@@ -9,14 +9,22 @@ use aio_base::{Failed, Faults};
 pub trait Source: Faults {
     ghost use Rattle.aio_base.specs.Devices.{TellsFaults};
     ghost use Rattle.aio_base.specs.declared.outcomes.Failed.{Failed};
-    ghost use Rattle.aio_bytes.specs.Held.{with_bytes};
+    ghost use Rattle.aio_bytes.specs.Held.{GivesInHand, with_bytes};
 
     /// The bytes that it has left, where it tells them.
     ghost remaining: { Self → Option (List ℕ) };
 
+    /// How many bytes it holds already, which a read gives without waiting; 0 where it tells of none.
+    ghost in_hand: { Self → ℕ };
+
     /// The state before a read, how many bytes it has room for, its answer with the bytes that it
     /// read, and the state after it.
     ghost read_step: { Self → ℕ → Result (List ℕ) Failed → Self → Type 0 };
+
+    /// How many bytes it holds already, so that the next read need not wait; 0 where it may have to
+    /// wait. Takes no memory.
+    fn in_hand(&self) -> usize
+        ensures { result ≡ in_hand self.now };
 
     /// Reads the next bytes into the front of `buf` and answers how many; 0 is the end. `Failed` only
     /// where the count of faults rose, and then no byte is taken. Takes no memory.
@@ -24,6 +32,7 @@ pub trait Source: Faults {
         requires { 0 < length buf.old }
         ensures step { read_step self.old (length buf.old) (with_bytes result buf.new) self.new }
         ensures bound { IfOk result (λ n. n ≤ length buf.new) }
+        ensures given { GivesInHand (in_hand self.old) (length buf.old) result }
         ensures bytes { ReadConsumes (remaining self.old) (remaining self.new) result buf.new }
         ensures faults { TellsFaults Self.fault_count Self.is_sure
             self.old self.new (IsErr result) };

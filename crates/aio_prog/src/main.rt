@@ -2,7 +2,7 @@
 //! exit status.
 #![tactic(auto)]
 
-use aio_bytes::{StdSink, StdSource, write_all};
+use aio_bytes::{BufferedSource, StdSink, write_all};
 use aio_run::run;
 use std::io::{BufReader, ErrorKind};
 use std::process::ExitCode;
@@ -27,7 +27,7 @@ fn main(rt: HostRuntime) -> ExitCode {
     };
     match BufReader::with_capacity(alloc, READ_AHEAD, rt.stdin()) {
         Ok(reader) => {
-            let mut input = StdSource::new(reader);
+            let mut input = BufferedSource::new(reader);
             let status = run(&rt, alloc, words.as_slice(), &mut input, &mut out, &mut err);
             ExitCode::from(status.exit)
         }

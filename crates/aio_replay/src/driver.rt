@@ -2,7 +2,7 @@
 
 ghost use Rattle.std.specs.Prelude.{◌≡◌, ℕ, ◌+◌, ◌-◌, ◌<◌, ◌≤◌, ◌≢◌, [], List, Option};
 ghost use Rattle.std.specs.Prelude.{drop, length, vec_len, IfErr, OnOk, OnErr, false, true};
-ghost use Rattle.aio_bytes.specs.Held.{HasNoLineFeed, may_wait};
+ghost use Rattle.aio_bytes.specs.Held.{HasNoLineFeed};
 ghost use Rattle.aio_bytes.specs.Sinks.{RefusedBy, Writes, is_failed};
 ghost use Rattle.aio_replay.specs.Driving.{ends_with, Causes, is_read_fault, is_write_fault};
 ghost use Rattle.aio_replay.specs.Driving.{stops_with, StopsBy, IfStopped, Unread, FindsNext};
@@ -310,8 +310,8 @@ fn refuse<K: Sink>(text: &mut Vec<u8>, out: &mut K, line: u64, reason: Reason) -
     close(text, out, End::Refused { line, reason })
 }
 
-/// Reads more of the input. Where the read may have to wait for it, the text is written before, and
-/// else it is left as it is. The input is read by one call, which asks for as many bytes as there is
+/// Reads more of the input. Where the input has no byte in hand, so that the read may have to wait, the
+/// text is written before, and else it is left as it is. The input is read by one call, which asks for as many bytes as there is
 /// room for, and not at all where the output refuses answers. Answers how many bytes came; 0 is the
 /// end of the input. Where the input fails, what was answered before is written as far as the output
 /// takes it.
@@ -327,9 +327,9 @@ fn read_more<S: Source, K: Sink>(
     ensures bound { length reader.new.ahead ≤ 257 }
     ensures sends { SendsOrStops result (K.contents out.old) (K.contents out.new)
         text.old.items text.new.items }
-    ensures sent_before_waiting { may_wait reader.old ≡ true
+    ensures sent_before_waiting { S.in_hand input.old ≡ 0
         → OnOk result (text.new.items ≡ []) }
-    ensures gathers { may_wait reader.old ≡ false
+    ensures gathers { 0 < S.in_hand input.old
         → OnOk result ((text.new.items ≡ text.old.items) × (out.new ≡ out.old)) }
     ensures call { ReadsOnce S.read_step input.old (257 - length reader.old.ahead) result
         (drop (length reader.old.ahead) reader.new.ahead) input.new }
@@ -339,7 +339,7 @@ fn read_more<S: Source, K: Sink>(
     ensures write_cause { Causes K.fault_count K.is_sure
         out.old out.new (stops_with is_write_fault result) }
 {
-    if reader.may_wait() {
+    if input.in_hand() == 0 {
         match flush(text, out) {
             Ok(()) => {}
             Err(refusal) => return Err(Stop::of_write(refusal)),

@@ -1,7 +1,7 @@
 //! What no clause says: that a call succeeds where memory is left, that each answer is written
 //! before a read that may wait, and that the definitions mean what the worked traces say.
 
-ghost use Rattle.std.specs.Prelude.{None, false};
+ghost use Rattle.std.specs.Prelude.{◌-◌, ◌≤◌, None, false, vec_len};
 
 use aio_base::{CountFault, Failed, Faults, Reason};
 use aio_bytes::{MemSink, MemSource, Source};
@@ -402,6 +402,56 @@ fn a_failing_read_leaves_the_answers_before_it(rt: HostRuntime) -> Result<(), Fa
     Ok(())
 }
 
+/// Bytes that are all in hand, and of which the second read fails.
+#[derive(Drop)]
+struct Torn {
+    bytes: Vec<u8>,
+    at: usize,
+    reads: u64,
+    faults: u64,
+    ghost within: { at ≤ vec_len bytes },
+}
+
+impl Faults for Torn {
+    ghost fault_count = { λ s. s.faults };
+
+    ghost is_sure = { λ _. false };
+
+    ghost all_sure = { false };
+
+    fn faults(&self) -> u64 {
+        self.faults
+    }
+
+    ghost sure_below_top = { λ s sure. Prim.cc };
+
+    ghost each_sure = { λ s sure. sure };
+}
+
+impl Source for Torn {
+    ghost remaining = { λ _. None };
+
+    ghost in_hand = { λ s. vec_len s.bytes - s.at };
+
+    ghost read_step = { λ old room answer new. Unit {0} };
+
+    fn in_hand(&self) -> usize {
+        self.bytes.len() - self.at
+    }
+
+    fn read(&mut self, buf: &mut [u8]) -> Result<usize, Failed> {
+        self.reads = self.reads.saturating_add(1);
+        if self.reads == 2 {
+            self.faults = self.faults.saturating_add(1);
+            return Err(Failed);
+        }
+        let count = buf.len().min(self.bytes.len() - self.at);
+        buf[..count].copy_from_slice(&self.bytes[self.at..self.at + count]);
+        self.at += count;
+        Ok(count)
+    }
+}
+
 /// A trace whose first 257 bytes, which one read gives, end in the middle of its last line; and the
 /// answers to the lines before that.
 fn adds_across_a_read(alloc: Global) -> Result<(Vec<u8>, Vec<u8>), Fail> {
@@ -410,6 +460,7 @@ fn adds_across_a_read(alloc: Global) -> Result<(Vec<u8>, Vec<u8>), Fail> {
     Ok((trace, answers))
 }
 
+/// Replays a trace that is all in hand, of which the second read fails.
 fn fail_second_read<R: Wait + Threads + Sync + Send + Copy + AllocGlobal + Abort>(
     rt: &R,
     trace: &[u8],
@@ -417,11 +468,16 @@ fn fail_second_read<R: Wait + Threads + Sync + Send + Copy + AllocGlobal + Abort
     out: &[u8],
 ) -> Result<(), Fail> {
     let failing = Failing {
-        reads: &[2],
         writes,
-        tells: &[],
+        ..NOTHING_FAILS
     };
-    let ran = run_over(rt, &["replay"], trace, 4096, failing)?;
+    let mut source = Torn {
+        bytes: trace.to_vec(rt.alloc())?,
+        at: 0,
+        reads: 0,
+        faults: 0,
+    };
+    let ran = run_from(rt, &["replay"], &mut source, failing)?;
     assert_exit(rt, &ran, 3, writes);
     assert_out(rt, &ran, out, writes);
     assert_told(rt, &ran, b"read fault\n", writes);
@@ -571,7 +627,13 @@ impl Faults for Endless {
 impl Source for Endless {
     ghost remaining = { λ _. None };
 
+    ghost in_hand = { λ _. 0 };
+
     ghost read_step = { λ old room answer new. Unit {0} };
+
+    fn in_hand(&self) -> usize {
+        0
+    }
 
     fn read(&mut self, buf: &mut [u8]) -> Result<usize, Failed> {
         for byte in buf.iter_mut() {
