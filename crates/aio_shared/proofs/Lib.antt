@@ -6,4 +6,5 @@ pub mod Draining
 pub mod Trying
 pub mod Handling
 pub mod WakingEach
+pub mod HandingOver
 pub mod Rounding

@@ -4,6 +4,7 @@ pub mod TimerCalls
 pub mod Cells
 pub mod OneCell
 pub mod CellLending
+pub mod HandOver
 pub mod Inside
 pub mod Later
 pub mod Sources

@@ -13,6 +13,7 @@
 #![tactic(auto)]
 
 mod cell;
+mod hand_over;
 mod inside;
 mod members;
 mod reacting;

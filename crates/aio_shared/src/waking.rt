@@ -30,7 +30,10 @@ pub(crate) fn wake_each<N: Notify>(
 }
 
 /// The first fault, with one more answer.
-fn first_of(first: Option<CountFault>, woken: Result<(), CountFault>) -> Option<CountFault>
+pub(crate) fn first_of(
+    first: Option<CountFault>,
+    woken: Result<(), CountFault>,
+) -> Option<CountFault>
     ensures { result ≡ first_fault first woken }
 {
     match first {

@@ -1,0 +1,79 @@
+-- The wakes of a hand-over, one more behind those so far.
+use Rattle.std.proofs.Common.{◌≡◌, ℕ, ◌+◌, ◌*◌, ◌≤◌, Bool, cond, not, eqb, List, [], ◌∷◌, ◌++◌, length, length-append, append_assoc, append-nil, map, filter, refl, sym, ap, ◌∙◌, subst, le_refl, arith}
+use Rattle.std.specs.List.{range_with_len}
+use Rattle.std.proofs.lemmas.Bool.{eq-eqb, ne_eqb}
+use Rattle.std.proofs.lemmas.List.FromFn.{map-range_with_len_more, filter_of_map_range_with_len_more}
+use Rattle.aio_base.specs.declared.names.Waker.{Waker}
+use Rattle.aio_base.specs.declared.seats.WordStep.{WordStep}
+use Rattle.aio_base.specs.declared.seats.SeatView.{SeatView}
+use Rattle.aio_base.specs.Devices.{TellsFaults}
+use Rattle.aio_base.specs.WordCalls.{and_did, Found, wake_steps, all_wake_steps}
+use Rattle.aio_words.specs.Seats.{SeatValue}
+use Rattle.aio_shared.specs.HandOver.{first_slot, first_slots_of, slots_below}
+use Rattle.aio_shared.specs.Members.{IsLaterMember, MemberValue}
+use Rattle.aio_shared.specs.OneCell.{TurnValue, with_empties}
+use Rattle.aio_shared.specs.Reacting.{Wakes}
+
+one_behind : (wakers : List Waker) (parkers : ℕ) (founds : List Found) (found : Found) (w : Waker) → length founds ≡ length wakers
+    → all_wake_steps (wakers ++ w ∷ []) parkers (founds ++ found ∷ []) ≡ all_wake_steps wakers parkers founds ++ wake_steps w.0 parkers found
+one_behind [] parkers [] found w n = append-nil (wake_steps w.0 parkers found)
+one_behind [] parkers (f ∷ fs) found w n = absurd (omega arith)
+one_behind (x ∷ xs) parkers [] found w n = absurd (omega arith)
+one_behind (x ∷ xs) parkers (f ∷ fs) found w n =
+    ap (λ l. wake_steps x.0 parkers f ++ l) (one_behind xs parkers fs found w (omega arith)) ∙ sym (append_assoc (wake_steps x.0 parkers f) (all_wake_steps xs parkers fs) (wake_steps w.0 parkers found))
+
+did_twice : (a b : List WordStep) (v : SeatView) → and_did b (and_did a v) ≡ and_did (a ++ b) v
+did_twice a b v = λ i. record v { did = append_assoc v.did a b i }
+
+-- one waker more, behind those woken so far
+pub wakes_behind : (wakers : List Waker) (parkers : ℕ) (w : Waker) (p q r : SeatValue) (found : Found)
+    → Wakes parkers wakers p q → r.words ≡ q.words → r.view ≡ and_did (wake_steps w.0 parkers found) q.view → Wakes parkers (wakers ++ w ∷ []) p r
+wakes_behind wakers parkers w p q r found x words view = record {
+  founds = x.founds ++ found ∷ [];
+  each = (let a : length (x.founds ++ found ∷ []) ≡ length x.founds + 1 = length-append x.founds (found ∷ []) in
+      let b : length (wakers ++ w ∷ []) ≡ length wakers + 1 = length-append wakers (w ∷ []) in let c = x.each in omega arith);
+  seat = (let steps = all_wake_steps wakers parkers x.founds in
+      let last = wake_steps w.0 parkers found in
+      let v : r.view ≡ and_did (all_wake_steps (wakers ++ w ∷ []) parkers (x.founds ++ found ∷ [])) p.view =
+      view ∙ ap (λ (s : SeatValue). and_did last s.view) x.seat ∙ did_twice steps last p.view
+      ∙ ap (λ l. and_did l p.view) (sym (one_behind wakers parkers x.founds found w x.each)) in
+      let ws : r.words ≡ p.words = words ∙ ap (λ (s : SeatValue). s.words) x.seat in
+      λ k. record { words = ws k; view = v k });
+}
+
+pub slots_more : (n : ℕ) → slots_below (n + 1) ≡ slots_below n ++ record { 0 = n } ∷ []
+slots_more n = map-range_with_len_more (λ w. record { 0 = w }) 0 n n (omega arith)
+
+first_slots_more : (n but : ℕ) → first_slots_of (n + 1) but ≡ first_slots_of n but ++ cond (not (eqb (64 * n) (64 * but))) (first_slot n ∷ []) []
+first_slots_more n but = filter_of_map_range_with_len_more (λ w. not (eqb w.0 (64 * but))) first_slot 0 n n (omega arith)
+
+-- the one left out adds none
+pub first_slots_same : (n but : ℕ) → n ≡ but → first_slots_of (n + 1) but ≡ first_slots_of n but
+first_slots_same n but is =
+    first_slots_more n but ∙ ap (λ b. first_slots_of n but ++ cond (not b) (first_slot n ∷ []) []) (eq-eqb (64 * n) (64 * but) (ap (λ k. 64 * k) is)) ∙ append-nil (first_slots_of n but)
+
+pub first_slots_one : (n but : ℕ) → (n ≡ but → ⊥) → first_slots_of (n + 1) but ≡ first_slots_of n but ++ first_slot n ∷ []
+first_slots_one n but other =
+    first_slots_more n but ∙ ap (λ b. first_slots_of n but ++ cond (not b) (first_slot n ∷ []) []) (ne_eqb (64 * n) (64 * but) (λ e. other (omega arith)))
+
+module _ {N : Type 0} (faults : N → ℕ) (is_sure : N → Bool) (parkers : ℕ) (wakers : List Waker) (failed : Type 0) where
+  -- a member that only woke is later
+  pub woken_later : (m after : MemberValue N) → after ≡ record m { pass = after.pass; note = after.note } → Wakes parkers wakers m.pass after.pass
+      → TellsFaults faults is_sure m.note after.note failed → IsLaterMember faults is_sure m after
+  woken_later m after kept woke t = let ids : after.ids ≡ m.ids = ap (λ (x : MemberValue N). x.ids) kept in
+      let turn : after.turn ≡ m.turn = ap (λ (x : MemberValue N). x.turn) kept in
+      let own = ap (λ (x : MemberValue N). x.ops) kept in
+      record {
+        turn = turn ∙ (λ i. with_empties (sym (ap (λ (x : TurnValue). x.empties) turn) i) m.turn);
+        words = ap (λ (x : SeatValue). x.words) woke.seat;
+        queue = ap (λ o. o.queue) own;
+        number = ap (λ o. o.number) own;
+        sure = t.sure;
+        did = (all_wake_steps wakers parkers woke.founds, ap (λ (x : SeatValue). x.view.did) woke.seat);
+        own = ([], ap (λ o. o.own) own ∙ sym (append-nil m.ops.own));
+        pulled = ([], ap (λ o. o.pulled) own ∙ sym (append-nil m.ops.pulled));
+        fulls = subst (λ o. m.ops.fulls ≤ o.fulls) (sym own) (le_refl m.ops.fulls);
+        empties = subst (λ o. m.ops.empties ≤ o.empties) (sym own) (le_refl m.ops.empties);
+        ids = omega arith;
+        note = t.cause.later;
+      }
