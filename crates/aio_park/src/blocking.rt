@@ -24,8 +24,9 @@ use std::sync::Wait;
 ///
 /// A member that already holds the round cell never has the lock, so it parks, for ever where
 /// nobody else makes rounds. Where the call returns, by an answer or by a fault, other threads may
-/// be parked with nobody to make rounds for them: the caller knows of them, and hands over by a
-/// wake of a slot of each other parker.
+/// be parked with nobody to make rounds for them: the caller knows of them, and hands over by
+/// `Shared::wake_other_parkers`. After the fault of an arm a source may be armed no longer until it
+/// is polled again: the caller sees to that by `Shared::wake_all_slots`.
 ///
 /// # Errors
 ///

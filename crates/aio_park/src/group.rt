@@ -6,9 +6,6 @@ ghost use Rattle.aio_base.specs.Polls.{IfReady};
 ghost use Rattle.aio_park.specs.declared.group.Slot.TheVariants.{Running, Ended};
 ghost use Rattle.aio_park.specs.Groups.{is_running, is_woken, slot_cx, IsPolled, SlotAfter, SlotsAfter, SlotGives, SlotsGive};
 
-#[cfg(test)]
-mod tests;
-
 use aio_base::{Cx, Later, Poll, Task};
 use std::alloc::Global;
 use std::marker::Model;

@@ -25,8 +25,9 @@ pub type BlockFault = ReactFault;
 /// call left running is resumed and counts as one of them.
 ///
 /// A member that already holds the cell waits for itself. Where the call returns, other threads may
-/// be parked with nobody to make rounds for them: the caller knows of them, and hands over by a
-/// wake of a slot of each other parker.
+/// be parked with nobody to make rounds for them: the caller knows of them, and hands over by
+/// `Shared::wake_other_parkers`. After the fault of an arm a source may be armed no longer until it
+/// is polled again: the caller sees to that by `Shared::wake_all_slots`.
 ///
 /// # Errors
 ///
