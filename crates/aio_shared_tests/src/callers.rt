@@ -1,6 +1,7 @@
 //! A thread's way into a reactor, as the tests use it.
 
 ghost use Rattle.std.specs.Prelude.{◌≡◌, ◌<◌, IfOk, IsTrue};
+ghost use Rattle.std.specs.List.{All};
 ghost use Rattle.aio_base.specs.declared.seats.Mode.TheVariants as mode;
 ghost use Rattle.aio_words.specs.Seats.{Belongs};
 ghost use Rattle.aio_shared.specs.Members.{IsMemberOf};
@@ -37,15 +38,36 @@ pub(crate) fn fault_after(before: u64) -> CountFault {
     }
 }
 
-pub(crate) fn moment(rt: &impl Abort, nanoseconds: u64) -> Moment {
+pub(crate) fn moment(rt: &impl Abort, nanoseconds: u64) -> Moment
+    ensures { result ≡ nanoseconds }
+{
     Moment::new(nanoseconds).expect(rt, "the moment is at most 10^18")
+}
+
+/// So many times the moment 0.
+fn zeros(rt: &impl Abort, alloc: Global, count: usize) -> Result<Vec<Moment>, Fail>
+    ensures { IfOk result (λ moments. All (λ moment. moment ≡ 0) moments.items) }
+{
+    let zero = moment(rt, 0);
+    let moments = vec![in alloc; zero; count]?;
+    Ok(moments)
+}
+
+/// A clock that stands at 0 for so many looks, and then at this moment.
+pub(crate) fn clock_until(
+    rt: &impl Abort,
+    alloc: Global,
+    looks: usize,
+    nanoseconds: u64,
+) -> Result<MemClock, Fail> {
+    let mut moments = zeros(rt, alloc, looks)?;
+    moments.push(moment(rt, nanoseconds))?;
+    Ok(MemClock::new(moments))
 }
 
 /// A clock that stands still.
 pub(crate) fn clock_at(rt: &impl Abort, alloc: Global, nanoseconds: u64) -> Result<MemClock, Fail> {
-    let mut moments = Vec::new(alloc);
-    moments.push(moment(rt, nanoseconds))?;
-    Ok(MemClock::new(moments))
+    clock_until(rt, alloc, 0, nanoseconds)
 }
 
 /// A thread's way into a reactor that has a parker.

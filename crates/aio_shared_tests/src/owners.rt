@@ -6,10 +6,8 @@ use crate::callers::Caller;
 use aio_base::{Arm, Dir, EventWait, Notify, Poll, Waker};
 use aio_devices::SureArm;
 use aio_shared::{InsertFault, Shared, SourceRef};
-use aio_source::notes::calls_keep_the_notes_of_their_cell;
-use aio_source::{Polled, SourceCell};
+use aio_source::Polled;
 use std::sync::Wait;
-use std::test::Fail;
 
 /// Inserts a connection, which is let go where it is refused.
 pub(crate) fn insert_io<A: Arm + Drop, W: EventWait, R: Wait>(
@@ -35,14 +33,6 @@ pub(crate) struct Owner<R: Wait, N: Notify, A: Arm, W: EventWait> {
     ghost outside: { source.inside ≡ false },
 }
 
-/// Polls a direction of an entered source.
-fn poll_cell<A: Arm>(cell: &mut SourceCell<A>, dir: Dir, waker: Waker, ticker: u64) -> Polled
-    ensures { cell.new.state.key ≡ cell.old.state.key }
-{
-    calls_keep_the_notes_of_their_cell::<A>();
-    cell.state.poll_dir(&mut cell.io, dir, waker, ticker)
-}
-
 impl<R: Wait + Copy, N: Notify + Drop, A: Arm + Drop, W: EventWait + Drop> Owner<R, N, A, W> {
     /// Inserts a connection.
     pub(crate) fn new(caller: Caller<R, N, A, W>, io: A) -> Result<Owner<R, N, A, W>, InsertFault> {
@@ -57,7 +47,7 @@ impl<R: Wait, N: Notify, A: Arm, W: EventWait> Owner<R, N, A, W> {
         let ticker = self.caller.ticker();
         let host = &self.caller.host;
         let mut cell = host.shared.enter(&host.rt, &mut self.source);
-        let polled = poll_cell(&mut cell, dir, waker, ticker);
+        let polled = cell.state.poll_dir(&mut cell.io, dir, waker, ticker);
         host.shared.leave(&mut self.source, cell);
         polled
     }
@@ -76,7 +66,7 @@ fn poll_and_count_in<R: Wait, W: EventWait>(
     ensures outside { token.new.inside ≡ false }
 {
     let mut cell = shared.enter(rt, token);
-    let polled = poll_cell(&mut cell, Dir::Read, Waker(3), 0);
+    let polled = cell.state.poll_dir(&mut cell.io, Dir::Read, Waker(3), 0);
     cell.io.number = cell.io.number.saturating_add(1);
     shared.leave(token, cell);
     polled.answer == Poll::Pending
@@ -102,19 +92,15 @@ fn number_in<R: Wait, W: EventWait>(
 impl<R: Wait, N: Notify, W: EventWait> Owner<R, N, SureArm, W> {
     /// Polls the source and raises its connection's number by one. Whether the poll was pending.
     pub(crate) fn poll_and_count(&mut self) -> bool {
-        poll_and_count_in(
-            &self.caller.host.rt,
-            &self.caller.host.shared,
-            &mut self.source,
-        )
+        let caller = &self.caller;
+        let host = &caller.host;
+        poll_and_count_in(&host.rt, &host.shared, &mut self.source)
     }
 
     /// The number of the source's connection.
     pub(crate) fn number(&mut self) -> u64 {
-        number_in(
-            &self.caller.host.rt,
-            &self.caller.host.shared,
-            &mut self.source,
-        )
+        let caller = &self.caller;
+        let host = &caller.host;
+        number_in(&host.rt, &host.shared, &mut self.source)
     }
 }

@@ -1,0 +1,119 @@
+//! What no clause says of a thread that blocks on a task: that it makes rounds, and that a task is polled
+//! where it was woken and nowhere else.
+
+use crate::asserts::same;
+use crate::clocks::{clock_until, fault_after, moment};
+use crate::sleepers::{Fires, Never, Sleeper, Undisturbed, Wakes, alone};
+use aio_base::{Arm, EventWait, Notify};
+use aio_devices::{FailingWait, MemClock, MemNotify, MemWait, SureArm};
+use aio_park::{BlockFault, Group, drive};
+use std::sync::Wait;
+use std::test::Fail;
+
+#[test]
+fn a_thread_reacts_until_its_timer_fires(rt: HostRuntime) -> Result<(), Fail> {
+    let clock = clock_until(&rt, rt.alloc(), 3, 5)?;
+    let devices = (MemWait::new(0), MemNotify::new());
+    let mut thread: Undisturbed<_, _> = alone(&rt, rt.alloc(), devices, clock)?;
+    let mut task = Fires::at(moment(&rt, 5));
+    same(&rt, thread.run(&mut task), Ok(Ok(moment(&rt, 5))));
+    same(&rt, task.polls, 2);
+    same(&rt, thread.waits() > Some(0), true);
+    Ok(())
+}
+
+#[test]
+fn a_task_that_wakes_itself_is_polled_once_for_each_wake(rt: HostRuntime) -> Result<(), Fail> {
+    let clock = clock_until(&rt, rt.alloc(), 1, 0)?;
+    let devices = (MemWait::new(0), MemNotify::new());
+    let mut thread: Undisturbed<_, _> = alone(&rt, rt.alloc(), devices, clock)?;
+    let mut task = Wakes::until(4, 9);
+    same(&rt, thread.run(&mut task), Ok(9));
+    same(&rt, task.polls, 4);
+    same(&rt, thread.waits(), Some(3));
+    Ok(())
+}
+
+#[test]
+fn a_failed_wait_is_told_and_the_cell_goes_back(rt: HostRuntime) -> Result<(), Fail> {
+    let clock = clock_until(&rt, rt.alloc(), 1, 0)?;
+    let wait = FailingWait::new(0, vec![in rt.alloc(); 1]?);
+    let mut thread: Sleeper<_, _, SureArm, _, _> = alone(
+        &rt,
+        rt.alloc(),
+        (wait, MemNotify::new()),
+        clock,
+    )?;
+    let mut task = Never { polls: 0 };
+    same(
+        &rt,
+        thread.run(&mut task),
+        Err(BlockFault::Wait(fault_after(0))),
+    );
+    same(&rt, thread.waits(), Some(1));
+    same(&rt, task.polls, 1);
+    Ok(())
+}
+
+/// Drives so many rounds.
+fn drive_thread<R: Wait + Copy, N: Notify, A: Arm, W: EventWait>(
+    thread: &mut Sleeper<R, N, A, W, MemClock>,
+    rounds: u32,
+) -> Result<u64, BlockFault> {
+    let host = &mut thread.host;
+    drive(
+        &host.rt,
+        &host.shared,
+        &mut host.member,
+        &mut thread.clock,
+        rounds,
+    )
+}
+
+#[test]
+fn a_driver_sums_up_the_events_of_its_rounds(rt: HostRuntime) -> Result<(), Fail> {
+    let clock = clock_until(&rt, rt.alloc(), 1, 0)?;
+    let devices = (MemWait::new(2), MemNotify::new());
+    let mut thread: Undisturbed<_, _> = alone(&rt, rt.alloc(), devices, clock)?;
+    same(&rt, drive_thread(&mut thread, 3), Ok(6));
+    same(&rt, thread.waits(), Some(3));
+    same(&rt, drive_thread(&mut thread, 0), Ok(0));
+    Ok(())
+}
+
+#[test]
+fn a_driver_tells_a_failed_wait_and_gives_the_cell_back(rt: HostRuntime) -> Result<(), Fail> {
+    let clock = clock_until(&rt, rt.alloc(), 1, 0)?;
+    let wait = FailingWait::new(2, vec![in rt.alloc(); 2]?);
+    let mut thread: Sleeper<_, _, SureArm, _, _> = alone(
+        &rt,
+        rt.alloc(),
+        (wait, MemNotify::new()),
+        clock,
+    )?;
+    let fault = BlockFault::Wait(fault_after(0));
+    same(&rt, drive_thread(&mut thread, 3), Err(fault));
+    same(&rt, thread.waits(), Some(2));
+    Ok(())
+}
+
+/// Adds a task, and answers its slot.
+fn add(group: &mut Group<Wakes, u64>, task: Wakes) -> Option<u32> {
+    match group.add(task) {
+        Ok(slot) => Some(slot),
+        Err(_) => None,
+    }
+}
+
+#[test]
+fn a_group_answers_in_the_order_of_its_slots(rt: HostRuntime) -> Result<(), Fail> {
+    let clock = clock_until(&rt, rt.alloc(), 1, 0)?;
+    let devices = (MemWait::new(0), MemNotify::new());
+    let mut thread: Undisturbed<_, _> = alone(&rt, rt.alloc(), devices, clock)?;
+    let mut group = Group::new(rt.alloc(), 0);
+    same(&rt, add(&mut group, Wakes::until(2, 10)), Some(0));
+    same(&rt, add(&mut group, Wakes::until(1, 11)), Some(1));
+    let wanted = vec![in rt.alloc(); 10, 11]?;
+    same(&rt, thread.run(&mut group), Ok(wanted));
+    Ok(())
+}

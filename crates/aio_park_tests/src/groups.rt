@@ -1,0 +1,184 @@
+//! What no clause says of tasks polled as one: whole runs of a group, over a host of the tests' own.
+
+use crate::asserts::same;
+use aio_base::{Cx, Later, Moment, Poll, Task};
+use aio_park::{Group, GroupRefusal};
+use std::process::Abort;
+
+/// A host of which each state is later than each other.
+#[derive(Drop)]
+struct Still;
+
+impl Later for Still {
+    ghost use Rattle.std.specs.Prelude.{⊤, true, refl};
+
+    ghost notifier_is_sure = { λ host. true };
+
+    ghost is_later = { λ old new. ⊤ };
+
+    ghost later_than_itself = { λ host. tt };
+
+    ghost later_than_later = { λ a b c first second. tt };
+
+    ghost stays_sure = { λ a b later. refl };
+}
+
+/// What a task was told at its last poll, and how many polls it had.
+#[derive(Clone, Copy, Debug, Drop, PartialEq)]
+struct Seen {
+    parker: u32,
+    mask: u64,
+    now: u64,
+    polls: u64,
+}
+
+/// A task that ends at its first poll at this moment or later, and tells that poll.
+#[derive(Debug, Drop, PartialEq)]
+struct Ending {
+    end: u64,
+    polls: u64,
+}
+
+impl<H: Later> Task<H> for Ending {
+    ghost use Rattle.std.specs.Prelude.{⊤};
+
+    type Output = Seen;
+
+    ghost gives = { λ task sure moment output. ⊤ };
+
+    ghost poll_step = { λ old cx answer new. ⊤ };
+
+    ghost poll_count = { λ task. task.polls };
+
+    fn poll(&mut self, _host: &mut H, cx: Cx) -> Poll<Seen> {
+        self.polls = self.polls.saturating_add(1);
+        let now = cx.now.get();
+        if now < self.end {
+            return Poll::Pending;
+        }
+        Poll::Ready(Seen {
+            parker: cx.parker,
+            mask: cx.mask,
+            now,
+            polls: self.polls,
+        })
+    }
+
+    fn polls(&self) -> u64 {
+        self.polls
+    }
+
+    ghost gives_later = { λ task sure a b output later given. tt };
+}
+
+type Endings = Group<Ending, Seen>;
+
+fn ends_at(end: u64) -> Ending {
+    Ending { end, polls: 0 }
+}
+
+/// Adds a task that ends at this moment, and looks at its slot.
+fn add(rt: &impl Abort, group: &mut Endings, end: u64, slot: u32) {
+    match group.add(ends_at(end)) {
+        Ok(at) => same(rt, at, slot),
+        Err(_) => same(rt, true, false),
+    }
+}
+
+/// Polls the group as the task of parker 9 with this mask at this moment: its answers, once it ends.
+fn poll(rt: &impl Abort, group: &mut Endings, mask: u64, now: u64) -> Option<Vec<Seen>> {
+    let now = Moment::new(now).expect(rt, "the moment is at most 10^18");
+    match group.poll(
+        &mut Still,
+        Cx {
+            parker: 9,
+            mask,
+            now,
+        },
+    ) {
+        Poll::Ready(answers) => Some(answers),
+        Poll::Pending => None,
+    }
+}
+
+fn is_pending(rt: &impl Abort, group: &mut Endings, mask: u64, now: u64) {
+    same(rt, poll(rt, group, mask, now).is_none(), true);
+}
+
+/// Polls the group, and looks at its answers: parker, mask, moment and polls of each.
+fn ends_with(rt: &impl Abort, group: &mut Endings, mask: u64, now: u64, wanted: &[Seen]) {
+    match poll(rt, group, mask, now) {
+        Some(answers) => same(rt, answers.as_slice() == wanted, true),
+        None => same(rt, true, false),
+    }
+}
+
+fn poll_seen(mask: u64, now: u64, polls: u64) -> Seen {
+    Seen {
+        parker: 5,
+        mask,
+        now,
+        polls,
+    }
+}
+
+#[test]
+fn a_group_has_64_slots_and_hands_the_next_task_back(rt: HostRuntime) {
+    let mut group = Group::new(rt.alloc(), 5);
+    for slot in 0..64 {
+        add(&rt, &mut group, slot as u64, slot);
+    }
+    match group.add(ends_at(64)) {
+        Ok(_) => same(&rt, true, false),
+        Err((task, refusal)) => {
+            same(&rt, task, ends_at(64));
+            same(&rt, refusal, GroupRefusal::Full);
+        }
+    }
+}
+
+#[test]
+fn only_what_was_woken_is_polled(rt: HostRuntime) {
+    let mut group = Group::new(rt.alloc(), 5);
+    for slot in 0..3 {
+        add(&rt, &mut group, 1, slot);
+    }
+    // slot 1 is woken once, and a bit beyond the slots
+    is_pending(&rt, &mut group, (1 << 40) | 2, 0);
+    let wanted = [poll_seen(1, 1, 1), poll_seen(2, 1, 2), poll_seen(4, 1, 1)];
+    ends_with(&rt, &mut group, u64::MAX, 1, &wanted);
+    same(&rt, Task::<Still>::polls(&group), 2);
+}
+
+#[test]
+fn each_slot_is_told_its_own_bit_and_answers_stand_in_the_order_of_slots(rt: HostRuntime) {
+    let mut group = Group::new(rt.alloc(), 5);
+    add(&rt, &mut group, 7, 0);
+    add(&rt, &mut group, 8, 1);
+    add(&rt, &mut group, 6, 2);
+    is_pending(&rt, &mut group, 4, 6);
+    is_pending(&rt, &mut group, 7, 7);
+    let wanted = [poll_seen(1, 7, 1), poll_seen(2, 8, 2), poll_seen(4, 6, 1)];
+    ends_with(&rt, &mut group, 7, 8, &wanted);
+}
+
+#[test]
+fn an_empty_group_ends_at_once(rt: HostRuntime) {
+    let mut group: Endings = Group::new(rt.alloc(), 5);
+    ends_with(&rt, &mut group, u64::MAX, 0, &[]);
+    ends_with(&rt, &mut group, 0, 0, &[]);
+}
+
+#[test]
+fn tasks_added_later_join_and_none_is_left_at_the_end(rt: HostRuntime) {
+    let mut group = Group::new(rt.alloc(), 5);
+    add(&rt, &mut group, 3, 0);
+    is_pending(&rt, &mut group, 3, 0);
+    add(&rt, &mut group, 3, 1);
+    is_pending(&rt, &mut group, 1, 3);
+    let wanted = [poll_seen(1, 3, 2), poll_seen(2, 4, 1)];
+    ends_with(&rt, &mut group, 3, 4, &wanted);
+    add(&rt, &mut group, 5, 0);
+    ends_with(&rt, &mut group, 1, 5, &[poll_seen(1, 5, 1)]);
+    same(&rt, Task::<Still>::polls(&group), 4);
+}

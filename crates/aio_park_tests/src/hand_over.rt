@@ -1,0 +1,33 @@
+//! What no clause says of the wakes by which a thread hands over: what is in the masks of two parkers then.
+
+use crate::asserts::same;
+use crate::clocks::clock_at;
+use crate::sleepers::two;
+use std::process::Abort;
+use std::test::Fail;
+
+#[test]
+fn a_thread_that_hands_over_wakes_the_other_parker_and_not_its_own(
+    rt: HostRuntime,
+) -> Result<(), Fail> {
+    let clocks = (clock_at(&rt, rt.alloc(), 0)?, clock_at(&rt, rt.alloc(), 0)?);
+    let (mut one, mut other) = two(&rt, rt.alloc(), clocks)?;
+    let told = one.hand_over();
+    same(&rt, (told, one.take(), other.take()), (true, 0, 1));
+    let told = other.hand_over();
+    same(&rt, (told, one.take(), other.take()), (true, 1, 0));
+    Ok(())
+}
+
+#[test]
+fn every_slot_of_both_parkers_is_woken(rt: HostRuntime) -> Result<(), Fail> {
+    let clocks = (clock_at(&rt, rt.alloc(), 0)?, clock_at(&rt, rt.alloc(), 0)?);
+    let (mut one, mut other) = two(&rt, rt.alloc(), clocks)?;
+    let told = one.wake_all();
+    same(
+        &rt,
+        (told, one.take(), other.take()),
+        (true, u64::MAX, u64::MAX),
+    );
+    Ok(())
+}
