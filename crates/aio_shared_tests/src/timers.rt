@@ -14,12 +14,16 @@ use std::sync::Wait;
 use std::test::Fail;
 
 /// Asserts that the next timer of a host has this id.
-fn assert_inserts<H: TimerHost>(rt: &impl Abort, host: &mut H, at: Moment, id: u64) {
+fn assert_inserts<H: TimerHost>(rt: &impl Abort, host: &mut H, at: Moment, id: u64)
+    ensures { H.is_later host.old host.new }
+{
     same(rt, insert(host, at, Waker(0)), Ok(TimerId(id)));
 }
 
 /// Asserts that a timer is taken out.
-fn assert_removes<H: TimerHost>(rt: &impl Abort, host: &mut H, at: Moment, id: u64) {
+fn assert_removes<H: TimerHost>(rt: &impl Abort, host: &mut H, at: Moment, id: u64)
+    ensures { H.is_later host.old host.new }
+{
     same(rt, host.remove_timer(at, TimerId(id)), Ok(()));
 }
 
@@ -55,7 +59,9 @@ fn a_reactor_and_its_members_go_to_other_threads(rt: HostRuntime) -> Result<(), 
 }
 
 /// Two inserts, the second of which need not notify.
-fn insert_and_notify<H: TimerHost>(rt: &impl Abort, host: &mut H, at: Moment) {
+fn insert_and_notify<H: TimerHost>(rt: &impl Abort, host: &mut H, at: Moment)
+    ensures { H.is_later host.old host.new }
+{
     let refusal = InsertRefusal::Notify {
         id: TimerId(1),
         fault: fault_after(0),
