@@ -10,7 +10,7 @@ use Rattle.aio_base.specs.Machine.{is_waker}
 use Rattle.aio_listen.specs.declared.ticket.Ticket.{Ticket}
 use Rattle.aio_source.specs.declared.answers.Listened.{Listened}
 use Rattle.aio_source.specs.Values.{SourceValue}
-use Rattle.aio_source.specs.Rules.{is_ready, is_above, direction_of, Polling, polling, listening_first, polling_again, handling}
+use Rattle.aio_source.specs.Rules.{is_ready, is_above, direction_of, Polling, polling, listening_first, listening_on, polling_again, handling}
 use Rattle.aio_source.specs.Noting.{NoteTellsCell, KeepsNote, CallsKeepNote}
 
 abbrev head_of : List ℕ → ℕ
@@ -50,6 +50,7 @@ module _ {S : Type 0} (step : S → ArmCall → Result (Unit {0}) Failed → S �
     poll = λ s dir waker ticker. let p = polling s dir waker ticker in keeps s p.source p.arms (poll_key s dir waker ticker);
     first_listen = λ s dir waker ticket. let p = listening_first s dir waker ticket in keeps s p.source p.arms (first_listen_key s dir waker ticket);
     listen_again = λ s dir l waker. let p = polling_again s dir l waker in keeps s p.source p.arms (listen_again_key s dir l waker);
+    listen_on = λ s dir ticket waker. let p = listening_on s dir ticket waker in keeps s p.source p.arms refl;
     handle = λ s on round. let p = handling s on round in keeps s p.source p.arms refl;
     unlisten = λ s dir ticket io. refl;
   }

@@ -9,7 +9,7 @@ use Rattle.aio_base.specs.Devices.{ArmCall, Interests}
 use Rattle.aio_listen.specs.declared.ticket.Ticket.{Ticket}
 use Rattle.aio_source.specs.declared.answers.Listened.{Listened}
 use Rattle.aio_source.specs.Values.{SourceValue}
-use Rattle.aio_source.specs.Rules.{polling, listening_first, polling_again, unlistened, handling}
+use Rattle.aio_source.specs.Rules.{polling, listening_first, listening_on, polling_again, unlistened, handling}
 use Rattle.aio_source.specs.Lent.{UsesArm, arm_of, settled}
 
 -- the key of a source, and then the rest of what is armed for it
@@ -36,5 +36,6 @@ module _ {S : Type 0} (step : S → ArmCall → Result (Unit {0}) Failed → S �
     pub first_listen : (s : SourceValue) (dir : Dir) (waker : Waker) (ticket : Option Ticket)
         → KeepsNote s (listening_first s dir waker ticket).source (listening_first s dir waker ticket).arms
     pub listen_again : (s : SourceValue) (dir : Dir) (l : Listened) (waker : Waker) → KeepsNote s (polling_again s dir l waker).source (polling_again s dir l waker).arms
+    pub listen_on : (s : SourceValue) (dir : Dir) (ticket : Ticket) (waker : Waker) → KeepsNote s (listening_on s dir ticket waker).source (listening_on s dir ticket waker).arms
     pub handle : (s : SourceValue) (on : Interest) (round : ℕ) → KeepsNote s (handling s on round).source (handling s on round).arms
     pub unlisten : (s : SourceValue) (dir : Dir) (ticket : Ticket) (io : S) → note rest (unlistened s dir ticket) io ≡ note rest s io

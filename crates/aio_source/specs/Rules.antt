@@ -141,12 +141,18 @@ listening_first s dir waker (Some ticket) =
     let d = direction_of s.directions dir in
     record { source = with_source_direction s dir (listening ticket waker d); arms = is_idle d || s.broken }
 
+-- A listener that is not ready holds this waker, and the poller is armed where nobody waited for the direction before, or the last arm failed.
+abbrev pub listening_on : SourceValue → Dir → Ticket → Waker → Prepared
+listening_on s dir ticket waker =
+    let d = direction_of s.directions dir in
+    record { source = with_source_direction s dir (listening_again ticket waker d); arms = is_idle d || s.broken }
+
 -- A listener's later poll is ready where the last round of its direction is above both numbers, and stays so. Otherwise it holds this waker.
 abbrev pub polling_again : SourceValue → Dir → Listened → Waker → Polling
 polling_again s dir l waker =
-    let d = direction_of s.directions dir in
-    if is_above l.a l.b d.tick then record { ready = true; replaced = None; source = s; arms = false }
-    else record { ready = false; replaced = None; source = with_source_direction s dir (listening_again l.ticket waker d); arms = is_idle d || s.broken }
+    let p = listening_on s dir l.ticket waker in
+    if is_above l.a l.b (direction_of s.directions dir).tick then record { ready = true; replaced = None; source = s; arms = false }
+    else record { ready = false; replaced = None; source = p.source; arms = p.arms }
 
 -- without a listener, whatever was asked for
 abbrev pub unlistened : SourceValue → Dir → Ticket → SourceValue

@@ -3,7 +3,7 @@
 ghost use Rattle.std.specs.Prelude.{◌≡◌, ◌+◌, ◌-◌, ◌^◌, ◌<◌, ◌≤◌, ◌++◌, ◌↔◌, false, true, length, IfSome, IsErrOf, vec_len, vec_capacity};
 ghost use Rattle.aio_base.specs.World.{directions};
 ghost use Rattle.aio_listen.specs.Listening.{Holds, has_ticket};
-ghost use Rattle.aio_source.specs.Rules.{new_source, is_above, waiters_of, waiters_in, direction_of, taken_along, polling, listening_first, polling_again, unlistened, handling, Covered};
+ghost use Rattle.aio_source.specs.Rules.{new_source, is_above, waiters_of, waiters_in, direction_of, taken_along, polling, listening_first, listening_on, polling_again, unlistened, handling, Covered};
 ghost use Rattle.aio_source.specs.Lent.{told, fault_of, UsesArm, arm_of, settled};
 ghost use Rattle.aio_source.specs.Answers.{poll_answer, armed_in, armed_first, listened_in, ticket_in};
 
@@ -238,12 +238,36 @@ impl SourceState {
             UsesArm A.arm_step A.interests A.rest A.fault_count A.is_sure
             p.arms (arm_of p.source) (told (armed_in result)) arm.old arm.new }
     {
-        let direction = self.directions.get_mut(dir);
-        if direction.is_above(l.a, l.b) {
+        if self.ready_since(dir, l.a, l.b) {
             return Poll::Ready(Ok(()));
         }
+        self.listen_on(arm, dir, l.ticket, w)
+    }
+
+    /// A listener's later poll where it is known not to be ready: it holds this waker in place of an
+    /// earlier one, which is not woken. `ArmFault` only where the count of faults of `arm` rose; the
+    /// listener keeps the waker. It takes no memory.
+    #[inline(always)]
+    pub fn listen_on<A: Arm>(
+        &mut self,
+        arm: &mut A,
+        dir: Dir,
+        t: Ticket,
+        w: Waker,
+    ) -> Poll<Result<(), ArmFault>>
+        requires { Holds (direction_of self.old.directions dir).listeners.entries t }
+        ensures answer { result ≡ poll_answer false (fault_of self.old.key (A.fault_count arm.old)
+            (A.fault_count arm.new) (told (armed_in result))) }
+        ensures after { let p = listening_on self.old dir t w in
+            self.new ≡ settled p.arms (told (armed_in result)) p.source }
+        ensures key { self.new.key ≡ self.old.key }
+        ensures lent { let p = listening_on self.old dir t w in
+            UsesArm A.arm_step A.interests A.rest A.fault_count A.is_sure
+            p.arms (arm_of p.source) (told (armed_in result)) arm.old arm.new }
+    {
+        let direction = self.directions.get_mut(dir);
         let arms = direction.is_idle() || self.arming.broken;
-        direction.listen_again(l.ticket, w);
+        direction.listen_again(t, w);
         pending_unless(self.arming.arm_where(arms, arm, self.key, &self.directions))
     }
 
