@@ -47,3 +47,4 @@ mod FreshCores
 mod PastKept
 mod SoundRuns
 mod SeatLemmas
+mod LaterPolls

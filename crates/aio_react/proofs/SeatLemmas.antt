@@ -1,12 +1,13 @@
 -- What is read and written of seats and first polls, as the list of listeners that they are.
-use Rattle.std.proofs.Common.{◌≡◌, ℕ, zero, suc, ◌<◌, ◌≤◌, List, [], ◌∷◌, ◌++◌, length, slice_set, slice_index_or, get_or, Option, None, Some, refl, sym, ap, arith}
+use Rattle.std.proofs.Common.{◌≡◌, ℕ, zero, suc, ◌<◌, ◌≤◌, List, [], ◌∷◌, ◌++◌, length, slice_set, slice_index_or, get_or, Option, None, Some, IfSome, refl, sym, ap, ◌∙◌, arith}
+use Rattle.aio_base.specs.declared.names.Dir.{Dir}
 use Rattle.aio_react.specs.declared.entries.Listener.{Listener}
 use Rattle.aio_react.specs.declared.listener_table.Seat.{Seat}
 use Rattle.aio_react.specs.declared.listener_table.Seat.TheVariants as seat
 use Rattle.aio_react.specs.declared.listener_table.FirstPoll.{FirstPoll}
 use Rattle.aio_source.specs.declared.answers.Listened.{Listened}
 use Rattle.aio_react.specs.Numbers.{value_of, with_value}
-use Rattle.aio_react.specs.Seats.{listener_in, listeners_in, seat_for, first_poll_of}
+use Rattle.aio_react.specs.Seats.{listener_in, listened_in, listeners_in, seat_for, seat_in, first_poll_of, IsBeside}
 
 pub listeners-length : (seats : List Seat) (polls : List FirstPoll) → length (listeners_in seats polls) ≡ length seats
 listeners-length [] polls = refl
@@ -55,6 +56,88 @@ listener-gone (t ∷ seats) (q ∷ polls) (suc at) = ap (λ (ls : List (Option L
 pub listener-again : (l : Listener) (first : Option Listened) → listener_in (seat_for l first) (first_poll_of first) ≡ Some (record l { first = first })
 listener-again l None = refl
 listener-again l (Some first) = refl
+
+-- ## Seats by themselves
+
+-- a seat is that of its listener
+seat-back : (s : Seat) (p : FirstPoll) → seat_in (listener_in s p) ≡ s
+seat-back seat.Gone p = refl
+seat-back (seat.Unpolled dir key) p = refl
+seat-back (seat.Polled dir key place a) p = refl
+
+seat-at : (seats : List Seat) (polls : List FirstPoll) (at : ℕ) (s : Seat) → at < length seats → s ≡ get_or seats at s → seat_in (slice_index_or (listeners_in seats polls) at None) ≡ s
+seat-at [] polls at s within is = absurd (omega arith)
+seat-at (t ∷ seats) [] zero s within is = seat-back t (first_poll_of None) ∙ sym is
+seat-at (t ∷ seats) (q ∷ polls) zero s within is = seat-back t q ∙ sym is
+seat-at (t ∷ seats) [] (suc at) s within is = seat-at seats [] at s (omega arith) is
+seat-at (t ∷ seats) (q ∷ polls) (suc at) s within is = seat-at seats polls at s (omega arith) is
+
+pub seat-there : (seats : List Seat) (polls : List FirstPoll) (number at : ℕ) (s : Seat) → number ≡ suc at → at < length seats → s ≡ get_or seats at s
+    → seat_in (value_of (listeners_in seats polls) number) ≡ s
+seat-there seats polls number at s is within is_s = rw is (seat-at seats polls at s within is_s)
+
+-- a listener of a key and a direction
+abbrev pub seated : ℕ → Dir → Option Listened → Listener
+seated key dir first = record { key = record { 0 = key }; dir = dir; first = first }
+
+gone-for : (l : Listener) (first : Option Listened) → seat.Gone ≡ seat_for l first → ⊥
+gone-for l None is = cc
+gone-for l (Some first) is = cc
+
+-- a seat tells whether there is a listener, and which one but for the rest of its first poll
+pub gone-seat : (v : Option Listener) → seat.Gone ≡ seat_in v → v ≡ None
+gone-seat None is = refl
+gone-seat (Some l) is = absurd (gone-for l l.first is)
+
+pub gone-else : (s : Seat) → ((dir : Dir) (key : ℕ) → s ≡ seat.Unpolled dir key → ⊥) → ((dir : Dir) (key place a : ℕ) → s ≡ seat.Polled dir key place a → ⊥) → seat.Gone ≡ s
+gone-else seat.Gone unpolled polled = refl
+gone-else (seat.Unpolled dir key) unpolled polled = absurd (unpolled dir key refl)
+gone-else (seat.Polled dir key place a) unpolled polled = absurd (polled dir key place a refl)
+
+unpolled-for : (l : Listener) (first : Option Listened) (dir : Dir) (key : ℕ) → l.first ≡ first → seat.Unpolled dir key ≡ seat_for l first → l ≡ seated key dir None
+unpolled-for l None dir key has is =
+    let dirs : l.dir ≡ dir = cc in
+    let keys : l.key.0 ≡ key = cc in
+    λ i. seated (keys i) (dirs i) (has i)
+unpolled-for l (Some first) dir key has is = absurd cc
+
+pub unpolled-seat : (v : Option Listener) (dir : Dir) (key : ℕ) → seat.Unpolled dir key ≡ seat_in v → v ≡ Some (seated key dir None)
+unpolled-seat None dir key is = absurd cc
+unpolled-seat (Some l) dir key is = ap (λ (l : Listener). Some l) (unpolled-for l l.first dir key refl is)
+
+polled-for : (l : Listener) (rest : Option Listened) (dir : Dir) (key place a : ℕ) (p : FirstPoll) → l.first ≡ rest → seat.Polled dir key place a ≡ seat_for l rest
+    → IfSome rest (λ first. first ≡ listened_in first.ticket.place first.a p) → l ≡ seated key dir (Some (listened_in place a p))
+polled-for l None dir key place a p has is beside = absurd cc
+polled-for l (Some first) dir key place a p has is beside =
+    let dirs : l.dir ≡ dir = cc in
+    let keys : l.key.0 ≡ key = cc in
+    let places : first.ticket.place ≡ place = cc in
+    let rounds : first.a ≡ a = cc in
+    let firsts : first ≡ listened_in place a p = beside ∙ (λ i. listened_in (places i) (rounds i) p) in
+    let rest : l.first ≡ Some (listened_in place a p) = has ∙ ap (λ (f : Listened). Some f) firsts in
+    λ i. seated (keys i) (dirs i) (rest i)
+
+pub polled-seat : (v : Option Listener) (dir : Dir) (key place a : ℕ) (p : FirstPoll) → seat.Polled dir key place a ≡ seat_in v → IsBeside v p → v ≡ Some (seated key dir (Some (listened_in place a p)))
+polled-seat None dir key place a p is beside = absurd cc
+polled-seat (Some l) dir key place a p is beside = ap (λ (l : Listener). Some l) (polled-for l l.first dir key place a p refl is beside)
+
+-- ## First polls by themselves
+
+beside-here : (s : Seat) (p q : FirstPoll) → p ≡ q → IsBeside (listener_in s q) p
+beside-here seat.Gone p q is = tt
+beside-here (seat.Unpolled dir key) p q is = tt
+beside-here (seat.Polled dir key place a) p q is = ap (λ (p : FirstPoll). listened_in place a p) (sym is)
+
+beside-at : (seats : List Seat) (polls : List FirstPoll) (at : ℕ) (p : FirstPoll) → length polls ≡ length seats → p ≡ get_or polls at p → IsBeside (slice_index_or (listeners_in seats polls) at None) p
+beside-at [] polls at p same is = tt
+beside-at (s ∷ seats) [] at p same is = absurd (omega arith)
+beside-at (s ∷ seats) (q ∷ polls) zero p same is = beside-here s p q is
+beside-at (s ∷ seats) (q ∷ polls) (suc at) p same is = beside-at seats polls at p (omega arith) is
+
+-- what lies at the place of a number is the rest of its listener's first poll
+pub beside-there : (seats : List Seat) (polls : List FirstPoll) (number at : ℕ) (p : FirstPoll) → number ≡ suc at → length polls ≡ length seats → p ≡ get_or polls at p
+    → IsBeside (value_of (listeners_in seats polls) number) p
+beside-there seats polls number at p is same read = rw is (beside-at seats polls at p same read)
 
 -- ## By number
 

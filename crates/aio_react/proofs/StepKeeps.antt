@@ -1,6 +1,6 @@
 -- A poll of a listener keeps what sources and listeners are to one another, and one that is refused changes nothing.
-use Rattle.std.proofs.Common.{◌≡◌, ◌≢◌, ℕ, Bool, true, false, if◌then◌else◌, ◌||◌, List, slice_set, Option, None, Some, IfSome, Result, Ok, Err, refl, sym, ap, ◌∙◌, subst, ⊎_elim}
-use Rattle.std.proofs.lemmas.Bool.{cases_eq}
+use Rattle.std.proofs.Common.{◌≡◌, ◌≢◌, ℕ, ◌-◌, ◌^◌, Bool, true, false, if◌then◌else◌, ◌||◌, ◌&&◌, is_none, List, slice_set, Option, None, Some, IfSome, Result, Ok, Err, IsErrOf, refl, sym, ap, ◌∙◌, subst, ⊎_elim}
+use Rattle.std.proofs.lemmas.Bool.{cases_eq, ne_eqb}
 use Rattle.aio_base.specs.declared.names.Dir.{Dir}
 use Rattle.aio_base.specs.declared.names.Dir.TheVariants.{Read, Write}
 use Rattle.aio_base.specs.declared.names.Key.{Key}
@@ -14,7 +14,8 @@ use Rattle.aio_listen.specs.Listening.{Holds}
 use Rattle.aio_listen.specs.Tickets.{same_ticket}
 use Rattle.aio_listen.proofs.ListeningLaws.{has_ticket-added, Holds-added, has_ticket-with_waker}
 use Rattle.aio_source.specs.Answers.{poll_answer, armed_first, listened_in, ticket_in}
-use Rattle.aio_source.specs.Lent.{settled}
+use Rattle.aio_base.specs.Devices.{ArmCall}
+use Rattle.aio_source.specs.Lent.{ArmsOnce, arm_of, settled}
 use Rattle.aio_source.specs.Rules.{Polling, polling_again, listening_first, is_above, listening, listening_again, direction_of, with_direction, with_source_direction}
 use Rattle.aio_source.specs.Values.{DirectionValue, DirectionValues, SourceValue}
 use Rattle.aio_source.specs.declared.answers.Listened.{Listened}
@@ -23,8 +24,9 @@ use Rattle.aio_source.specs.declared.answers.ListenRefusal.TheVariants as listen
 use Rattle.aio_react.specs.declared.entries.Listener.{Listener}
 use Rattle.aio_react.specs.declared.entries.SourceEntry.{SourceEntry}
 use Rattle.aio_react.specs.declared.refusals.CoreRefusal.{CoreRefusal}
+use Rattle.aio_react.specs.declared.refusals.CoreRefusal.TheVariants as refusal
 use Rattle.aio_react.specs.Cores.{entry_at, AreListed, IsListenedTo, HaveOwnTickets, ticket_of}
-use Rattle.aio_react.specs.Listeners.{first_step}
+use Rattle.aio_react.specs.Listeners.{first_step, is_spent, step_refusal_of}
 use Rattle.aio_react.specs.Numbers.{value_of, with_value}
 use Rattle.aio_react.proofs.HeardAgain.{value_here, value_aside, counts_again, listed_changed}
 use Rattle.aio_react.proofs.ListenMeets.{count_at}
@@ -51,6 +53,10 @@ again_keeps s dir first waker =
     let d = direction_of s.directions dir in
     either_keeps s (is_above first.a first.b d.tick) _ _ (λ dir ticket held. held)
     (changed_keeps s dir (listening_again first.ticket waker d) (λ ticket held. has_ticket-with_waker d.listeners.entries first.ticket waker ticket ∙ held))
+
+neither : (b : Bool) → ◌≡◌ {A = Option CoreRefusal} (if b && false then Some refusal.TicketsSpent else None) None
+neither true = refl
+neither false = refl
 
 either_key : (s : SourceValue) (test : Bool) (a b : Polling) → a.source.key ≡ s.key → b.source.key ≡ s.key → (if test then a else b).source.key ≡ s.key
 either_key s true a b first second = first
@@ -189,11 +195,32 @@ drew_none (Err (listen.ArmFault fault first)) refused is = absurd (cc)
 drew_none (Err listen.TicketsSpent) refused is = refl
 drew_none (Err listen.OutOfMemory) refused is = refl
 
+pub drew_unspent : (listened : Result Listened ListenRefusal) (told : Poll (Result (Unit {0}) ArmFault) × Listened) → Ok told ≡ first_step listened → IsErrOf listened listen.TicketsSpent → ⊥
+drew_unspent (Ok first) told is spent = cc
+drew_unspent (Err (listen.ArmFault fault first)) told is spent = cc
+drew_unspent (Err listen.TicketsSpent) told is spent = cc
+drew_unspent (Err listen.OutOfMemory) told is spent = cc
+
 -- where no ticket was drawn the source is as it was
 pub source_unchanged : (s s' : SourceValue) (dir : Dir) (waker : Waker) (ticket : Option Ticket) (answer : Result (Unit {0}) Failed) → ticket ≡ None
     → (let p = listening_first s dir waker ticket in s' ≡ settled p.arms answer p.source) → s' ≡ s
 source_unchanged s s' dir waker None answer none left = left
 source_unchanged s s' dir waker (Some ticket) answer none left = absurd (cc)
+
+-- nor was the poller armed
+pub poller_unchanged : {S : Type 0} (step : S → ArmCall → Result (Unit {0}) Failed → S → Type 0) (s : SourceValue) (dir : Dir) (waker : Waker) (ticket : Option Ticket) (answer : Result (Unit {0}) Failed)
+    (old new : S) → ticket ≡ None → (let p = listening_first s dir waker ticket in ArmsOnce step p.arms (arm_of p.source) old answer new) → new ≡ old
+poller_unchanged step s dir waker None answer old new none did = did.0
+poller_unchanged step s dir waker (Some ticket) answer old new none did = absurd (cc)
+
+-- a listener that drew a ticket was not refused
+pub first_unrefused : (sources : List (Option SourceEntry)) (value : Option Listener) (l : Listener) (e : SourceEntry) → value ≡ Some l → entry_at sources l.key.0 ≡ Some e
+    → (direction_of e.source.directions l.dir).listeners.drawn ≢ 2 ^ 64 - 1 → step_refusal_of sources value ≡ None
+first_unrefused sources value l e is there left =
+    ap (step_refusal_of sources) is
+    ∙ ap (λ (place : Option SourceEntry). if is_none l.first && is_spent place l.dir then Some refusal.TicketsSpent else None) there
+    ∙ ap (λ (b : Bool). if is_none l.first && b then Some refusal.TicketsSpent else None) (ne_eqb _ _ left)
+    ∙ neither (is_none l.first)
 
 pub places_unchanged : (sources : List (Option SourceEntry)) (key : ℕ) (e : SourceEntry) (s' : SourceValue) → entry_at sources key ≡ Some e → s' ≡ e.source
     → slice_set sources key (Some (with_state e s')) ≡ sources

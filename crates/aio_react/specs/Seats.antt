@@ -1,33 +1,51 @@
--- The listeners of a core as they lie in memory: for each number a seat, and what the first poll remembered beside it.
-use Rattle.std.specs.Prelude.{List, [], ◌∷◌, Option, None, Some}
+-- The listeners of a core as they lie in memory: for each number a seat, and what the first poll remembered beside that.
+use Rattle.std.specs.Prelude.{◌≡◌, ℕ, List, [], ◌∷◌, Option, None, Some, IfSome}
 use Rattle.aio_source.specs.declared.answers.Listened.{Listened}
 use Rattle.aio_react.specs.declared.entries.Listener.{Listener}
 use Rattle.aio_react.specs.declared.listener_table.Seat.{Seat}
 use Rattle.aio_react.specs.declared.listener_table.Seat.TheVariants as seat
 use Rattle.aio_react.specs.declared.listener_table.FirstPoll.{FirstPoll}
 
+-- what a listener remembers of its first poll, by the place and the rounds begun that its seat tells, and what lies beside
+abbrev pub listened_in : ℕ → ℕ → FirstPoll → Listened
+listened_in place a poll = record { ticket = record { serial = poll.serial; place = place }; a = a; b = poll.b }
+
 -- the listener of a seat, if it is not gone
 abbrev pub listener_in : Seat → FirstPoll → Option Listener
 listener_in seat.Gone poll = None
 listener_in (seat.Unpolled dir key) poll = Some (record { key = record { 0 = key }; dir = dir; first = None })
-listener_in (seat.Polled dir key place) poll = Some (record {
+listener_in (seat.Polled dir key place a) poll = Some (record {
   key = record { 0 = key };
   dir = dir;
-  first = Some (record { ticket = record { serial = poll.serial; place = place }; a = poll.a; b = poll.b });
+  first = Some (listened_in place a poll);
 })
 
 abbrev pub seat_for : Listener → Option Listened → Seat
 seat_for l None = seat.Unpolled l.dir l.key.0
-seat_for l (Some first) = seat.Polled l.dir l.key.0 first.ticket.place
+seat_for l (Some first) = seat.Polled l.dir l.key.0 first.ticket.place first.a
 
 -- the seat of a listener
 abbrev pub seat_of : Listener → Seat
 seat_of l = seat_for l l.first
 
+-- the seat where a listener is, or is gone
+abbrev pub seat_in : Option Listener → Seat
+seat_in None = seat.Gone
+seat_in (Some l) = seat_of l
+
+-- what a listener remembers of its first poll, where there is one that was polled
+abbrev pub first_of : Option Listener → Option Listened
+first_of None = None
+first_of (Some l) = l.first
+
+-- this lies beside the seat of a listener: where it was polled, the rest of what it remembers of that
+abbrev pub IsBeside : Option Listener → FirstPoll → Type 0
+IsBeside l poll = IfSome (first_of l) (λ first. first ≡ listened_in first.ticket.place first.a poll)
+
 -- zeros where it was not polled
 abbrev pub first_poll_of : Option Listened → FirstPoll
-first_poll_of None = record { serial = 0; a = 0; b = 0 }
-first_poll_of (Some first) = record { serial = first.ticket.serial; a = first.a; b = first.b }
+first_poll_of None = record { serial = 0; b = 0 }
+first_poll_of (Some first) = record { serial = first.ticket.serial; b = first.b }
 
 -- the listener of each seat, in order
 abbrev pub listeners_in : List Seat → List FirstPoll → List (Option Listener)

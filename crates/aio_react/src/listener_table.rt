@@ -1,8 +1,8 @@
 //! The listeners of a core by their numbers.
 
-ghost use Rattle.std.specs.Prelude.{◌≡◌, ◌+◌, ◌<◌, ◌^◌, ◌++◌, [], ◌∷◌, length, None, Some, IfOk, OnErr};
+ghost use Rattle.std.specs.Prelude.{◌≡◌, ◌+◌, ◌<◌, ◌≤◌, ◌^◌, ◌++◌, [], ◌∷◌, length, None, Some, IfOk, OnErr};
 ghost use Rattle.aio_react.specs.Numbers.{value_of, with_value};
-ghost use Rattle.aio_react.specs.Seats.{listener_in, seat_of, first_poll_of};
+ghost use Rattle.aio_react.specs.Seats.{listener_in, listened_in, seat_of, seat_in, first_poll_of, IsBeside};
 
 use crate::entries::Listener;
 use aio_base::{Dir, Key, OutOfMemory};
@@ -11,32 +11,39 @@ use aio_source::Listened;
 use std::alloc::Global;
 use std::marker::Model;
 
-/// Which direction of which source a listener is of, and where that direction keeps it once it was
-/// polled. It takes eight bytes, since a key is below 4,096.
+/// Which direction of which source a listener is of, and of one that was polled what the next poll
+/// needs. It takes sixteen bytes, since a key is below 4,096.
 #[derive(Clone, Copy)]
 pub(crate) enum Seat {
     /// The listener was given up.
     Gone,
     /// It was not polled yet.
-    Unpolled { dir: Dir, key: u16 },
-    /// It was polled: `place` is that of its ticket.
-    Polled { dir: Dir, key: u16, place: u32 },
+    Unpolled {
+        dir: Dir,
+        key: u16,
+    },
+    /// It was polled: `place` is that of its ticket, and `a` is how many rounds had begun then.
+    Polled {
+        dir: Dir,
+        key: u16,
+        place: u32,
+        a: u64,
+    },
 }
 
-/// What a listener remembers of its first poll beside its place.
+/// What a listener remembers of its first poll beside its seat.
 #[derive(Clone, Copy)]
 pub(crate) struct FirstPoll {
     pub(crate) serial: u64,
-    pub(crate) a: u64,
     pub(crate) b: u64,
 }
 
 /// The listeners of a core under numbers from 1, in the order in which they came. A number stays
 /// given where its listener was given up.
 ///
-/// A poll of one listener among many waits for memory, not for the processor. So what leads to a
-/// listener's source and its place there lies apart, as small as it can be: more of it stays in the
-/// cache, and the rest is read while the place is on its way.
+/// A poll of one listener among many waits for memory, not for the processor. So what a poll needs
+/// that finds a listener not ready lies apart, as small as it can be: more of it stays in the cache,
+/// and the rest is read only where the listener may be ready.
 ///
 /// Contracts see a place for each number that was given. Every call takes constant time.
 #[derive(Drop)]
@@ -94,16 +101,25 @@ impl ListenerTable {
         self.seats.len() as u64
     }
 
-    /// The listener under a number. `None` where the number was not given, or its listener was given
-    /// up.
-    pub(crate) fn get(&self, number: u64) -> Option<Listener>
-        ensures { result ≡ value_of self.now number }
+    /// The seat of the listener under a number, which is gone also where the number was not given.
+    #[inline(always)]
+    pub(crate) fn seat(&self, number: u64) -> Seat
+        ensures { result ≡ seat_in (value_of self.now number) }
     {
         if number == 0 || number > self.seats.len() as u64 {
-            return None;
+            return Seat::Gone;
         }
-        let at = number as usize - 1;
-        listener_in(self.seats[at], self.first_polls[at])
+        self.seats[number as usize - 1]
+    }
+
+    /// What lies beside the seat of a number that was given.
+    #[inline(always)]
+    pub(crate) fn first_poll(&self, number: u64) -> &FirstPoll
+        requires given { 0 < number }
+        requires bound { number ≤ length self.now }
+        ensures { IsBeside (value_of self.now number) result.now }
+    {
+        &self.first_polls[number as usize - 1]
     }
 
     /// Puts a listener under a number that was given, in place of its own. Under another number
@@ -146,18 +162,26 @@ fn listener_in(seat: Seat, first_poll: FirstPoll) -> Option<Listener>
             dir,
             first: None,
         }),
-        Seat::Polled { dir, key, place } => Some(Listener {
+        Seat::Polled { dir, key, place, a } => Some(Listener {
             key: Key(u32::from(key)),
             dir,
-            first: Some(Listened {
-                ticket: Ticket {
-                    serial: first_poll.serial,
-                    place,
-                },
-                a: first_poll.a,
-                b: first_poll.b,
-            }),
+            first: Some(listened_in(place, a, &first_poll)),
         }),
+    }
+}
+
+/// What a listener remembers of its first poll, by its seat's place and `a`, and what lies beside.
+#[inline(always)]
+pub(crate) fn listened_in(place: u32, a: u64, first_poll: &FirstPoll) -> Listened
+    ensures { result ≡ listened_in place a first_poll.now }
+{
+    Listened {
+        ticket: Ticket {
+            serial: first_poll.serial,
+            place,
+        },
+        a,
+        b: first_poll.b,
     }
 }
 
@@ -174,23 +198,19 @@ fn seat_of(listener: Listener) -> Seat
             dir,
             key,
             place: first.ticket.place,
+            a: first.a,
         },
     }
 }
 
-/// What a listener remembers of its first poll beside its place, and zeros where it was not polled.
+/// What a listener remembers of its first poll beside its seat, and zeros where it was not polled.
 fn first_poll_of(first: Option<Listened>) -> FirstPoll
     ensures { result ≡ first_poll_of first }
 {
     match first {
-        None => FirstPoll {
-            serial: 0,
-            a: 0,
-            b: 0,
-        },
+        None => FirstPoll { serial: 0, b: 0 },
         Some(first) => FirstPoll {
             serial: first.ticket.serial,
-            a: first.a,
             b: first.b,
         },
     }

@@ -4,18 +4,24 @@ ghost use Rattle.std.specs.Prelude.{◌≡◌, ◌<◌, [], None, Some, Err, is_
 ghost use Rattle.aio_base.specs.Devices.{PollerStep, TellsFaults};
 ghost use Rattle.aio_base.specs.declared.steps.Step.TheVariants as step;
 ghost use Rattle.aio_react.specs.declared.refusals.CoreRefusal.TheVariants.{NoListener, OutOfMemory};
+ghost use Rattle.aio_listen.specs.Listening.{Holds};
+ghost use Rattle.aio_source.specs.Answers.{poll_answer, armed_in};
+ghost use Rattle.aio_source.specs.Lent.{told, fault_of, UsesArm, arm_of, settled};
+ghost use Rattle.aio_source.specs.Rules.{direction_of, polling_again};
 ghost use Rattle.aio_react.specs.Asking.{UsesPoller, step_part};
 ghost use Rattle.aio_react.specs.Cores.{IsListenedTo};
 ghost use Rattle.aio_react.specs.Listeners.{listen_reply, listen_refusal, step_reply, step_refusal, step_armed, first_step, IsFirstPoll, drop_reply, given_up};
 ghost use Rattle.aio_react.specs.Meeting.{Meets};
 ghost use Rattle.aio_react.specs.Numbers.{value_of};
+ghost use Rattle.aio_react.specs.Seats.{listened_in};
 ghost use Rattle.aio_react.specs.Sections.{IsRefusedBy};
 
 use crate::entries::{Listener, SourceEntry};
+use crate::listener_table::{FirstPoll, Seat, listened_in};
 use crate::reactor::Core;
 use crate::refusals::CoreRefusal;
 use aio_base::{Arm, ArmFault, Dir, Key, Poll, Poller, Waker};
-use aio_source::{ListenRefusal, Listened};
+use aio_source::{ListenRefusal, Listened, SourceState};
 
 impl<P: Poller> Core<P> {
     /// A new listener of a direction of a source, which has not been polled: its number, from 1 on
@@ -86,18 +92,26 @@ impl<P: Poller> Core<P> {
               after = P.fault_count self.new.0;
             })) }
     {
-        let Some(heard) = self.listeners.get(listener) else {
-            return Err(CoreRefusal::NoListener);
-        };
-        let at = heard.key.0 as usize;
-        let dir = heard.dir;
-        if let Some(first) = heard.first {
-            return match &mut self.sources[at] {
-                Some(entry) => Ok(entry.source.listen_again(&mut self.poller, dir, first, w)),
+        let seat = self.listeners.seat(listener);
+        if let Seat::Polled { dir, key, place, a } = seat {
+            let first_poll = self.listeners.first_poll(listener);
+            return match &mut self.sources[key as usize] {
+                Some(entry) => Ok(poll_again(
+                    &mut entry.source,
+                    &mut self.poller,
+                    dir,
+                    place,
+                    a,
+                    first_poll,
+                    w,
+                )),
                 None => Err(CoreRefusal::NoListener),
             };
         }
-        let listened = match &mut self.sources[at] {
+        let Seat::Unpolled { dir, key } = seat else {
+            return Err(CoreRefusal::NoListener);
+        };
+        let listened = match &mut self.sources[key as usize] {
             Some(entry) => entry
                 .source
                 .first_listen(&mut self.poller, dir, w, self.ticker),
@@ -108,8 +122,9 @@ impl<P: Poller> Core<P> {
             Err(refusal) => return Err(refusal),
         };
         let heard = Listener {
+            key: Key(key as u32),
+            dir,
             first: Some(first),
-            ..heard
         };
         self.listeners.set(listener, heard);
         Ok(answer)
@@ -137,6 +152,37 @@ impl<P: Poller> Core<P> {
         give_up(entry, heard);
         Ok(())
     }
+}
+
+/// Polls a listener again, by its seat's direction, place and `a`. Where no later round has handled an
+/// event of the direction, what lies beside the seat is not read.
+#[inline(always)]
+fn poll_again<A: Arm>(
+    source: &mut SourceState,
+    arm: &mut A,
+    dir: Dir,
+    place: u32,
+    a: u64,
+    first_poll: &FirstPoll,
+    w: Waker,
+) -> Poll<Result<(), ArmFault>>
+    requires { let first = listened_in place a first_poll.now in
+        Holds (direction_of source.old.directions dir).listeners.entries first.ticket }
+    ensures answer { let p = polling_again source.old dir (listened_in place a first_poll.now) w in
+        result ≡ poll_answer p.ready (fault_of source.old.key (A.fault_count arm.old)
+        (A.fault_count arm.new) (told (armed_in result))) }
+    ensures after { let p = polling_again source.old dir (listened_in place a first_poll.now) w in
+        source.new ≡ settled p.arms (told (armed_in result)) p.source }
+    ensures key { source.new.key ≡ source.old.key }
+    ensures lent { let p = polling_again source.old dir (listened_in place a first_poll.now) w in
+        UsesArm A.arm_step A.interests A.rest A.fault_count A.is_sure
+        p.arms (arm_of p.source) (told (armed_in result)) arm.old arm.new }
+{
+    if source.tick(dir) <= a {
+        let t = listened_in(place, a, first_poll).ticket;
+        return source.listen_on(arm, dir, t, w);
+    }
+    source.listen_again(arm, dir, listened_in(place, a, first_poll), w)
 }
 
 /// What a listener's first poll comes to: its answer, and what the listener remembers.

@@ -1,0 +1,15 @@
+-- What lies at the place of a number that was given is beside its seat.
+use Rattle.std.proofs.Common.{◌-◌, length, ap, arith}
+use Rattle.aio_react.proofs.SeatLemmas.{listeners-length, beside-there}
+use Rattle.aio_react.proofs.listener_table.ListenerTable.first_poll.Goals as goal
+
+pub index-requires : goal.index-requires
+index-requires c =
+    let i = c.self.inside in
+    omega (arith, c.requires.given, c.requires.bound, ap length c.self.view_is, listeners-length i.seats.items i.first_polls.items, c.self.invariant)
+
+pub returns : goal.returns
+returns c =
+    let i = c.self.inside in
+    rw (← c.self.view_is)
+    (beside-there i.seats.items i.first_polls.items c.args.number (c.args.number - 1) c.index.result.now (omega (arith, c.requires.given)) c.self.invariant c.index.ensures)
