@@ -1,7 +1,6 @@
 -- What contracts see of a pass, and what its calls do.
-use Rattle.std.specs.Prelude.{◌≡◌, ◌⊎◌, ℕ, ◌+◌, ◌-◌, ◌^◌, ◌≤◌, List, [], ◌∷◌, ◌++◌, length, map, min, Option, None, Some}
+use Rattle.std.specs.Prelude.{◌≡◌, ◌⊎◌, ℕ, ◌+◌, ◌-◌, ◌^◌, ◌<◌, ◌≤◌, List, [], ◌∷◌, ◌++◌, length, map, min, Option, None, Some}
 use Rattle.atomic_table.specs.Seated.{TableId}
-use Rattle.aio_base.specs.Devices.{raised}
 use Rattle.aio_base.specs.Timers.{fold_changes}
 use Rattle.aio_base.specs.World.{Registration}
 use Rattle.aio_timers.specs.Book.{change_of}
@@ -30,9 +29,9 @@ new_pass queue number made = record { queue = queue; number = number; own = []; 
 abbrev pub pass_limit : ℕ
 pass_limit = 2 ^ 24
 
--- a count of so many events more, which stands still at the end of its type
+-- a count of exactly so many events more, which stands still at the end of its type
 abbrev pub RoseBy : ℕ → ℕ → ℕ → Type 0
-RoseBy n before after = (before ≤ after) × (min (before + n) (2 ^ 64 - 1) ≤ after)
+RoseBy n before after = (before ≤ after) × (after ≡ min (before + n) (2 ^ 64 - 1))
 
 -- the entry that a pass pushes next
 abbrev pub next_entry : PassView → TimerOp → Entry
@@ -45,8 +44,7 @@ pushed op p = record p { own = p.own ++ record { entry = next_entry p op; pulled
 -- A push of a pass found the queue full, which the pass counted, and nothing joined the queue.
 pub record FindsFull (before after : PassView) : Type 0 where
   pub pass : after ≡ record before { fulls = after.fulls }
-  pub counted : after.fulls ≡ raised before.fulls
-  pub later : before.fulls ≤ after.fulls
+  pub counted : RoseBy 1 before.fulls after.fulls
 
 -- the changes of the book that these entries are
 abbrev pub changed_by : List Entry → List Registration → List Registration
@@ -60,11 +58,16 @@ pub record Takes (count : ℕ) (before after : PassView) (book_before book_after
   pub book : book_after.entries ≡ changed_by entries book_before.entries
   pub spare : book_before.spare ≤ book_after.spare + count
 
+-- how a drain that took so many entries ended, by the pass's count of empty pops before and after: after 1,000 entries, with no such pop, or earlier,
+-- at the only one
+abbrev pub Ended : ℕ → ℕ → ℕ → Type 0
+Ended count before after = ((count ≡ 1000) × (after ≡ before)) ⊎ ((count < 1000) × RoseBy 1 before after)
+
 -- How a drain leaves them: it took so many entries, at most 1,000. It ends after 1,000 of them, or at a pop that found the queue empty.
 pub record Drains (count : ℕ) (before after : PassView) (book_before book_after : Book) : Type 0 where
   pub takes : Takes count before after book_before book_after
   pub most : count ≤ 1000
-  pub ends : ((count ≡ 1000) × (after.empties ≡ before.empties)) ⊎ RoseBy 1 before.empties after.empties
+  pub ends : Ended count before.empties after.empties
 
 -- How one pop leaves a pass: it took this operation out of the queue, with its entry; or it found none, and counted that.
 abbrev pub Pops : Option TimerOp → PassView → PassView → Type 0

@@ -36,7 +36,7 @@ full_later p q f = record {
   number = ap (λ (r : PassView). r.number) f.pass;
   own = ([], ap (λ (r : PassView). r.own) f.pass ∙ sym (append-nil p.own));
   pulled = ([], ap (λ (r : PassView). r.pulled) f.pass ∙ sym (append-nil p.pulled));
-  fulls = f.later;
+  fulls = f.counted.0;
   empties = (let same : q.empties ≡ p.empties = ap (λ (r : PassView). r.empties) f.pass in omega arith);
 }
 
@@ -89,17 +89,17 @@ found_none_but_full : (p q : PassView) → FindsFull p q → PushedNothing p q
 found_none_but_full p q f = record {
   entries = [];
   pass = f.pass ∙ (let empties : q.empties ≡ p.empties = ap (λ (r : PassView). r.empties) f.pass in λ i. record p { pulled = sym (append-nil p.pulled) i; fulls = q.fulls; empties = sym empties i });
-  fulls = f.later;
+  fulls = f.counted.0;
   empties = (let same : q.empties ≡ p.empties = ap (λ (r : PassView). r.empties) f.pass in omega arith);
 }
 
 pub found_full_once : (p q : PassView) → FindsFull p q → FoundFull 0 p q
-found_full_once p q f = let counted = f.counted in let later = f.later in record {
+found_full_once p q f = record {
   first = q;
   full = f;
   again = refl;
   nothing = found_none_but_full p q f;
-  fulls = (f.later, omega (arith, f.counted));
+  fulls = f.counted;
 }
 
 pub found_full_further : (n : ℕ) (p q r : PassView) → FoundFull n p q → TriesInVain q r → FoundFull (n + 1) p r
@@ -109,5 +109,5 @@ found_full_further n p q r f t =
       full = f.full;
       again = tries_once_more n f.first q r f.again t;
       nothing = pushed_nothing_further p q r f.nothing (pushed_nothing_further q t.room r (drained_pushed_nothing q t.room t.drained) (found_none_but_full t.room r t.full));
-      fulls = (omega (arith, f.fulls.0, t.full.later, room_fulls), omega (arith, f.fulls.1, t.full.counted, t.full.later, room_fulls));
+      fulls = (omega (arith, f.fulls.0, t.full.counted.0, room_fulls), omega (arith, f.fulls.0, f.fulls.1, t.full.counted.0, t.full.counted.1, room_fulls));
     }

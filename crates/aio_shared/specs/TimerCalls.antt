@@ -11,7 +11,7 @@ use Rattle.aio_timers.specs.declared.op.TimerOp.TheVariants as timer_op
 use Rattle.aio_ops.specs.declared.queue.Entry.{Entry}
 use Rattle.aio_timers.specs.Book.{change_of}
 use Rattle.aio_timers.specs.Room.{Book}
-use Rattle.aio_ops.specs.Passes.{PassView, Drains, FindsFull, RoseBy, pushed}
+use Rattle.aio_ops.specs.Passes.{PassView, Drains, Ended, FindsFull, RoseBy, pushed}
 use Rattle.aio_react.specs.declared.hosts.InsertRefusal.{InsertRefusal}
 use Rattle.aio_react.specs.declared.hosts.InsertRefusal.TheVariants as refusal
 use Rattle.aio_react.specs.Hosts.{next_id}
@@ -26,7 +26,7 @@ pub record Drained (before after : PassView) : Type 0 where
   pub entries : List Entry
   pub most : length entries ≤ 1000
   pub pass : after ≡ record before { pulled = before.pulled ++ entries; empties = after.empties }
-  pub ends : (length entries ≡ 1000) ⊎ RoseBy 1 before.empties after.empties
+  pub ends : Ended (length entries) before.empties after.empties
   pub empties : before.empties ≤ after.empties
 
 -- A drain of a book by a pass, and then this operation, applied to the book that the drain left.
