@@ -6,6 +6,7 @@ pub mod FirstVersion
 pub mod Leaving
 pub mod Noting
 pub mod Padding
+pub mod PlacedTimers
 pub mod Refusing
 pub mod Scripted
 pub mod Starting

@@ -5,4 +5,6 @@ pub mod Replaying
 pub mod Replies
 pub mod Steps
 pub mod Summing
+pub mod TimerLoans
+pub mod TimerPlaces
 pub mod Timers

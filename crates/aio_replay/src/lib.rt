@@ -16,6 +16,7 @@ pub mod ends;
 mod replayer;
 mod replies;
 pub mod summing;
+mod timer_table;
 pub mod trace;
 mod version;
 

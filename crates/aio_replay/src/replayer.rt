@@ -11,9 +11,10 @@ mod clock;
 mod rounds;
 mod timers;
 
+use crate::timer_table::TimerTable;
 use aio_base::{Answer, OutOfMemory, Step, Waker};
 use aio_future::Timer;
-use aio_react::{Core, Numbered};
+use aio_react::Core;
 use aio_script::{ScriptClock, ScriptPoller};
 use std::alloc::{AllocError, Global};
 
@@ -22,7 +23,7 @@ use std::alloc::{AllocError, Global};
 pub(crate) struct Replayer {
     core: Core<ScriptPoller>,
     clock: ScriptClock,
-    timers: Numbered<Timer>,
+    timers: TimerTable,
 }
 
 impl Replayer {
@@ -40,7 +41,7 @@ impl Replayer {
         Ok(Replayer {
             core,
             clock: ScriptClock::new(),
-            timers: Numbered::new(alloc),
+            timers: TimerTable::new(alloc),
         })
     }
 
