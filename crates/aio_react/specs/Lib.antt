@@ -1,7 +1,6 @@
 pub mod Rounds
 pub mod Numbers
 pub mod Seats
-pub mod Numbering
 pub mod Cores
 pub mod Facts
 pub mod Standing

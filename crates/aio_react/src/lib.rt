@@ -11,14 +11,12 @@ mod entries;
 pub mod hosts;
 pub mod laws;
 mod listener_table;
-mod numbered;
 mod outcomes;
 mod reactor;
 mod refusals;
 mod round;
 
 pub use hosts::{Host, InsertRefusal, TimerHost};
-pub use numbered::Numbered;
 pub use outcomes::{Handled, Reacted};
 pub use reactor::Core;
 pub use refusals::CoreRefusal;
