@@ -12,14 +12,12 @@ use Rattle.aio_base.specs.declared.tasks.Cx.{Cx}
 use Rattle.aio_base.specs.ClockBounds.{ClockBounds, IsWithin}
 use Rattle.aio_base.specs.Polls.{IfReady, WhilePending}
 use Rattle.aio_base.specs.Tasks.{IsPartOf, PendingPolls}
-use Rattle.aio_base.specs.WordCalls.{taken_masks}
-use Rattle.aio_base.proofs.WordCounts.{taken-append}
 use Rattle.aio_shared.specs.declared.reacting.ReactFault.{ReactFault}
 use Rattle.aio_shared.specs.Members.{Extends}
-use Rattle.aio_park.specs.Blocking.{AreTold, Clocked, IsTold, PolledUntil, gained}
+use Rattle.aio_park.specs.Blocking.{AreTold, Clocked, IsTold, PolledUntil, gained, taken_of}
 use Rattle.aio_park.specs.Driving.{Gains}
 use Rattle.aio_park.specs.Polls.{Polled}
-use Rattle.aio_park.proofs.Gaining.{gained_is}
+use Rattle.aio_park.proofs.Gaining.{gained_is, own-append}
 
 -- ## Parts of lists
 
@@ -83,7 +81,7 @@ module _ {T O : Type 0} (step : T → Cx → Poll O → T → Type 0) (gives : T
     pub masks : map (λ (cx : Cx). cx.mask) cxs ++ mask ∷ [] ≡ (2 ^ 64 - 1) ∷ later
     pub steps : List WordStep
     pub did : now.did ≡ was.did ++ steps
-    pub taken : IsPartOf later (taken_masks steps)
+    pub taken : IsPartOf later (taken_of parker steps)
     pub allows : (moment : ℕ) (output : O) → IsPast bounds moment → gives new sure moment output → gives old sure moment output
     pub count : after ≤ before + length later
 
@@ -129,20 +127,20 @@ module _ {T O : Type 0} (step : T → Cx → Poll O → T → Type 0) (gives : T
       did_then : next.did ≡ was.did ++ (p.steps ++ more.0)
       did_then = more.1 ∙ ap (λ l. l ++ more.0) p.did ∙ append_assoc was.did p.steps more.0
 
-      gained_then : taken_masks (gained was next) ≡ taken_masks p.steps ++ taken_masks more.0
-      gained_then = ap taken_masks (gained_is was next (p.steps ++ more.0) did_then) ∙ taken-append p.steps more.0
+      gained_then : taken_of parker (gained was next) ≡ taken_of parker p.steps ++ taken_of parker more.0
+      gained_then = ap (taken_of parker) (gained_is was next (p.steps ++ more.0) did_then) ∙ own-append parker p.steps more.0
 
-      part_then : IsPartOf p.later (taken_masks (gained was next))
-      part_then = subst (IsPartOf p.later) (sym gained_then) (part_further p.later (taken_masks p.steps) (taken_masks more.0) p.taken)
+      part_then : IsPartOf p.later (taken_of parker (gained was next))
+      part_then = subst (IsPartOf p.later) (sym gained_then) (part_further p.later (taken_of parker p.steps) (taken_of parker more.0) p.taken)
 
       are_told : (final : ℕ) → last ≤ stop → stop ≤ final → AreTold parker (clocked bounds first final) (gained was next) cxs_now
       are_told final mid_on end_on = record { each = told_now final mid_on end_on; later = p.later; masks = masks_now; taken = part_then }
 
-      pub counted : (count : ℕ) → count ≤ after + 1 → count ≤ before + length (taken_masks (gained was next)) + 1
-      counted count one = omega (arith, one, p.count, part_length p.later (taken_masks (gained was next)) part_then)
+      pub counted : (count : ℕ) → count ≤ after + 1 → count ≤ before + length (taken_of parker (gained was next)) + 1
+      counted count one = omega (arith, one, p.count, part_length p.later (taken_of parker (gained was next)) part_then)
 
       -- the next poll has a mask that was taken
-      pub polls_on : (final found : ℕ) (final_view : SeatView) (count : ℕ) → answer ≡ Pending → last ≤ stop → stop ≤ final → Gains next final_view (found ∷ []) → count ≤ after + 1
+      pub polls_on : (final found : ℕ) (final_view : SeatView) (count : ℕ) → answer ≡ Pending → last ≤ stop → stop ≤ final → Gains parker next final_view (found ∷ []) → count ≤ after + 1
           → Polling parker found bounds first final sure was final_view old new before count
       polls_on final found final_view count is mid_on end_on gains one =
           let step_is : step mid q.cx Pending new = subst (λ (a : Poll O). step mid q.cx a new) is q.step_is in
@@ -154,10 +152,10 @@ module _ {T O : Type 0} (step : T → Cx → Poll O → T → Type 0) (gives : T
             masks = ap (λ l. l ++ found ∷ []) masks_now;
             steps = (p.steps ++ more.0) ++ gains.steps;
             did = gains.did ∙ ap (λ l. l ++ gains.steps) did_then ∙ append_assoc was.did (p.steps ++ more.0) gains.steps;
-            taken = (let all : taken_masks ((p.steps ++ more.0) ++ gains.steps) ≡ (taken_masks p.steps ++ taken_masks more.0) ++ found ∷ [] =
-                taken-append (p.steps ++ more.0) gains.steps ∙ (λ i. taken-append p.steps more.0 i ++ gains.taken i) in
+            taken = (let all : taken_of parker ((p.steps ++ more.0) ++ gains.steps) ≡ (taken_of parker p.steps ++ taken_of parker more.0) ++ found ∷ [] =
+                own-append parker (p.steps ++ more.0) gains.steps ∙ (λ i. own-append parker p.steps more.0 i ++ gains.own i) in
                 subst (IsPartOf (p.later ++ found ∷ [])) (sym all)
-                (part_snoc p.later (taken_masks p.steps ++ taken_masks more.0) found (part_further p.later (taken_masks p.steps) (taken_masks more.0) p.taken)));
+                (part_snoc p.later (taken_of parker p.steps ++ taken_of parker more.0) found (part_further p.later (taken_of parker p.steps) (taken_of parker more.0) p.taken)));
             allows = λ moment output past given. p.allows moment output past (pending_gives is moment output (past q.cx.now q.told.within q.most) given);
             count = (let long : length (p.later ++ found ∷ []) ≡ length p.later + 1 = length-append p.later (found ∷ []) in omega (arith, one, p.count, long));
           }

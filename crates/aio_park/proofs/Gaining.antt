@@ -1,7 +1,8 @@
 -- The steps of a member's seat, one list of them after another, what the swaps among them took, and the causes that they show.
-use Rattle.std.proofs.Common.{◌≡◌, ◌≢◌, ◌==◌, ◌^◌, ◌-◌, ◌≤◌, ℕ, Bool, true, false, ◌||◌, if◌then◌else◌, nat_lt, ◌/◌, ◌%◌, List, [], ◌∷◌, ◌++◌, length, drop, refl, sym, ap, ◌∙◌, subst, append-nil, append_assoc, le_refl, le_trans, Result, Ok, Err, IfOk, IfErr, ne_eqb}
+use Rattle.std.proofs.Common.{◌≡◌, ◌≢◌, ◌==◌, ◌≤◌, ℕ, zero, suc, Bool, true, false, ◌||◌, if◌then◌else◌, nat_lt, ◌/◌, ◌%◌, List, [], ◌∷◌, ◌++◌, length, drop, filter, refl, sym, ap, ◌∙◌, subst, append-nil, append_assoc, le_refl, le_trans, Result, Ok, Err, IfOk, IfErr, eq-eqb, ne_eqb, arith}
 use Rattle.std.proofs.Math.Bool.{or-true}
 use Rattle.std.proofs.Math.Seq.{drop-append_seam}
+use Rattle.std.proofs.lemmas.List.Elements.{filter-append}
 use Rattle.std.proofs.lemmas.List.Folds.{list_any-append}
 use Rattle.std.specs.List.{list_any}
 use Rattle.aio_base.specs.declared.names.Waker.{Waker}
@@ -17,12 +18,11 @@ use Rattle.aio_shared.specs.declared.reacting.ReactedIn.{ReactedIn}
 use Rattle.aio_shared.specs.declared.reacting.ReactFault.{ReactFault}
 use Rattle.aio_shared.specs.declared.reacting.ReactFault.TheVariants as react_fault
 use Rattle.aio_shared.specs.Cells.{CellValue}
-use Rattle.aio_shared.specs.Inside.{InsideValue}
 use Rattle.aio_shared.specs.Later.{later_itself, later_further}
 use Rattle.aio_shared.specs.Members.{Extends, IsLaterMember, MemberValue, SharedValue}
 use Rattle.aio_shared.specs.Reacting.{NoteCounts, Reacts, Start, Wakes}
-use Rattle.aio_park.specs.Blocking.{HasFaultCause, gained}
-use Rattle.aio_park.specs.Driving.{Gains, mask_list}
+use Rattle.aio_park.specs.Blocking.{HasFaultCause, gained, swaps_mask_of, taken_of}
+use Rattle.aio_park.specs.Driving.{Gains, GainsNone, mask_list}
 
 -- ## What the steps of a wake take: nothing
 
@@ -50,25 +50,72 @@ wakes_take (w ∷ wakers) parkers [] = refl
 wakes_take (w ∷ wakers) parkers (f ∷ founds) =
     taken-append (wake_steps w.0 parkers f) (all_wake_steps wakers parkers founds) ∙ (λ i. wake_takes w.0 parkers f i ++ wakes_take wakers parkers founds i)
 
+-- ## What the swaps of one parker's mask took
+
+-- one more step leaves nothing taken only where it took nothing
+nothing_further : (mine nothing : Bool) (i found : ℕ) (own : List WordStep) (all : List ℕ) → (found == 0) ≡ nothing → (all ≡ [] → taken_masks own ≡ [])
+    → (if nothing then all else found ∷ all) ≡ [] → taken_masks (if mine then word_step.SwapMask i found ∷ own else own) ≡ []
+nothing_further false true i found own all is rest none = rest none
+nothing_further true true i found own all is rest none = ap (λ (b : Bool). if b then taken_masks own else found ∷ taken_masks own) is ∙ rest none
+nothing_further mine false i found own all is rest none = let long : length (found ∷ all) ≡ 0 = ap length none in absurd (omega (arith, long))
+
+-- where the swaps of some steps took nothing, those of one parker's mask took nothing
+pub own_none : (parker : ℕ) (steps : List WordStep) → taken_masks steps ≡ [] → taken_of parker steps ≡ []
+own_none parker [] none = refl
+own_none parker (word_step.SwapMask i found ∷ steps) none =
+    nothing_further (i == parker) (found == 0) i found (filter (swaps_mask_of parker) steps) (taken_masks steps) refl (own_none parker steps) none
+own_none parker (word_step.LoadTicker found ∷ steps) none = own_none parker steps none
+own_none parker (word_step.AddTicker found ∷ steps) none = own_none parker steps none
+own_none parker (word_step.SetBit i bit found ∷ steps) none = own_none parker steps none
+own_none parker (word_step.LoadBlocked i found ∷ steps) none = own_none parker steps none
+own_none parker (word_step.ExchangeNotified found ∷ steps) none = own_none parker steps none
+own_none parker (word_step.StoreBlocked i stored found ∷ steps) none = own_none parker steps none
+own_none parker (word_step.LoadMask i found ∷ steps) none = own_none parker steps none
+own_none parker (word_step.SwapNotified found ∷ steps) none = own_none parker steps none
+
+pub own-append : (parker : ℕ) (a b : List WordStep) → taken_of parker (a ++ b) ≡ taken_of parker a ++ taken_of parker b
+own-append parker a b = ap taken_masks (filter-append (swaps_mask_of parker) a b) ∙ taken-append (filter (swaps_mask_of parker) a) (filter (swaps_mask_of parker) b)
+
+-- a swap of the parker's own mask is one
+own_swap : (parker found : ℕ) → taken_of parker (word_step.SwapMask parker found ∷ []) ≡ mask_list found
+own_swap parker found = ap (λ (b : Bool). taken_masks (if b then word_step.SwapMask parker found ∷ [] else [])) (eq-eqb parker parker refl)
+
+-- and so is each swap of a park
+own_park : (parker idle found : ℕ) → taken_of parker (park_steps parker idle found) ≡ mask_list found
+own_park parker zero found = own_swap parker found
+own_park parker (suc idle) found =
+    let rest = filter (swaps_mask_of parker) (park_steps parker idle found) in
+    ap (λ (b : Bool). taken_masks (if b then word_step.SwapMask parker 0 ∷ rest else rest)) (eq-eqb parker parker refl) ∙ own_park parker idle found
+
 -- ## What a seat gains
 
-pub gains_itself : (v : SeatView) → Gains v v []
-gains_itself v = record { steps = []; did = sym (append-nil v.did); taken = refl }
+-- steps that took nothing
+pub gains_none : (steps : List WordStep) (v w : SeatView) → w.did ≡ v.did ++ steps → taken_masks steps ≡ [] → GainsNone v w
+gains_none steps v w did none = λ parker. record { steps = steps; did = did; taken = none; own = own_none parker steps none }
 
-pub gains_further : (a b c : SeatView) (xs ys : List ℕ) → Gains a b xs → Gains b c ys → Gains a c (xs ++ ys)
-gains_further a b c xs ys x y = record {
+pub gains_itself : (v : SeatView) → GainsNone v v
+gains_itself v = gains_none [] v v (sym (append-nil v.did)) refl
+
+pub gains_further : (parker : ℕ) (a b c : SeatView) (xs ys : List ℕ) → Gains parker a b xs → Gains parker b c ys → Gains parker a c (xs ++ ys)
+gains_further parker a b c xs ys x y = record {
   steps = x.steps ++ y.steps;
   did = y.did ∙ ap (λ l. l ++ y.steps) x.did ∙ append_assoc a.did x.steps y.steps;
   taken = taken-append x.steps y.steps ∙ (λ i. x.taken i ++ y.taken i);
+  own = own-append parker x.steps y.steps ∙ (λ i. x.own i ++ y.own i);
 }
 
 -- a seat that is the same has gained nothing
-pub gains_same : (p q : SeatValue) → q ≡ p → Gains p.view q.view []
-gains_same p q same = subst (λ (s : SeatValue). Gains p.view s.view []) (sym same) (gains_itself p.view)
+pub gains_same : (p q : SeatValue) → q ≡ p → GainsNone p.view q.view
+gains_same p q same = subst (λ (s : SeatValue). GainsNone p.view s.view) (sym same) (gains_itself p.view)
 
--- one step
-pub gains_step : (s : WordStep) (v w : SeatView) → w ≡ after s v → Gains v w (taken_masks (s ∷ []))
-gains_step s v w stepped = record { steps = s ∷ []; did = ap (λ (x : SeatView). x.did) stepped; taken = refl }
+-- one look at the ticker
+pub gains_look : (found : ℕ) (v w : SeatView) → w ≡ after (word_step.LoadTicker found) v → GainsNone v w
+gains_look found v w looked = gains_none (word_step.LoadTicker found ∷ []) v w (ap (λ (x : SeatView). x.did) looked) refl
+
+-- one swap of the parker's mask
+pub gains_swap : (parker found : ℕ) (v w : SeatView) → w ≡ after (word_step.SwapMask parker found) v → Gains parker v w (mask_list found)
+gains_swap parker found v w swapped =
+    record { steps = word_step.SwapMask parker found ∷ []; did = ap (λ (x : SeatView). x.did) swapped; taken = refl; own = own_swap parker found }
 
 -- a swap that found nothing took nothing, and any other took what it found
 pub mask_none : (mask : ℕ) → mask ≡ 0 → mask_list mask ≡ []
@@ -77,39 +124,47 @@ mask_none mask none = ap mask_list none
 pub mask_some : (mask : ℕ) → mask ≢ 0 → mask_list mask ≡ mask ∷ []
 mask_some mask some = ap (λ (b : Bool). if b then [] else mask ∷ []) (ne_eqb mask 0 some)
 
-pub gains_park : (parker found : ℕ) (v w : SeatView) → Parks parker found v w → Gains v w (mask_list found)
-gains_park parker found v w parked = subst (Gains v w) (sym (mask_some found parked.0)) record {
+-- so a swap that found nothing took nothing of any parker
+pub gains_nothing : (parker found : ℕ) (v w : SeatView) → found ≡ 0 → Gains parker v w (mask_list found) → GainsNone v w
+gains_nothing parker found v w nothing x = gains_none x.steps v w x.did (x.taken ∙ mask_none found nothing)
+
+pub gains_park : (parker found : ℕ) (v w : SeatView) → Parks parker found v w → Gains parker v w (mask_list found)
+gains_park parker found v w parked = record {
   steps = park_steps parker parked.1.0 found;
   did = ap (λ (x : SeatView). x.did) parked.1.1;
-  taken = taken-park parker parked.1.0 found parked.0;
+  taken = taken-park parker parked.1.0 found parked.0 ∙ sym (mask_some found parked.0);
+  own = own_park parker parked.1.0 found;
 }
 
 -- and then nothing more
-pub gains_before : (a b c : SeatView) (xs : List ℕ) → Gains a b xs → Gains b c [] → Gains a c xs
-gains_before a b c xs x y = subst (Gains a c) (append-nil xs) (gains_further a b c xs [] x y)
+pub gains_before : (parker : ℕ) (a b c : SeatView) (xs : List ℕ) → Gains parker a b xs → GainsNone b c → Gains parker a c xs
+gains_before parker a b c xs x y = subst (Gains parker a c) (append-nil xs) (gains_further parker a b c xs [] x (y parker))
 
 -- nothing, and then this
-pub gains_after : (a b c : SeatView) (xs ys : List ℕ) → xs ≡ [] → Gains a b xs → Gains b c ys → Gains a c ys
-gains_after a b c xs ys none x y = subst (λ l. Gains a c (l ++ ys)) none (gains_further a b c xs ys x y)
+pub gains_after : (parker : ℕ) (a b c : SeatView) (ys : List ℕ) → GainsNone a b → Gains parker b c ys → Gains parker a c ys
+gains_after parker a b c ys x y = gains_further parker a b c [] ys (x parker) y
 
--- the member took the cell, took what it took while it held it, and gave it back
-pub gains_locked : {N : Type 0} (a b c d : MemberValue N) (xs : List ℕ) → b ≡ record a { turn = b.turn } → Gains b.pass.view c.pass.view xs → d ≡ record c { turn = record c.turn { holds = false } }
-    → Gains a.pass.view d.pass.view xs
-gains_locked {N} a b c d xs taken took gave =
-    gains_after a.pass.view b.pass.view d.pass.view [] xs refl (gains_same a.pass b.pass (ap (λ (x : MemberValue N). x.pass) taken))
-    (gains_before b.pass.view c.pass.view d.pass.view xs took (gains_same c.pass d.pass (ap (λ (x : MemberValue N). x.pass) gave)))
+-- nothing, and then nothing more
+pub gains_neither : (a b c : SeatView) → GainsNone a b → GainsNone b c → GainsNone a c
+gains_neither a b c x y = λ parker. gains_after parker a b c [] x (y parker)
+
+-- the member took the cell, took no mask while it held it, and gave it back
+pub gains_locked : {N : Type 0} (a b c d : MemberValue N) → b ≡ record a { turn = b.turn } → GainsNone b.pass.view c.pass.view → d ≡ record c { turn = record c.turn { holds = false } }
+    → GainsNone a.pass.view d.pass.view
+gains_locked {N} a b c d taken took gave =
+    gains_neither a.pass.view b.pass.view d.pass.view (gains_same a.pass b.pass (ap (λ (x : MemberValue N). x.pass) taken))
+    (gains_neither b.pass.view c.pass.view d.pass.view took (gains_same c.pass d.pass (ap (λ (x : MemberValue N). x.pass) gave)))
 
 -- a wait that began where nothing was taken
-pub gains_where : (a b c : SeatView) (none : ℕ) (r : Result ℕ ReactFault) → none ≡ 0 → Gains a b (mask_list none) → IfOk r (λ mask. Gains b c (mask_list mask)) → IfOk r (λ mask. Gains a c (mask_list mask))
-gains_where a b c none (Ok mask) is x y = gains_after a b c (mask_list none) (mask_list mask) (mask_none none is) x y
-gains_where a b c none (Err fault) is x y = tt
+pub gains_where : (parker : ℕ) (a b c : SeatView) (none : ℕ) (r : Result ℕ ReactFault) → none ≡ 0 → Gains parker a b (mask_list none)
+    → IfOk r (λ mask. Gains parker b c (mask_list mask)) → IfOk r (λ mask. Gains parker a c (mask_list mask))
+gains_where parker a b c none (Ok mask) is x y =
+    subst (λ l. Gains parker a c (l ++ mask_list mask)) (mask_none none is) (gains_further parker a b c (mask_list none) (mask_list mask) x y)
+gains_where parker a b c none (Err fault) is x y = tt
 
-pub gains_wakes : (parkers : ℕ) (wakers : List Waker) (p q : SeatValue) → Wakes parkers wakers p q → Gains p.view q.view []
-gains_wakes parkers wakers p q woken = record {
-  steps = all_wake_steps wakers parkers woken.founds;
-  did = ap (λ (x : SeatValue). x.view.did) woken.seat;
-  taken = wakes_take wakers parkers woken.founds;
-}
+pub gains_wakes : (parkers : ℕ) (wakers : List Waker) (p q : SeatValue) → Wakes parkers wakers p q → GainsNone p.view q.view
+gains_wakes parkers wakers p q woken =
+    gains_none (all_wake_steps wakers parkers woken.founds) p.view q.view (ap (λ (x : SeatValue). x.view.did) woken.seat) (wakes_take wakers parkers woken.founds)
 
 -- ## Causes
 
@@ -122,7 +177,7 @@ gained_is a b steps did = ap (drop (length a.did)) did ∙ drop-append_seam a.di
 module _ {N W : Type 0} where
   -- a call of `react_in` takes no mask
   pub gains_reacts : (parkers : ℕ) (all_sure : Bool) (start : Start) (old new : CellValue W) (m later : MemberValue N) (note : NoteCounts) (r : Result ReactedIn ReactFault)
-      → Reacts parkers all_sure start old new m later note r → Gains m.pass.view later.pass.view []
+      → Reacts parkers all_sure start old new m later note r → GainsNone m.pass.view later.pass.view
   gains_reacts parkers all_sure start old new m later note (Ok reacted) r = gains_wakes parkers new.round.taken m.pass later.pass r.0.woke
   gains_reacts parkers all_sure start old new m later note (Err (react_fault.Wait fault)) r = gains_wakes parkers new.round.taken m.pass later.pass r.0.woke
   gains_reacts parkers all_sure start old new m later note (Err (react_fault.Arm fault)) r = gains_wakes parkers new.round.taken m.pass later.pass r.0.woke
@@ -131,22 +186,21 @@ module _ {N W : Type 0} where
   gains_reacts parkers all_sure start old new m later note (Err react_fault.OutOfMemory) r = gains_same m.pass later.pass (ap (λ (x : MemberValue N). x.pass) r.member)
 
 -- What holds of a member's state and a later one, also where it took or gave the cell between them.
-pub record Follows {N : Type 0} (faults : N → ℕ) (old new : MemberValue N) : Type 0 where
+pub record Follows {N : Type 0} (faults : N → ℕ) (is_sure : N → Bool) (old new : MemberValue N) : Type 0 where
   pub wait : new.turn.sure_of_wait ≡ old.turn.sure_of_wait
   pub arms : new.turn.sure_of_arms ≡ old.turn.sure_of_arms
   pub did : Extends old.pass.view.did new.pass.view.did
   pub note : faults old.note ≤ faults new.note
+  pub sure : is_sure new.note ≡ is_sure old.note
 
-module _ {N : Type 0} (faults : N → ℕ) where
-  abbrev pub counts_of : MemberValue N → MemberValue N → NoteCounts
-  counts_of old new = record { before = faults old.note; after = faults new.note }
-
+module _ {N : Type 0} (faults : N → ℕ) (is_sure : N → Bool) where
   -- a cause in the middle of some steps is one over all of them
-  pub cause_within : (a b c d : MemberValue N) (fault : ReactFault) → Follows faults a b → Follows faults b c → HasFaultCause b c (counts_of b c) fault → Follows faults c d
-      → HasFaultCause a d (counts_of a d) fault
+  pub cause_within : (a b c d : MemberValue N) (fault : ReactFault) → Follows faults is_sure a b → Follows faults is_sure b c → HasFaultCause faults is_sure b c fault → Follows faults is_sure c d
+      → HasFaultCause faults is_sure a d fault
   cause_within a b c d (react_fault.Wait fault) first mid cause last = sym first.wait ∙ cause
   cause_within a b c d (react_fault.Arm fault) first mid cause last = sym first.arms ∙ cause
-  cause_within a b c d (react_fault.Notify fault) first mid cause last = record { least = le_trans first.note cause.least; most = le_trans cause.most last.note; rose = cause.rose }
+  cause_within a b c d (react_fault.Notify fault) first mid cause last =
+      (record { least = le_trans first.note cause.0.least; most = le_trans cause.0.most last.note; rose = cause.0.rose }, sym first.sure ∙ cause.1)
   cause_within a b c d react_fault.RoundsSpent first mid cause last =
       let xs = first.did.0 in let ys = mid.did.0 in let zs = last.did.0 in
       let whole : d.pass.view.did ≡ a.pass.view.did ++ (xs ++ (ys ++ zs)) = last.did.1 ∙ ap (λ l. l ++ zs) (mid.did.1 ∙ ap (λ l. l ++ ys) first.did.1)
@@ -155,36 +209,29 @@ module _ {N : Type 0} (faults : N → ℕ) where
       ∙ any_within is_look_at_end xs ys zs (sym (ap (list_any is_look_at_end) (gained_is b.pass.view c.pass.view ys mid.did.1)) ∙ cause)
   cause_within a b c d react_fault.OutOfMemory first mid cause last = tt
 
-  pub follows_itself : (a : MemberValue N) → Follows faults a a
-  follows_itself a = record { wait = refl; arms = refl; did = ([], sym (append-nil a.pass.view.did)); note = le_refl (faults a.note) }
+  pub causes_within : {X : Type 0} (a b c d : MemberValue N) (r : Result X ReactFault) → Follows faults is_sure a b → Follows faults is_sure b c → IfErr r (HasFaultCause faults is_sure b c)
+      → Follows faults is_sure c d → IfErr r (HasFaultCause faults is_sure a d)
+  causes_within a b c d (Ok x) first mid cause last = tt
+  causes_within a b c d (Err fault) first mid cause last = cause_within a b c d fault first mid cause last
 
-  pub cause_where : (a b c : MemberValue N) (r : Result ℕ ReactFault) → Follows faults a b → Follows faults b c → IfErr r (HasFaultCause b c (counts_of b c)) → IfErr r (HasFaultCause a c (counts_of a c))
-  cause_where a b c (Ok mask) x y cause = tt
-  cause_where a b c (Err fault) x y cause = cause_within a b c c fault x y cause (follows_itself c)
+  pub follows_itself : (a : MemberValue N) → Follows faults is_sure a a
+  follows_itself a = record { wait = refl; arms = refl; did = ([], sym (append-nil a.pass.view.did)); note = le_refl (faults a.note); sure = refl }
 
-  pub follows_further : (a b c : MemberValue N) → Follows faults a b → Follows faults b c → Follows faults a c
-  follows_further a b c x y = record {
-    wait = y.wait ∙ x.wait;
-    arms = y.arms ∙ x.arms;
-    did = (x.did.0 ++ y.did.0, y.did.1 ∙ ap (λ l. l ++ y.did.0) x.did.1 ∙ append_assoc a.pass.view.did x.did.0 y.did.0);
-    note = le_trans x.note y.note;
+  pub follows_later : (a b : MemberValue N) → IsLaterMember faults is_sure a b → Follows faults is_sure a b
+  follows_later a b later = record {
+    wait = ap (λ t. t.sure_of_wait) later.turn;
+    arms = ap (λ t. t.sure_of_arms) later.turn;
+    did = later.did;
+    note = later.note;
+    sure = later.sure;
   }
 
-  module _ (is_sure : N → Bool) where
-    pub follows_later : (a b : MemberValue N) → IsLaterMember faults is_sure a b → Follows faults a b
-    follows_later a b later = record {
-      wait = ap (λ t. t.sure_of_wait) later.turn;
-      arms = ap (λ t. t.sure_of_arms) later.turn;
-      did = later.did;
-      note = later.note;
-    }
+  any_shared : MemberValue N → SharedValue
+  any_shared a = record { lock = a.turn.lock; words = record { identity = a.pass.words; parkers = 0 }; ops = a.ops.queue; sure_of_arms = a.turn.sure_of_arms }
 
-    any_shared : MemberValue N → SharedValue
-    any_shared a = record { lock = a.turn.lock; words = record { identity = a.pass.words; parkers = 0 }; ops = a.ops.queue; sure_of_arms = a.turn.sure_of_arms }
+  pub member_itself : (a : MemberValue N) → IsLaterMember faults is_sure a a
+  member_itself a = (later_itself faults is_sure (record { shared = any_shared a; member = a })).member
 
-    pub member_itself : (a : MemberValue N) → IsLaterMember faults is_sure a a
-    member_itself a = (later_itself faults is_sure (record { shared = any_shared a; member = a })).member
-
-    pub member_further : (a b c : MemberValue N) → IsLaterMember faults is_sure a b → IsLaterMember faults is_sure b c → IsLaterMember faults is_sure a c
-    member_further a b c x y = let s = any_shared a in
-        (later_further faults is_sure (record { shared = s; member = a }) (record { shared = s; member = b }) (record { shared = s; member = c }) (record { shared = refl; member = x }) (record { shared = refl; member = y })).member
+  pub member_further : (a b c : MemberValue N) → IsLaterMember faults is_sure a b → IsLaterMember faults is_sure b c → IsLaterMember faults is_sure a c
+  member_further a b c x y = let s = any_shared a in
+      (later_further faults is_sure (record { shared = s; member = a }) (record { shared = s; member = b }) (record { shared = s; member = c }) (record { shared = refl; member = x }) (record { shared = refl; member = y })).member

@@ -1,21 +1,20 @@
 -- Rounds by a member that holds the cell, one after the other.
-use Rattle.std.proofs.Common.{◌≡◌, ◌==◌, ◌^◌, ◌-◌, ◌+◌, ◌*◌, ◌≤◌, ℕ, suc, Bool, true, false, ◌||◌, List, [], ◌∷◌, ◌++◌, refl, sym, ap, ◌∙◌, subst, append-nil, IfOk, Result, Ok, Err, eq-eqb, arith}
+use Rattle.std.proofs.Common.{◌≡◌, ◌≢◌, ◌^◌, ◌-◌, ◌+◌, ◌≤◌, ℕ, suc, Bool, true, false, ◌||◌, [], ◌∷◌, ◌++◌, map, refl, sym, ap, ◌∙◌, subst, append-nil, append_assoc, IfOk, Result, Ok, Err, eq-eqb, arith}
 use Rattle.std.specs.List.{list_any}
+use Rattle.std.proofs.lemmas.List.{map-append}
+use Rattle.std.proofs.lemmas.List.Elements.{All-append, All-cons, All-nil}
 use Rattle.aio_base.specs.declared.seats.SeatView.{SeatView}
-use Rattle.aio_base.specs.declared.seats.WordStep.{WordStep}
 use Rattle.aio_base.specs.declared.seats.WordStep.TheVariants as word_step
 use Rattle.aio_base.specs.SharedWords.{after}
 use Rattle.aio_base.specs.WordCalls.{is_look_at_end}
-use Rattle.aio_shared.specs.declared.reacting.ReactedIn.{ReactedIn}
 use Rattle.aio_shared.specs.declared.reacting.ReactFault.{ReactFault}
-use Rattle.aio_shared.specs.declared.reacting.ReactFault.TheVariants as react_fault
 use Rattle.aio_shared.specs.Cells.{CellValue}
 use Rattle.aio_shared.specs.Members.{Extends, IsLaterMember, MemberValue}
 use Rattle.aio_shared.specs.OneCell.{Takes, TurnValue, with_empties}
-use Rattle.aio_shared.specs.Reacting.{BeginsNone, NoteCounts, Reacts, Start}
-use Rattle.aio_park.specs.Blocking.{HasFaultCause, gained}
+use Rattle.aio_shared.specs.Reacting.{BeginsNone}
+use Rattle.aio_park.specs.Blocking.{gained}
 use Rattle.aio_park.specs.Driving.{ComesToNothing, Drives, DrivesRound, DrivesRounds}
-use Rattle.aio_park.proofs.Gaining.{Follows, counts_of, gained_is}
+use Rattle.aio_park.proofs.Gaining.{Follows, gained_is, member_itself}
 
 le_same : (a b : ℕ) → b ≡ a → a ≤ b
 le_same a b same = omega (arith, same)
@@ -67,6 +66,10 @@ module _ {N : Type 0} where
       note = later.note;
     }
 
+    -- a member whose pop found no cell is later
+    pub later_waited : (a b : MemberValue N) → b ≡ record a { turn = b.turn } → b.turn ≡ with_empties b.turn.empties a.turn → IsLaterMember faults is_sure a b
+    later_waited a b is turn = subst (IsLaterMember faults is_sure a) (sym is) (other_turn a a a.turn b.turn (member_itself faults is_sure a) turn)
+
     -- A member took the cell, did something, and gave it back: it is later then, where it did not hold the cell before.
     pub locked_later : (a b c d : MemberValue N) (e : ℕ) → a.turn.holds ≡ false → b ≡ record a { turn = b.turn } → b.turn ≡ record a.turn { holds = true; empties = e }
         → IsLaterMember faults is_sure b c → d ≡ record c { turn = record c.turn { holds = false } } → IsLaterMember faults is_sure a d
@@ -80,27 +83,40 @@ module _ {N : Type 0} where
         (subst (λ (x : MemberValue N). IsLaterMember faults is_sure x (record c { turn = record c.turn { holds = false } })) back both)
 
   -- what follows from taking the cell, and from giving it back
-  pub follows_turn : (faults : N → ℕ) (a b : MemberValue N) → b ≡ record a { turn = b.turn } → b.turn.sure_of_wait ≡ a.turn.sure_of_wait → b.turn.sure_of_arms ≡ a.turn.sure_of_arms → Follows faults a b
-  follows_turn faults a b is wait arms = record {
+  pub follows_turn : (faults : N → ℕ) (is_sure : N → Bool) (a b : MemberValue N) → b ≡ record a { turn = b.turn } → b.turn.sure_of_wait ≡ a.turn.sure_of_wait
+      → b.turn.sure_of_arms ≡ a.turn.sure_of_arms → Follows faults is_sure a b
+  follows_turn faults is_sure a b is wait arms = record {
     wait = wait;
     arms = arms;
     did = ([], ap (λ (x : MemberValue N). x.pass.view.did) is ∙ sym (append-nil a.pass.view.did));
     note = le_same (faults a.note) (faults b.note) (ap (λ (x : MemberValue N). faults x.note) is);
+    sure = ap (λ (x : MemberValue N). is_sure x.note) is;
   }
 
 module _ {N W : Type 0} where
   pub nothing_itself : (c : CellValue W) (m : MemberValue N) → ComesToNothing c c m m
-  nothing_itself c m = record { cell = refl; member = refl }
+  nothing_itself c m = record { cell = refl; member = refl; looks = []; did = sym (append-nil m.pass.view.did); below = All-nil (λ found. found ≢ 2 ^ 64 - 1) }
 
   pub nothing_further : (old mid new : CellValue W) (m by later : MemberValue N) → ComesToNothing old mid m by → ComesToNothing mid new by later → ComesToNothing old new m later
   nothing_further old mid new m by later x y = record {
     cell = y.cell ∙ (λ i. record (x.cell i) { seat = new.seat });
     member = y.member ∙ (λ i. record (x.member i) { pass = later.pass });
+    looks = x.looks ++ y.looks;
+    did = y.did ∙ ap (λ l. l ++ map word_step.LoadTicker y.looks) x.did ∙ append_assoc m.pass.view.did (map word_step.LoadTicker x.looks) (map word_step.LoadTicker y.looks)
+        ∙ ap (λ l. m.pass.view.did ++ l) (sym (map-append word_step.LoadTicker x.looks y.looks));
+    below = All-append (λ found. found ≢ 2 ^ 64 - 1) x.looks y.looks x.below y.below;
   }
 
   -- no round began, and the member looked at the ticker
-  pub nothing_begun : (old new : CellValue W) (m by later : MemberValue N) → BeginsNone old new → by ≡ m → later ≡ record by { pass = later.pass } → ComesToNothing old new m later
-  nothing_begun old new m by later none same looked = record { cell = none.cell; member = looked ∙ (λ i. record (same i) { pass = later.pass }) }
+  pub nothing_begun : (old new : CellValue W) (m by later : MemberValue N) (found : ℕ) → BeginsNone old new → by ≡ m → later ≡ record by { pass = later.pass }
+      → later.pass.view ≡ after (word_step.LoadTicker found) by.pass.view → found ≢ 2 ^ 64 - 1 → ComesToNothing old new m later
+  nothing_begun old new m by later found none same looked view below = record {
+    cell = none.cell;
+    member = looked ∙ (λ i. record (same i) { pass = later.pass });
+    looks = found ∷ [];
+    did = ap (λ (v : SeatView). v.did) view ∙ ap (λ (x : MemberValue N). x.pass.view.did ++ word_step.LoadTicker found ∷ []) same;
+    below = All-cons (λ found. found ≢ 2 ^ 64 - 1) found [] below (All-nil (λ found. found ≢ 2 ^ 64 - 1));
+  }
 
   -- one more round
   pub one_more : (faults : N → ℕ) (parkers : ℕ) (all_sure : Bool) (earliest rounds : ℕ) (old last new : CellValue W) (m by later : MemberValue N) (before more : ℕ)

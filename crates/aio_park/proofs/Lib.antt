@@ -1,4 +1,5 @@
 pub mod Gaining
 pub mod Holding
+pub mod Keeping
 pub mod Asking
 pub mod Polling

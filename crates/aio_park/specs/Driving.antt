@@ -1,7 +1,8 @@
 -- Rounds that a member makes one after the other, while it holds the round cell.
-use Rattle.std.specs.Prelude.{◌≡◌, ℕ, zero, suc, ◌+◌, ◌≤◌, Bool, true, false, ◌==◌, if◌then◌else◌, List, [], ◌∷◌, ◌++◌, Option, None, Some, Result, Ok, Err, ⊤}
+use Rattle.std.specs.Prelude.{◌≡◌, ◌≢◌, ℕ, zero, suc, ◌+◌, ◌-◌, ◌^◌, ◌≤◌, Bool, false, ◌==◌, if◌then◌else◌, List, [], ◌∷◌, ◌++◌, map, All, Option, None, Some, Result, Ok, Err, ⊤}
 use Rattle.aio_base.specs.declared.seats.SeatView.{SeatView}
 use Rattle.aio_base.specs.declared.seats.WordStep.{WordStep}
+use Rattle.aio_base.specs.declared.seats.WordStep.TheVariants as word_step
 use Rattle.aio_base.specs.WordCalls.{taken_masks}
 use Rattle.aio_shared.specs.declared.reacting.ReactedIn.{ReactedIn}
 use Rattle.aio_shared.specs.declared.reacting.ReactFault.{ReactFault}
@@ -9,22 +10,32 @@ use Rattle.aio_shared.specs.Cells.{CellValue}
 use Rattle.aio_shared.specs.Members.{MemberValue}
 use Rattle.aio_shared.specs.OneCell.{Takes}
 use Rattle.aio_shared.specs.Reacting.{NoteCounts, Reacts, Start}
+use Rattle.aio_park.specs.Blocking.{taken_of}
 
--- A seat made some steps, by whose swaps it took these masks that were not 0.
-pub record Gains (old new : SeatView) (masks : List ℕ) : Type 0 where
+-- A seat made some steps, by whose swaps it took these masks that were not 0, all of them of this parker.
+pub record Gains (parker : ℕ) (old new : SeatView) (masks : List ℕ) : Type 0 where
   pub steps : List WordStep
   pub did : new.did ≡ old.did ++ steps
   pub taken : taken_masks steps ≡ masks
+  pub own : taken_of parker steps ≡ masks
+
+-- It took no mask, of no parker.
+abbrev pub GainsNone : SeatView → SeatView → Type 0
+GainsNone old new = (parker : ℕ) → Gains parker old new []
 
 -- what a swap of a mask took that found this
 abbrev pub mask_list : ℕ → List ℕ
 mask_list mask = if mask == 0 then [] else mask ∷ []
 
 module _ {N W : Type 0} where
-  -- Tries to begin a round came to nothing: of the cell changed nothing but its seat, and of the member nothing but its seat, which looked at the ticker.
+  -- Tries to begin a round came to nothing: of the cell changed nothing but its seat, and of the member nothing but its seat, which did nothing but look at
+  -- the ticker, and never found its end.
   pub record ComesToNothing (old new : CellValue W) (m later : MemberValue N) : Type 0 where
     pub cell : new ≡ record old { seat = new.seat }
     pub member : later ≡ record m { pass = later.pass }
+    pub looks : List ℕ
+    pub did : later.pass.view.did ≡ m.pass.view.did ++ map word_step.LoadTicker looks
+    pub below : All (λ found. found ≢ 2 ^ 64 - 1) looks
 
   -- a call of `react_in`, and a look at the ticker where that answered that no round can begin
   abbrev pub Tries : ℕ → Bool → Start → CellValue W → CellValue W → MemberValue N → MemberValue N → NoteCounts → Result (Option ReactedIn) ReactFault → Type 0

@@ -1,14 +1,13 @@
 //! A thread that polls a task until it ends, and makes rounds of a shared reactor in between.
 
 ghost use Rattle.std.specs.Prelude.{◌≡◌, ◌+◌, ◌^◌, ◌<◌, ◌≤◌, [], ◌∷◌, length, IfOk, IfErr, IfSome, OnErr};
-ghost use Rattle.aio_base.specs.WordCalls.{taken_masks};
 ghost use Rattle.aio_shared.specs.Cells.{IsIdle};
 ghost use Rattle.aio_shared.specs.Inside.{IsLaterInside};
 ghost use Rattle.aio_shared.specs.Members.{IsLaterMember, IsMemberOf};
 ghost use Rattle.aio_shared.specs.OneCell.{IsCellOf};
 ghost use Rattle.aio_words.specs.Seats.{Blocks};
-ghost use Rattle.aio_park.specs.Blocking.{HasFaultCause, PolledUntil, gained};
-ghost use Rattle.aio_park.specs.Driving.{Gains, mask_list};
+ghost use Rattle.aio_park.specs.Blocking.{HasFaultCause, KeepsThread, PolledUntil, gained, taken_of};
+ghost use Rattle.aio_park.specs.Driving.{Gains, GainsNone, mask_list};
 ghost use Rattle.aio_park.specs.Polls.{Polled};
 
 use crate::rounds::{BlockFault, react_once};
@@ -60,14 +59,12 @@ pub fn block_on<
         (gained host.old.member.pass.view host.new.member.pass.view)
         task.old task.new result }
     ensures polls { T.poll_count task.new ≤ T.poll_count task.old
-        + length (taken_masks (gained host.old.member.pass.view host.new.member.pass.view)) + 1 }
+        + length (taken_of parker (gained host.old.member.pass.view host.new.member.pass.view)) + 1 }
     ensures pending { OnErr result ((output : T.Output)
         → T.gives task.new (N.is_sure host.old.member.note) (10 ^ 18) output
         → T.gives task.old (N.is_sure host.old.member.note) (10 ^ 18) output) }
-    ensures cause { IfErr result (HasFaultCause host.old.member host.new.member (record {
-      before = N.fault_count host.old.member.note;
-      after = N.fault_count host.new.member.note;
-    })) }
+    ensures cause { IfErr result (HasFaultCause N.fault_count N.is_sure
+        host.old.member host.new.member) }
     ensures cell { host.new.member.turn.holds ≡ host.old.member.turn.holds }
     ensures later { IsLaterInside N.fault_count N.is_sure host.old host.new }
     ensures bounds { C.bounds clock.new ≡ C.bounds clock.old }
@@ -121,14 +118,10 @@ fn next_mask<R: Wait + Copy, N: Notify, C: Clock, A: Arm, W: EventWait>(
 ) -> Result<u64, ReactFault>
     requires { parker < host.old.shared.words.parkers }
     ensures took { IfOk result (λ mask.
-        Gains host.old.member.pass.view host.new.member.pass.view (mask ∷ [])) }
-    ensures cause { IfErr result (HasFaultCause host.old.member host.new.member (record {
-      before = N.fault_count host.old.member.note;
-      after = N.fault_count host.new.member.note;
-    })) }
-    ensures later { IsLaterInside N.fault_count N.is_sure host.old host.new }
-    ensures bounds { C.bounds clock.new ≡ C.bounds clock.old }
-    ensures latest { C.latest clock.old ≤ C.latest clock.new }
+        Gains parker host.old.member.pass.view host.new.member.pass.view (mask ∷ [])) }
+    ensures shared { host.new.shared ≡ host.old.shared }
+    ensures keeps { KeepsThread N.fault_count N.is_sure C.bounds C.latest host.old.shared
+        host.old.member host.new.member clock.old clock.new result }
 {
     next_mask_of(&host.rt, &host.shared, &mut host.member, clock, parker)
 }
@@ -143,13 +136,9 @@ fn next_mask_of<R: Wait, N: Notify, C: Clock, A: Arm, W: EventWait>(
 ) -> Result<u64, ReactFault>
     requires belongs { IsMemberOf shared.now m.old }
     requires parker { parker < shared.now.words.parkers }
-    ensures took { IfOk result (λ mask. Gains m.old.pass.view m.new.pass.view (mask ∷ [])) }
-    ensures cause { IfErr result (HasFaultCause m.old m.new
-        (record { before = N.fault_count m.old.note; after = N.fault_count m.new.note })) }
-    ensures belongs { IsMemberOf shared.now m.new }
-    ensures later { IsLaterMember N.fault_count N.is_sure m.old m.new }
-    ensures bounds { C.bounds clock.new ≡ C.bounds clock.old }
-    ensures latest { C.latest clock.old ≤ C.latest clock.new }
+    ensures took { IfOk result (λ mask. Gains parker m.old.pass.view m.new.pass.view (mask ∷ [])) }
+    ensures keeps { KeepsThread N.fault_count N.is_sure C.bounds C.latest shared.now
+        m.old m.new clock.old clock.new result }
 {
     for _ in rt.forever() {
         match turn(rt, shared, m, clock, parker) {
@@ -177,13 +166,9 @@ fn turn<R: Wait, N: Notify, C: Clock, A: Arm, W: EventWait>(
     requires belongs { IsMemberOf shared.now m.old }
     requires parker { parker < shared.now.words.parkers }
     ensures took { IfOk result (λ mask.
-        Gains m.old.pass.view m.new.pass.view (mask_list mask)) }
-    ensures cause { IfErr result (HasFaultCause m.old m.new
-        (record { before = N.fault_count m.old.note; after = N.fault_count m.new.note })) }
-    ensures belongs { IsMemberOf shared.now m.new }
-    ensures later { IsLaterMember N.fault_count N.is_sure m.old m.new }
-    ensures bounds { C.bounds clock.new ≡ C.bounds clock.old }
-    ensures latest { C.latest clock.old ≤ C.latest clock.new }
+        Gains parker m.old.pass.view m.new.pass.view (mask_list mask)) }
+    ensures keeps { KeepsThread N.fault_count N.is_sure C.bounds C.latest shared.now
+        m.old m.new clock.old clock.new result }
 {
     let mask = take(shared, m, parker);
     if mask == 0 {
@@ -203,7 +188,7 @@ fn take<N: Notify, A: Arm, W: EventWait>(
 ) -> u64
     requires belongs { IsMemberOf shared.now m.old }
     requires parker { parker < shared.now.words.parkers }
-    ensures took { Gains m.old.pass.view m.new.pass.view (mask_list result) }
+    ensures took { Gains parker m.old.pass.view m.new.pass.view (mask_list result) }
     ensures kept { m.new ≡ record m.old { pass = m.new.pass } }
     ensures belongs { IsMemberOf shared.now m.new }
     ensures later { IsLaterMember N.fault_count N.is_sure m.old m.new }
@@ -219,13 +204,9 @@ fn react_in_passing<R: Wait, N: Notify, C: Clock, A: Arm, W: EventWait>(
     clock: &mut C,
 ) -> Result<(), ReactFault>
     requires belongs { IsMemberOf shared.now m.old }
-    ensures took { Gains m.old.pass.view m.new.pass.view [] }
-    ensures cause { IfErr result (HasFaultCause m.old m.new
-        (record { before = N.fault_count m.old.note; after = N.fault_count m.new.note })) }
-    ensures belongs { IsMemberOf shared.now m.new }
-    ensures later { IsLaterMember N.fault_count N.is_sure m.old m.new }
-    ensures bounds { C.bounds clock.new ≡ C.bounds clock.old }
-    ensures latest { C.latest clock.old ≤ C.latest clock.new }
+    ensures took { GainsNone m.old.pass.view m.new.pass.view }
+    ensures keeps { KeepsThread N.fault_count N.is_sure C.bounds C.latest shared.now
+        m.old m.new clock.old clock.new result }
 {
     match shared.try_round(rt, m) {
         None => Ok(()),
@@ -252,13 +233,9 @@ fn wait_for_slots<R: Wait, N: Notify, C: Clock, A: Arm, W: EventWait>(
     requires belongs { IsMemberOf shared.now m.old }
     requires parker { parker < shared.now.words.parkers }
     ensures took { IfOk result (λ mask.
-        Gains m.old.pass.view m.new.pass.view (mask_list mask)) }
-    ensures cause { IfErr result (HasFaultCause m.old m.new
-        (record { before = N.fault_count m.old.note; after = N.fault_count m.new.note })) }
-    ensures belongs { IsMemberOf shared.now m.new }
-    ensures later { IsLaterMember N.fault_count N.is_sure m.old m.new }
-    ensures bounds { C.bounds clock.new ≡ C.bounds clock.old }
-    ensures latest { C.latest clock.old ≤ C.latest clock.new }
+        Gains parker m.old.pass.view m.new.pass.view (mask_list mask)) }
+    ensures keeps { KeepsThread N.fault_count N.is_sure C.bounds C.latest shared.now
+        m.old m.new clock.old clock.new result }
 {
     match shared.try_round(rt, m) {
         None => Ok(park(rt, shared, m, parker)),
@@ -282,7 +259,7 @@ fn park<R: Wait, N: Notify, A: Arm, W: EventWait>(
 ) -> u64
     requires belongs { IsMemberOf shared.now m.old }
     requires parker { parker < shared.now.words.parkers }
-    ensures took { Gains m.old.pass.view m.new.pass.view (mask_list result) }
+    ensures took { Gains parker m.old.pass.view m.new.pass.view (mask_list result) }
     ensures belongs { IsMemberOf shared.now m.new }
     ensures later { IsLaterMember N.fault_count N.is_sure m.old m.new }
 {
@@ -303,16 +280,12 @@ fn react_blocking<R: Wait, N: Notify, C: Clock, A: Arm, W: EventWait>(
     requires cell { IsCellOf m.old.turn cell.old }
     requires idle { IsIdle cell.old }
     requires parker { parker < shared.now.words.parkers }
-    ensures took { Gains m.old.pass.view m.new.pass.view [] }
-    ensures cause { IfErr result (HasFaultCause m.old m.new
-        (record { before = N.fault_count m.old.note; after = N.fault_count m.new.note })) }
+    ensures took { GainsNone m.old.pass.view m.new.pass.view }
+    ensures keeps { KeepsThread N.fault_count N.is_sure C.bounds C.latest shared.now
+        m.old m.new clock.old clock.new result }
     ensures idle { IsIdle cell.new }
     ensures turn { m.new.turn ≡ m.old.turn }
-    ensures belongs { IsMemberOf shared.now m.new }
     ensures cell { IsCellOf m.new.turn cell.new }
-    ensures later { IsLaterMember N.fault_count N.is_sure m.old m.new }
-    ensures bounds { C.bounds clock.new ≡ C.bounds clock.old }
-    ensures latest { C.latest clock.old ≤ C.latest clock.new }
 {
     shared.words().block(cell.seat(), parker);
     let reacted = react_until_woken(rt, shared, m, cell, clock);
@@ -333,16 +306,12 @@ fn react_until_woken<R: Wait, N: Notify, C: Clock, A: Arm, W: EventWait>(
     requires belongs { IsMemberOf shared.now m.old }
     requires cell { IsCellOf m.old.turn cell.old }
     requires blocks { Blocks cell.old.seat }
-    ensures took { Gains m.old.pass.view m.new.pass.view [] }
-    ensures cause { IfErr result (HasFaultCause m.old m.new
-        (record { before = N.fault_count m.old.note; after = N.fault_count m.new.note })) }
+    ensures took { GainsNone m.old.pass.view m.new.pass.view }
+    ensures keeps { KeepsThread N.fault_count N.is_sure C.bounds C.latest shared.now
+        m.old m.new clock.old clock.new result }
     ensures mode { cell.new.seat.view.mode ≡ cell.old.seat.view.mode }
     ensures turn { m.new.turn ≡ m.old.turn }
-    ensures belongs { IsMemberOf shared.now m.new }
     ensures cell { IsCellOf m.new.turn cell.new }
-    ensures later { IsLaterMember N.fault_count N.is_sure m.old m.new }
-    ensures bounds { C.bounds clock.new ≡ C.bounds clock.old }
-    ensures latest { C.latest clock.old ≤ C.latest clock.new }
 {
     for _ in rt.forever() {
         match shared.words().take_or_wait(cell.seat()) {

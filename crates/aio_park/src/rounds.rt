@@ -6,8 +6,8 @@ ghost use Rattle.aio_shared.specs.Cells.{IsIdle};
 ghost use Rattle.aio_shared.specs.Members.{IsLaterMember, IsMemberOf};
 ghost use Rattle.aio_shared.specs.OneCell.{IsCellOf};
 ghost use Rattle.aio_words.specs.Seats.{IsIdleOrWaits};
-ghost use Rattle.aio_park.specs.Blocking.{HasFaultCause};
-ghost use Rattle.aio_park.specs.Driving.{Drives, DrivesRound, DrivesRounds, Gains, Tries};
+ghost use Rattle.aio_park.specs.Blocking.{HasFaultCause, KeepsThread};
+ghost use Rattle.aio_park.specs.Driving.{Drives, DrivesRound, DrivesRounds, GainsNone, Tries};
 
 use aio_base::{Arm, Clock, EventWait, Notify};
 use aio_shared::{Member, ReactFault, ReactedIn, RoundCell, Shared};
@@ -44,8 +44,7 @@ pub fn drive<R: Wait, N: Notify, C: Clock, A: Arm, W: EventWait>(
     requires belongs { IsMemberOf shared.now m.old }
     ensures drives { IfOk result (Drives W N.fault_count shared.now.words.parkers
         shared.now.sure_of_arms (C.latest clock.old) rounds m.old m.new) }
-    ensures cause { IfErr result (HasFaultCause m.old m.new
-        (record { before = N.fault_count m.old.note; after = N.fault_count m.new.note })) }
+    ensures cause { IfErr result (HasFaultCause N.fault_count N.is_sure m.old m.new) }
     ensures belongs { IsMemberOf shared.now m.new }
     ensures kept { m.new ≡ record m.old {
       turn = m.new.turn;
@@ -79,19 +78,15 @@ fn drive_rounds<R: Wait, N: Notify, C: Clock, A: Arm, W: EventWait>(
     requires idle { IsIdle cell.old }
     ensures rounds { IfOk result (DrivesRounds N.fault_count shared.now.words.parkers
         shared.now.sure_of_arms (C.latest clock.old) rounds cell.old cell.new m.old m.new) }
-    ensures cause { IfErr result (HasFaultCause m.old m.new
-        (record { before = N.fault_count m.old.note; after = N.fault_count m.new.note })) }
+    ensures keeps { KeepsThread N.fault_count N.is_sure C.bounds C.latest shared.now
+        m.old m.new clock.old clock.new result }
     ensures idle { IsIdle cell.new }
     ensures kept { m.new ≡ record m.old {
       pass = m.new.pass;
       ops = m.new.ops;
       note = m.new.note;
     } }
-    ensures belongs { IsMemberOf shared.now m.new }
     ensures cell { IsCellOf m.new.turn cell.new }
-    ensures later { IsLaterMember N.fault_count N.is_sure m.old m.new }
-    ensures bounds { C.bounds clock.new ≡ C.bounds clock.old }
-    ensures latest { C.latest clock.old ≤ C.latest clock.new }
 {
     let mut events = 0;
     for _ in 0..rounds {
@@ -118,19 +113,15 @@ fn drive_round<R: Wait, N: Notify, C: Clock, A: Arm, W: EventWait>(
     ensures round { IfOk result (DrivesRound N.fault_count shared.now.words.parkers
         shared.now.sure_of_arms (C.latest clock.old) cell.old cell.new m.old m.new) }
     ensures few { IfOk result (λ events. events ≤ 1024) }
-    ensures cause { IfErr result (HasFaultCause m.old m.new
-        (record { before = N.fault_count m.old.note; after = N.fault_count m.new.note })) }
+    ensures keeps { KeepsThread N.fault_count N.is_sure C.bounds C.latest shared.now
+        m.old m.new clock.old clock.new result }
     ensures idle { IsIdle cell.new }
     ensures kept { m.new ≡ record m.old {
       pass = m.new.pass;
       ops = m.new.ops;
       note = m.new.note;
     } }
-    ensures belongs { IsMemberOf shared.now m.new }
     ensures cell { IsCellOf m.new.turn cell.new }
-    ensures later { IsLaterMember N.fault_count N.is_sure m.old m.new }
-    ensures bounds { C.bounds clock.new ≡ C.bounds clock.old }
-    ensures latest { C.latest clock.old ≤ C.latest clock.new }
 {
     for _ in rt.forever() {
         match react_once(rt, shared, m, cell, clock, None) {
@@ -160,20 +151,16 @@ pub(crate) fn react_once<R: Wait, N: Notify, C: Clock, A: Arm, W: EventWait>(
         (record { given = limit; earliest = C.latest clock.old }) cell.old cell.new m.old m.new
         (record { before = N.fault_count m.old.note; after = N.fault_count m.new.note })
         result }
-    ensures cause { IfErr result (HasFaultCause m.old m.new
-        (record { before = N.fault_count m.old.note; after = N.fault_count m.new.note })) }
-    ensures took { Gains m.old.pass.view m.new.pass.view [] }
+    ensures keeps { KeepsThread N.fault_count N.is_sure C.bounds C.latest shared.now
+        m.old m.new clock.old clock.new result }
+    ensures took { GainsNone m.old.pass.view m.new.pass.view }
     ensures seat { cell.new.seat.view.mode ≡ blocking cell.old.seat.view.mode }
     ensures kept { m.new ≡ record m.old {
       pass = m.new.pass;
       ops = m.new.ops;
       note = m.new.note;
     } }
-    ensures belongs { IsMemberOf shared.now m.new }
     ensures cell { IsCellOf m.new.turn cell.new }
-    ensures later { IsLaterMember N.fault_count N.is_sure m.old m.new }
-    ensures bounds { C.bounds clock.new ≡ C.bounds clock.old }
-    ensures latest { C.latest clock.old ≤ C.latest clock.new }
 {
     match shared.react_in(rt, m, cell, clock, limit) {
         Ok(reacted) => Ok(Some(reacted)),

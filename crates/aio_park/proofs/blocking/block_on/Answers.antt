@@ -1,8 +1,8 @@
-use Rattle.std.proofs.Common.{◌^◌, ℕ, List, ◌++◌, refl, ap, ◌∙◌, append_assoc, le_refl, le_trans}
+use Rattle.std.proofs.Common.{◌^◌, List, ◌++◌, refl, ap, ◌∙◌, append_assoc, le_refl, le_trans}
 use Rattle.aio_shared.specs.Later.{later_itself, later_further}
 use Rattle.aio_shared.specs.Members.{Extends}
 use Rattle.aio_shared.specs.OneCell.{TurnValue}
-use Rattle.aio_park.proofs.Gaining.{cause_within, follows_further, follows_itself, follows_later}
+use Rattle.aio_park.proofs.Gaining.{cause_within, follows_itself, follows_later, member_further}
 use Rattle.aio_park.proofs.Asking.{at_greatest, counted, ends, fails, past_end, pending_allows, polled_as, polling_starts, polls_on, ready_allows}
 use Rattle.aio_park.proofs.blocking.block_on.Goals as goal
 
@@ -21,10 +21,10 @@ pub loop-preserved : goal.loop-preserved
 loop-preserved g c = record {
   polling = polls_on _ _ _ _ _ _ _ _ _ _ _ _ _ _ c.loop.invariant.polling _ _ _ c.loop.invariant.latest
       (polled_as _ _ _ _ _ _ _ _ _ _ _ _ _ c.loop.invariant.bounds c.loop.invariant.later.member.sure c.poll_once.ensures.polled)
-      c.poll_once.new.host.member.pass.view c.poll_once.ensures.later.member.did _ _ _ _ c.in-Pending.is c.poll_once.ensures.latest c.in-Ok.ensures.latest c.in-Ok.ensures.took c.poll_once.ensures.polls;
-  later = later_further _ _ _ _ _ (later_further _ _ _ _ _ c.loop.invariant.later c.poll_once.ensures.later) c.in-Ok.ensures.later;
-  bounds = c.in-Ok.ensures.bounds ∙ c.poll_once.ensures.bounds ∙ c.loop.invariant.bounds;
-  latest = le_trans c.loop.invariant.latest (le_trans c.poll_once.ensures.latest c.in-Ok.ensures.latest);
+      c.poll_once.new.host.member.pass.view c.poll_once.ensures.later.member.did _ _ _ _ c.in-Pending.is c.poll_once.ensures.latest c.in-Ok.ensures.keeps.latest c.in-Ok.ensures.took c.poll_once.ensures.polls;
+  later = later_further _ _ _ _ _ (later_further _ _ _ _ _ c.loop.invariant.later c.poll_once.ensures.later) (record { shared = c.in-Ok.ensures.shared; member = c.in-Ok.ensures.keeps.later });
+  bounds = c.in-Ok.ensures.keeps.bounds ∙ c.poll_once.ensures.bounds ∙ c.loop.invariant.bounds;
+  latest = le_trans c.loop.invariant.latest (le_trans c.poll_once.ensures.latest c.in-Ok.ensures.keeps.latest);
 }
 
 -- ## The task ended
@@ -67,14 +67,14 @@ pub returns-in-Err-clause-polled : goal.returns-in-Err-clause-polled
 returns-in-Err-clause-polled g c =
     fails _ _ _ _ _ _ _ _ _ _ _ _ _ _ c.loop.invariant.polling _ _ _ c.loop.invariant.latest
     (polled_as _ _ _ _ _ _ _ _ _ _ _ _ _ c.loop.invariant.bounds c.loop.invariant.later.member.sure c.poll_once.ensures.polled)
-    c.next_mask.new.host.member.pass.view (extends_both _ c.poll_once.new.host.member.pass.view.did _ c.poll_once.ensures.later.member.did c.in-Err.ensures.later.member.did)
-    _ c.in-Err.fault c.in-Pending.is c.poll_once.ensures.latest c.in-Err.ensures.latest
+    c.next_mask.new.host.member.pass.view (extends_both _ c.poll_once.new.host.member.pass.view.did _ c.poll_once.ensures.later.member.did c.in-Err.ensures.keeps.later.did)
+    _ c.in-Err.fault c.in-Pending.is c.poll_once.ensures.latest c.in-Err.ensures.keeps.latest
 
 pub returns-in-Err-clause-polls : goal.returns-in-Err-clause-polls
 returns-in-Err-clause-polls g c =
     counted _ _ _ _ _ _ _ _ _ _ _ _ _ _ c.loop.invariant.polling _ _ _ c.loop.invariant.latest
     (polled_as _ _ _ _ _ _ _ _ _ _ _ _ _ c.loop.invariant.bounds c.loop.invariant.later.member.sure c.poll_once.ensures.polled)
-    c.next_mask.new.host.member.pass.view (extends_both _ c.poll_once.new.host.member.pass.view.did _ c.poll_once.ensures.later.member.did c.in-Err.ensures.later.member.did)
+    c.next_mask.new.host.member.pass.view (extends_both _ c.poll_once.new.host.member.pass.view.did _ c.poll_once.ensures.later.member.did c.in-Err.ensures.keeps.later.did)
     _ c.poll_once.ensures.polls
 
 pub returns-in-Err-clause-pending : goal.returns-in-Err-clause-pending
@@ -85,14 +85,14 @@ returns-in-Err-clause-pending g c output given =
 
 pub returns-in-Err-clause-cause : goal.returns-in-Err-clause-cause
 returns-in-Err-clause-cause g c =
-    cause_within g.N.Faults.fault_count c.args.host.now.member c.poll_once.new.host.member c.next_mask.new.host.member c.next_mask.new.host.member c.in-Err.fault
-    (follows_further _ _ _ _ (follows_later _ _ _ _ c.loop.invariant.later.member) (follows_later _ _ _ _ c.poll_once.ensures.later.member))
-    (follows_later _ _ _ _ c.in-Err.ensures.later.member) c.in-Err.ensures.cause (follows_itself _ _)
+    cause_within g.N.Faults.fault_count g.N.Faults.is_sure c.args.host.now.member c.poll_once.new.host.member c.next_mask.new.host.member c.next_mask.new.host.member c.in-Err.fault
+    (follows_later _ _ _ _ (member_further _ _ _ _ _ c.loop.invariant.later.member c.poll_once.ensures.later.member))
+    (follows_later _ _ _ _ c.in-Err.ensures.keeps.later) c.in-Err.ensures.keeps.cause (follows_itself _ _ _)
 
 pub returns-in-Err-clause-later : goal.returns-in-Err-clause-later
-returns-in-Err-clause-later g c = later_further _ _ _ _ _ (later_further _ _ _ _ _ c.loop.invariant.later c.poll_once.ensures.later) c.in-Err.ensures.later
+returns-in-Err-clause-later g c = later_further _ _ _ _ _ (later_further _ _ _ _ _ c.loop.invariant.later c.poll_once.ensures.later) (record { shared = c.in-Err.ensures.shared; member = c.in-Err.ensures.keeps.later })
 
 pub returns-in-Err-clause-cell : goal.returns-in-Err-clause-cell
 returns-in-Err-clause-cell g c =
-    ap (λ (t : TurnValue). t.holds) c.in-Err.ensures.later.member.turn ∙ ap (λ (t : TurnValue). t.holds) c.poll_once.ensures.later.member.turn
+    ap (λ (t : TurnValue). t.holds) c.in-Err.ensures.keeps.later.turn ∙ ap (λ (t : TurnValue). t.holds) c.poll_once.ensures.later.member.turn
     ∙ ap (λ (t : TurnValue). t.holds) c.loop.invariant.later.member.turn

@@ -1,12 +1,17 @@
-use Rattle.aio_park.proofs.Holding.{locked_later}
+use Rattle.std.proofs.Common.{refl}
+use Rattle.aio_park.proofs.Holding.{later_waited}
+use Rattle.aio_park.proofs.Keeping.{keeps_as, keeps_locked, keeps_member}
 use Rattle.aio_park.proofs.blocking.react_in_passing.Goals as goal
 
-pub returns-in-Err-clause-later : goal.returns-in-Err-clause-later
-returns-in-Err-clause-later g c =
-    locked_later g.N.Faults.fault_count g.N.Faults.is_sure c.args.m.now c.try_round.new.m c.react_once-reacted.new.m c.give_round.new.m c.args.m.now.turn.empties
-    c.in-Some.ensures.some.before c.in-Some.ensures.kept c.in-Some.ensures.some.turn c.react_once-reacted.ensures.later c.give_round.ensures.gave
+pub returns-in-None-clause-keeps : goal.returns-in-None-clause-keeps
+returns-in-None-clause-keeps g c = keeps_member c.in-None.ensures.belongs (later_waited _ _ _ _ c.in-None.ensures.kept (c.in-None.ensures.none refl).turn)
 
-pub returns-in-Ok-clause-later : goal.returns-in-Ok-clause-later
-returns-in-Ok-clause-later g c =
-    locked_later g.N.Faults.fault_count g.N.Faults.is_sure c.args.m.now c.try_round.new.m c.react_once-reacted.new.m c.give_round.new.m c.args.m.now.turn.empties
-    c.in-Some.ensures.some.before c.in-Some.ensures.kept c.in-Some.ensures.some.turn c.react_once-reacted.ensures.later c.give_round.ensures.gave
+pub returns-in-Err-clause-keeps : goal.returns-in-Err-clause-keeps
+returns-in-Err-clause-keeps g c =
+    keeps_locked c.args.m.now.turn.empties c.in-Some.ensures.some.before c.in-Some.ensures.kept c.in-Some.ensures.some.turn
+    (keeps_as (λ cause. cause) c.in-Err.ensures.keeps) c.give_round.ensures.gave c.give_round.ensures.belongs
+
+pub returns-in-Ok-clause-keeps : goal.returns-in-Ok-clause-keeps
+returns-in-Ok-clause-keeps g c =
+    keeps_locked c.args.m.now.turn.empties c.in-Some.ensures.some.before c.in-Some.ensures.kept c.in-Some.ensures.some.turn
+    (keeps_as (λ cause. cause) c.in-Ok.ensures.keeps) c.give_round.ensures.gave c.give_round.ensures.belongs

@@ -1,7 +1,8 @@
 use Rattle.std.proofs.Common.{◌≡◌, true, false, sym, ap, ◌∙◌}
 use Rattle.aio_shared.specs.Members.{MemberValue}
 use Rattle.aio_shared.specs.OneCell.{TurnValue}
-use Rattle.aio_park.proofs.Holding.{drives_where, locked_later}
+use Rattle.aio_park.proofs.Holding.{drives_where}
+use Rattle.aio_park.proofs.Keeping.{keeps_locked}
 use Rattle.aio_park.proofs.rounds.drive.Goals as goal
 
 pub returns-clause-drives : goal.returns-clause-drives
@@ -15,9 +16,24 @@ returns-clause-cell g c =
     let free : c.args.m.now.turn.holds ≡ false = sym (ap (λ (t : TurnValue). t.holds) c.take_round-cell.ensures.takes.waited) ∙ c.take_round-cell.ensures.takes.takes.before in
     ap (λ (x : MemberValue g.row.N.Denot). x.turn.holds) c.give_round.ensures.gave ∙ sym free
 
+pub returns-clause-cause : goal.returns-clause-cause
+returns-clause-cause g c =
+    let free : c.args.m.now.turn.holds ≡ false = sym (ap (λ (t : TurnValue). t.holds) c.take_round-cell.ensures.takes.waited) ∙ c.take_round-cell.ensures.takes.takes.before in
+    let keeps = keeps_locked {a = c.args.m.now} c.take_round-cell.ensures.takes.last.empties free c.take_round-cell.ensures.kept
+    (c.take_round-cell.ensures.takes.takes.turn ∙ ap (λ (t : TurnValue). record t { holds = true }) c.take_round-cell.ensures.takes.waited)
+    c.drive_rounds-driven.ensures.keeps c.give_round.ensures.gave c.give_round.ensures.belongs in
+    keeps.cause
+
 pub returns-clause-later : goal.returns-clause-later
 returns-clause-later g c =
     let free : c.args.m.now.turn.holds ≡ false = sym (ap (λ (t : TurnValue). t.holds) c.take_round-cell.ensures.takes.waited) ∙ c.take_round-cell.ensures.takes.takes.before in
-    locked_later g.N.Faults.fault_count g.N.Faults.is_sure c.args.m.now c.take_round-cell.new.m c.drive_rounds-driven.new.m c.give_round.new.m c.take_round-cell.ensures.takes.last.empties free
-    c.take_round-cell.ensures.kept (c.take_round-cell.ensures.takes.takes.turn ∙ ap (λ (t : TurnValue). record t { holds = true }) c.take_round-cell.ensures.takes.waited)
-    c.drive_rounds-driven.ensures.later c.give_round.ensures.gave
+    let keeps = keeps_locked {a = c.args.m.now} c.take_round-cell.ensures.takes.last.empties free c.take_round-cell.ensures.kept
+    (c.take_round-cell.ensures.takes.takes.turn ∙ ap (λ (t : TurnValue). record t { holds = true }) c.take_round-cell.ensures.takes.waited)
+    c.drive_rounds-driven.ensures.keeps c.give_round.ensures.gave c.give_round.ensures.belongs in
+    keeps.later
+
+pub returns-clause-bounds : goal.returns-clause-bounds
+returns-clause-bounds g c = c.drive_rounds-driven.ensures.keeps.bounds
+
+pub returns-clause-latest : goal.returns-clause-latest
+returns-clause-latest g c = c.drive_rounds-driven.ensures.keeps.latest

@@ -1,11 +1,11 @@
-use Rattle.std.proofs.Common.{refl}
-use Rattle.aio_park.proofs.Gaining.{cause_within, follows_itself, follows_later}
+use Rattle.std.proofs.Common.{refl, ap, ◌∙◌}
+use Rattle.aio_base.specs.SharedWords.{blocking}
+use Rattle.aio_park.proofs.Holding.{nothing_further}
+use Rattle.aio_park.proofs.Keeping.{keeps_as, keeps_then}
 use Rattle.aio_park.proofs.rounds.drive_round.Goals as goal
 
-pub returns-in-Err-clause-cause : goal.returns-in-Err-clause-cause
-returns-in-Err-clause-cause g c =
-    cause_within g.N.Faults.fault_count c.args.m.now c.loop.m c.react_once.new.m c.react_once.new.m c.in-Err.fault
-    (follows_later _ _ _ _ c.loop.invariant.later) (follows_later _ _ _ _ c.in-Err.ensures.later) c.in-Err.ensures.cause (follows_itself _ _)
+pub returns-in-Err-clause-keeps : goal.returns-in-Err-clause-keeps
+returns-in-Err-clause-keeps g c = keeps_then c.loop.invariant.keeps (keeps_as (λ cause. cause) c.in-Err.ensures.keeps)
 
 pub returns-in-Ok-Some-clause-round : goal.returns-in-Ok-Some-clause-round
 returns-in-Ok-Some-clause-round g c = record {
@@ -13,8 +13,19 @@ returns-in-Ok-Some-clause-round g c = record {
   by = c.loop.m;
   first = c.loop.invariant.nothing;
   moment = g.C.Clock.latest c.loop.clock;
-  not_before = c.loop.invariant.latest;
+  not_before = c.loop.invariant.keeps.latest;
   reacted = c.in-Ok-Some.reacted;
   reacts = rw c.in-Ok-Some.field-0-is at c.in-Ok-Some.ensures.tries;
   events_are = refl;
+}
+
+pub returns-in-Ok-Some-clause-keeps : goal.returns-in-Ok-Some-clause-keeps
+returns-in-Ok-Some-clause-keeps g c = keeps_then c.loop.invariant.keeps (keeps_as (λ cause. cause) c.in-Ok-Some.ensures.keeps)
+
+pub loop-preserved : goal.loop-preserved
+loop-preserved g c = record {
+  nothing = nothing_further _ _ _ _ _ _ c.loop.invariant.nothing (rw c.in-Ok-None.field-0-is at c.in-Ok-None.ensures.tries);
+  keeps = keeps_then c.loop.invariant.keeps (keeps_as (λ cause. cause) c.in-Ok-None.ensures.keeps);
+  cell = c.react_once.ensures.cell;
+  idle = c.react_once.ensures.seat ∙ ap blocking c.loop.invariant.idle;
 }
