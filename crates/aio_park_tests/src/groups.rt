@@ -1,9 +1,11 @@
 //! What no clause says of tasks polled as one: whole runs of a group, over a host of the tests' own.
 
 use crate::asserts::same;
+use crate::clocks::moment;
 use aio_base::{Cx, Later, Moment, Poll, Task};
 use aio_park::{Group, GroupRefusal};
 use std::process::Abort;
+use std::thread::{Threads, join};
 
 /// A host of which each state is later than each other.
 #[derive(Drop)]
@@ -86,8 +88,7 @@ fn add(rt: &impl Abort, group: &mut Endings, end: u64, slot: u32) {
 }
 
 /// Polls the group as the task of parker 9 with this mask at this moment: its answers, once it ends.
-fn poll(rt: &impl Abort, group: &mut Endings, mask: u64, now: u64) -> Option<Vec<Seen>> {
-    let now = Moment::new(now).expect(rt, "the moment is at most 10^18");
+fn poll_at(group: &mut Endings, mask: u64, now: Moment) -> Option<Vec<Seen>> {
     match group.poll(
         &mut Still,
         Cx {
@@ -101,16 +102,25 @@ fn poll(rt: &impl Abort, group: &mut Endings, mask: u64, now: u64) -> Option<Vec
     }
 }
 
+fn poll(rt: &impl Abort, group: &mut Endings, mask: u64, now: u64) -> Option<Vec<Seen>> {
+    poll_at(group, mask, moment(rt, now))
+}
+
 fn is_pending(rt: &impl Abort, group: &mut Endings, mask: u64, now: u64) {
     same(rt, poll(rt, group, mask, now).is_none(), true);
 }
 
-/// Polls the group, and looks at its answers: parker, mask, moment and polls of each.
-fn ends_with(rt: &impl Abort, group: &mut Endings, mask: u64, now: u64, wanted: &[Seen]) {
-    match poll(rt, group, mask, now) {
+/// Looks at the answers of a group that is to have ended: parker, mask, moment and polls of each.
+fn are(rt: &impl Abort, answers: Option<Vec<Seen>>, wanted: &[Seen]) {
+    match answers {
         Some(answers) => same(rt, answers.as_slice() == wanted, true),
         None => same(rt, true, false),
     }
+}
+
+/// Polls the group, and looks at its answers.
+fn ends_with(rt: &impl Abort, group: &mut Endings, mask: u64, now: u64, wanted: &[Seen]) {
+    are(rt, poll(rt, group, mask, now), wanted);
 }
 
 fn poll_seen(mask: u64, now: u64, polls: u64) -> Seen {
@@ -181,4 +191,47 @@ fn tasks_added_later_join_and_none_is_left_at_the_end(rt: HostRuntime) {
     add(&rt, &mut group, 5, 0);
     ends_with(&rt, &mut group, 1, 5, &[poll_seen(1, 5, 1)]);
     same(&rt, Task::<Still>::polls(&group), 4);
+}
+
+/// Takes what may go to another thread and be let go there.
+fn send_away<T: Send + Drop>(_value: T) {}
+
+/// A group may do so wherever its tasks and its answers may.
+fn send_group_away<T: Send + Drop, O: Send + Drop>(group: Group<T, O>) {
+    send_away(group);
+}
+
+/// Polls every slot of the group, which is let go.
+fn answers_of(mut group: Endings, now: Moment) -> Option<Vec<Seen>> {
+    poll_at(&mut group, u64::MAX, now)
+}
+
+/// Polls each group in a thread of its own.
+fn answers_beside<R: Threads>(
+    rt: &R,
+    one: Endings,
+    other: Endings,
+    now: Moment,
+) -> (Option<Vec<Seen>>, Option<Vec<Seen>>) {
+    join(
+        rt,
+        move || answers_of(one, now),
+        move || answers_of(other, now),
+    )
+}
+
+#[test]
+fn a_group_may_go_to_another_thread(rt: HostRuntime) {
+    let mut one = Group::new(rt.alloc(), 5);
+    add(&rt, &mut one, 2, 0);
+    add(&rt, &mut one, 3, 1);
+    is_pending(&rt, &mut one, 1, 2);
+    let mut other = Group::new(rt.alloc(), 5);
+    add(&rt, &mut other, 4, 0);
+    let now = moment(&rt, 3);
+    let (answers, none) = answers_beside(&rt, one, other, now);
+    are(&rt, answers, &[poll_seen(1, 2, 1), poll_seen(2, 3, 1)]);
+    same(&rt, none.is_none(), true);
+    let empty: Endings = Group::new(rt.alloc(), 5);
+    send_group_away(empty);
 }
