@@ -1,10 +1,10 @@
 //! The lines of answers and wakes.
 
 ghost use Rattle.std.specs.Prelude.{◌≡◌, ◌≤◌, ◌++◌, [], codes, decimal, flat_map};
-ghost use Rattle.std.specs.Prelude.{MatchOption, OnErr, OnOk, vec_capacity};
+ghost use Rattle.std.specs.Prelude.{OnErr, OnOk, vec_capacity};
 ghost use Rattle.aio_base.specs.Script.{reply_text};
 ghost use Rattle.aio_base.specs.Text.{answer_line, end_text, ended_line, fault_text, limit_text};
-ghost use Rattle.aio_trace.specs.Writing.{HasNumbers, KeepsFront, LacksRoom};
+ghost use Rattle.aio_trace.specs.Writing.{KeepsFront, LacksRoom};
 
 use crate::writing::{push_number, push_numbered};
 use aio_base::{Answer, EndWord, Key, Waker};
@@ -72,7 +72,8 @@ fn push_wake(out: &mut Vec<u8>, waker: Waker) -> Result<(), AllocError>
     out.extend_from_slice(&line[start..])
 }
 
-/// Writes an answer's line. The answers that most lines of a trace have come first.
+/// Writes an answer's line. All answers have their arms here, in the function that is handed the
+/// answer, so one jump finds each.
 #[inline]
 #[tactic(auto, unfolding(aio_base::specs::Text::answer_line))]
 pub(crate) fn push_answer(answer: Answer, out: &mut Vec<u8>) -> Result<(), AllocError>
@@ -83,70 +84,26 @@ pub(crate) fn push_answer(answer: Answer, out: &mut Vec<u8>) -> Result<(), Alloc
     ensures grown { vec_capacity out.old ≤ vec_capacity out.new }
 {
     match answer {
+        Answer::Ready => out.extend_from_slice(b"ready\n"),
         Answer::Pending => out.extend_from_slice(b"pending\n"),
         Answer::Noted => out.extend_from_slice(b"noted\n"),
-        Answer::Ready => out.extend_from_slice(b"ready\n"),
-        other => push_other_answer(out, other),
-    }
-}
-
-/// Writes an answer's line, whichever it is: the general case behind the common ones.
-#[inline(never)]
-fn push_other_answer(out: &mut Vec<u8>, answer: Answer) -> Result<(), AllocError>
-    ensures ok { OnOk result (out.new.items ≡ out.old.items ++ ended_line (answer_line answer)) }
-    ensures kept { OnErr result (KeepsFront out.old.items out.new.items) }
-    ensures full { OnErr result (LacksRoom (vec_capacity out.old) out.old.items
-        (ended_line (answer_line answer))) }
-    ensures grown { vec_capacity out.old ≤ vec_capacity out.new }
-{
-    match fixed_line(&answer) {
-        Some(line) => out.extend_from_slice(line),
-        None => push_with_numbers(out, &answer),
-    }
-}
-
-/// The line of an answer without numbers; `None` of one with numbers.
-#[tactic(auto, unfolding(aio_base::specs::Text::answer_line))]
-fn fixed_line(answer: &Answer) -> Option<&'static [u8]>
-    ensures { MatchOption result (HasNumbers answer.now)
-        (λ line. line.now ≡ ended_line (answer_line answer.now)) }
-{
-    match *answer {
-        Answer::Ready => Some(b"ready\n"),
-        Answer::Pending => Some(b"pending\n"),
-        Answer::Noted => Some(b"noted\n"),
-        Answer::Full => Some(b"full\n"),
-        Answer::FaultAdd => Some(b"fault add\n"),
-        Answer::Gone => Some(b"gone\n"),
-        Answer::NoSource => Some(b"no source\n"),
-        Answer::InUse => Some(b"in use\n"),
-        Answer::FaultRemove => Some(b"fault remove\n"),
-        Answer::FaultArm => Some(b"fault arm\n"),
-        Answer::NoListener => Some(b"no listener\n"),
-        Answer::Dropped => Some(b"dropped\n"),
-        Answer::NoTimer => Some(b"no timer\n"),
-        Answer::Set => Some(b"set\n"),
-        Answer::Ended => Some(b"ended\n"),
-        Answer::Locked => Some(b"locked\n"),
-        Answer::Interrupted => Some(b"interrupted\n"),
-        Answer::FaultWait => Some(b"fault wait\n"),
-        Answer::NoRound => Some(b"no round\n"),
-        Answer::Empty => Some(b"empty\n"),
-        _ => None,
-    }
-}
-
-/// Writes the line of an answer with numbers, and nothing of another answer.
-#[tactic(auto, unfolding(aio_base::specs::Text::answer_line))]
-fn push_with_numbers(out: &mut Vec<u8>, answer: &Answer) -> Result<(), AllocError>
-    ensures ok { HasNumbers answer.now → OnOk result (out.new.items
-        ≡ out.old.items ++ ended_line (answer_line answer.now)) }
-    ensures kept { OnErr result (KeepsFront out.old.items out.new.items) }
-    ensures full { OnErr result (LacksRoom (vec_capacity out.old) out.old.items
-        (ended_line (answer_line answer.now))) }
-    ensures grown { vec_capacity out.old ≤ vec_capacity out.new }
-{
-    match *answer {
+        Answer::Full => out.extend_from_slice(b"full\n"),
+        Answer::FaultAdd => out.extend_from_slice(b"fault add\n"),
+        Answer::Gone => out.extend_from_slice(b"gone\n"),
+        Answer::NoSource => out.extend_from_slice(b"no source\n"),
+        Answer::InUse => out.extend_from_slice(b"in use\n"),
+        Answer::FaultRemove => out.extend_from_slice(b"fault remove\n"),
+        Answer::FaultArm => out.extend_from_slice(b"fault arm\n"),
+        Answer::NoListener => out.extend_from_slice(b"no listener\n"),
+        Answer::Dropped => out.extend_from_slice(b"dropped\n"),
+        Answer::NoTimer => out.extend_from_slice(b"no timer\n"),
+        Answer::Set => out.extend_from_slice(b"set\n"),
+        Answer::Ended => out.extend_from_slice(b"ended\n"),
+        Answer::Locked => out.extend_from_slice(b"locked\n"),
+        Answer::Interrupted => out.extend_from_slice(b"interrupted\n"),
+        Answer::FaultWait => out.extend_from_slice(b"fault wait\n"),
+        Answer::NoRound => out.extend_from_slice(b"no round\n"),
+        Answer::Empty => out.extend_from_slice(b"empty\n"),
         Answer::KeyIs(key) => push_numbered(out, b"key ", u64::from(key.0)),
         Answer::Listener(number) => push_numbered(out, b"listener ", number),
         Answer::Timer(number) => push_numbered(out, b"timer ", number),
@@ -164,7 +121,6 @@ fn push_with_numbers(out: &mut Vec<u8>, answer: &Answer) -> Result<(), AllocErro
             events,
             end,
         } => push_round(out, number, events, end),
-        _ => Ok(()),
     }
 }
 
