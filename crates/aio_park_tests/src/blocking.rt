@@ -4,6 +4,7 @@
 use crate::asserts::same;
 use crate::clocks::{clock_until, fault_after, moment};
 use crate::sleepers::{Fires, Never, Sleeper, Undisturbed, Wakes, alone};
+use crate::waits::PromptWait;
 use aio_base::{Arm, EventWait, Notify};
 use aio_devices::{FailingWait, MemClock, MemNotify, MemWait, SureArm};
 use aio_park::{BlockFault, Group, drive};
@@ -31,6 +32,21 @@ fn a_task_that_wakes_itself_is_polled_once_for_each_wake(rt: HostRuntime) -> Res
     same(&rt, thread.run(&mut task), Ok(9));
     same(&rt, task.polls, 4);
     same(&rt, thread.waits(), Some(3));
+    Ok(())
+}
+
+#[test]
+fn a_round_waits_only_where_the_task_was_not_woken(rt: HostRuntime) -> Result<(), Fail> {
+    let clock = clock_until(&rt, rt.alloc(), 1, 0)?;
+    let devices = (PromptWait::new(), MemNotify::new());
+    let mut thread: Sleeper<_, _, SureArm, _, _> = alone(&rt, rt.alloc(), devices, clock)?;
+    same(&rt, thread.run(&mut Wakes::until(4, 9)), Ok(9));
+    same(&rt, thread.waits(), Some(3));
+    let mut silent = Never { polls: 0 };
+    let fault = BlockFault::Wait(fault_after(0));
+    same(&rt, thread.run(&mut silent), Err(fault));
+    same(&rt, silent.polls, 1);
+    same(&rt, thread.waits(), Some(4));
     Ok(())
 }
 

@@ -22,3 +22,5 @@ mod pairs;
 mod readable;
 #[cfg(test)]
 mod sleepers;
+#[cfg(test)]
+mod waits;
