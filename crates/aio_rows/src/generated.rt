@@ -6,6 +6,7 @@ use crate::traces::{
     FIRST_FAULT, Failing, NOTHING_FAILS, Ran, assert_exit, assert_out, assert_told, assert_why,
     run_over,
 };
+use aio_base::OutOfMemory;
 use aio_replay::{Summary, summary};
 use aio_run::Why;
 use std::process::Abort;
@@ -73,8 +74,21 @@ fn a_trace_is_made_and_summed_without_the_input(rt: HostRuntime) -> Result<(), F
     Ok(())
 }
 
+fn assert_counted(rt: &impl Abort, found: Result<Summary, OutOfMemory>, wanted: Summary) {
+    assert_eq!(rt; found, Ok(wanted));
+}
+
 #[test]
 fn a_run_is_counted(rt: HostRuntime) -> Result<(), Fail> {
+    let short = Summary {
+        steps: 2,
+        ready: 0,
+        pending: 0,
+        wakes: 0,
+        rounds: 0,
+        refused: 0,
+    };
+    assert_counted(&rt, summary(rt.alloc(), 2, 0), short);
     let counted = Summary {
         steps: 1000,
         ready: 81,
@@ -83,7 +97,16 @@ fn a_run_is_counted(rt: HostRuntime) -> Result<(), Fail> {
         rounds: 136,
         refused: 149,
     };
-    assert_eq!(rt; summary(rt.alloc(), 1000, 1), Ok(counted));
+    assert_counted(&rt, summary(rt.alloc(), 1000, 1), counted);
+    let other = Summary {
+        steps: 1000,
+        ready: 68,
+        pending: 197,
+        wakes: 174,
+        rounds: 124,
+        refused: 177,
+    };
+    assert_counted(&rt, summary(rt.alloc(), 1000, 0), other);
     Ok(())
 }
 

@@ -184,6 +184,30 @@ fn a_line_has_at_most_256_bytes(rt: HostRuntime) -> Result<(), Fail> {
     Ok(())
 }
 
+/// A header that blanks make so many bytes long, and a line behind it.
+fn long_header(alloc: Global, len: usize) -> Result<Vec<u8>, Fail> {
+    let mut trace = b"trace 1".to_vec(alloc)?;
+    for _ in 7..len {
+        trace.push(b' ')?;
+    }
+    trace.extend_from_slice(b"\nadd\n")?;
+    Ok(trace)
+}
+
+#[test]
+fn a_header_has_at_most_256_bytes(rt: HostRuntime) -> Result<(), Fail> {
+    let read = long_header(rt.alloc(), 256)?;
+    let ran = run_over(&rt, &["replay"], read.as_slice(), 4096, NOTHING_FAILS)?;
+    assert_out(&rt, &ran, b"key 0\n", "256 bytes");
+    assert_told(&rt, &ran, b"", "256 bytes");
+    let refused = long_header(rt.alloc(), 257)?;
+    let ran = run_over(&rt, &["replay"], refused.as_slice(), 4096, NOTHING_FAILS)?;
+    assert_exit(&rt, &ran, 2, "257 bytes");
+    assert_out(&rt, &ran, b"", "257 bytes");
+    assert_told(&rt, &ran, b"line 1: header\n", "257 bytes");
+    Ok(())
+}
+
 #[test]
 fn a_long_line_of_other_bytes_is_long(rt: HostRuntime) -> Result<(), Fail> {
     let mut trace = b"trace 1\n".to_vec(rt.alloc())?;
