@@ -9,6 +9,8 @@
 #[cfg(test)]
 mod asserts;
 #[cfg(test)]
+mod books;
+#[cfg(test)]
 mod cells;
 #[cfg(test)]
 mod core_rounds;
