@@ -1,5 +1,5 @@
-//! Tests of whole traces, row by row: traces and their answers through the top call, the spellings in which
-//! a line is read, traces that a number describes, and a replay with its core.
+//! Tests of lines and of whole traces, row by row: lines both ways, traces and their answers through the top
+//! call, the spellings in which a line is read, traces that a number describes, and a replay with its core.
 //!
 //! They stand above every crate that they use, so that none of those is proved a second time for its
 //! tests. There is no other code here.
@@ -9,6 +9,8 @@
 mod cores;
 #[cfg(test)]
 mod generated;
+#[cfg(test)]
+mod lines;
 #[cfg(test)]
 mod spellings;
 #[cfg(test)]

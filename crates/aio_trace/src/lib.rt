@@ -14,8 +14,6 @@ mod generating;
 pub mod laws;
 mod reading;
 mod step_lines;
-#[cfg(test)]
-mod tests;
 mod words;
 mod writing;
 

@@ -3,8 +3,8 @@
 ghost use Rattle.std.specs.Prelude.{◌≡◌, true};
 ghost use Rattle.aio_base.specs.Lines.{IsInRange};
 
-use crate::{LineFault, gen_steps, read_line, write_answer, write_line, write_reply};
 use aio_base::{Answer, Dir, EndWord, Event, Interest, Key, Moment, Step, Waker, Which};
+use aio_trace::{LineFault, gen_steps, read_line, write_answer, write_line, write_reply};
 use std::test::Fail;
 
 fn poll(key: u32, direction: Dir, waker: u32) -> Step {
