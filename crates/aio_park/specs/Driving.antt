@@ -8,7 +8,7 @@ use Rattle.aio_shared.specs.declared.reacting.ReactedIn.{ReactedIn}
 use Rattle.aio_shared.specs.declared.reacting.ReactFault.{ReactFault}
 use Rattle.aio_shared.specs.Cells.{CellValue}
 use Rattle.aio_shared.specs.Members.{MemberValue}
-use Rattle.aio_shared.specs.OneCell.{Takes}
+use Rattle.aio_shared.specs.OneCell.{FindsNone, Takes, TakesCell}
 use Rattle.aio_shared.specs.Reacting.{NoteCounts, Reacts, Start}
 use Rattle.aio_park.specs.Blocking.{taken_of}
 
@@ -74,3 +74,23 @@ module _ {N : Type 0} (W : Type 0) (faults : N → ℕ) where
     pub rest : holding ≡ record m { turn = holding.turn }
     pub rounds_are : DrivesRounds faults parkers all_sure earliest rounds taken left holding done events
     pub gave : later ≡ record done { turn = record done.turn { holds = false } }
+
+  -- A member took the cell by one try, made a round with the limit 0, or a try of one that came to nothing, and gave the cell back.
+  pub record ReactsAtOnce (parkers : ℕ) (all_sure : Bool) (earliest : ℕ) (m later : MemberValue N) : Type 0 where
+    pub taken : CellValue W
+    pub left : CellValue W
+    pub holding : MemberValue N
+    pub done : MemberValue N
+    pub takes : TakesCell m.turn holding.turn taken
+    pub rest : holding ≡ record m { turn = holding.turn }
+    pub reacted : Option ReactedIn
+    pub tries : Tries parkers all_sure (record { given = Some 0; earliest = earliest }) taken left holding done
+        (record { before = faults holding.note; after = faults done.note }) (Ok reacted)
+    pub gave : later ≡ record done { turn = record done.turn { holds = false } }
+
+  -- What a member does for the reactor where its task may be polled at once.
+  pub data Passes (parkers : ℕ) (all_sure : Bool) (earliest : ℕ) (m later : MemberValue N) : Type 0 where
+    -- nothing, as a pop of the call found no cell
+    FindsNoCell : FindsNone m.turn later.turn → later ≡ record m { turn = later.turn } → Passes parkers all_sure earliest m later
+    -- one round that does not wait, or a try of it
+    TriesOneRound : ReactsAtOnce parkers all_sure earliest m later → Passes parkers all_sure earliest m later

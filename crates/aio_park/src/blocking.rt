@@ -7,7 +7,7 @@ ghost use Rattle.aio_shared.specs.Members.{IsLaterMember, IsMemberOf};
 ghost use Rattle.aio_shared.specs.OneCell.{IsCellOf};
 ghost use Rattle.aio_words.specs.Seats.{Blocks};
 ghost use Rattle.aio_park.specs.Blocking.{HasFaultCause, KeepsThread, PolledUntil, gained, taken_of};
-ghost use Rattle.aio_park.specs.Driving.{Gains, GainsNone, mask_list};
+ghost use Rattle.aio_park.specs.Driving.{Gains, GainsNone, Passes, mask_list};
 ghost use Rattle.aio_park.specs.Polls.{Polled};
 
 use crate::rounds::{BlockFault, react_once};
@@ -196,7 +196,7 @@ fn take<N: Notify, A: Arm, W: EventWait>(
     shared.words().take(m.words_pass(), parker)
 }
 
-/// A round that does not wait, where the member has the reactor lock by a try.
+/// A round with the limit 0, where the member has the reactor lock by a try.
 fn react_in_passing<R: Wait, N: Notify, C: Clock, A: Arm, W: EventWait>(
     rt: &R,
     shared: &Shared<A, W>,
@@ -204,6 +204,8 @@ fn react_in_passing<R: Wait, N: Notify, C: Clock, A: Arm, W: EventWait>(
     clock: &mut C,
 ) -> Result<(), ReactFault>
     requires belongs { IsMemberOf shared.now m.old }
+    ensures passes { IfOk result (λ none. Passes W N.fault_count shared.now.words.parkers
+        shared.now.sure_of_arms (C.latest clock.old) m.old m.new) }
     ensures took { GainsNone m.old.pass.view m.new.pass.view }
     ensures keeps { KeepsThread N.fault_count N.is_sure C.bounds C.latest shared.now
         m.old m.new clock.old clock.new result }

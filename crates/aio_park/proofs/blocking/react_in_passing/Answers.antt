@@ -1,4 +1,5 @@
 use Rattle.std.proofs.Common.{refl}
+use Rattle.aio_park.specs.Driving.Passes.{FindsNoCell, TriesOneRound}
 use Rattle.aio_park.proofs.Holding.{later_waited}
 use Rattle.aio_park.proofs.Keeping.{keeps_as, keeps_locked, keeps_member}
 use Rattle.aio_park.proofs.blocking.react_in_passing.Goals as goal
@@ -15,3 +16,19 @@ pub returns-in-Ok-clause-keeps : goal.returns-in-Ok-clause-keeps
 returns-in-Ok-clause-keeps g c =
     keeps_locked c.args.m.now.turn.empties c.in-Some.ensures.some.before c.in-Some.ensures.kept c.in-Some.ensures.some.turn
     (keeps_as (λ cause. cause) c.in-Ok.ensures.keeps) c.give_round.ensures.gave c.give_round.ensures.belongs
+
+pub returns-in-None-clause-passes : goal.returns-in-None-clause-passes
+returns-in-None-clause-passes g c = FindsNoCell (c.in-None.ensures.none refl) c.in-None.ensures.kept
+
+pub returns-in-Ok-clause-passes : goal.returns-in-Ok-clause-passes
+returns-in-Ok-clause-passes g c = TriesOneRound (record {
+  taken = c.in-Some.cell;
+  left = c.react_once-reacted.new.cell;
+  holding = c.try_round.new.m;
+  done = c.react_once-reacted.new.m;
+  takes = c.in-Some.ensures.some;
+  rest = c.in-Some.ensures.kept;
+  reacted = c.in-Ok.field-0;
+  tries = c.in-Ok.ensures.tries;
+  gave = c.give_round.ensures.gave;
+})
