@@ -1,134 +1,106 @@
-//! A thread's way into a reactor, as the tests use it.
+//! A thread's way into a reactor, as tests use it: code over the public calls of a shared reactor, which knows
+//! what it has done.
 
-ghost use Rattle.std.specs.Prelude.{◌≡◌, ◌<◌, IfOk, IsTrue};
-ghost use Rattle.std.specs.List.{All};
-ghost use Rattle.aio_base.specs.declared.seats.Mode.TheVariants as mode;
-ghost use Rattle.aio_words.specs.Seats.{Belongs};
-ghost use Rattle.aio_shared.specs.Members.{IsMemberOf};
-ghost use Rattle.aio_shared.specs.OneCell.{IsCellOf};
+ghost use Rattle.std.specs.Prelude.{◌≡◌, ◌<◌, ◌≤◌, ◌+◌, false, Err, IfOk, IfSome, IsNone, OnOk, IsTrue, true};
+ghost use Rattle.aio_base.specs.SharedWords.{after};
+ghost use Rattle.aio_base.specs.WordCalls.{wake_steps};
+ghost use Rattle.aio_base.specs.declared.seats.WordStep.TheVariants as word_step;
+ghost use Rattle.aio_react.specs.Hosts.{RegistersAs, has_id_left, registered_id};
+ghost use Rattle.aio_words.specs.Calls.{Offers};
+ghost use Rattle.aio_shared.specs.Inside.{with_seat};
+ghost use Rattle.aio_shared.specs.Members.{IsNewMember, with_one_more_made};
+ghost use Rattle.aio_shared.specs.OneCell.{FindsNone, with_empties};
+ghost use Rattle.aio_shared.specs.Starting.{IsFirstMember, IsNewReactor};
 
-use crate::asserts::may_be_sent;
+use crate::seats::{Reaction, look_in, react_blocked};
 use aio_base::{Arm, Clock, CountFault, EventWait, Moment, Notify, OutOfMemory, TimerId, Waker};
-use aio_devices::{MemClock, MemNotify, MemWait, SureArm};
+use aio_devices::{MemNotify, MemWait, SureArm};
 use aio_react::{Host, InsertRefusal, TimerHost};
-use aio_shared::{Inside, Member, ReactFault, ReactedIn, RoundCell, Shared};
-use aio_words::{RoundSeat, Words};
+use aio_shared::{Inside, Shared};
 use std::alloc::Global;
-use std::process::Abort;
 use std::sync::{Arc, Wait};
-use std::test::Fail;
-
-/// What a try to react comes to: nothing where another thread has the round cell.
-pub(crate) type Reaction = Option<Result<ReactedIn, ReactFault>>;
-
-/// A round that was begun, and handled so many events and woke so many tasks.
-pub(crate) fn reacted(events: u32, woken: u64) -> Reaction {
-    Some(Ok(ReactedIn {
-        resumed: false,
-        events,
-        woken,
-    }))
-}
-
-/// The first fault of a device after so many.
-pub(crate) fn fault_after(before: u64) -> CountFault {
-    CountFault {
-        before,
-        after: before.saturating_add(1),
-    }
-}
-
-pub(crate) fn moment(rt: &impl Abort, nanoseconds: u64) -> Moment
-    ensures { result ≡ nanoseconds }
-{
-    Moment::new(nanoseconds).expect(rt, "the moment is at most 10^18")
-}
-
-/// So many times the moment 0.
-fn zeros(rt: &impl Abort, alloc: Global, count: usize) -> Result<Vec<Moment>, Fail>
-    ensures { IfOk result (λ moments. All (λ moment. moment ≡ 0) moments.items) }
-{
-    let zero = moment(rt, 0);
-    let moments = vec![in alloc; zero; count]?;
-    Ok(moments)
-}
-
-/// A clock that stands at 0 for so many looks, and then at this moment.
-pub(crate) fn clock_until(
-    rt: &impl Abort,
-    alloc: Global,
-    looks: usize,
-    nanoseconds: u64,
-) -> Result<MemClock, Fail> {
-    let mut moments = zeros(rt, alloc, looks)?;
-    moments.push(moment(rt, nanoseconds))?;
-    Ok(MemClock::new(moments))
-}
-
-/// A clock that stands still.
-pub(crate) fn clock_at(rt: &impl Abort, alloc: Global, nanoseconds: u64) -> Result<MemClock, Fail> {
-    clock_until(rt, alloc, 0, nanoseconds)
-}
 
 /// A thread's way into a reactor that has a parker.
 #[derive(Drop)]
-pub(crate) struct Caller<R: Wait, N: Notify, A: Arm, W: EventWait> {
-    pub(crate) host: Inside<R, N, A, W>,
+pub struct Caller<R: Wait, N: Notify, A: Arm, W: EventWait> {
+    /// The reactor, with the member of the thread.
+    pub host: Inside<R, N, A, W>,
     ghost parker: { 0 < host.shared.words.parkers },
 }
 
-/// The first way into a new reactor of one parker over this wait, with this notifier.
-pub(crate) fn enter<R: Wait + Copy, N: Notify + Drop, A: Arm + Drop, W: EventWait + Drop>(
+/// The first way into a new reactor of one parker over this wait, with this notifier. `OutOfMemory` where
+/// memory ran out.
+pub fn enter<R: Wait + Copy, N: Notify + Drop, A: Arm + Drop, W: EventWait + Drop>(
     rt: R,
     alloc: Global,
     wait: W,
     note: N,
-) -> Result<Caller<R, N, A, W>, Fail>
-    ensures { IfOk result (λ made. made.host.member.ops.number ≡ 0) }
+) -> Result<Caller<R, N, A, W>, OutOfMemory>
+    ensures reactor { IfOk result (λ made. IsNewReactor 1 A.all_sure made.host.shared) }
+    ensures member { IfOk result (λ made.
+        IsFirstMember made.host.shared (W.is_sure wait) note made.host.member) }
+    ensures first { IfOk result (λ made. made.host.member.ops.number ≡ 0) }
 {
     let Ok((shared, member)) = Shared::new(alloc, 1, wait, note) else {
-        return Err(Fail::from("there is no memory"));
+        return Err(OutOfMemory);
     };
-    let shared = Arc::new(alloc, shared)?;
+    let Ok(shared) = Arc::new(alloc, shared) else {
+        return Err(OutOfMemory);
+    };
     Ok(Caller {
         host: Inside { rt, shared, member },
     })
 }
 
 /// A way into a reactor whose devices never fail, and give no event.
-pub(crate) type Quiet<R> = Caller<R, MemNotify, SureArm, MemWait>;
+pub type Quiet<R> = Caller<R, MemNotify, SureArm, MemWait>;
 
-/// The first way into a new such reactor.
-pub(crate) fn enter_quiet<R: Wait + Copy>(rt: R, alloc: Global) -> Result<Quiet<R>, Fail>
-    ensures { IfOk result (λ made. made.host.member.ops.number ≡ 0) }
+/// The first way into a new such reactor. `OutOfMemory` where memory ran out.
+pub fn enter_quiet<R: Wait + Copy>(rt: R, alloc: Global) -> Result<Quiet<R>, OutOfMemory>
+    ensures reactor { IfOk result (λ made. IsNewReactor 1 true made.host.shared) }
+    ensures first { IfOk result (λ made. made.host.member.ops.number ≡ 0) }
 {
     enter(rt, alloc, MemWait::new(0), MemNotify::new())
 }
 
-/// The way of another thread into the same reactor.
-pub(crate) fn another<R: Wait + Copy, N: Notify + Drop, A: Arm + Drop, W: EventWait + Drop>(
+/// The way of another thread into the same reactor, by the first one. `OutOfMemory` where memory ran out,
+/// or where no more members can be made.
+pub fn another<R: Wait + Copy, N: Notify + Drop, A: Arm + Drop, W: EventWait + Drop>(
     caller: &mut Caller<R, N, A, W>,
-) -> Result<Caller<R, N, A, W>, Fail>
+) -> Result<Caller<R, N, A, W>, OutOfMemory>
     requires { caller.old.host.member.ops.number ≡ 0 }
-    ensures { caller.new.host.member.ops.number ≡ 0 }
+    ensures shared { IfOk result (λ other. other.host.shared ≡ caller.old.host.shared) }
+    ensures made { IfOk result (λ other.
+        IsNewMember caller.old.host.shared caller.old.host.member other.host.member) }
+    ensures counted { OnOk result (caller.new.host ≡ record caller.old.host {
+      member = with_one_more_made caller.old.host.member;
+    }) }
+    ensures first { caller.new.host.member.ops.number ≡ 0 }
 {
     let rt = caller.host.rt;
     let Ok(member) = caller.host.shared.member(&rt, &mut caller.host.member) else {
-        return Err(Fail::from("no member"));
+        return Err(OutOfMemory);
     };
-    let shared = Arc::try_clone(&caller.host.shared)?;
+    let Ok(shared) = Arc::try_clone(&caller.host.shared) else {
+        return Err(OutOfMemory);
+    };
     Ok(Caller {
         host: Inside { rt, shared, member },
     })
 }
 
-/// Registers a timer, where an id is left.
-pub(crate) fn insert<H: TimerHost>(
+/// Registers a timer, where an id is left. Where none is, the answer is that of a host without memory, and
+/// the host is as it was.
+pub fn insert<H: TimerHost>(
     host: &mut H,
     at: Moment,
     waker: Waker,
 ) -> Result<TimerId, InsertRefusal>
-    ensures { H.is_later host.old host.new }
+    ensures registered { IsTrue (has_id_left (H.rules.drawn host.old))
+        → RegistersAs H.rules at waker host.old (registered_id result) host.new }
+    ensures spent { has_id_left (H.rules.drawn host.old) ≡ false
+        → (result ≡ Err InsertRefusal.OutOfMemory) × (host.new ≡ host.old) }
+    ensures later { H.is_later host.old host.new }
 {
     if !host.ids_left() {
         return Err(InsertRefusal::OutOfMemory);
@@ -136,28 +108,15 @@ pub(crate) fn insert<H: TimerHost>(
     host.insert_timer(at, waker)
 }
 
-/// Counts the rounds, and wakes a task.
-pub(crate) fn count_and_wake<H: Host>(host: &mut H, waker: Waker) -> (u64, Result<(), CountFault>)
-    ensures { H.is_later host.old host.new }
-{
-    let rounds = host.ticker();
-    (rounds, host.wake(waker))
-}
-
-/// Blocks parker 0 and looks at its mask: whether the seat waits now.
-fn waits_for_first(words: &Words, seat: &mut RoundSeat) -> bool
-    requires idle { Belongs words.now seat.old × (seat.old.view.mode ≡ mode.Idle) }
-    requires parker { 0 < words.now.parkers }
-    ensures words { seat.new.words ≡ seat.old.words }
-    ensures waits { IsTrue result → seat.new.view.mode ≡ mode.Wait 0 }
-{
-    words.block(seat, 0);
-    words.take_or_wait(seat).is_none()
-}
-
 impl<R: Wait, N: Notify, A: Arm, W: EventWait> Caller<R, N, A, W> {
-    /// Registers a timer with waker 0 so many times. The answer is how often the reactor registered it.
-    pub(crate) fn insert_times(&mut self, at: Moment, times: u32) -> u32 {
+    /// Registers a timer with waker 0 so many times. The answer is how often the reactor registered it and
+    /// nothing failed: the member drew an id each time.
+    pub fn insert_times(&mut self, at: Moment, times: u32) -> u32
+        ensures most { result ≤ times }
+        ensures ids { self.old.host.member.ids + result ≤ self.new.host.member.ids }
+        ensures drawn { self.new.host.member.ids ≤ self.old.host.member.ids + times }
+        ensures shared { self.new.host.shared ≡ self.old.host.shared }
+    {
         let mut taken: u32 = 0;
         for _ in 0..times {
             if insert(&mut self.host, at, Waker(0)).is_ok() {
@@ -168,9 +127,16 @@ impl<R: Wait, N: Notify, A: Arm, W: EventWait> Caller<R, N, A, W> {
     }
 
     /// Tries the reactor lock; where the thread has the cell, reacts by this clock without waiting, and
-    /// gives the cell back.
-    pub(crate) fn react<C: Clock>(&mut self, clock: &mut C) -> Reaction
-        ensures { self.new.host.shared ≡ self.old.host.shared }
+    /// gives the cell back. `None` only where another thread had the cell at a step of this call.
+    pub fn react<C: Clock>(&mut self, clock: &mut C) -> Reaction
+        ensures shared { self.new.host.shared ≡ self.old.host.shared }
+        ensures gave { IfSome result (λ answer.
+            self.new.host.member.turn ≡ self.old.host.member.turn) }
+        ensures none { IsNone result
+            → FindsNone self.old.host.member.turn self.new.host.member.turn }
+        ensures nothing { IsNone result → self.new.host.member
+            ≡ record self.old.host.member { turn = self.new.host.member.turn } }
+        ensures bounds { C.bounds clock.new ≡ C.bounds clock.old }
     {
         let host = &mut self.host;
         let mut cell = host.shared.try_round(&host.rt, &mut host.member)?;
@@ -182,17 +148,25 @@ impl<R: Wait, N: Notify, A: Arm, W: EventWait> Caller<R, N, A, W> {
     }
 
     /// Takes the mask of the parker.
-    pub(crate) fn take(&mut self) -> u64 {
+    pub fn take(&mut self) -> u64
+        ensures took { self.new.host.member.pass.view
+            ≡ after (word_step.SwapMask 0 result) self.old.host.member.pass.view }
+        ensures kept { self.new.host
+            ≡ with_seat self.old.host self.new.host.member.pass self.old.host.member.note }
+    {
         let host = &mut self.host;
         host.shared.words().take(host.member.words_pass(), 0)
     }
 
     /// Wakes a task by the member's seat, with another notifier.
-    pub(crate) fn wake_with<M: Notify>(
-        &mut self,
-        waker: Waker,
-        note: &mut M,
-    ) -> Result<(), CountFault> {
+    pub fn wake_with<M: Notify>(&mut self, waker: Waker, note: &mut M) -> Result<(), CountFault>
+        ensures woke { Offers M.call_count M.notify_step
+            (wake_steps waker.0 self.old.host.shared.words.parkers)
+            self.old.host.member.pass.view self.new.host.member.pass.view
+            note.old note.new result }
+        ensures kept { self.new.host
+            ≡ with_seat self.old.host self.new.host.member.pass self.old.host.member.note }
+    {
         let host = &mut self.host;
         host.shared
             .words()
@@ -201,55 +175,42 @@ impl<R: Wait, N: Notify, A: Arm, W: EventWait> Caller<R, N, A, W> {
 
     /// Takes the cell and gives it back: how many waits there were, whether its round is idle, and how many
     /// rounds have begun.
-    pub(crate) fn look_at_cell(&mut self) -> (u64, bool, u64) {
+    pub fn look_at_cell(&mut self) -> (u64, bool, u64)
+        ensures { self.new.host ≡ record self.old.host {
+          member = record self.old.host.member {
+            turn = with_empties self.new.host.member.turn.empties self.old.host.member.turn;
+          };
+        } }
+    {
         let host = &mut self.host;
         let mut cell = host.shared.take_round(&host.rt, &mut host.member);
-        let waits = cell.waits();
-        let is_idle = cell.round().is_idle();
-        let rounds = host.shared.words().rounds(cell.seat());
+        let looks = look_in(host.shared.words(), &mut cell);
         host.shared.give_round(&host.rt, &mut host.member, cell);
-        (waits, is_idle, rounds)
+        looks
     }
 
     /// How many rounds have begun.
-    pub(crate) fn ticker(&mut self) -> u64
-        ensures { self.new.host.shared ≡ self.old.host.shared }
+    pub fn ticker(&mut self) -> u64
+        ensures loaded { self.new.host.member.pass.view
+            ≡ after (word_step.LoadTicker result) self.old.host.member.pass.view }
+        ensures kept { self.new.host
+            ≡ with_seat self.old.host self.new.host.member.pass self.old.host.member.note }
+        ensures least { self.old.host.member.pass.view.seen ≤ result }
     {
         self.host.ticker()
     }
 
-    /// Takes the cell, reacts with its seat waiting for the parker, and unblocks it. Nothing where a slot
-    /// of the parker is woken already.
-    pub(crate) fn react_waiting<C: Clock>(&mut self, clock: &mut C) -> Reaction
-    where
-        W: Drop + Send,
+    /// Takes the cell, reacts where its seat waits for the parker, and gives the cell back. `None` where a
+    /// slot of the parker is woken already.
+    pub fn react_waiting<C: Clock>(&mut self, clock: &mut C) -> Reaction
+        ensures shared { self.new.host.shared ≡ self.old.host.shared }
+        ensures gave { self.new.host.member.turn
+            ≡ with_empties self.new.host.member.turn.empties self.old.host.member.turn }
     {
         let host = &mut self.host;
         let mut cell = host.shared.take_round(&host.rt, &mut host.member);
-        may_be_sent(&cell);
-        react_blocked(&host.rt, &host.shared, &mut host.member, &mut cell, clock)
+        let answer = react_blocked(&host.rt, &host.shared, &mut host.member, &mut cell, clock);
+        host.shared.give_round(&host.rt, &mut host.member, cell);
+        answer
     }
-}
-
-/// Reacts with a seat that waits for the parker, and unblocks it. Nothing where a slot of the parker is
-/// woken already.
-fn react_blocked<R: Wait, N: Notify, A: Arm, W: EventWait, C: Clock>(
-    rt: &R,
-    shared: &Shared<A, W>,
-    m: &mut Member<N, W>,
-    cell: &mut RoundCell<W>,
-    clock: &mut C,
-) -> Reaction
-    requires parker { 0 < shared.now.words.parkers }
-    requires member { IsMemberOf shared.now m.old }
-    requires cell { IsCellOf m.old.turn cell.old }
-    requires idle { cell.old.seat.view.mode ≡ mode.Idle }
-    ensures member { IsMemberOf shared.now m.new }
-{
-    if !waits_for_first(shared.words(), cell.seat()) {
-        return None;
-    }
-    let answer = shared.react_in(rt, m, cell, clock, Some(0));
-    shared.words().unblock(cell.seat());
-    Some(answer)
 }

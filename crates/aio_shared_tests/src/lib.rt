@@ -1,19 +1,21 @@
 //! Tests of a reactor that several threads share, over the devices in memory.
 //!
-//! They stand above that crate, so that it is not proved a second time for its tests. There is no other
-//! code here.
+//! They stand above that crate, so that it is not proved a second time for its tests. Of other code there
+//! is what the tests are made of: clocks in memory, a thread's way into a reactor, rounds by a seat that
+//! waits for a parker, and a thread with a source of its own. It has contracts, so that wrong code is
+//! refused: they say that such code knows what its calls have done.
 #![tactic(auto)]
 
 #[cfg(test)]
 mod asserts;
-#[cfg(test)]
-mod callers;
-#[cfg(test)]
-mod owners;
+pub mod callers;
+pub mod clocks;
+pub mod owners;
 #[cfg(test)]
 mod reactors;
 #[cfg(test)]
 mod rounds;
+pub mod seats;
 #[cfg(test)]
 mod sources;
 #[cfg(test)]

@@ -1,9 +1,11 @@
 //! What no clause says of a whole reactor: that its parts work together with ample memory, and that an
 //! event goes to the source of its key.
 
-use crate::asserts::same;
-use crate::callers::{Caller, another, clock_at, enter, reacted};
+use crate::asserts::{moment, same};
+use crate::callers::{Caller, another, enter};
+use crate::clocks::clock_at;
 use crate::owners::Owner;
+use crate::seats::reacted;
 use aio_base::{Arm, ArmFault, Dir, Event, EventWait, Interest, Key, Notify, Poll, Waker};
 use aio_devices::{FailingArm, MemNotify, MemWait, ScriptedWait, SureArm, WaitAnswer};
 use aio_shared::ReactFault;
@@ -39,7 +41,7 @@ fn assert_waits<R: Wait, N: Notify, A: Arm, W: EventWait>(
 fn an_event_goes_to_the_source_of_its_key(rt: HostRuntime) -> Result<(), Fail> {
     let caller = enter(&rt, rt.alloc(), MemWait::new(2), MemNotify::new())?;
     let mut owner = Owner::new(caller, SureArm::new(7))?;
-    let mut clock = clock_at(&rt, rt.alloc(), 5)?;
+    let mut clock = clock_at(rt.alloc(), moment(&rt, 5))?;
     assert_waits(&rt, &mut owner, Dir::Read, 3);
     same(&rt, owner.caller.react(&mut clock), reacted(2, 1));
     same(&rt, owner.caller.take(), 8);
@@ -66,7 +68,7 @@ fn an_event_takes_the_waiters_of_its_source(rt: HostRuntime) -> Result<(), Fail>
     let wait = another_key_first(rt.alloc())?;
     let caller = enter(&rt, rt.alloc(), wait, MemNotify::new())?;
     let mut owner = Owner::new(caller, SureArm::new(7))?;
-    let mut clock = clock_at(&rt, rt.alloc(), 30)?;
+    let mut clock = clock_at(rt.alloc(), moment(&rt, 30))?;
     same(&rt, owner.poll_and_count(), true);
     same(&rt, owner.caller.react(&mut clock), reacted(1, 0));
     same(&rt, owner.caller.react(&mut clock), reacted(1, 1));
@@ -86,7 +88,7 @@ fn a_failed_arm_is_told_and_the_taken_are_woken(rt: HostRuntime) -> Result<(), F
     let caller = enter(&rt, rt.alloc(), readable(rt.alloc())?, MemNotify::new())?;
     let io = FailingArm::new(5, vec![in rt.alloc(); 4]?);
     let mut owner = Owner::new(caller, io)?;
-    let mut clock = clock_at(&rt, rt.alloc(), 5)?;
+    let mut clock = clock_at(rt.alloc(), moment(&rt, 5))?;
     assert_waits(&rt, &mut owner, Dir::Read, 3);
     assert_waits(&rt, &mut owner, Dir::Write, 4);
     let fault = ArmFault {

@@ -3,7 +3,7 @@
 ghost use Rattle.std.specs.Prelude.{◌≡◌, false, IfOk};
 
 use crate::asserts::{may_be_sent, may_be_shared, same};
-use crate::callers::fault_after;
+use crate::clocks::fault_after;
 use crate::owners::insert_io;
 use aio_base::{Arm, ArmFault, CountFault, EventWait, Key, OutOfMemory};
 use aio_devices::{FailingArm, MemNotify, MemWait, SureArm};

@@ -3,11 +3,11 @@
 
 ghost use Rattle.std.specs.Prelude.{◌≡◌};
 
-use crate::asserts::same;
-use crate::callers::{
-    Caller, Quiet, Reaction, another, clock_at, enter, enter_quiet, insert, moment, reacted,
-};
+use crate::asserts::{moment, same};
+use crate::callers::{Caller, Quiet, another, enter, enter_quiet, insert};
+use crate::clocks::clock_at;
 use crate::owners::Owner;
+use crate::seats::{Reaction, reacted};
 use aio_base::{Dir, Event, Interest, Key, Moment, Poll, Waker};
 use aio_devices::{MemClock, MemNotify, MemWait, ScriptedWait, SureArm, WaitAnswer};
 use aio_react::TimerHost;
@@ -35,7 +35,7 @@ fn insert_on_two_threads<R: Threads + Wait + Sync>(
 #[test]
 fn timers_of_two_threads_are_all_registered(rt: HostRuntime) -> Result<(), Fail> {
     let mut first = enter_quiet(&rt, rt.alloc())?;
-    let mut clock = clock_at(&rt, rt.alloc(), 5)?;
+    let mut clock = clock_at(rt.alloc(), moment(&rt, 5))?;
     let one = another(&mut first)?;
     let other = another(&mut first)?;
     let taken = insert_on_two_threads(&rt, one, other, moment(&rt, 5));
@@ -94,7 +94,7 @@ fn a_token_knows_its_connection_beside_rounds(rt: HostRuntime) -> Result<(), Fai
     let mut first = enter(&rt, rt.alloc(), MemWait::new(1), MemNotify::new())?;
     let beside = another(&mut first)?;
     let owner = Owner::new(first, SureArm::new(7))?;
-    let clock = clock_at(&rt, rt.alloc(), 30)?;
+    let clock = clock_at(rt.alloc(), moment(&rt, 30))?;
     let (mut owner, woken) = poll_beside_rounds(&rt, owner, beside, clock);
     same(&rt, woken <= 200, true);
     same(&rt, owner.number(), 207);
@@ -245,11 +245,11 @@ fn two_shifts<R: Wait + Copy>(
 {
     let one = Shift {
         caller: another(first)?,
-        clock: clock_at(rt, alloc, 5)?,
+        clock: clock_at(alloc, moment(rt, 5))?,
     };
     let other = Shift {
         caller: another(first)?,
-        clock: clock_at(rt, alloc, 5)?,
+        clock: clock_at(alloc, moment(rt, 5))?,
     };
     Ok((one, other))
 }
@@ -296,7 +296,7 @@ fn each_waker_of_four_threads_comes_once(rt: HostRuntime) -> Result<(), Fail> {
         later: moment(&rt, 9),
     };
     let done = work_on_four(&rt, ones, others, &times);
-    let mut clock = clock_at(&rt, rt.alloc(), 10)?;
+    let mut clock = clock_at(rt.alloc(), moment(&rt, 10))?;
     let left = react_twice(&mut first, &mut clock);
     assert_each_came(&rt, done.and(left));
     Ok(())

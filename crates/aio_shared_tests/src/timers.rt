@@ -1,14 +1,13 @@
 //! What no clause says of the calls on timers: that they succeed with ample memory, and that what was
 //! registered comes in a round.
 
-use crate::asserts::{may_be_sent, may_be_shared, same};
-use crate::callers::{
-    Caller, another, clock_at, count_and_wake, enter, enter_quiet, fault_after, insert, moment,
-    reacted,
-};
-use aio_base::{Moment, Notify, OutOfMemory, TimerId, Waker};
+use crate::asserts::{may_be_sent, may_be_shared, moment, same};
+use crate::callers::{Caller, another, enter, enter_quiet, insert};
+use crate::clocks::{clock_at, fault_after};
+use crate::seats::reacted;
+use aio_base::{CountFault, Moment, Notify, TimerId, Waker};
 use aio_devices::{FailingNotify, MemClock, MemNotify, MemWait, SureArm};
-use aio_react::{InsertRefusal, TimerHost};
+use aio_react::{Host, InsertRefusal, TimerHost};
 use std::process::Abort;
 use std::sync::Wait;
 use std::test::Fail;
@@ -40,7 +39,7 @@ fn assert_wakes<R: Wait, N: Notify>(
 #[test]
 fn a_timer_that_is_taken_out_again_is_not_registered(rt: HostRuntime) -> Result<(), Fail> {
     let mut caller = enter_quiet(&rt, rt.alloc())?;
-    let mut clock = clock_at(&rt, rt.alloc(), 9)?;
+    let mut clock = clock_at(rt.alloc(), moment(&rt, 9))?;
     let at = moment(&rt, 9);
     assert_inserts(&rt, &mut caller.host, at, 1);
     assert_removes(&rt, &mut caller.host, at, 1);
@@ -75,7 +74,7 @@ fn a_failing_notifier_is_called_once_and_leaves_the_timers_registered(
     rt: HostRuntime,
 ) -> Result<(), Fail> {
     let mut caller = enter(&rt, rt.alloc(), MemWait::new(0), FailingNotify::new())?;
-    let mut clock = clock_at(&rt, rt.alloc(), 5)?;
+    let mut clock = clock_at(rt.alloc(), moment(&rt, 5))?;
     insert_and_notify(&rt, &mut caller.host, moment(&rt, 5));
     assert_wakes(&rt, &mut caller, &mut clock, 2);
     Ok(())
@@ -84,7 +83,7 @@ fn a_failing_notifier_is_called_once_and_leaves_the_timers_registered(
 #[test]
 fn a_round_wakes_every_timer_that_is_due(rt: HostRuntime) -> Result<(), Fail> {
     let mut caller = enter_quiet(&rt, rt.alloc())?;
-    let mut clock = clock_at(&rt, rt.alloc(), 5)?;
+    let mut clock = clock_at(rt.alloc(), moment(&rt, 5))?;
     let taken = caller.insert_times(moment(&rt, 5), 1001);
     same(&rt, taken, 1001);
     assert_wakes(&rt, &mut caller, &mut clock, 1001);
@@ -96,7 +95,7 @@ fn a_round_wakes_every_timer_that_is_due(rt: HostRuntime) -> Result<(), Fail> {
 fn ids_of_two_members_differ(rt: HostRuntime) -> Result<(), Fail> {
     let mut first = enter_quiet(&rt, rt.alloc())?;
     let mut second = another(&mut first)?;
-    let mut clock = clock_at(&rt, rt.alloc(), 5)?;
+    let mut clock = clock_at(rt.alloc(), moment(&rt, 5))?;
     let at = moment(&rt, 5);
     assert_inserts(&rt, &mut first.host, at, 1);
     assert_inserts(&rt, &mut second.host, at, (1 << 40) + 1);
@@ -115,6 +114,14 @@ fn a_lent_seat_wakes_and_takes(rt: HostRuntime) -> Result<(), Fail> {
     Ok(())
 }
 
+/// Counts the rounds, and wakes a task.
+fn count_and_wake<H: Host>(host: &mut H, waker: Waker) -> (u64, Result<(), CountFault>)
+    ensures { H.is_later host.old host.new }
+{
+    let rounds = host.ticker();
+    (rounds, host.wake(waker))
+}
+
 /// Registers two timers of one deadline, and takes the first out again. The answer is their ids.
 fn insert_two<H: TimerHost>(host: &mut H, at: Moment) -> Option<(TimerId, TimerId)>
     ensures { H.is_later host.old host.new }
@@ -128,7 +135,7 @@ fn insert_two<H: TimerHost>(host: &mut H, at: Moment) -> Option<(TimerId, TimerI
 #[test]
 fn a_member_hosts_timers_and_tasks(rt: HostRuntime) -> Result<(), Fail> {
     let mut caller = enter_quiet(&rt, rt.alloc())?;
-    let mut clock = clock_at(&rt, rt.alloc(), 5)?;
+    let mut clock = clock_at(rt.alloc(), moment(&rt, 5))?;
     let ids = insert_two(&mut caller.host, moment(&rt, 5));
     same(&rt, ids, Some((TimerId(1), TimerId(2))));
     let woken = count_and_wake(&mut caller.host, Waker(7));
