@@ -1,32 +1,9 @@
 //! The lines of the language one by one, both ways, and the first steps of two seeds.
 
-ghost use Rattle.std.specs.Prelude.{◌≡◌, true};
-ghost use Rattle.aio_base.specs.Lines.{IsInRange};
-
-use aio_base::{Answer, Dir, EndWord, Event, Interest, Key, Moment, Step, Waker, Which};
+use crate::steps::{event, is_in_range, poll, read_back};
+use aio_base::{Answer, Dir, EndWord, Interest, Key, Moment, Step, Waker, Which};
 use aio_trace::{LineFault, gen_steps, read_line, write_answer, write_line, write_reply};
 use std::test::Fail;
-
-fn poll(key: u32, direction: Dir, waker: u32) -> Step {
-    Step::Poll(Key(key), direction, Waker(waker))
-}
-
-fn event(key: u32, on: Interest) -> Step {
-    Step::Note(Event { key: Key(key), on })
-}
-
-fn is_in_range(step: &Step) -> bool
-    ensures { result ≡ true → IsInRange step.now }
-{
-    let longest = 1_000_000_000_000_000_000;
-    match *step {
-        Step::TimerEvery(_, period) | Step::SetEvery(_, _, period) => {
-            period >= 1 && period <= longest
-        }
-        Step::Begin(Some(limit)) => limit <= longest,
-        _ => true,
-    }
-}
 
 #[test]
 fn each_form_reads_as_its_step_and_is_written_so(rt: HostRuntime) -> Result<(), Fail> {
@@ -78,6 +55,7 @@ fn each_form_reads_as_its_step_and_is_written_so(rt: HostRuntime) -> Result<(), 
         assert_eq!(rt; write_line(&step, &mut out), Ok(()), "{line}");
         assert_eq!(rt; out.pop(), Some(b'\n'), "{line}");
         assert_eq!(rt; out.as_slice(), line.as_bytes());
+        assert_eq!(rt; read_back(rt.alloc(), &step), Ok(Ok(step)), "{line}");
     }
     Ok(())
 }

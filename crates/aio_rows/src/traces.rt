@@ -1,8 +1,9 @@
 //! What no clause says: that a call succeeds where memory is left, that each answer is written
 //! before a read that may wait, and that the definitions mean what the worked traces say.
 
-ghost use Rattle.std.specs.Prelude.{◌-◌, ◌≤◌, None, false, vec_len};
+ghost use Rattle.std.specs.Prelude.{None, false};
 
+use crate::devices::Torn;
 use aio_base::{CountFault, Failed, Faults, Reason};
 use aio_bytes::{MemSink, MemSource, Source};
 use aio_run::{Status, Why, run};
@@ -402,56 +403,6 @@ fn a_failing_read_leaves_the_answers_before_it(rt: HostRuntime) -> Result<(), Fa
     Ok(())
 }
 
-/// Bytes that are all in hand, and of which the second read fails.
-#[derive(Drop)]
-struct Torn {
-    bytes: Vec<u8>,
-    at: usize,
-    reads: u64,
-    faults: u64,
-    ghost within: { at ≤ vec_len bytes },
-}
-
-impl Faults for Torn {
-    ghost fault_count = { λ s. s.faults };
-
-    ghost is_sure = { λ _. false };
-
-    ghost all_sure = { false };
-
-    fn faults(&self) -> u64 {
-        self.faults
-    }
-
-    ghost sure_below_top = { λ s sure. Prim.cc };
-
-    ghost each_sure = { λ s sure. sure };
-}
-
-impl Source for Torn {
-    ghost remaining = { λ _. None };
-
-    ghost in_hand = { λ s. vec_len s.bytes - s.at };
-
-    ghost read_step = { λ old room answer new. Unit {0} };
-
-    fn in_hand(&self) -> usize {
-        self.bytes.len() - self.at
-    }
-
-    fn read(&mut self, buf: &mut [u8]) -> Result<usize, Failed> {
-        self.reads = self.reads.saturating_add(1);
-        if self.reads == 2 {
-            self.faults = self.faults.saturating_add(1);
-            return Err(Failed);
-        }
-        let count = buf.len().min(self.bytes.len() - self.at);
-        buf[..count].copy_from_slice(&self.bytes[self.at..self.at + count]);
-        self.at += count;
-        Ok(count)
-    }
-}
-
 /// A trace whose first 257 bytes, which one read gives, end in the middle of its last line; and the
 /// answers to the lines before that.
 fn adds_across_a_read(alloc: Global) -> Result<(Vec<u8>, Vec<u8>), Fail> {
@@ -471,12 +422,7 @@ fn fail_second_read<R: Wait + Threads + Sync + Send + Copy + AllocGlobal + Abort
         writes,
         ..NOTHING_FAILS
     };
-    let mut source = Torn {
-        bytes: trace.to_vec(rt.alloc())?,
-        at: 0,
-        reads: 0,
-        faults: 0,
-    };
+    let mut source = Torn::new(trace.to_vec(rt.alloc())?);
     let ran = run_from(rt, &["replay"], &mut source, failing)?;
     assert_exit(rt, &ran, 3, writes);
     assert_out(rt, &ran, out, writes);
