@@ -1,19 +1,20 @@
 //! What no clause says of a thread that blocks on a task: that it makes rounds, and that a task is polled
 //! where it was woken and nowhere else.
 
-use crate::asserts::same;
-use crate::clocks::{clock_until, fault_after, moment};
-use crate::sleepers::{Fires, Never, Sleeper, Undisturbed, Wakes, alone};
+use crate::asserts::{moment, same};
+use crate::sleepers::{Sleeper, Undisturbed, alone, end_never};
+use crate::tasks::{Fires, Never, Wakes};
 use crate::waits::PromptWait;
 use aio_base::{Arm, EventWait, Notify};
 use aio_devices::{FailingWait, MemClock, MemNotify, MemWait, SureArm};
 use aio_park::{BlockFault, Group, drive};
+use aio_shared_tests::clocks::{clock_until, fault_after};
 use std::sync::Wait;
 use std::test::Fail;
 
 #[test]
 fn a_thread_reacts_until_its_timer_fires(rt: HostRuntime) -> Result<(), Fail> {
-    let clock = clock_until(&rt, rt.alloc(), 3, 5)?;
+    let clock = clock_until(rt.alloc(), 3, moment(&rt, 5))?;
     let devices = (MemWait::new(0), MemNotify::new());
     let mut thread: Undisturbed<_, _> = alone(&rt, rt.alloc(), devices, clock)?;
     let mut task = Fires::at(moment(&rt, 5));
@@ -25,7 +26,7 @@ fn a_thread_reacts_until_its_timer_fires(rt: HostRuntime) -> Result<(), Fail> {
 
 #[test]
 fn a_task_that_wakes_itself_is_polled_once_for_each_wake(rt: HostRuntime) -> Result<(), Fail> {
-    let clock = clock_until(&rt, rt.alloc(), 1, 0)?;
+    let clock = clock_until(rt.alloc(), 1, moment(&rt, 0))?;
     let devices = (MemWait::new(0), MemNotify::new());
     let mut thread: Undisturbed<_, _> = alone(&rt, rt.alloc(), devices, clock)?;
     let mut task = Wakes::until(4, 9);
@@ -37,14 +38,14 @@ fn a_task_that_wakes_itself_is_polled_once_for_each_wake(rt: HostRuntime) -> Res
 
 #[test]
 fn a_round_waits_only_where_the_task_was_not_woken(rt: HostRuntime) -> Result<(), Fail> {
-    let clock = clock_until(&rt, rt.alloc(), 1, 0)?;
+    let clock = clock_until(rt.alloc(), 1, moment(&rt, 0))?;
     let devices = (PromptWait::new(), MemNotify::new());
     let mut thread: Sleeper<_, _, SureArm, _, _> = alone(&rt, rt.alloc(), devices, clock)?;
     same(&rt, thread.run(&mut Wakes::until(4, 9)), Ok(9));
     same(&rt, thread.waits(), Some(3));
     let mut silent = Never { polls: 0 };
     let fault = BlockFault::Wait(fault_after(0));
-    same(&rt, thread.run(&mut silent), Err(fault));
+    same(&rt, end_never(&mut thread, &mut silent), fault);
     same(&rt, silent.polls, 1);
     same(&rt, thread.waits(), Some(4));
     Ok(())
@@ -52,7 +53,7 @@ fn a_round_waits_only_where_the_task_was_not_woken(rt: HostRuntime) -> Result<()
 
 #[test]
 fn a_failed_wait_is_told_and_the_cell_goes_back(rt: HostRuntime) -> Result<(), Fail> {
-    let clock = clock_until(&rt, rt.alloc(), 1, 0)?;
+    let clock = clock_until(rt.alloc(), 1, moment(&rt, 0))?;
     let wait = FailingWait::new(0, vec![in rt.alloc(); 1]?);
     let mut thread: Sleeper<_, _, SureArm, _, _> = alone(
         &rt,
@@ -61,11 +62,8 @@ fn a_failed_wait_is_told_and_the_cell_goes_back(rt: HostRuntime) -> Result<(), F
         clock,
     )?;
     let mut task = Never { polls: 0 };
-    same(
-        &rt,
-        thread.run(&mut task),
-        Err(BlockFault::Wait(fault_after(0))),
-    );
+    let fault = BlockFault::Wait(fault_after(0));
+    same(&rt, end_never(&mut thread, &mut task), fault);
     same(&rt, thread.waits(), Some(1));
     same(&rt, task.polls, 1);
     Ok(())
@@ -88,7 +86,7 @@ fn drive_thread<R: Wait + Copy, N: Notify, A: Arm, W: EventWait>(
 
 #[test]
 fn a_driver_sums_up_the_events_of_its_rounds(rt: HostRuntime) -> Result<(), Fail> {
-    let clock = clock_until(&rt, rt.alloc(), 1, 0)?;
+    let clock = clock_until(rt.alloc(), 1, moment(&rt, 0))?;
     let devices = (MemWait::new(2), MemNotify::new());
     let mut thread: Undisturbed<_, _> = alone(&rt, rt.alloc(), devices, clock)?;
     same(&rt, drive_thread(&mut thread, 3), Ok(6));
@@ -99,7 +97,7 @@ fn a_driver_sums_up_the_events_of_its_rounds(rt: HostRuntime) -> Result<(), Fail
 
 #[test]
 fn a_driver_tells_a_failed_wait_and_gives_the_cell_back(rt: HostRuntime) -> Result<(), Fail> {
-    let clock = clock_until(&rt, rt.alloc(), 1, 0)?;
+    let clock = clock_until(rt.alloc(), 1, moment(&rt, 0))?;
     let wait = FailingWait::new(2, vec![in rt.alloc(); 2]?);
     let mut thread: Sleeper<_, _, SureArm, _, _> = alone(
         &rt,
@@ -113,22 +111,14 @@ fn a_driver_tells_a_failed_wait_and_gives_the_cell_back(rt: HostRuntime) -> Resu
     Ok(())
 }
 
-/// Adds a task, and answers its slot.
-fn add(group: &mut Group<Wakes, u64>, task: Wakes) -> Option<u32> {
-    match group.add(task) {
-        Ok(slot) => Some(slot),
-        Err(_) => None,
-    }
-}
-
 #[test]
 fn a_group_answers_in_the_order_of_its_slots(rt: HostRuntime) -> Result<(), Fail> {
-    let clock = clock_until(&rt, rt.alloc(), 1, 0)?;
+    let clock = clock_until(rt.alloc(), 1, moment(&rt, 0))?;
     let devices = (MemWait::new(0), MemNotify::new());
     let mut thread: Undisturbed<_, _> = alone(&rt, rt.alloc(), devices, clock)?;
     let mut group = Group::new(rt.alloc(), 0);
-    same(&rt, add(&mut group, Wakes::until(2, 10)), Some(0));
-    same(&rt, add(&mut group, Wakes::until(1, 11)), Some(1));
+    same(&rt, group.add(Wakes::until(2, 10)).ok(), Some(0));
+    same(&rt, group.add(Wakes::until(1, 11)).ok(), Some(1));
     let wanted = vec![in rt.alloc(); 10, 11]?;
     same(&rt, thread.run(&mut group), Ok(wanted));
     Ok(())

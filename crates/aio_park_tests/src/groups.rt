@@ -1,7 +1,6 @@
 //! What no clause says of tasks polled as one: whole runs of a group, over a host of the tests' own.
 
-use crate::asserts::same;
-use crate::clocks::moment;
+use crate::asserts::{moment, same};
 use aio_base::{Cx, Later, Moment, Poll, Task};
 use aio_park::{Group, GroupRefusal};
 use std::process::Abort;
@@ -102,12 +101,8 @@ fn poll_at(group: &mut Endings, mask: u64, now: Moment) -> Option<Vec<Seen>> {
     }
 }
 
-fn poll(rt: &impl Abort, group: &mut Endings, mask: u64, now: u64) -> Option<Vec<Seen>> {
-    poll_at(group, mask, moment(rt, now))
-}
-
 fn is_pending(rt: &impl Abort, group: &mut Endings, mask: u64, now: u64) {
-    same(rt, poll(rt, group, mask, now).is_none(), true);
+    same(rt, poll_at(group, mask, moment(rt, now)).is_none(), true);
 }
 
 /// Looks at the answers of a group that is to have ended: parker, mask, moment and polls of each.
@@ -120,7 +115,7 @@ fn are(rt: &impl Abort, answers: Option<Vec<Seen>>, wanted: &[Seen]) {
 
 /// Polls the group, and looks at its answers.
 fn ends_with(rt: &impl Abort, group: &mut Endings, mask: u64, now: u64, wanted: &[Seen]) {
-    are(rt, poll(rt, group, mask, now), wanted);
+    are(rt, poll_at(group, mask, moment(rt, now)), wanted);
 }
 
 fn poll_seen(mask: u64, now: u64, polls: u64) -> Seen {

@@ -1,16 +1,18 @@
 //! What no clause says of the wakes by which a thread hands over: what is in the masks of two parkers then.
 
-use crate::asserts::same;
-use crate::clocks::clock_at;
+use crate::asserts::{moment, same};
 use crate::sleepers::two;
-use std::process::Abort;
+use aio_shared_tests::clocks::clock_at;
 use std::test::Fail;
 
 #[test]
 fn a_thread_that_hands_over_wakes_the_other_parker_and_not_its_own(
     rt: HostRuntime,
 ) -> Result<(), Fail> {
-    let clocks = (clock_at(&rt, rt.alloc(), 0)?, clock_at(&rt, rt.alloc(), 0)?);
+    let clocks = (
+        clock_at(rt.alloc(), moment(&rt, 0))?,
+        clock_at(rt.alloc(), moment(&rt, 0))?,
+    );
     let (mut one, mut other) = two(&rt, rt.alloc(), clocks)?;
     let told = one.hand_over();
     same(&rt, (told, one.take(), other.take()), (true, 0, 1));
@@ -21,7 +23,10 @@ fn a_thread_that_hands_over_wakes_the_other_parker_and_not_its_own(
 
 #[test]
 fn every_slot_of_both_parkers_is_woken(rt: HostRuntime) -> Result<(), Fail> {
-    let clocks = (clock_at(&rt, rt.alloc(), 0)?, clock_at(&rt, rt.alloc(), 0)?);
+    let clocks = (
+        clock_at(rt.alloc(), moment(&rt, 0))?,
+        clock_at(rt.alloc(), moment(&rt, 0))?,
+    );
     let (mut one, mut other) = two(&rt, rt.alloc(), clocks)?;
     let told = one.wake_all();
     same(

@@ -7,15 +7,16 @@ ghost use Rattle.aio_shared.specs.Cells.{IsIdle};
 ghost use Rattle.aio_shared.specs.OneCell.{IsCellOf};
 ghost use Rattle.aio_park_tests.specs.Telling.{may_tell_prop};
 
-use crate::asserts::same;
-use crate::clocks::{clock_at, clock_until, moment};
-use crate::sleepers::{Fires, Undisturbed, Wakes, poll_timer, two};
+use crate::asserts::{moment, same};
+use crate::sleepers::{Fired, Undisturbed, end_at, fire, two};
+use crate::tasks::poll_timer;
 use aio_base::{Clock, Cx, Moment, OutOfMemory, Poll, Task, Waker};
 use aio_devices::{MemClock, MemNotify, MemWait, SureArm};
-use aio_future::{Timer, TimerFault};
+use aio_future::Timer;
 use aio_park::BlockFault;
 use aio_react::{Host, TimerHost};
 use aio_shared::{Inside, RoundCell};
+use aio_shared_tests::clocks::{clock_at, clock_until};
 use std::alloc::Global;
 use std::process::Abort;
 use std::sync::{Arc, Mutex, Wait};
@@ -101,12 +102,9 @@ impl<R: Wait + Copy> Holding<R> {
     }
 }
 
-/// What the task with the timer comes to.
-type Fired = Result<Result<Moment, TimerFault>, BlockFault>;
-
-fn fire<R: Wait + Copy>(mut thread: Undisturbed<R, MemClock>, at: Moment) -> Fired {
-    let mut task = Fires::at(at);
-    thread.run(&mut task)
+/// Blocks on a timer, and lets the thread go.
+fn fire_last<R: Wait + Copy>(mut thread: Undisturbed<R, MemClock>, at: Moment) -> Fired {
+    fire(&mut thread, at)
 }
 
 /// One thread holds the cell and makes rounds, the other waits for a timer.
@@ -119,7 +117,7 @@ fn serve<'a, R: Threads + Wait + Sync>(
     join(
         rt,
         move || holder.react_until_one_is_woken(),
-        move || fire(thread, at),
+        move || fire_last(thread, at),
     )
 }
 
@@ -127,8 +125,8 @@ fn serve<'a, R: Threads + Wait + Sync>(
 fn a_parked_thread_is_served_by_the_rounds_of_another(rt: HostRuntime) -> Result<(), Fail> {
     let five = moment(&rt, 5);
     let clocks = (
-        clock_at(&rt, rt.alloc(), 5)?,
-        clock_until(&rt, rt.alloc(), 1, 5)?,
+        clock_at(rt.alloc(), moment(&rt, 5))?,
+        clock_until(rt.alloc(), 1, moment(&rt, 5))?,
     );
     let (first, second) = two(&rt, rt.alloc(), clocks)?;
     let (holder, fired) = serve(&rt, Holding::of(first), second, five);
@@ -147,7 +145,7 @@ fn leave_alone<'a, R: Threads + Wait + Sync>(
     join(
         rt,
         move || holder.leave_and_wake(),
-        move || fire(thread, at),
+        move || fire_last(thread, at),
     )
 }
 
@@ -155,8 +153,8 @@ fn leave_alone<'a, R: Threads + Wait + Sync>(
 fn a_parked_thread_reacts_by_itself_once_it_is_woken(rt: HostRuntime) -> Result<(), Fail> {
     let five = moment(&rt, 5);
     let clocks = (
-        clock_at(&rt, rt.alloc(), 5)?,
-        clock_until(&rt, rt.alloc(), 2, 5)?,
+        clock_at(rt.alloc(), moment(&rt, 5))?,
+        clock_until(rt.alloc(), 2, moment(&rt, 5))?,
     );
     let (first, second) = two(&rt, rt.alloc(), clocks)?;
     let (told, fired) = leave_alone(&rt, Holding::of(first), second, five);
@@ -167,8 +165,7 @@ fn a_parked_thread_reacts_by_itself_once_it_is_woken(rt: HostRuntime) -> Result<
 
 /// Blocks on a task that ends at its third poll, and then wakes the other thread.
 fn end_and_wake<R: Wait + Copy>(mut thread: Undisturbed<R, MemClock>) -> Result<u64, BlockFault> {
-    let mut task = Wakes::until(3, 7);
-    let answer = thread.run(&mut task);
+    let answer = end_at(&mut thread, 3, 7);
     thread.hand_over();
     answer
 }
@@ -180,15 +177,15 @@ fn end_first<'a, R: Threads + Wait + Sync>(
     other: Undisturbed<&'a R, MemClock>,
     at: Moment,
 ) -> (Result<u64, BlockFault>, Fired) {
-    join(rt, move || end_and_wake(one), move || fire(other, at))
+    join(rt, move || end_and_wake(one), move || fire_last(other, at))
 }
 
 #[test]
 fn a_thread_that_ends_wakes_the_other_which_goes_on(rt: HostRuntime) -> Result<(), Fail> {
     let five = moment(&rt, 5);
     let clocks = (
-        clock_at(&rt, rt.alloc(), 0)?,
-        clock_until(&rt, rt.alloc(), 3, 5)?,
+        clock_at(rt.alloc(), moment(&rt, 0))?,
+        clock_until(rt.alloc(), 3, moment(&rt, 5))?,
     );
     let (first, second) = two(&rt, rt.alloc(), clocks)?;
     let (answer, fired) = end_first(&rt, first, second, five);

@@ -1,8 +1,7 @@
 //! A program that waits for a source with a timeout, by `block_on` over a source and a timer. It stands in
 //! docs/BLOCK_ON.md too.
 
-use crate::asserts::same;
-use crate::clocks::{clock_until, fault_after, moment};
+use crate::asserts::{moment, same};
 use crate::entries::Entry;
 use crate::sleepers::{Sleeper, alone};
 use aio_base::{
@@ -14,6 +13,7 @@ use aio_devices::{
 use aio_future::Timer;
 use aio_park::BlockFault;
 use aio_react::Host;
+use aio_shared_tests::clocks::{clock_until, fault_after};
 use std::alloc::Global;
 use std::sync::Wait;
 use std::test::Fail;
@@ -78,7 +78,7 @@ fn wait_until_readable<R: Wait + Copy, N: Notify, A: Arm + Drop, W: EventWait + 
 
 #[test]
 fn a_source_that_becomes_readable_is_told_before_its_timeout(rt: HostRuntime) -> Result<(), Fail> {
-    let clock = clock_until(&rt, rt.alloc(), 1, 0)?;
+    let clock = clock_until(rt.alloc(), 1, moment(&rt, 0))?;
     let devices = (MemWait::new(1), MemNotify::new());
     let mut thread = alone(&rt, rt.alloc(), devices, clock)?;
     let source = Entry::new(&rt, &thread.host.shared, SureArm::new(7))?;
@@ -89,25 +89,13 @@ fn a_source_that_becomes_readable_is_told_before_its_timeout(rt: HostRuntime) ->
 
 #[test]
 fn a_source_that_stays_silent_runs_into_its_timeout(rt: HostRuntime) -> Result<(), Fail> {
-    let clock = clock_until(&rt, rt.alloc(), 3, 1000)?;
+    let clock = clock_until(rt.alloc(), 3, moment(&rt, 1000))?;
     let devices = (MemWait::new(0), MemNotify::new());
     let mut thread = alone(&rt, rt.alloc(), devices, clock)?;
     let source = Entry::new(&rt, &thread.host.shared, SureArm::new(7))?;
     let readable = wait_until_readable(&mut thread, source, moment(&rt, 1000));
     same(&rt, readable, Ok(false));
     Ok(())
-}
-
-/// A task that waits for a source to be readable, with this timeout.
-fn readable_in_time<R: Wait, A: Arm, W: EventWait>(
-    source: Entry<R, A, W>,
-    timeout: Timer,
-) -> ReadableInTime<R, A, W> {
-    ReadableInTime {
-        source,
-        timeout,
-        polls: 0,
-    }
 }
 
 /// A wait that gives one event of the read direction for key 0.
@@ -122,13 +110,17 @@ fn readable_once(alloc: Global) -> Result<ScriptedWait, Fail> {
 
 #[test]
 fn a_failed_arm_is_handed_on_and_the_task_goes_on(rt: HostRuntime) -> Result<(), Fail> {
-    let clock = clock_until(&rt, rt.alloc(), 1, 0)?;
+    let clock = clock_until(rt.alloc(), 1, moment(&rt, 0))?;
     let devices = (readable_once(rt.alloc())?, MemNotify::new());
     let mut thread = alone(&rt, rt.alloc(), devices, clock)?;
     let io = FailingArm::new(7, vec![in rt.alloc(); 4]?);
     let mut source = Entry::new(&rt, &thread.host.shared, io)?;
     same(&rt, source.is_ready(Dir::Write, Waker(1), 0), false);
-    let mut task = readable_in_time(source, Timer::never());
+    let mut task = ReadableInTime {
+        source,
+        timeout: Timer::never(),
+        polls: 0,
+    };
     let fault = ArmFault {
         key: Key(0),
         before: 0,
@@ -141,11 +133,15 @@ fn a_failed_arm_is_handed_on_and_the_task_goes_on(rt: HostRuntime) -> Result<(),
 
 #[test]
 fn a_failed_notifier_is_handed_on(rt: HostRuntime) -> Result<(), Fail> {
-    let clock = clock_until(&rt, rt.alloc(), 1, 0)?;
+    let clock = clock_until(rt.alloc(), 1, moment(&rt, 0))?;
     let devices = (MemWait::new(1), FailingNotify::new());
     let mut thread = alone(&rt, rt.alloc(), devices, clock)?;
     let source = Entry::new(&rt, &thread.host.shared, SureArm::new(7))?;
-    let mut task = readable_in_time(source, Timer::never());
+    let mut task = ReadableInTime {
+        source,
+        timeout: Timer::never(),
+        polls: 0,
+    };
     let fault = BlockFault::Notify(fault_after(0));
     same(&rt, thread.run(&mut task), Err(fault));
     same(&rt, thread.waits(), Some(1));

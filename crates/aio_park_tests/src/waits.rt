@@ -1,21 +1,46 @@
 //! A half of a poller that tells waits which end at once from those that may last.
 
+ghost use Rattle.std.specs.Prelude.{◌≡◌};
+ghost use Rattle.aio_park_tests.specs.Prompt.{is_instant};
+
 use aio_base::{Event, EventWait, Failed, Faults, Waited};
+use std::marker::Model;
 
 /// A half of a poller that never gives an event. A wait with the limit 0 ends at once; each other wait
 /// might last for ever, and fails instead.
 #[derive(Drop)]
-pub(crate) struct PromptWait {
+pub struct PromptWait {
     waits: u64,
     faults: u64,
 }
 
+impl Model for PromptWait {
+    ghost use Rattle.aio_park_tests.specs.Prompt.{PromptWaits};
+
+    ghost Value = { PromptWaits };
+
+    ghost view = { λ w. record { waits = w.waits; faults = w.faults } };
+}
+
 impl PromptWait {
-    pub(crate) fn new() -> PromptWait {
+    /// A half that has not waited yet. It takes no memory.
+    pub fn new() -> PromptWait
+        ensures { result ≡ record { waits = 0; faults = 0 } }
+    {
         PromptWait {
             waits: 0,
             faults: 0,
         }
+    }
+}
+
+/// Whether a wait with this limit, in nanoseconds, is to end at once.
+fn ends_at_once(limit: Option<u64>) -> bool
+    ensures { result ≡ is_instant limit }
+{
+    match limit {
+        Some(nanoseconds) => nanoseconds == 0,
+        None => false,
     }
 }
 
@@ -39,11 +64,11 @@ impl Faults for PromptWait {
 }
 
 impl EventWait for PromptWait {
-    ghost use Rattle.std.specs.Prelude.{⊤};
+    ghost use Rattle.aio_park_tests.specs.Prompt.{WaitsPromptly};
 
     ghost wait_count = { λ w. w.waits };
 
-    ghost wait_step = { λ old call answer added new. ⊤ };
+    ghost wait_step = { WaitsPromptly };
 
     fn wait(
         &mut self,
@@ -52,7 +77,7 @@ impl EventWait for PromptWait {
         limit: Option<u64>,
     ) -> Result<Waited, Failed> {
         self.waits = self.waits.saturating_add(1);
-        if limit == Some(0) {
+        if ends_at_once(limit) {
             return Ok(Waited::Given(0));
         }
         self.faults = self.faults.saturating_add(1);
