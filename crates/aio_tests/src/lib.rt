@@ -26,6 +26,8 @@ mod polls;
 #[cfg(test)]
 mod reactors;
 #[cfg(test)]
+mod removals;
+#[cfg(test)]
 mod rounds;
 #[cfg(test)]
 mod sources;
