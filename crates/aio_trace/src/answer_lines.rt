@@ -8,7 +8,6 @@ ghost use Rattle.aio_trace.specs.Writing.{KeepsFront, LacksRoom};
 
 use crate::writing::{push_number, push_numbered};
 use aio_base::{Answer, EndWord, Key, Waker};
-use itoa::write_digits;
 use std::alloc::AllocError;
 
 /// Writes an answer's line and then one line for each of `wakes`, which is left empty; maybe a part of
@@ -54,8 +53,7 @@ fn push_wakes(wakes: &[Waker], out: &mut Vec<u8>) -> Result<(), AllocError>
     Ok(())
 }
 
-/// Writes the line of a wake by one copy. It is made from its end: the digits go before the line feed,
-/// and the word before them.
+/// Writes the line of a wake.
 #[inline]
 fn push_wake(out: &mut Vec<u8>, waker: Waker) -> Result<(), AllocError>
     ensures ok { OnOk result (out.new.items
@@ -65,11 +63,7 @@ fn push_wake(out: &mut Vec<u8>, waker: Waker) -> Result<(), AllocError>
         (ended_line (codes "wake " ++ decimal waker.0))) }
     ensures grown { vec_capacity out.old ≤ vec_capacity out.new }
 {
-    let mut line = [b'\n'; 32];
-    let digits = write_digits(u64::from(waker.0), &mut line, 31);
-    let start = digits - 5;
-    line[start..digits].copy_from_slice(b"wake ");
-    out.extend_from_slice(&line[start..])
+    push_numbered(out, b"wake ", u64::from(waker.0))
 }
 
 /// Writes an answer's line. All answers have their arms here, in the function that is handed the
@@ -112,7 +106,7 @@ pub(crate) fn push_answer(answer: Answer, out: &mut Vec<u8>) -> Result<(), Alloc
         Answer::Back(moment) => push_numbered(out, b"back ", moment.get()),
         Answer::Given(count) => push_numbered(out, b"given ", u64::from(count)),
         Answer::Events(count) => push_numbered(out, b"events ", u64::from(count)),
-        Answer::Wake(waker) => push_numbered(out, b"wake ", u64::from(waker.0)),
+        Answer::Wake(waker) => push_wake(out, waker),
         Answer::Begin { number, limit } => push_begin(out, number, limit),
         Answer::Handled { key, fault } => push_handled(out, key, fault),
         Answer::End(end) => push_end(out, end),

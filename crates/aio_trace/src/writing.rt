@@ -10,7 +10,7 @@ ghost use Rattle.aio_trace.specs.Writing.{KeepsFront, LacksRoom};
 use crate::answer_lines::{push_answer, push_reply};
 use crate::step_lines::push_step;
 use aio_base::{Answer, OutOfMemory, Step, Waker};
-use itoa::Buffer;
+use itoa::{Buffer, write_digits};
 use std::alloc::AllocError;
 
 /// Writes the line of a step, with its line feed.
@@ -88,8 +88,15 @@ pub fn write_reply(
     }
 }
 
-/// Writes a line of a word and a number.
-pub(crate) fn push_numbered(out: &mut Vec<u8>, word: &[u8], number: u64) -> Result<(), AllocError>
+/// Writes a line of a word and a number by one copy. It is made from its end: the digits go before the
+/// line feed, and the word before them.
+#[inline]
+pub(crate) fn push_numbered<const N: usize>(
+    out: &mut Vec<u8>,
+    word: &[u8; N],
+    number: u64,
+) -> Result<(), AllocError>
+    requires { N ≤ 11 }
     ensures ok { OnOk result (out.new.items
         ≡ out.old.items ++ ended_line (word.now ++ decimal number)) }
     ensures kept { OnErr result (KeepsFront out.old.items out.new.items) }
@@ -97,10 +104,11 @@ pub(crate) fn push_numbered(out: &mut Vec<u8>, word: &[u8], number: u64) -> Resu
         (ended_line (word.now ++ decimal number))) }
     ensures grown { vec_capacity out.old ≤ vec_capacity out.new }
 {
-    out.extend_from_slice(word)?;
-    push_number(out, number)?;
-    out.push(b'\n')?;
-    Ok(())
+    let mut line = [b'\n'; 32];
+    let digits = write_digits(number, &mut line, 31);
+    let start = digits - N;
+    line[start..digits].copy_from_slice(word);
+    out.extend_from_slice(&line[start..])
 }
 
 /// Writes a number in decimal digits.
