@@ -271,11 +271,16 @@ replayed s now limit answer wakes r new call clock met = called s now limit answ
 -- ## Answers that were told
 
 -- an answer and the wakes
-pub told_with_wakes : {E : Type 0} (told : Result Answer E) (s : Step) (answer : Answer) (wakes expected : List Waker) (r new : Replayer) → Replays s answer expected r new
-    → IfOk told (λ a. a ≡ answer) → IfOk told (λ a. wakes ≡ expected) → IfOk told (λ a. Replays s a wakes r new)
-told_with_wakes (Ok a) s answer wakes expected r new replays is are =
+pub told_with_wakes : (told : Option Answer) (s : Step) (answer : Answer) (wakes expected : List Waker) (r new : Replayer) → Replays s answer expected r new
+    → IfSome told (λ a. a ≡ answer) → IfSome told (λ a. wakes ≡ expected) → IfSome told (λ a. Replays s a wakes r new)
+told_with_wakes (Some a) s answer wakes expected r new replays is are =
     subst (λ (x : Answer). Replays s x wakes r new) (sym is) (subst (λ (xs : List Waker). Replays s answer xs r new) (sym are) replays)
-told_with_wakes (Err e) s answer wakes expected r new replays is are = tt
+told_with_wakes None s answer wakes expected r new replays is are = tt
+
+-- an answer that was told in one byte
+pub answered_by : {E : Type 0} (answered : Result Answer E) (told : Option Answer) (P : Answer → Type 0) → IfOk answered (λ a. told ≡ Some a) → IfSome told P → IfOk answered P
+answered_by (Ok a) told P is holds = subst (λ (o : Option Answer). IfSome o P) is holds
+answered_by (Err e) told P is holds = tt
 
 some_replayed : (reply : Option Answer) (a : Answer) (s : Step) (now limit : Option ℕ) (wakes : List Waker) (r : Replayer) (new : Script × CoreValue) → IsCall s → IsClock now r.clock
     → reply ≡ Some a → IfSome reply (λ x. Meets (PollerStep ScriptArms ScriptWaits) (λ (p : Script). Some (interests_of p)) s now x wakes limit r.core new)
@@ -291,6 +296,14 @@ pub told_met : {E : Type 0} (told : Result Answer E) (reply : Option Answer) (s 
     → IfOk told (λ a. Replays s a wakes r (record r { core = new }))
 told_met (Ok a) reply s now limit wakes r new call clock is met = some_replayed reply a s now limit wakes r new call clock is met
 told_met (Err e) reply s now limit wakes r new call clock is met = tt
+
+-- the same of a call whose answer was told in one byte
+pub told_met_so : (told reply : Option Answer) (s : Step) (now limit : Option ℕ) (wakes : List Waker) (r : Replayer) (new : Script × CoreValue)
+    → IsCall s → IsClock now r.clock → IfSome told (λ a. reply ≡ Some a)
+    → IfSome reply (λ x. Meets (PollerStep ScriptArms ScriptWaits) (λ (p : Script). Some (interests_of p)) s now x wakes limit r.core new)
+    → IfSome told (λ a. Replays s a wakes r (record r { core = new }))
+told_met_so (Some a) reply s now limit wakes r new call clock is met = some_replayed reply a s now limit wakes r new call clock is met
+told_met_so None reply s now limit wakes r new call clock is met = tt
 
 -- the wakes of a round that has ended
 pub finished_wakes : (finished : Result (Option RoundFault) CoreRefusal) (r : RoundValue) (ended : Bool) (wakes : List Waker) → ended ≡ is_ok finished

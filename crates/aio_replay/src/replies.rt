@@ -1,6 +1,6 @@
 //! What the calls of a core and of a timer answered, as answers of the trace language.
 
-ghost use Rattle.std.specs.Prelude.{◌≡◌, [], Some, IfOk, OnOk, option_to_list};
+ghost use Rattle.std.specs.Prelude.{◌≡◌, [], Some, IfOk, IfSome, OnOk, option_to_list};
 ghost use Rattle.aio_future.specs.Timers.{poll_fault, set_fault};
 ghost use Rattle.aio_react.specs.Listeners.{listen_reply, step_reply, drop_reply};
 ghost use Rattle.aio_react.specs.Polls.{poll_reply, poll_wakes};
@@ -9,7 +9,7 @@ ghost use Rattle.aio_react.specs.Sections.{begin_reply, handle_reply, finish_rep
 ghost use Rattle.aio_react.specs.Reacting.{react_reply};
 ghost use Rattle.aio_react.specs.Standing.{end_word};
 ghost use Rattle.aio_react.specs.Sources.{add_reply, del_reply};
-ghost use Rattle.aio_replay.specs.Replies.{IsTold, IsHosted, tick_reply};
+ghost use Rattle.aio_replay.specs.Replies.{IsTold, IsHosted, reply_answer, tick_reply};
 
 use aio_base::{Answer, ArmFault, EndWord, Key, Moment, Poll, Waited, Waker};
 use aio_future::TimerFault;
@@ -40,33 +40,53 @@ pub(crate) fn told_del(removed: Result<(), CoreRefusal>) -> Answer
     }
 }
 
-/// Of a poll; the waker that lost its place goes into `wakes`, which is empty. `AllocError` where
+/// What a poll of a source or of a listener comes to, in one byte. Such polls come most often, and are
+/// functions of their own: what they answer is handed on in a register, where an answer with all that
+/// any answer has would be written to memory, and read back at once.
+#[derive(Clone, Copy)]
+pub(crate) enum PollReply {
+    Ready,
+    Pending,
+    FaultArm,
+    NoSource,
+    NoListener,
+    OutOfMemory,
+}
+
+impl PollReply {
+    /// The answer that it is. `AllocError` where memory ran out.
+    #[inline(always)]
+    pub(crate) fn answer(self) -> Result<Answer, AllocError>
+        ensures { IfOk result (λ answer. reply_answer self ≡ Some answer) }
+    {
+        match self {
+            PollReply::Ready => Ok(Answer::Ready),
+            PollReply::Pending => Ok(Answer::Pending),
+            PollReply::FaultArm => Ok(Answer::FaultArm),
+            PollReply::NoSource => Ok(Answer::NoSource),
+            PollReply::NoListener => Ok(Answer::NoListener),
+            PollReply::OutOfMemory => Err(AllocError),
+        }
+    }
+}
+
+/// Of a poll; the waker that lost its place goes into `wakes`, which is empty. `OutOfMemory` where
 /// there is no memory for it.
-pub(crate) fn told_poll(
-    called: Result<Polled, CoreRefusal>,
-    wakes: &mut Vec<Waker>,
-) -> Result<Answer, AllocError>
+pub(crate) fn told_poll(called: Result<Polled, CoreRefusal>, wakes: &mut Vec<Waker>) -> PollReply
     requires { wakes.old.items ≡ [] }
-    ensures answer { IfOk result (λ answer. answer ≡ poll_reply called) }
-    ensures wakes { IfOk result (λ answer. wakes.new.items ≡ poll_wakes called) }
+    ensures answer { IfSome (reply_answer result) (λ answer. answer ≡ poll_reply called) }
+    ensures wakes { IfSome (reply_answer result) (λ answer. wakes.new.items ≡ poll_wakes called) }
 {
     let Ok(polled) = called else {
-        return Ok(Answer::NoSource);
+        return PollReply::NoSource;
     };
-    // Each answer has its own way on, which the compiler then joins to the writing of its line.
+    if add_replaced(polled.replaced, wakes).is_err() {
+        return PollReply::OutOfMemory;
+    }
     match polled.answer {
-        Poll::Ready(Ok(())) => {
-            add_replaced(polled.replaced, wakes)?;
-            Ok(Answer::Ready)
-        }
-        Poll::Ready(Err(_)) => {
-            add_replaced(polled.replaced, wakes)?;
-            Ok(Answer::FaultArm)
-        }
-        Poll::Pending => {
-            add_replaced(polled.replaced, wakes)?;
-            Ok(Answer::Pending)
-        }
+        Poll::Ready(Ok(())) => PollReply::Ready,
+        Poll::Ready(Err(_)) => PollReply::FaultArm,
+        Poll::Pending => PollReply::Pending,
     }
 }
 
@@ -95,19 +115,19 @@ pub(crate) fn told_listen(listened: Result<u64, CoreRefusal>) -> Result<Answer, 
     }
 }
 
-/// Of a poll of a listener. `AllocError` where memory ran out.
+/// Of a poll of a listener. `OutOfMemory` where memory ran out.
 pub(crate) fn told_step(
     stepped: Result<Poll<Result<(), ArmFault>>, CoreRefusal>,
-) -> Result<Answer, AllocError>
+) -> PollReply
     requires { IsTold step_reply stepped }
-    ensures { IfOk result (λ answer. step_reply stepped ≡ Some answer) }
+    ensures { IfSome (reply_answer result) (λ answer. step_reply stepped ≡ Some answer) }
 {
     match stepped {
-        Ok(Poll::Ready(Ok(()))) => Ok(Answer::Ready),
-        Ok(Poll::Ready(Err(_))) => Ok(Answer::FaultArm),
-        Ok(Poll::Pending) => Ok(Answer::Pending),
-        Err(CoreRefusal::NoListener) => Ok(Answer::NoListener),
-        Err(CoreRefusal::OutOfMemory) => Err(AllocError),
+        Ok(Poll::Ready(Ok(()))) => PollReply::Ready,
+        Ok(Poll::Ready(Err(_))) => PollReply::FaultArm,
+        Ok(Poll::Pending) => PollReply::Pending,
+        Err(CoreRefusal::NoListener) => PollReply::NoListener,
+        Err(CoreRefusal::OutOfMemory) => PollReply::OutOfMemory,
         Err(_) => unreachable!(),
     }
 }

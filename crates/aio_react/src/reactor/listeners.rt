@@ -201,7 +201,9 @@ fn told_first(
     }
 }
 
-/// Takes a listener from the source that it is of.
+/// Takes a listener from the source that it is of. Made part of the call, so that what a removal does not
+/// use of the first poll is not read.
+#[inline(always)]
 fn give_up(entry: &mut SourceEntry, heard: Listener)
     requires counted { 0 < entry.old.listeners }
     requires heard { IsListenedTo (Some entry.old) heard }

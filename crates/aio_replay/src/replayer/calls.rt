@@ -3,12 +3,13 @@
 //! Polls of sources and of listeners, which come most often, stay functions of their own: each has the
 //! registers to itself then, which costs less than the calls.
 
-ghost use Rattle.std.specs.Prelude.{◌≡◌, [], IfOk};
+ghost use Rattle.std.specs.Prelude.{◌≡◌, [], IfOk, IfSome};
 ghost use Rattle.aio_base.specs.declared.steps.Step.TheVariants as step;
 ghost use Rattle.aio_replay.specs.Replaying.{Replays, IsWithin};
+ghost use Rattle.aio_replay.specs.Replies.{reply_answer};
 
 use super::Replayer;
-use crate::replies::{told_add, told_del, told_drop, told_listen, told_poll, told_step};
+use crate::replies::{PollReply, told_add, told_del, told_drop, told_listen, told_poll, told_step};
 use aio_base::{Answer, Dir, Key, Waker};
 use std::alloc::AllocError;
 
@@ -31,7 +32,7 @@ impl Replayer {
 
     /// Polls a direction of a source; the waker that lost its place goes into `wakes`, which is
     /// empty. `AllocError` where there is no memory for it.
-    #[inline(never)]
+    #[inline(always)]
     pub fn poll(
         &mut self,
         key: Key,
@@ -41,6 +42,22 @@ impl Replayer {
     ) -> Result<Answer, AllocError>
         requires { wakes.old.items ≡ [] }
         ensures { IfOk result (λ answer.
+            Replays (step.Poll key dir waker) answer wakes.new.items self.old self.new) }
+    {
+        self.poll_source(key, dir, waker, wakes).answer()
+    }
+
+    /// The same, with the answer in one byte.
+    #[inline(never)]
+    fn poll_source(
+        &mut self,
+        key: Key,
+        dir: Dir,
+        waker: Waker,
+        wakes: &mut Vec<Waker>,
+    ) -> PollReply
+        requires { wakes.old.items ≡ [] }
+        ensures { IfSome (reply_answer result) (λ answer.
             Replays (step.Poll key dir waker) answer wakes.new.items self.old self.new) }
     {
         told_poll(self.core.poll(key, dir, waker), wakes)
@@ -56,10 +73,20 @@ impl Replayer {
     }
 
     /// Polls a listener with a waker. `AllocError` where its first poll finds no memory for it.
-    #[inline(never)]
+    #[inline(always)]
     pub fn step_listener(&mut self, number: u32, waker: Waker) -> Result<Answer, AllocError>
         requires { IsWithin 1000000 self.old }
         ensures { IfOk result (λ answer.
+            Replays (step.StepEar number waker) answer [] self.old self.new) }
+    {
+        self.poll_listener(number, waker).answer()
+    }
+
+    /// The same, with the answer in one byte.
+    #[inline(never)]
+    fn poll_listener(&mut self, number: u32, waker: Waker) -> PollReply
+        requires { IsWithin 1000000 self.old }
+        ensures { IfSome (reply_answer result) (λ answer.
             Replays (step.StepEar number waker) answer [] self.old self.new) }
     {
         told_step(self.core.step(number as u64, waker))

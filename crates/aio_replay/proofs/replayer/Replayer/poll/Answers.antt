@@ -1,11 +1,11 @@
-use Rattle.std.proofs.Common.{None}
+use Rattle.std.proofs.Common.{Some}
 use Rattle.aio_base.specs.declared.steps.Step.TheVariants as step
-use Rattle.aio_replay.proofs.Calling.{replayed, told_with_wakes}
+use Rattle.aio_replay.specs.Replaying.{Replays}
+use Rattle.aio_replay.specs.Replies.{reply_answer}
+use Rattle.aio_replay.proofs.Calling.{answered_by}
 use Rattle.aio_replay.proofs.replayer.Replayer.poll.Goals as goal
 
 pub returns : goal.returns
 returns c =
-    let r = c.args.self.now in
-    let s = step.Poll c.args.key c.args.dir c.args.waker in
-    told_with_wakes c.told_poll.result s _ _ _ r (record r { core = c.poll.new.self })
-    (replayed s None None _ _ r c.poll.new.self tt tt c.poll.ensures.meets) c.told_poll.ensures.answer c.told_poll.ensures.wakes
+    answered_by c.answer.result (reply_answer c.poll_source.result) (λ a. Replays (step.Poll c.args.key c.args.dir c.args.waker) a c.poll_source.new.wakes.items c.args.self.now c.poll_source.new.self)
+    c.answer.ensures c.poll_source.ensures
