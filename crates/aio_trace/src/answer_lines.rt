@@ -8,6 +8,7 @@ ghost use Rattle.aio_trace.specs.Writing.{KeepsFront, LacksRoom};
 
 use crate::writing::{push_number, push_numbered};
 use aio_base::{Answer, EndWord, Key, Waker};
+use itoa::write_digits;
 use std::alloc::AllocError;
 
 /// Writes an answer's line and then one line for each of `wakes`, which is left empty; maybe a part of
@@ -128,12 +129,39 @@ fn push_round(out: &mut Vec<u8>, number: u64, events: u32, end: EndWord) -> Resu
         ++ codes " " ++ end_text end))) }
     ensures grown { vec_capacity out.old ≤ vec_capacity out.new }
 {
-    out.extend_from_slice(b"round ")?;
-    push_number(out, number)?;
-    out.extend_from_slice(b" events ")?;
-    push_number(out, u64::from(events))?;
-    out.push(b' ')?;
-    out.extend_from_slice(end_line(end))
+    match end {
+        EndWord::Clean => push_round_line(out, number, events, b" ok\n"),
+        EndWord::FaultWait => push_round_line(out, number, events, b" fault wait\n"),
+        EndWord::FaultArm => push_round_line(out, number, events, b" fault arm\n"),
+    }
+}
+
+/// Writes the line of a whole round, with this text behind its events, by one copy. It is made from
+/// its end.
+fn push_round_line<const N: usize>(
+    out: &mut Vec<u8>,
+    number: u64,
+    events: u32,
+    end: &[u8; N],
+) -> Result<(), AllocError>
+    requires { N ≤ 12 }
+    ensures ok { OnOk result (out.new.items ≡ out.old.items ++ (codes "round "
+        ++ decimal number ++ codes " events " ++ decimal events ++ end.now)) }
+    ensures kept { OnErr result (KeepsFront out.old.items out.new.items) }
+    ensures full { OnErr result (LacksRoom (vec_capacity out.old) out.old.items
+        (codes "round " ++ decimal number ++ codes " events " ++ decimal events ++ end.now)) }
+    ensures grown { vec_capacity out.old ≤ vec_capacity out.new }
+{
+    let mut line = [0; 72];
+    let end_at = 72 - N;
+    line[end_at..].copy_from_slice(end);
+    let events_at = write_digits(u64::from(events), &mut line, end_at);
+    let word_at = events_at - 8;
+    line[word_at..events_at].copy_from_slice(b" events ");
+    let number_at = write_digits(number, &mut line, word_at);
+    let start = number_at - 6;
+    line[start..number_at].copy_from_slice(b"round ");
+    out.extend_from_slice(&line[start..])
 }
 
 /// Writes the line of the end of a round.
