@@ -180,3 +180,7 @@ due-few now hs = omega (arith, late-registrations now hs, late-few now (registra
 -- a pass takes no more wakers than there are timers
 pub few-due_wakers : (now : ℕ) (rs : List Registration) → length (due_wakers now rs) ≤ length rs
 few-due_wakers now rs = omega (arith, due-length now rs, late-few now rs)
+
+-- how many are due where one more is placed
+pub due-placed : (now : ℕ) (r : Registration) (rs : List Registration) → length (due_wakers now (placed r rs)) ≡ cond (nat_le r.deadline now) 1 0 + length (due_wakers now rs)
+due-placed now r rs = omega (arith, due-length now (placed r rs), late-placed now r rs, due-length now rs)

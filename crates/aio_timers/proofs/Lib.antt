@@ -20,3 +20,5 @@ mod SoundLemmas
 mod GrowthLemmas
 mod LentLemmas
 mod FrontLemmas
+mod RenewLemmas
+mod LateLemmas

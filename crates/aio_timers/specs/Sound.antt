@@ -2,8 +2,9 @@
 use Rattle.std.specs.Prelude.{ℕ, ◌≡◌, ◌<◌, ◌≤◌, ◌^◌, ◌+◌, false, List, length, Option, Some}
 use Rattle.std.specs.List.{All, filter_map}
 use Rattle.std.specs.Int.{IsPowerOfTwo}
+use Rattle.aio_base.specs.declared.names.Waker.{Waker}
 use Rattle.aio_base.specs.World.{Registration}
-use Rattle.aio_base.specs.Timers.{in_order, placed, is_pair, IsBook}
+use Rattle.aio_base.specs.Timers.{in_order, placed, is_pair, without_pair, IsBook}
 use Rattle.aio_timers.specs.declared.node.Node.{Node}
 use Rattle.aio_timers.specs.Held.{Held, held_at, helds, live_of}
 use Rattle.aio_timers.specs.Heap.{IsHeap}
@@ -50,4 +51,13 @@ pub record Drops (old new : List Node) (buckets : List (Option ℕ)) (root free 
   pub sound : (left : ℕ) → left + 1 ≡ used → IsSound new buckets root free left
   pub entries : registrations (helds old) ≡ placed r (registrations (helds new))
   pub others : IsAbsent r.deadline r.id (helds new)
+  pub len : length new ≡ length old
+
+-- a registration got another id and another waker
+pub record Renews (old new : List Node) (buckets : List (Option ℕ)) (root free : Option ℕ)
+    (used : ℕ) (r : Registration) (id : ℕ) (w : Waker) : Type 0 where
+  pub sound : IsSound new buckets root free used
+  pub entries : registrations (helds new)
+      ≡ placed (record { id = id; deadline = r.deadline; waker = w })
+      (without_pair r.deadline r.id (registrations (helds old)))
   pub len : length new ≡ length old

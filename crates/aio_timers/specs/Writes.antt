@@ -24,6 +24,10 @@ with_chain nodes i link = changed nodes i (λ n. record n { chain = link })
 abbrev pub with_waker : List Node → ℕ → Waker → List Node
 with_waker nodes i w = changed nodes i (λ n. record n { waker = Some w })
 
+-- the timer of a node gets another id and another waker
+abbrev pub renamed : List Node → ℕ → ℕ → Waker → List Node
+renamed nodes i id w = changed nodes i (λ n. record n { id = record { 0 = id }; waker = Some w })
+
 -- the node that comes behind, if one does, leads back to this one
 abbrev pub with_back : List Node → Option ℕ → Option ℕ → List Node
 with_back nodes None link = nodes

@@ -1,19 +1,15 @@
 //! The book of registered timers and its calls.
 
-ghost use Rattle.std.specs.Prelude.{◌≡◌, ℕ, ◌+◌, ◌^◌, ◌<◌, ◌≤◌, [], ◌∷◌, ◌++◌, length, option_map, OnOk, OnErr, vec_len, vec_capacity};
+ghost use Rattle.std.specs.Prelude.{◌≡◌, ℕ, ◌+◌, ◌^◌, ◌<◌, ◌≤◌, [], ◌∷◌, ◌++◌, None, length, option_map, OnOk, OnErr, vec_len, vec_capacity};
 ghost use Rattle.std.specs.List.{All};
 ghost use Rattle.aio_base.specs.declared.names.TimerId.{TimerId};
 ghost use Rattle.aio_base.specs.World.{Registration};
 ghost use Rattle.aio_base.specs.Timers.{IsBook, fold_changes, due_wakers, after_pass, first_deadline};
-ghost use Rattle.aio_timers.specs.Book.{change_of, entries_needed, first_pair, is_first_due};
+ghost use Rattle.aio_timers.specs.Book.{change_of, entries_needed, first_pair};
+ghost use Rattle.aio_timers.specs.Room.{left_by};
 
-use crate::due::count_due;
-use crate::link::Link;
-use crate::node::Node;
 use crate::op::TimerOp;
-use crate::reads::{is_due_at, pair_at, waker_at};
-use crate::room::{grow, wanted};
-use crate::steps::{add, find, set_waker, take};
+use crate::timer_heap::TimerHeap;
 use aio_base::{Moment, OutOfMemory, TimerId, Waker};
 use std::alloc::Global;
 use std::marker::Model;
@@ -21,35 +17,33 @@ use std::marker::Model;
 /// The registered timers, in the order in which they fire: by deadline, then by id (`async-io` 2,
 /// `reactor.rs`, `Reactor::timers`). No deadline and id stand twice.
 ///
-/// Contracts see the list of registrations, and for how many more there is room. The timers stand in
-/// a pairing heap (Fredman, Sedgewick, Sleator and Tarjan, 1986) whose links are indices into one
-/// vector of nodes, and chains through the nodes, one for each bucket of ids, find the node of a
-/// deadline and an id. An insert takes constant time; a removal, and each timer of a pass,
-/// logarithmic time on the average over many calls. Where many timers have one id, or ids of one
-/// bucket, the search of their chain comes on top.
+/// Contracts see the list of registrations, and for how many more there is room. An insert takes
+/// constant time; a removal, and each timer of a pass, logarithmic time on the average over many
+/// calls. Where many timers have one id, or ids of one bucket, the search of their chain comes on top.
+///
+/// A timer that is polled with another waker is unregistered, and registered anew with the same
+/// deadline at once. So a removal waits for the next change: where that is an insert of the same
+/// deadline, the node gets the new id and the new waker in its place, and nothing else is touched.
 #[derive(Drop)]
 pub struct TimerBook {
-    nodes: Vec<Node>,
-    buckets: Vec<Link>,
-    root: Option<usize>,
-    free: Link,
-    used: u32,
+    heap: TimerHeap,
+    /// A timer that was unregistered and is in the heap still, behind the one that fires first.
+    late: Option<(Moment, TimerId)>,
 }
 
 impl Model for TimerBook {
-    ghost use Rattle.std.specs.Prelude.{◌-◌, length};
-    ghost use Rattle.aio_timers.specs.Held.{helds};
-    ghost use Rattle.aio_timers.specs.Sound.{registrations, IsSound};
-    ghost use Rattle.aio_timers.specs.Room.{Book};
+    ghost use Rattle.std.specs.Prelude.{IfSome};
+    ghost use Rattle.aio_timers.specs.Book.{IsBehind};
+    ghost use Rattle.aio_timers.specs.Room.{Book, left_by};
 
     ghost Value = { Book };
 
     ghost view = { λ b. record {
-      entries = registrations (helds b.nodes.items);
-      spare = length b.nodes.items - b.used;
+      entries = left_by b.late b.heap.entries;
+      spare = b.heap.spare;
     } };
 
-    ghost invariant = { λ b. IsSound b.nodes.items b.buckets.items b.root b.free b.used };
+    ghost invariant = { λ b. IfSome b.late (λ pair. IsBehind b.heap.entries pair.0 pair.1.0) };
 }
 
 impl TimerBook {
@@ -58,11 +52,8 @@ impl TimerBook {
         ensures { result ≡ record { entries = []; spare = 0 } }
     {
         TimerBook {
-            nodes: Vec::new(alloc),
-            buckets: Vec::new(alloc),
-            root: None,
-            free: Link::none(),
-            used: 0,
+            heap: TimerHeap::new(alloc),
+            late: None,
         }
     }
 
@@ -77,20 +68,7 @@ impl TimerBook {
         ensures spare { self.old.spare ≤ self.new.spare }
         ensures refused { OnErr result (self.old.spare < n) }
     {
-        let spare = self.spare();
-        if n <= spare {
-            return Ok(());
-        }
-        match wanted(self.nodes.len(), (n - spare) as usize) {
-            None => Err(OutOfMemory),
-            Some(total) => match grow(&mut self.nodes, &mut self.buckets, self.free, total) {
-                Err(refused) => Err(refused),
-                Ok(free) => {
-                    self.free = free;
-                    Ok(())
-                }
-            },
-        }
+        self.heap.reserve(n)
     }
 
     /// Registers or unregisters a timer, as `op` says. It takes no memory: an `Insert` uses room
@@ -114,22 +92,15 @@ impl TimerBook {
             ≡ fold_changes self.old.entries (change_of (TimerOp.Insert deadline id waker) ∷ []) }
         ensures spare { self.old.spare ≤ self.new.spare + 1 }
     {
-        match find(&self.nodes, &self.buckets, deadline, id) {
-            Some(at) => set_waker(&mut self.nodes, at, waker),
-            None => {
-                let timer = (deadline, id, waker);
-                let (root, free) = add(
-                    &mut self.nodes,
-                    &mut self.buckets,
-                    self.root,
-                    self.free,
-                    timer,
-                );
-                self.root = Some(root);
-                self.free = free;
-                self.used += 1;
+        if let Some((at, before)) = self.late {
+            if at.get() == deadline.get() && self.heap.renew(deadline, before, id, waker) {
+                self.late = None;
+                return;
             }
         }
+        settle(&mut self.heap, self.late);
+        self.late = None;
+        self.heap.insert(deadline, id, waker);
     }
 
     /// Unregisters the timer with this deadline and this id, if there is one.
@@ -138,11 +109,12 @@ impl TimerBook {
             ≡ fold_changes self.old.entries (change_of (TimerOp.Remove deadline id) ∷ []) }
         ensures spare { self.old.spare ≤ self.new.spare }
     {
-        if let Some(at) = find(&self.nodes, &self.buckets, deadline, id) {
-            let (root, free) = take(&mut self.nodes, &mut self.buckets, self.root, self.free, at);
-            self.root = root;
-            self.free = free;
-            self.used -= 1;
+        settle(&mut self.heap, self.late);
+        self.late = None;
+        if self.heap.has_behind(deadline, id) {
+            self.late = Some((deadline, id));
+        } else {
+            self.heap.remove(deadline, id);
         }
     }
 
@@ -158,50 +130,9 @@ impl TimerBook {
         ensures later { All (λ (r : Registration). now < r.deadline) self.new.entries }
         ensures spare { self.old.spare ≤ self.new.spare }
     {
-        for _ in 0..self.len() {
-            if !self.is_first_due(now) {
-                return;
-            }
-            let waker = self.take_first();
-            taken.push_reserved(waker);
-        }
-    }
-
-    /// Whether the timer that fires first is due at the moment `now`.
-    fn is_first_due(&self, now: Moment) -> bool
-        ensures value { result ≡ is_first_due now self.now.entries }
-        ensures order { IsBook self.now.entries }
-    {
-        match self.root {
-            None => false,
-            Some(at) => is_due_at(&self.nodes, at, now),
-        }
-    }
-
-    /// Unregisters the timer that fires first. The answer is its waker.
-    fn take_first(&mut self) -> Waker
-        requires { 0 < length self.old.entries }
-        ensures entries { (r : Registration)
-            × (self.old.entries ≡ r ∷ self.new.entries) × (result ≡ r.waker) }
-        ensures spare { self.old.spare ≤ self.new.spare }
-    {
-        match self.root {
-            None => unreachable!(),
-            Some(at) => {
-                let waker = waker_at(&self.nodes, at);
-                let (root, free) = take(
-                    &mut self.nodes,
-                    &mut self.buckets,
-                    self.root,
-                    self.free,
-                    at,
-                );
-                self.root = root;
-                self.free = free;
-                self.used -= 1;
-                waker
-            }
-        }
+        settle(&mut self.heap, self.late);
+        self.late = None;
+        self.heap.pass(now, taken);
     }
 
     /// How many timers are due at the moment `now`: the room that a pass needs. It looks at those
@@ -211,7 +142,17 @@ impl TimerBook {
         ensures value { result ≡ length (due_wakers now self.now.entries) }
         ensures bound { result ≤ length self.now.entries }
     {
-        count_due(self.nodes.as_slice(), self.root, now)
+        let all = self.heap.due_count(now);
+        match self.late {
+            None => all,
+            Some((deadline, _)) => {
+                if deadline.get() <= now.get() {
+                    all - 1
+                } else {
+                    all
+                }
+            }
+        }
     }
 
     /// The deadline and the id of the timer that fires first; `None` exactly where no timer is
@@ -222,10 +163,7 @@ impl TimerBook {
             ≡ first_deadline self.now.entries }
         ensures order { IsBook self.now.entries }
     {
-        match self.root {
-            None => None,
-            Some(at) => Some(pair_at(&self.nodes, at)),
-        }
+        self.heap.first()
     }
 
     /// How many timers are registered. Each of them fires before all behind it. It takes constant
@@ -235,7 +173,11 @@ impl TimerBook {
         ensures bound { result < 2 ^ 63 }
         ensures order { IsBook self.now.entries }
     {
-        self.used as usize
+        let all = self.heap.len();
+        match self.late {
+            None => all,
+            Some(_) => all - 1,
+        }
     }
 
     /// For how many more timers there is room. It takes constant time.
@@ -243,6 +185,16 @@ impl TimerBook {
         ensures value { result ≡ self.now.spare }
         ensures bound { self.now.spare < 2 ^ 32 }
     {
-        (self.nodes.len() - self.used as usize) as u32
+        self.heap.spare()
+    }
+}
+
+/// Takes the timer out of the heap that was unregistered before, if there is one.
+fn settle(heap: &mut TimerHeap, late: Option<(Moment, TimerId)>)
+    ensures entries { heap.new.entries ≡ left_by late heap.old.entries }
+    ensures spare { heap.old.spare ≤ heap.new.spare }
+{
+    if let Some((deadline, id)) = late {
+        heap.remove(deadline, id);
     }
 }

@@ -1,11 +1,11 @@
 //! The count of the timers that are due: a walk over the heap that goes from a node that is due,
 //! and from no other, to its children, from the last one that is due on, and back by the links.
 
-ghost use Rattle.std.specs.Prelude.{◌≡◌, ◌<◌, ℕ, List, [], length, Option, None, Some, if◌then◌else◌};
-ghost use Rattle.aio_timers.specs.Held.{held_at, helds};
+ghost use Rattle.std.specs.Prelude.{◌≡◌, ◌<◌, ℕ, List, [], length, Option, None, Some, true, if◌then◌else◌};
+ghost use Rattle.aio_timers.specs.Held.{IsUsed, held_at, helds};
 ghost use Rattle.aio_timers.specs.Rows.{IsRunOnce};
 ghost use Rattle.aio_timers.specs.Heap.{IsHeap};
-ghost use Rattle.aio_timers.specs.Due.{due_in, is_due, IsLastDue, Trail, IsOnTrail, GoesOn, GoesPast};
+ghost use Rattle.aio_timers.specs.Due.{due_in, is_due, IsLastDue, NoneDue, Trail, IsOnTrail, GoesOn, GoesPast};
 
 use crate::link::Link;
 use crate::node::Node;
@@ -27,6 +27,20 @@ fn last_due_of(nodes: &[Node], first: Link, now: Moment) -> Link
         link = next_of(nodes, at);
     }
     last
+}
+
+/// Whether each child of a node fires later than at this deadline. It looks at the children alone.
+pub(crate) fn has_later_children(nodes: &[Node], at: usize, deadline: Moment) -> bool
+    requires { (root : Option ℕ) × (free : Option ℕ) × IsHeap nodes.now root free
+        × IsUsed (held_at nodes.now at) }
+    ensures { (root free : Option ℕ) (h : IsHeap nodes.now root free)
+        → IsUsed (held_at nodes.now at) → result ≡ true
+        → NoneDue (held_at nodes.now) deadline (h.family.below at) }
+{
+    match last_due_of(nodes, child_of(nodes, at), deadline).get() {
+        None => true,
+        Some(_) => false,
+    }
 }
 
 /// The sibling before a node, or before the nearest node above that has one.

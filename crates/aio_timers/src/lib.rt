@@ -23,6 +23,7 @@ mod siblings;
 mod steps;
 #[cfg(test)]
 mod tests;
+mod timer_heap;
 
 pub use book::TimerBook;
 pub use op::TimerOp;

@@ -3,10 +3,11 @@
 ghost use Rattle.std.specs.Prelude.{◌≡◌, ◌<◌, ℕ, Option, None, Some, is_some, true, length, MatchOption};
 ghost use Rattle.aio_base.specs.World.{Registration};
 ghost use Rattle.aio_timers.specs.Held.{held_at, helds, live_of};
-ghost use Rattle.aio_timers.specs.Writes.{with_waker};
-ghost use Rattle.aio_timers.specs.Sound.{IsSound, IsAbsent, IsPairAt, Gains, Drops};
+ghost use Rattle.aio_timers.specs.Due.{NoneDue};
+ghost use Rattle.aio_timers.specs.Writes.{renamed, with_waker};
+ghost use Rattle.aio_timers.specs.Sound.{IsSound, IsAbsent, IsPairAt, Gains, Drops, Renews};
 
-use crate::chains::{bucket_of, head_of, leave, seek};
+use crate::chains::{bucket_of, head_of, join, leave, seek};
 use crate::heap::{place, take_inner, take_root};
 use crate::link::Link;
 use crate::node::Node;
@@ -84,6 +85,29 @@ pub(crate) fn set_waker(nodes: &mut Vec<Node>, at: usize, waker: Waker)
     nodes[at].waker = Some(waker);
 }
 
+/// Gives the timer of a node another id and another waker. Its deadline stays, and so does its place in
+/// the heap, as no child of it fires at that deadline.
+pub(crate) fn renew(
+    nodes: &mut Vec<Node>,
+    buckets: &mut Vec<Link>,
+    at: usize,
+    id: TimerId,
+    waker: Waker,
+)
+    requires within { at < length nodes.old.items }
+    requires sound { (root : Option ℕ) × (free : Option ℕ) × (used : ℕ)
+        × IsSound nodes.old.items buckets.old.items root free used }
+    requires live { (r : Registration) × (live_of (held_at nodes.old.items at) ≡ Some r) }
+    ensures { (root free : Option ℕ) (used : ℕ) (r : Registration)
+        → (s : IsSound nodes.old.items buckets.old.items root free used)
+        → live_of (held_at nodes.old.items at) ≡ Some r → r.id < id.0
+        → IsAbsent r.deadline id.0 (helds nodes.old.items)
+        → NoneDue (held_at nodes.old.items) r.deadline (s.heap.family.below at)
+        → Renews nodes.old.items nodes.new.items buckets.new.items root free used r id.0 waker }
+{
+    renew_in(nodes.as_mut_slice(), buckets.as_mut_slice(), at, id, waker);
+}
+
 /// The node in use with this deadline and this id, along the chain of one bucket.
 fn find_in(nodes: &[Node], buckets: &[Link], deadline: Moment, id: TimerId) -> Option<usize>
     requires { (root : Option ℕ) × (free : Option ℕ) × (used : ℕ)
@@ -159,4 +183,33 @@ fn take_from(
             (Some(top), Link::to(at))
         }
     }
+}
+
+/// Gives the timer of a node another id and another waker: it goes from the chain of one bucket to
+/// that of another, and stays where it is in the heap.
+fn renew_in(nodes: &mut [Node], buckets: &mut [Link], at: usize, id: TimerId, waker: Waker)
+    requires within { at < length nodes.old }
+    requires sound { (root : Option ℕ) × (free : Option ℕ) × (used : ℕ)
+        × IsSound nodes.old buckets.old root free used }
+    requires live { (r : Registration) × (live_of (held_at nodes.old at) ≡ Some r) }
+    ensures { (root free : Option ℕ) (used : ℕ) (r : Registration)
+        → (s : IsSound nodes.old buckets.old root free used)
+        → live_of (held_at nodes.old at) ≡ Some r → r.id < id.0
+        → IsAbsent r.deadline id.0 (helds nodes.old)
+        → NoneDue (held_at nodes.old) r.deadline (s.heap.family.below at)
+        → Renews nodes.old nodes.new buckets.new root free used r id.0 waker }
+{
+    leave(nodes, buckets, at);
+    rename(nodes, at, id, waker);
+    join(nodes, buckets, at);
+}
+
+/// Writes the id and the waker of a node.
+fn rename(nodes: &mut [Node], at: usize, id: TimerId, waker: Waker)
+    requires { at < length nodes.old }
+    ensures { nodes.new ≡ renamed nodes.old at id.0 waker }
+{
+    let node = &mut nodes[at];
+    node.id = id;
+    node.waker = Some(waker);
 }

@@ -1,26 +1,49 @@
--- The nodes in use that are due are the registrations that are due.
-use Rattle.std.proofs.Common.{◌≡◌, List, length, arith, ap, ◌∙◌}
+-- One that was unregistered may be due.
+use Rattle.std.proofs.Common.{◌≡◌, ℕ, ◌+◌, ◌≤◌, ◌<◌, Bool, true, false, cond, List, length, arith, ap, ◌∙◌}
+use Rattle.std.specs.Prelude.{nat_le}
+use Rattle.std.proofs.lemmas.Bool.Decides.{nat_tests}
 use Rattle.aio_base.specs.World.{Registration}
 use Rattle.aio_base.specs.Timers.{due_wakers}
-use Rattle.aio_timers.specs.declared.node.Node.{Node}
-use Rattle.aio_timers.specs.Held.{helds}
-use Rattle.aio_timers.specs.Due.{due_in}
-use Rattle.aio_timers.specs.Sound.{registrations}
-use Rattle.aio_timers.specs.Room.{Book}
-use Rattle.aio_timers.proofs.DueCountLemmas.{due-wakers, due-few}
+use Rattle.aio_timers.specs.Room.{Book, left_by}
+use Rattle.aio_timers.proofs.DueCountLemmas.{few-due_wakers}
+use Rattle.aio_timers.proofs.LateLemmas.{left-due}
 use Rattle.aio_timers.proofs.book.TimerBook.due_count.Goals as goal
 
-pub count_due-requires : goal.count_due-requires
-count_due-requires c = (c.self.inside.free, rw c.as_slice.ensures.value c.self.invariant.heap)
+is-due : (a b : ℕ) → a ≤ b → nat_le a b ≡ true
+is-due a b le = grind (arith, nat_tests)
 
-pub returns-clause-value : goal.returns-clause-value
-returns-clause-value c =
-    let entries_is : registrations (helds c.self.inside.nodes.items) ≡ c.args.self.now.entries = ap Book.entries c.self.view_is in
-    let counted : c.count_due.result ≡ due_in c.args.now (helds c.self.inside.nodes.items) = c.count_due.ensures ∙ ap (λ (xs : List Node). due_in c.args.now (helds xs)) c.as_slice.ensures.value in
-    counted ∙ due-wakers c.args.now (helds c.self.inside.nodes.items) ∙ ap (λ (rs : List Registration). length (due_wakers c.args.now rs)) entries_is
+is-later : (a b : ℕ) → b < a → nat_le a b ≡ false
+is-later a b lt = grind (arith, nat_tests)
 
-pub returns-clause-bound : goal.returns-clause-bound
-returns-clause-bound c =
-    let entries_is : registrations (helds c.self.inside.nodes.items) ≡ c.args.self.now.entries = ap Book.entries c.self.view_is in
-    let counted : c.count_due.result ≡ due_in c.args.now (helds c.self.inside.nodes.items) = c.count_due.ensures ∙ ap (λ (xs : List Node). due_in c.args.now (helds xs)) c.as_slice.ensures.value in
-    omega (arith, counted, due-few c.args.now (helds c.self.inside.nodes.items), ap (λ (rs : List Registration). length rs) entries_is)
+counted : (c : goal.Then-get) → c.due_count-all.result ≡ 1 + length (due_wakers c.args.now c.args.self.now.entries)
+counted c =
+    let i = c.self.inside in
+    let entries_is : left_by c.self.inside.late c.self.inside.heap.entries ≡ c.args.self.now.entries = ap Book.entries c.self.view_is in
+    let due : nat_le c.in-Some.deadline c.args.now ≡ true = is-due c.in-Some.deadline c.args.now (omega (arith, c.if-get.true, c.get.ensures.value, c.get-in-Some.ensures.value)) in
+    c.due_count-all.ensures.value ∙ left-due c.args.now i.late (c.in-Some.deadline, c.in-Some.field-0-1) i.heap.entries c.in-Some.is c.self.invariant
+    ∙ ap (λ (b : Bool). cond b 1 0 + length (due_wakers c.args.now (left_by c.self.inside.late c.self.inside.heap.entries))) due ∙ ap (λ (rs : List Registration). 1 + length (due_wakers c.args.now rs)) entries_is
+
+counted_later : (c : goal.Else-get) → c.due_count-all.result ≡ length (due_wakers c.args.now c.args.self.now.entries)
+counted_later c =
+    let i = c.self.inside in
+    let entries_is : left_by c.self.inside.late c.self.inside.heap.entries ≡ c.args.self.now.entries = ap Book.entries c.self.view_is in
+    let later : nat_le c.in-Some.deadline c.args.now ≡ false = is-later c.in-Some.deadline c.args.now (omega (arith, c.if-get.false, c.get.ensures.value, c.get-in-Some.ensures.value)) in
+    let sum : c.due_count-all.result ≡ 0 + length (due_wakers c.args.now (left_by c.self.inside.late c.self.inside.heap.entries)) =
+    c.due_count-all.ensures.value ∙ left-due c.args.now i.late (c.in-Some.deadline, c.in-Some.field-0-1) i.heap.entries c.in-Some.is c.self.invariant
+    ∙ ap (λ (b : Bool). cond b 1 0 + length (due_wakers c.args.now (left_by c.self.inside.late c.self.inside.heap.entries))) later in
+    omega (arith, sum, ap (λ (rs : List Registration). length (due_wakers c.args.now rs)) entries_is)
+
+pub overflow_sub-result : goal.overflow_sub-result
+overflow_sub-result c = omega (arith, counted c)
+
+pub returns-then-get-clause-value : goal.returns-then-get-clause-value
+returns-then-get-clause-value c = omega (arith, counted c)
+
+pub returns-then-get-clause-bound : goal.returns-then-get-clause-bound
+returns-then-get-clause-bound c = omega (arith, counted c, few-due_wakers c.args.now c.args.self.now.entries)
+
+pub returns-else-get-clause-value : goal.returns-else-get-clause-value
+returns-else-get-clause-value c = counted_later c
+
+pub returns-else-get-clause-bound : goal.returns-else-get-clause-bound
+returns-else-get-clause-bound c = omega (arith, counted_later c, few-due_wakers c.args.now c.args.self.now.entries)

@@ -1,39 +1,29 @@
--- The root is the front of the book.
-use Rattle.std.proofs.Common.{◌≡◌, None, Some, ap, subst, sym, ◌∙◌}
-use Rattle.aio_base.specs.Timers.{first_deadline, IsBook}
-use Rattle.aio_timers.specs.Held.{held_at, helds}
+-- One that was unregistered is not the first.
+use Rattle.std.proofs.Common.{◌≡◌, ap, subst, sym, ◌∙◌}
+use Rattle.aio_base.specs.Timers.{IsBook}
 use Rattle.aio_timers.specs.Book.{first_pair}
-use Rattle.aio_timers.specs.Room.{Book}
-use Rattle.aio_timers.specs.Sound.{IsSound, registrations}
-use Rattle.aio_timers.proofs.LeastLemmas.{of-node}
-use Rattle.aio_timers.proofs.SoundLemmas.{no-root, RootLive, root-live}
-use Rattle.aio_timers.proofs.FrontLemmas.{front-pair, front-deadline}
+use Rattle.aio_timers.specs.Room.{Book, left_by}
+use Rattle.aio_timers.proofs.BookLemmas.{first_deadline-pair}
+use Rattle.aio_timers.proofs.LateLemmas.{left-first, left-book}
 use Rattle.aio_timers.proofs.book.TimerBook.first.Goals as goal
 
-pub returns-in-None-clause-value : goal.returns-in-None-clause-value
-returns-in-None-clause-value c =
-    let s : IsSound c.self.inside.nodes.items c.self.inside.buckets.items None c.self.inside.free c.self.inside.used = rw (← c.in-None.is) c.self.invariant in
-    let entries_is : registrations (helds c.self.inside.nodes.items) ≡ c.args.self.now.entries = ap Book.entries c.self.view_is in
-    sym (ap first_pair (sym entries_is ∙ no-root c.self.inside.nodes.items c.self.inside.buckets.items c.self.inside.free c.self.inside.used s))
+order : (c : goal.After-first) → IsBook c.args.self.now.entries
+order c =
+    let i = c.self.inside in
+    let entries_is : left_by c.self.inside.late c.self.inside.heap.entries ≡ c.args.self.now.entries = ap Book.entries c.self.view_is in
+    subst IsBook entries_is (left-book i.late i.heap.entries c.first.ensures.order)
 
-pub returns-in-None-clause-deadline : goal.returns-in-None-clause-deadline
-returns-in-None-clause-deadline c =
-    let s : IsSound c.self.inside.nodes.items c.self.inside.buckets.items None c.self.inside.free c.self.inside.used = rw (← c.in-None.is) c.self.invariant in
-    let entries_is : registrations (helds c.self.inside.nodes.items) ≡ c.args.self.now.entries = ap Book.entries c.self.view_is in
-    sym (ap first_deadline (sym entries_is ∙ no-root c.self.inside.nodes.items c.self.inside.buckets.items c.self.inside.free c.self.inside.used s))
+value : (c : goal.After-first) → c.first.result ≡ first_pair c.args.self.now.entries
+value c =
+    let i = c.self.inside in
+    let entries_is : left_by c.self.inside.late c.self.inside.heap.entries ≡ c.args.self.now.entries = ap Book.entries c.self.view_is in
+    c.first.ensures.value ∙ sym (left-first i.late i.heap.entries c.self.invariant) ∙ ap first_pair entries_is
 
-pub returns-in-Some-clause-value : goal.returns-in-Some-clause-value
-returns-in-Some-clause-value c =
-    let ns = c.self.inside.nodes.items in
-    let s : IsSound c.self.inside.nodes.items c.self.inside.buckets.items (Some c.in-Some.at) c.self.inside.free c.self.inside.used = rw (← c.in-Some.is) c.self.invariant in
-    let entries_is : registrations (helds c.self.inside.nodes.items) ≡ c.args.self.now.entries = ap Book.entries c.self.view_is in
-    let r : RootLive c.self.inside.nodes.items c.in-Some.at = root-live ns c.self.inside.buckets.items c.in-Some.at c.self.inside.free c.self.inside.used s in
-    front-pair (held_at ns c.in-Some.at) r.registration r.more c.args.self.now.entries c.pair_at.result (of-node (held_at ns c.in-Some.at) r.registration r.is) (sym entries_is ∙ r.book) c.pair_at.ensures
+pub returns-clause-value : goal.returns-clause-value
+returns-clause-value c = value c
 
-pub returns-in-Some-clause-deadline : goal.returns-in-Some-clause-deadline
-returns-in-Some-clause-deadline c =
-    let ns = c.self.inside.nodes.items in
-    let s : IsSound c.self.inside.nodes.items c.self.inside.buckets.items (Some c.in-Some.at) c.self.inside.free c.self.inside.used = rw (← c.in-Some.is) c.self.invariant in
-    let entries_is : registrations (helds c.self.inside.nodes.items) ≡ c.args.self.now.entries = ap Book.entries c.self.view_is in
-    let r : RootLive c.self.inside.nodes.items c.in-Some.at = root-live ns c.self.inside.buckets.items c.in-Some.at c.self.inside.free c.self.inside.used s in
-    front-deadline (held_at ns c.in-Some.at) r.registration r.more c.args.self.now.entries c.pair_at.result (of-node (held_at ns c.in-Some.at) r.registration r.is) (subst IsBook entries_is s.book) (sym entries_is ∙ r.book) c.pair_at.ensures
+pub returns-clause-deadline : goal.returns-clause-deadline
+returns-clause-deadline c = rw (value c) (first_deadline-pair c.args.self.now.entries (order c))
+
+pub returns-clause-order : goal.returns-clause-order
+returns-clause-order c = order c

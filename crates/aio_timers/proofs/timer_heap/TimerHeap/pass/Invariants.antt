@@ -1,7 +1,7 @@
 -- What was taken, and what is still due, are all that was due.
 use Rattle.std.proofs.Common.{◌≡◌, ◌+◌, ◌≤◌, ◌++◌, length, vec_len, vec_capacity}
 use Rattle.aio_base.specs.Timers.{due_wakers, after_pass}
-use Rattle.aio_timers.proofs.book.TimerBook.pass.Given as goal
+use Rattle.aio_timers.proofs.timer_heap.TimerHeap.pass.Given as goal
 
 abbrev pub invariant-loop : goal.invariant-loop
 invariant-loop l = record {

@@ -7,7 +7,7 @@ use Rattle.aio_timers.specs.Room.{Book}
 use Rattle.aio_timers.specs.Sound.{registrations}
 use Rattle.aio_timers.proofs.BookLemmas.{without_pair-others}
 use Rattle.aio_timers.proofs.SoundLemmas.{rewoken, has-free}
-use Rattle.aio_timers.proofs.book.TimerBook.insert.Goals as goal
+use Rattle.aio_timers.proofs.timer_heap.TimerHeap.insert.Goals as goal
 
 pub set_waker-requires : goal.set_waker-requires
 set_waker-requires c = let p = c.in-Some.ensures c.self.inside.root c.self.inside.free c.self.inside.used c.self.invariant in p.within

@@ -7,7 +7,7 @@ use Rattle.aio_timers.specs.Sound.{IsSound, registrations}
 use Rattle.aio_timers.proofs.LeastLemmas.{of-node}
 use Rattle.aio_timers.proofs.SoundLemmas.{no-root, RootLive, root-live}
 use Rattle.aio_timers.proofs.FrontLemmas.{front-due}
-use Rattle.aio_timers.proofs.book.TimerBook.is_first_due.Goals as goal
+use Rattle.aio_timers.proofs.timer_heap.TimerHeap.is_first_due.Goals as goal
 
 pub returns-in-None-clause-value : goal.returns-in-None-clause-value
 returns-in-None-clause-value c =

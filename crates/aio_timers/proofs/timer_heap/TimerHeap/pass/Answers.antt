@@ -5,7 +5,7 @@ use Rattle.aio_base.specs.World.{Registration}
 use Rattle.aio_base.specs.Timers.{due_wakers}
 use Rattle.aio_timers.proofs.PassLemmas.{Ends, ends, Takes, takes}
 use Rattle.aio_timers.proofs.FrontLemmas.{append-nil}
-use Rattle.aio_timers.proofs.book.TimerBook.pass.Goals as goal
+use Rattle.aio_timers.proofs.timer_heap.TimerHeap.pass.Goals as goal
 
 pub returns-then-not-is_first_due-clause-taken : goal.returns-then-not-is_first_due-clause-taken
 returns-then-not-is_first_due-clause-taken c =

@@ -1,6 +1,6 @@
 -- With no node all stands.
 use Rattle.aio_timers.proofs.SoundLemmas.{empty-sound}
-use Rattle.aio_timers.proofs.book.TimerBook.new.Goals as goal
+use Rattle.aio_timers.proofs.timer_heap.TimerHeap.new.Goals as goal
 
 pub invariant_of-result : goal.invariant_of-result
 invariant_of-result c = rw (c.new.ensures.items, c.new-2.ensures.items, c.none.ensures) empty-sound

@@ -8,7 +8,7 @@ use Rattle.aio_timers.specs.Room.{Book}
 use Rattle.aio_timers.specs.Sound.{registrations}
 use Rattle.aio_timers.proofs.BookLemmas.{IsOther, without_pair-others}
 use Rattle.aio_timers.proofs.SoundLemmas.{dropped-entries, dropped-many}
-use Rattle.aio_timers.proofs.book.TimerBook.remove.Goals as goal
+use Rattle.aio_timers.proofs.timer_heap.TimerHeap.remove.Goals as goal
 
 pub take-root-requires-clause-within : goal.take-root-requires-clause-within
 take-root-requires-clause-within c = let p = c.in-Some.ensures c.self.inside.root c.self.inside.free c.self.inside.used c.self.invariant in p.within

@@ -7,7 +7,7 @@ use Rattle.aio_timers.specs.Room.{Book}
 use Rattle.aio_timers.specs.Sound.{IsSound, registrations}
 use Rattle.aio_timers.proofs.PassLemmas.{front-goes}
 use Rattle.aio_timers.proofs.SoundLemmas.{no-root, RootLive, root-live, dropped-many}
-use Rattle.aio_timers.proofs.book.TimerBook.take_first.Goals as goal
+use Rattle.aio_timers.proofs.timer_heap.TimerHeap.take_first.Goals as goal
 
 pub unreachable-requires : goal.unreachable-requires
 unreachable-requires c =

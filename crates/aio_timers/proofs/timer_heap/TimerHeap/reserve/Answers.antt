@@ -2,7 +2,7 @@
 use Rattle.std.proofs.Common.{◌≡◌, ◌-◌, length, arith, ap, ◌∙◌}
 use Rattle.aio_timers.specs.Room.{Book}
 use Rattle.aio_timers.proofs.SoundLemmas.{used-fits}
-use Rattle.aio_timers.proofs.book.TimerBook.reserve.Goals as goal
+use Rattle.aio_timers.proofs.timer_heap.TimerHeap.reserve.Goals as goal
 
 pub invariant_of-self : goal.invariant_of-self
 invariant_of-self c = let g = c.in-Err.ensures c.self.inside.root c.self.inside.used c.self.invariant in g.sound

@@ -1,0 +1,284 @@
+//! The registered timers in a heap, and its calls.
+
+ghost use Rattle.std.specs.Prelude.{◌≡◌, ℕ, ◌+◌, ◌^◌, ◌<◌, ◌≤◌, [], ◌∷◌, ◌++◌, length, option_map, OnOk, OnErr, vec_len, vec_capacity};
+ghost use Rattle.std.specs.List.{All};
+ghost use Rattle.std.specs.Bool.{OnTrue, OnFalse};
+ghost use Rattle.aio_base.specs.declared.names.TimerId.{TimerId};
+ghost use Rattle.aio_timers.specs.declared.op.TimerOp.TheVariants as TimerOp;
+ghost use Rattle.aio_base.specs.World.{Registration};
+ghost use Rattle.aio_base.specs.Timers.{IsBook, fold_changes, due_wakers, after_pass, first_deadline};
+ghost use Rattle.aio_timers.specs.Book.{IsBehind, change_of, first_pair, is_first_due};
+
+use crate::due::{count_due, has_later_children};
+use crate::link::Link;
+use crate::node::Node;
+use crate::reads::{is_due_at, pair_at, waker_at};
+use crate::room::{grow, wanted};
+use crate::steps::{add, find, renew, set_waker, take};
+use aio_base::{Moment, OutOfMemory, TimerId, Waker};
+use std::alloc::Global;
+use std::marker::Model;
+
+/// The registered timers, in the order in which they fire. No deadline and id stand twice.
+///
+/// Contracts see the list of registrations, and for how many more there is room. The timers stand in
+/// a pairing heap (Fredman, Sedgewick, Sleator and Tarjan, 1986) whose links are indices into one
+/// vector of nodes, and chains through the nodes, one for each bucket of ids, find the node of a
+/// deadline and an id.
+#[derive(Drop)]
+pub(crate) struct TimerHeap {
+    nodes: Vec<Node>,
+    buckets: Vec<Link>,
+    root: Option<usize>,
+    free: Link,
+    used: u32,
+}
+
+impl Model for TimerHeap {
+    ghost use Rattle.std.specs.Prelude.{◌-◌, length};
+    ghost use Rattle.aio_timers.specs.Held.{helds};
+    ghost use Rattle.aio_timers.specs.Sound.{registrations, IsSound};
+    ghost use Rattle.aio_timers.specs.Room.{Book};
+
+    ghost Value = { Book };
+
+    ghost view = { λ b. record {
+      entries = registrations (helds b.nodes.items);
+      spare = length b.nodes.items - b.used;
+    } };
+
+    ghost invariant = { λ b. IsSound b.nodes.items b.buckets.items b.root b.free b.used };
+}
+
+impl TimerHeap {
+    /// No timers. It takes no memory; `reserve` takes it from `alloc`.
+    pub(crate) fn new(alloc: Global) -> TimerHeap
+        ensures { result ≡ record { entries = []; spare = 0 } }
+    {
+        TimerHeap {
+            nodes: Vec::new(alloc),
+            buckets: Vec::new(alloc),
+            root: None,
+            free: Link::none(),
+            used: 0,
+        }
+    }
+
+    /// Makes room for `n` more timers, the only call that takes memory. `OutOfMemory` where the room
+    /// is not there yet and memory ran out, or where there would be 2^32 timers: the timers then
+    /// stand as before, and no room is lost. Where the room is there it takes constant time. Growth
+    /// at least doubles it and takes linear time, so that each timer costs constant time on the
+    /// average.
+    pub(crate) fn reserve(&mut self, n: u32) -> Result<(), OutOfMemory>
+        ensures entries { self.new.entries ≡ self.old.entries }
+        ensures room { OnOk result (n ≤ self.new.spare) }
+        ensures spare { self.old.spare ≤ self.new.spare }
+        ensures refused { OnErr result (self.old.spare < n) }
+    {
+        let spare = self.spare();
+        if n <= spare {
+            return Ok(());
+        }
+        match wanted(self.nodes.len(), (n - spare) as usize) {
+            None => Err(OutOfMemory),
+            Some(total) => match grow(&mut self.nodes, &mut self.buckets, self.free, total) {
+                Err(refused) => Err(refused),
+                Ok(free) => {
+                    self.free = free;
+                    Ok(())
+                }
+            },
+        }
+    }
+
+    /// Registers a timer, in place of the one with its deadline and id. It takes no memory, and constant
+    /// time besides the search of one bucket.
+    pub(crate) fn insert(&mut self, deadline: Moment, id: TimerId, waker: Waker)
+        requires { 1 ≤ self.old.spare }
+        ensures entries { self.new.entries
+            ≡ fold_changes self.old.entries (change_of (TimerOp.Insert deadline id waker) ∷ []) }
+        ensures spare { self.old.spare ≤ self.new.spare + 1 }
+    {
+        match find(&self.nodes, &self.buckets, deadline, id) {
+            Some(at) => set_waker(&mut self.nodes, at, waker),
+            None => {
+                let timer = (deadline, id, waker);
+                let (root, free) = add(
+                    &mut self.nodes,
+                    &mut self.buckets,
+                    self.root,
+                    self.free,
+                    timer,
+                );
+                self.root = Some(root);
+                self.free = free;
+                self.used += 1;
+            }
+        }
+    }
+
+    /// Unregisters the timer with this deadline and this id, if there is one. It takes logarithmic time
+    /// on the average over many calls, besides the search of one bucket.
+    pub(crate) fn remove(&mut self, deadline: Moment, id: TimerId)
+        ensures entries { self.new.entries
+            ≡ fold_changes self.old.entries (change_of (TimerOp.Remove deadline id) ∷ []) }
+        ensures spare { self.old.spare ≤ self.new.spare }
+    {
+        if let Some(at) = find(&self.nodes, &self.buckets, deadline, id) {
+            let (root, free) = take(&mut self.nodes, &mut self.buckets, self.root, self.free, at);
+            self.root = root;
+            self.free = free;
+            self.used -= 1;
+        }
+    }
+
+    /// Gives the timer with this deadline and this id another id and another waker, where that moves
+    /// nothing in the heap: where the id is a later one, which no timer of the deadline has, and no
+    /// child of its node fires at the deadline too. Whether it did; else all is as it was.
+    pub(crate) fn renew(
+        &mut self,
+        deadline: Moment,
+        before: TimerId,
+        next: TimerId,
+        waker: Waker,
+    ) -> bool
+        ensures renewed { OnTrue result (self.new.entries ≡ fold_changes self.old.entries
+            (change_of (TimerOp.Remove deadline before)
+            ∷ change_of (TimerOp.Insert deadline next waker) ∷ [])) }
+        ensures kept { OnFalse result (self.new ≡ self.old) }
+        ensures spare { self.new.spare ≡ self.old.spare }
+    {
+        if next.0 <= before.0 {
+            return false;
+        }
+        match find(&self.nodes, &self.buckets, deadline, before) {
+            None => false,
+            Some(at) => {
+                if !has_later_children(self.nodes.as_slice(), at, deadline) {
+                    return false;
+                }
+                match find(&self.nodes, &self.buckets, deadline, next) {
+                    Some(_) => false,
+                    None => {
+                        renew(&mut self.nodes, &mut self.buckets, at, next, waker);
+                        true
+                    }
+                }
+            }
+        }
+    }
+
+    /// Whether a timer has this deadline and this id, and another one fires first.
+    pub(crate) fn has_behind(&self, deadline: Moment, id: TimerId) -> bool
+        ensures { OnTrue result (IsBehind self.now.entries deadline id.0) }
+    {
+        let found = find(&self.nodes, &self.buckets, deadline, id);
+        match found {
+            None => false,
+            Some(at) => match self.root {
+                None => false,
+                Some(root) => root != at,
+            },
+        }
+    }
+
+    /// Moves the wakers of the timers that are due at the moment `now` to the end of `taken`, in the
+    /// order in which they fire; the timers go. Due are those with a deadline at most `now`. It takes
+    /// no memory, and logarithmic time on the average for each of them.
+    pub(crate) fn pass(&mut self, now: Moment, taken: &mut Vec<Waker>)
+        requires { vec_len taken.old + length (due_wakers now self.old.entries)
+            ≤ vec_capacity taken.old }
+        ensures taken { taken.new.items ≡ taken.old.items ++ due_wakers now self.old.entries }
+        ensures capacity { vec_capacity taken.new ≡ vec_capacity taken.old }
+        ensures entries { self.new.entries ≡ after_pass now self.old.entries }
+        ensures later { All (λ (r : Registration). now < r.deadline) self.new.entries }
+        ensures spare { self.old.spare ≤ self.new.spare }
+    {
+        for _ in 0..self.len() {
+            if !self.is_first_due(now) {
+                return;
+            }
+            let waker = self.take_first();
+            taken.push_reserved(waker);
+        }
+    }
+
+    /// Whether the timer that fires first is due at the moment `now`.
+    fn is_first_due(&self, now: Moment) -> bool
+        ensures value { result ≡ is_first_due now self.now.entries }
+        ensures order { IsBook self.now.entries }
+    {
+        match self.root {
+            None => false,
+            Some(at) => is_due_at(&self.nodes, at, now),
+        }
+    }
+
+    /// Unregisters the timer that fires first. The answer is its waker.
+    fn take_first(&mut self) -> Waker
+        requires { 0 < length self.old.entries }
+        ensures entries { (r : Registration)
+            × (self.old.entries ≡ r ∷ self.new.entries) × (result ≡ r.waker) }
+        ensures spare { self.old.spare ≤ self.new.spare }
+    {
+        match self.root {
+            None => unreachable!(),
+            Some(at) => {
+                let waker = waker_at(&self.nodes, at);
+                let (root, free) = take(
+                    &mut self.nodes,
+                    &mut self.buckets,
+                    self.root,
+                    self.free,
+                    at,
+                );
+                self.root = root;
+                self.free = free;
+                self.used -= 1;
+                waker
+            }
+        }
+    }
+
+    /// How many timers are due at the moment `now`: the room that a pass needs. It looks at those
+    /// timers and their children in the heap alone, so it takes no more time than the pass, and
+    /// constant time where none is due.
+    pub(crate) fn due_count(&self, now: Moment) -> usize
+        ensures value { result ≡ length (due_wakers now self.now.entries) }
+        ensures bound { result ≤ length self.now.entries }
+    {
+        count_due(self.nodes.as_slice(), self.root, now)
+    }
+
+    /// The deadline and the id of the timer that fires first; `None` exactly where no timer is
+    /// registered. No timer has an earlier deadline. It takes constant time.
+    pub(crate) fn first(&self) -> Option<(Moment, TimerId)>
+        ensures value { result ≡ first_pair self.now.entries }
+        ensures deadline { option_map (λ (pair : ℕ × TimerId). pair.0) result
+            ≡ first_deadline self.now.entries }
+        ensures order { IsBook self.now.entries }
+    {
+        match self.root {
+            None => None,
+            Some(at) => Some(pair_at(&self.nodes, at)),
+        }
+    }
+
+    /// How many timers are registered. Each of them fires before all behind it. It takes constant
+    /// time.
+    pub(crate) fn len(&self) -> usize
+        ensures value { result ≡ length self.now.entries }
+        ensures bound { result < 2 ^ 63 }
+        ensures order { IsBook self.now.entries }
+    {
+        self.used as usize
+    }
+
+    /// For how many more timers there is room. It takes constant time.
+    pub(crate) fn spare(&self) -> u32
+        ensures value { result ≡ self.now.spare }
+        ensures bound { self.now.spare < 2 ^ 32 }
+    {
+        (self.nodes.len() - self.used as usize) as u32
+    }
+}
