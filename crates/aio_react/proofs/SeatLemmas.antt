@@ -1,13 +1,15 @@
 -- What is read and written of seats and first polls, as the list of listeners that they are.
-use Rattle.std.proofs.Common.{◌≡◌, ℕ, zero, suc, ◌<◌, ◌≤◌, List, [], ◌∷◌, ◌++◌, length, slice_set, slice_index_or, get_or, Option, None, Some, IfSome, refl, sym, ap, ◌∙◌, arith}
+use Rattle.std.proofs.Math.ListN.{get_or-map}
+use Rattle.std.proofs.Common.{map, ◌≡◌, ℕ, zero, suc, ◌<◌, ◌≤◌, List, [], ◌∷◌, ◌++◌, length, slice_set, slice_index_or, get_or, Option, None, Some, IfSome, refl, sym, ap, ◌∙◌, arith}
 use Rattle.aio_base.specs.declared.names.Dir.{Dir}
 use Rattle.aio_react.specs.declared.entries.Listener.{Listener}
 use Rattle.aio_react.specs.declared.listener_table.Seat.{Seat}
 use Rattle.aio_react.specs.declared.listener_table.Seat.TheVariants as seat
 use Rattle.aio_react.specs.declared.listener_table.FirstPoll.{FirstPoll}
+use Rattle.aio_react.specs.declared.listener_table.PackedSeat.{PackedSeat}
 use Rattle.aio_source.specs.declared.answers.Listened.{Listened}
 use Rattle.aio_react.specs.Numbers.{value_of, with_value}
-use Rattle.aio_react.specs.Seats.{listener_in, listened_in, listeners_in, seat_for, seat_in, first_poll_of, IsBeside}
+use Rattle.aio_react.specs.Seats.{listener_in, listened_in, listeners_in, early_of, seat_for, seat_in, first_poll_of, IsBeside, IsEarly, AreEarly, opened}
 
 pub listeners-length : (seats : List Seat) (polls : List FirstPoll) → length (listeners_in seats polls) ≡ length seats
 listeners-length [] polls = refl
@@ -59,22 +61,50 @@ listener-again l (Some first) = refl
 
 -- ## Seats by themselves
 
+-- what is read of seats in eight bytes
+pub opened-read : (seats : List PackedSeat) (at : ℕ) (p : PackedSeat) → p ≡ get_or seats at p → opened p ≡ get_or (map opened seats) at (opened p)
+opened-read seats at p is = ap opened is ∙ sym (get_or-map opened seats at p)
+
+
 -- a seat is that of its listener
-seat-back : (s : Seat) (p : FirstPoll) → seat_in (listener_in s p) ≡ s
-seat-back seat.Gone p = refl
-seat-back (seat.Unpolled dir key) p = refl
-seat-back (seat.Polled dir key place a) p = refl
+seat-back : (s : Seat) (p : FirstPoll) → IsEarly s p → seat_in (listener_in s p) ≡ s
+seat-back seat.Gone p early = refl
+seat-back (seat.Unpolled dir key) p early = refl
+seat-back (seat.Polled dir key place rounds) p early = ap (λ (x : ℕ). seat.Polled dir key place x) (sym early)
 
-seat-at : (seats : List Seat) (polls : List FirstPoll) (at : ℕ) (s : Seat) → at < length seats → s ≡ get_or seats at s → seat_in (slice_index_or (listeners_in seats polls) at None) ≡ s
-seat-at [] polls at s within is = absurd (omega arith)
-seat-at (t ∷ seats) [] zero s within is = seat-back t (first_poll_of None) ∙ sym is
-seat-at (t ∷ seats) (q ∷ polls) zero s within is = seat-back t q ∙ sym is
-seat-at (t ∷ seats) [] (suc at) s within is = seat-at seats [] at s (omega arith) is
-seat-at (t ∷ seats) (q ∷ polls) (suc at) s within is = seat-at seats polls at s (omega arith) is
+seat-at : (seats : List Seat) (polls : List FirstPoll) (at : ℕ) (s : Seat) → length polls ≡ length seats → AreEarly seats polls → at < length seats → s ≡ get_or seats at s → seat_in (slice_index_or (listeners_in seats polls) at None) ≡ s
+seat-at [] polls at s same early within is = absurd (omega arith)
+seat-at (t ∷ seats) [] at s same early within is = absurd (omega arith)
+seat-at (t ∷ seats) (q ∷ polls) zero s same early within is = seat-back t q early.0 ∙ sym is
+seat-at (t ∷ seats) (q ∷ polls) (suc at) s same early within is = seat-at seats polls at s (omega arith) early.1 (omega arith) is
 
-pub seat-there : (seats : List Seat) (polls : List FirstPoll) (number at : ℕ) (s : Seat) → number ≡ suc at → at < length seats → s ≡ get_or seats at s
+pub seat-there : (seats : List Seat) (polls : List FirstPoll) (number at : ℕ) (s : Seat) → number ≡ suc at → length polls ≡ length seats → AreEarly seats polls → at < length seats → s ≡ get_or seats at s
     → seat_in (value_of (listeners_in seats polls) number) ≡ s
-seat-there seats polls number at s is within is_s = rw is (seat-at seats polls at s within is_s)
+seat-there seats polls number at s is same early within is_s = rw is (seat-at seats polls at s same early within is_s)
+
+-- ## Rounds of first polls
+
+pub early-more : (seats : List Seat) (polls : List FirstPoll) (s : Seat) (p : FirstPoll) → length polls ≡ length seats → AreEarly seats polls → IsEarly s p → AreEarly (seats ++ s ∷ []) (polls ++ p ∷ [])
+early-more [] [] s p same are one = (one, tt)
+early-more [] (q ∷ polls) s p same are one = absurd (omega arith)
+early-more (t ∷ seats) [] s p same are one = absurd (omega arith)
+early-more (t ∷ seats) (q ∷ polls) s p same are one = (are.0, early-more seats polls s p (omega arith) are.1 one)
+
+pub early-set : (seats : List Seat) (polls : List FirstPoll) (at : ℕ) (s : Seat) (p : FirstPoll) → length polls ≡ length seats → AreEarly seats polls → IsEarly s p → AreEarly (slice_set seats at s) (slice_set polls at p)
+early-set [] polls at s p same are one = tt
+early-set (t ∷ seats) [] at s p same are one = absurd (omega arith)
+early-set (t ∷ seats) (q ∷ polls) zero s p same are one = (one, are.1)
+early-set (t ∷ seats) (q ∷ polls) (suc at) s p same are one = (are.0, early-set seats polls at s p (omega arith) are.1 one)
+
+pub early-gone : (seats : List Seat) (polls : List FirstPoll) (at : ℕ) → length polls ≡ length seats → AreEarly seats polls → AreEarly (slice_set seats at seat.Gone) polls
+early-gone [] polls at same are = tt
+early-gone (t ∷ seats) [] at same are = absurd (omega arith)
+early-gone (t ∷ seats) (q ∷ polls) zero same are = (tt, are.1)
+early-gone (t ∷ seats) (q ∷ polls) (suc at) same are = (are.0, early-gone seats polls at (omega arith) are.1)
+
+pub early-again : (l : Listener) (first : Option Listened) → IsEarly (seat_for l first) (first_poll_of first)
+early-again l None = tt
+early-again l (Some first) = refl
 
 -- a listener of a key and a direction
 abbrev pub seated : ℕ → Dir → Option Listened → Listener
@@ -89,10 +119,10 @@ pub gone-seat : (v : Option Listener) → seat.Gone ≡ seat_in v → v ≡ None
 gone-seat None is = refl
 gone-seat (Some l) is = absurd (gone-for l l.first is)
 
-pub gone-else : (s : Seat) → ((dir : Dir) (key : ℕ) → s ≡ seat.Unpolled dir key → ⊥) → ((dir : Dir) (key place a : ℕ) → s ≡ seat.Polled dir key place a → ⊥) → seat.Gone ≡ s
+pub gone-else : (s : Seat) → ((dir : Dir) (key : ℕ) → s ≡ seat.Unpolled dir key → ⊥) → ((dir : Dir) (key place early : ℕ) → s ≡ seat.Polled dir key place early → ⊥) → seat.Gone ≡ s
 gone-else seat.Gone unpolled polled = refl
 gone-else (seat.Unpolled dir key) unpolled polled = absurd (unpolled dir key refl)
-gone-else (seat.Polled dir key place a) unpolled polled = absurd (polled dir key place a refl)
+gone-else (seat.Polled dir key place early) unpolled polled = absurd (polled dir key place early refl)
 
 unpolled-for : (l : Listener) (first : Option Listened) (dir : Dir) (key : ℕ) → l.first ≡ first → seat.Unpolled dir key ≡ seat_for l first → l ≡ seated key dir None
 unpolled-for l None dir key has is =
@@ -105,28 +135,30 @@ pub unpolled-seat : (v : Option Listener) (dir : Dir) (key : ℕ) → seat.Unpol
 unpolled-seat None dir key is = absurd cc
 unpolled-seat (Some l) dir key is = ap (λ (l : Listener). Some l) (unpolled-for l l.first dir key refl is)
 
-polled-for : (l : Listener) (rest : Option Listened) (dir : Dir) (key place a : ℕ) (p : FirstPoll) → l.first ≡ rest → seat.Polled dir key place a ≡ seat_for l rest
-    → IfSome rest (λ first. first ≡ listened_in first.ticket.place first.a p) → l ≡ seated key dir (Some (listened_in place a p))
-polled-for l None dir key place a p has is beside = absurd cc
-polled-for l (Some first) dir key place a p has is beside =
+polled-for : (l : Listener) (rest : Option Listened) (dir : Dir) (key place early : ℕ) (p : FirstPoll) → l.first ≡ rest → seat.Polled dir key place early ≡ seat_for l rest
+    → IfSome rest (λ first. first ≡ listened_in first.ticket.place p) → (l ≡ seated key dir (Some (listened_in place p))) × (early ≡ early_of p.a)
+polled-for l None dir key place early p has is beside = absurd cc
+polled-for l (Some first) dir key place early p has is beside =
     let dirs : l.dir ≡ dir = cc in
     let keys : l.key.0 ≡ key = cc in
     let places : first.ticket.place ≡ place = cc in
-    let rounds : first.a ≡ a = cc in
-    let firsts : first ≡ listened_in place a p = beside ∙ (λ i. listened_in (places i) (rounds i) p) in
-    let rest : l.first ≡ Some (listened_in place a p) = has ∙ ap (λ (f : Listened). Some f) firsts in
-    λ i. seated (keys i) (dirs i) (rest i)
+    let rounds : early_of first.a ≡ early = cc in
+    let firsts : first ≡ listened_in place p = beside ∙ (λ i. listened_in (places i) p) in
+    let rest : l.first ≡ Some (listened_in place p) = has ∙ ap (λ (f : Listened). Some f) firsts in
+    (λ i. seated (keys i) (dirs i) (rest i), sym rounds ∙ ap (λ (f : Listened). early_of f.a) beside)
 
-pub polled-seat : (v : Option Listener) (dir : Dir) (key place a : ℕ) (p : FirstPoll) → seat.Polled dir key place a ≡ seat_in v → IsBeside v p → v ≡ Some (seated key dir (Some (listened_in place a p)))
-polled-seat None dir key place a p is beside = absurd cc
-polled-seat (Some l) dir key place a p is beside = ap (λ (l : Listener). Some l) (polled-for l l.first dir key place a p refl is beside)
+pub polled-seat : (v : Option Listener) (dir : Dir) (key place early : ℕ) (p : FirstPoll) → seat.Polled dir key place early ≡ seat_in v → IsBeside v p → (v ≡ Some (seated key dir (Some (listened_in place p)))) × (early ≤ p.a)
+polled-seat None dir key place early p is beside = absurd cc
+polled-seat (Some l) dir key place early p is beside =
+    let both = polled-for l l.first dir key place early p refl is beside in
+    (ap (λ (l : Listener). Some l) both.0, omega (arith, both.1))
 
 -- ## First polls by themselves
 
 beside-here : (s : Seat) (p q : FirstPoll) → p ≡ q → IsBeside (listener_in s q) p
 beside-here seat.Gone p q is = tt
 beside-here (seat.Unpolled dir key) p q is = tt
-beside-here (seat.Polled dir key place a) p q is = ap (λ (p : FirstPoll). listened_in place a p) (sym is)
+beside-here (seat.Polled dir key place early) p q is = ap (λ (p : FirstPoll). listened_in place p) (sym is)
 
 beside-at : (seats : List Seat) (polls : List FirstPoll) (at : ℕ) (p : FirstPoll) → length polls ≡ length seats → p ≡ get_or polls at p → IsBeside (slice_index_or (listeners_in seats polls) at None) p
 beside-at [] polls at p same is = tt

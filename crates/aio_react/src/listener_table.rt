@@ -2,7 +2,8 @@
 
 ghost use Rattle.std.specs.Prelude.{◌≡◌, ◌+◌, ◌<◌, ◌≤◌, ◌^◌, ◌++◌, [], ◌∷◌, length, None, Some, IfOk, OnErr};
 ghost use Rattle.aio_react.specs.Numbers.{value_of, with_value};
-ghost use Rattle.aio_react.specs.Seats.{listener_in, listened_in, seat_of, seat_in, first_poll_of, IsBeside};
+ghost use Rattle.aio_react.specs.Seats.{listener_in, listened_in, opened, seat_of, seat_in, first_poll_of, IsBeside};
+ghost use Rattle.aio_react.specs.declared.listener_table.Seat.TheVariants as seat;
 
 use crate::entries::Listener;
 use aio_base::{Dir, Key, OutOfMemory};
@@ -12,7 +13,7 @@ use std::alloc::Global;
 use std::marker::Model;
 
 /// Which direction of which source a listener is of, and of one that was polled what the next poll
-/// needs. It takes sixteen bytes, since a key is below 4,096.
+/// needs.
 #[derive(Clone, Copy)]
 pub(crate) enum Seat {
     /// The listener was given up.
@@ -22,19 +23,75 @@ pub(crate) enum Seat {
         dir: Dir,
         key: u16,
     },
-    /// It was polled: `place` is that of its ticket, and `a` is how many rounds had begun then.
+    /// It was polled: `place` is that of its ticket, and `early` is how many rounds had begun then,
+    /// or 65,535 where there were more.
     Polled {
         dir: Dir,
         key: u16,
         place: u32,
-        a: u64,
+        early: u16,
     },
+}
+
+/// A seat as it lies in memory, in eight bytes: a key is below 8,192, so its direction and whether it
+/// was polled lie beside it in two.
+#[derive(Clone, Copy)]
+struct PackedSeat {
+    place: u32,
+    /// Eight times the key, and 1 or 2 of a listener that was not polled, 3 or 4 of one that was.
+    code: u16,
+    early: u16,
+}
+
+impl PackedSeat {
+    /// The seat of no listener.
+    fn gone() -> PackedSeat
+        ensures { opened result ≡ seat.Gone }
+    {
+        PackedSeat {
+            place: 0,
+            code: 0,
+            early: 0,
+        }
+    }
+
+    /// The seat.
+    #[inline(always)]
+    fn open(self) -> Seat
+        ensures { result ≡ opened self }
+    {
+        let key = self.code / 8;
+        match self.code % 8 {
+            1 => Seat::Unpolled {
+                dir: Dir::Read,
+                key,
+            },
+            2 => Seat::Unpolled {
+                dir: Dir::Write,
+                key,
+            },
+            3 => Seat::Polled {
+                dir: Dir::Read,
+                key,
+                place: self.place,
+                early: self.early,
+            },
+            4 => Seat::Polled {
+                dir: Dir::Write,
+                key,
+                place: self.place,
+                early: self.early,
+            },
+            _ => Seat::Gone,
+        }
+    }
 }
 
 /// What a listener remembers of its first poll beside its seat.
 #[derive(Clone, Copy)]
 pub(crate) struct FirstPoll {
     pub(crate) serial: u64,
+    pub(crate) a: u64,
     pub(crate) b: u64,
 }
 
@@ -48,21 +105,22 @@ pub(crate) struct FirstPoll {
 /// Contracts see a place for each number that was given. Every call takes constant time.
 #[derive(Drop)]
 pub(crate) struct ListenerTable {
-    seats: Vec<Seat>,
+    seats: Vec<PackedSeat>,
     /// The first poll of each number that has one, beside its seat.
     first_polls: Vec<FirstPoll>,
 }
 
 impl Model for ListenerTable {
-    ghost use Rattle.std.specs.Prelude.{◌≡◌, List, Option, length};
+    ghost use Rattle.std.specs.Prelude.{◌≡◌, List, Option, length, map};
     ghost use Rattle.aio_react.specs.declared.entries.Listener.{Listener};
-    ghost use Rattle.aio_react.specs.Seats.{listeners_in};
+    ghost use Rattle.aio_react.specs.Seats.{listeners_in, opened, AreEarly};
 
     ghost Value = { List (Option Listener) };
 
-    ghost view = { λ t. listeners_in t.seats.items t.first_polls.items };
+    ghost view = { λ t. listeners_in (map opened t.seats.items) t.first_polls.items };
 
-    ghost invariant = { λ t. length t.first_polls.items ≡ length t.seats.items };
+    ghost invariant = { λ t. (length t.first_polls.items ≡ length t.seats.items)
+        × AreEarly (map opened t.seats.items) t.first_polls.items };
 }
 
 impl ListenerTable {
@@ -79,7 +137,7 @@ impl ListenerTable {
     /// Puts a listener under the next number. `OutOfMemory` where memory ran out; no number is given
     /// then.
     pub(crate) fn add(&mut self, listener: Listener) -> Result<u64, OutOfMemory>
-        requires { listener.key.0 < 2 ^ 16 }
+        requires { listener.key.0 < 2 ^ 13 }
         ensures number { IfOk result (λ number. number ≡ length self.new) }
         ensures added { IfOk result (λ number. self.new ≡ self.old ++ Some listener ∷ []) }
         ensures refused { OnErr result (self.new ≡ self.old) }
@@ -109,7 +167,7 @@ impl ListenerTable {
         if number == 0 || number > self.seats.len() as u64 {
             return Seat::Gone;
         }
-        self.seats[number as usize - 1]
+        self.seats[number as usize - 1].open()
     }
 
     /// What lies beside the seat of a number that was given.
@@ -125,7 +183,7 @@ impl ListenerTable {
     /// Puts a listener under a number that was given, in place of its own. Under another number
     /// nothing is put.
     pub(crate) fn set(&mut self, number: u64, listener: Listener)
-        requires { listener.key.0 < 2 ^ 16 }
+        requires { listener.key.0 < 2 ^ 13 }
         ensures { self.new ≡ with_value self.old number (Some listener) }
     {
         if number == 0 || number > self.seats.len() as u64 {
@@ -145,8 +203,8 @@ impl ListenerTable {
             return None;
         }
         let at = number as usize - 1;
-        let taken = listener_in(self.seats[at], self.first_polls[at]);
-        self.seats[at] = Seat::Gone;
+        let taken = listener_in(self.seats[at].open(), self.first_polls[at]);
+        self.seats[at] = PackedSeat::gone();
         taken
     }
 }
@@ -162,44 +220,63 @@ fn listener_in(seat: Seat, first_poll: FirstPoll) -> Option<Listener>
             dir,
             first: None,
         }),
-        Seat::Polled { dir, key, place, a } => Some(Listener {
+        Seat::Polled {
+            dir,
+            key,
+            place,
+            ..
+        } => Some(Listener {
             key: Key(u32::from(key)),
             dir,
-            first: Some(listened_in(place, a, &first_poll)),
+            first: Some(listened_in(place, &first_poll)),
         }),
     }
 }
 
-/// What a listener remembers of its first poll, by its seat's place and `a`, and what lies beside.
+/// What a listener remembers of its first poll, by its seat's place and what lies beside.
 #[inline(always)]
-pub(crate) fn listened_in(place: u32, a: u64, first_poll: &FirstPoll) -> Listened
-    ensures { result ≡ listened_in place a first_poll.now }
+pub(crate) fn listened_in(place: u32, first_poll: &FirstPoll) -> Listened
+    ensures { result ≡ listened_in place first_poll.now }
 {
     Listened {
         ticket: Ticket {
             serial: first_poll.serial,
             place,
         },
-        a,
+        a: first_poll.a,
         b: first_poll.b,
     }
 }
 
 /// The seat of a listener.
-fn seat_of(listener: Listener) -> Seat
-    requires { listener.key.0 < 2 ^ 16 }
-    ensures { result ≡ seat_of listener }
+fn seat_of(listener: Listener) -> PackedSeat
+    requires { listener.key.0 < 2 ^ 13 }
+    ensures { opened result ≡ seat_of listener }
 {
-    let dir = listener.dir;
-    let key = listener.key.0 as u16;
+    let code = 8 * listener.key.0 as u16;
     match listener.first {
-        None => Seat::Unpolled { dir, key },
-        Some(first) => Seat::Polled {
-            dir,
-            key,
-            place: first.ticket.place,
-            a: first.a,
-        },
+        None => {
+            let kind = match listener.dir {
+                Dir::Read => 1,
+                Dir::Write => 2,
+            };
+            PackedSeat {
+                place: 0,
+                code: code + kind,
+                early: 0,
+            }
+        }
+        Some(first) => {
+            let kind = match listener.dir {
+                Dir::Read => 3,
+                Dir::Write => 4,
+            };
+            PackedSeat {
+                place: first.ticket.place,
+                code: code + kind,
+                early: first.a.min(65_535) as u16,
+            }
+        }
     }
 }
 
@@ -208,9 +285,14 @@ fn first_poll_of(first: Option<Listened>) -> FirstPoll
     ensures { result ≡ first_poll_of first }
 {
     match first {
-        None => FirstPoll { serial: 0, b: 0 },
+        None => FirstPoll {
+            serial: 0,
+            a: 0,
+            b: 0,
+        },
         Some(first) => FirstPoll {
             serial: first.ticket.serial,
+            a: first.a,
             b: first.b,
         },
     }

@@ -1,6 +1,6 @@
 //! The calls of a core on its listeners: tasks that wait for its sources beside the poll waiters.
 
-ghost use Rattle.std.specs.Prelude.{◌≡◌, ◌<◌, [], None, Some, Err, is_ok, is_some, IfSome, IfErr, IsErr, OnErr};
+ghost use Rattle.std.specs.Prelude.{◌≡◌, ◌<◌, ◌≤◌, [], None, Some, Err, is_ok, is_some, IfSome, IfErr, IsErr, OnErr};
 ghost use Rattle.aio_base.specs.Devices.{PollerStep, TellsFaults};
 ghost use Rattle.aio_base.specs.declared.steps.Step.TheVariants as step;
 ghost use Rattle.aio_react.specs.declared.refusals.CoreRefusal.TheVariants.{NoListener, OutOfMemory};
@@ -93,7 +93,13 @@ impl<P: Poller> Core<P> {
             })) }
     {
         let seat = self.listeners.seat(listener);
-        if let Seat::Polled { dir, key, place, a } = seat {
+        if let Seat::Polled {
+            dir,
+            key,
+            place,
+            early,
+        } = seat
+        {
             let first_poll = self.listeners.first_poll(listener);
             return match &mut self.sources[key as usize] {
                 Some(entry) => Ok(poll_again(
@@ -101,7 +107,7 @@ impl<P: Poller> Core<P> {
                     &mut self.poller,
                     dir,
                     place,
-                    a,
+                    early,
                     first_poll,
                     w,
                 )),
@@ -154,35 +160,36 @@ impl<P: Poller> Core<P> {
     }
 }
 
-/// Polls a listener again, by its seat's direction, place and `a`. Where no later round has handled an
-/// event of the direction, what lies beside the seat is not read.
+/// Polls a listener again, by its seat's direction, place and `early`. Where no round later than that has
+/// handled an event of the direction, what lies beside the seat is not read.
 #[inline(always)]
 fn poll_again<A: Arm>(
     source: &mut SourceState,
     arm: &mut A,
     dir: Dir,
     place: u32,
-    a: u64,
+    early: u16,
     first_poll: &FirstPoll,
     w: Waker,
 ) -> Poll<Result<(), ArmFault>>
-    requires { let first = listened_in place a first_poll.now in
+    requires early { early ≤ first_poll.now.a }
+    requires holds { let first = listened_in place first_poll.now in
         Holds (direction_of source.old.directions dir).listeners.entries first.ticket }
-    ensures answer { let p = polling_again source.old dir (listened_in place a first_poll.now) w in
+    ensures answer { let p = polling_again source.old dir (listened_in place first_poll.now) w in
         result ≡ poll_answer p.ready (fault_of source.old.key (A.fault_count arm.old)
         (A.fault_count arm.new) (told (armed_in result))) }
-    ensures after { let p = polling_again source.old dir (listened_in place a first_poll.now) w in
+    ensures after { let p = polling_again source.old dir (listened_in place first_poll.now) w in
         source.new ≡ settled p.arms (told (armed_in result)) p.source }
     ensures key { source.new.key ≡ source.old.key }
-    ensures lent { let p = polling_again source.old dir (listened_in place a first_poll.now) w in
+    ensures lent { let p = polling_again source.old dir (listened_in place first_poll.now) w in
         UsesArm A.arm_step A.interests A.rest A.fault_count A.is_sure
         p.arms (arm_of p.source) (told (armed_in result)) arm.old arm.new }
 {
-    if source.tick(dir) <= a {
-        let t = listened_in(place, a, first_poll).ticket;
+    if source.tick(dir) <= u64::from(early) {
+        let t = listened_in(place, first_poll).ticket;
         return source.listen_on(arm, dir, t, w);
     }
-    source.listen_again(arm, dir, listened_in(place, a, first_poll), w)
+    source.listen_again(arm, dir, listened_in(place, first_poll), w)
 }
 
 /// What a listener's first poll comes to: its answer, and what the listener remembers.

@@ -22,14 +22,24 @@ use Rattle.aio_react.proofs.reactor.Core.step.Goals as goal
 
 -- ## A later poll
 
-pub poll_again-requires : goal.poll_again-requires
-poll_again-requires g c =
+pub poll_again-requires-clause-early : goal.poll_again-requires-clause-early
+poll_again-requires-clause-early g c =
     let i = c.self.inside in
     let seat = c.in-Polled in
     let e = c.in-Some.entry in
-    let first = listened_in seat.place seat.a c.first_poll-first_poll.result.now in
+    let first = listened_in seat.place c.first_poll-first_poll.result.now in
     let l = seated seat.key seat.dir (Some first) in
-    let r = again_read i.sources.items i.listeners c.args.listener seat.key seat.dir seat.place seat.a _ _ e c.self.invariant.3 seat.ensures c.first_poll-first_poll.ensures c.index_mut.ensures.value c.in-Some.is in
+    let r = again_read i.sources.items i.listeners c.args.listener seat.key seat.dir seat.place seat.early _ _ e c.self.invariant.3 seat.ensures c.first_poll-first_poll.ensures c.index_mut.ensures.value c.in-Some.is in
+    r.early_is
+
+pub poll_again-requires-clause-holds : goal.poll_again-requires-clause-holds
+poll_again-requires-clause-holds g c =
+    let i = c.self.inside in
+    let seat = c.in-Polled in
+    let e = c.in-Some.entry in
+    let first = listened_in seat.place c.first_poll-first_poll.result.now in
+    let l = seated seat.key seat.dir (Some first) in
+    let r = again_read i.sources.items i.listeners c.args.listener seat.key seat.dir seat.place seat.early _ _ e c.self.invariant.3 seat.ensures c.first_poll-first_poll.ensures c.index_mut.ensures.value c.in-Some.is in
     r.held
 
 pub invariant_of-self : goal.invariant_of-self
@@ -37,9 +47,9 @@ invariant_of-self g c =
     let i = c.self.inside in
     let seat = c.in-Polled in
     let e = c.in-Some.entry in
-    let first = listened_in seat.place seat.a c.first_poll-first_poll.result.now in
+    let first = listened_in seat.place c.first_poll-first_poll.result.now in
     let l = seated seat.key seat.dir (Some first) in
-    let r = again_read i.sources.items i.listeners c.args.listener seat.key seat.dir seat.place seat.a _ _ e c.self.invariant.3 seat.ensures c.first_poll-first_poll.ensures c.index_mut.ensures.value c.in-Some.is in
+    let r = again_read i.sources.items i.listeners c.args.listener seat.key seat.dir seat.place seat.early _ _ e c.self.invariant.3 seat.ensures c.first_poll-first_poll.ensures c.index_mut.ensures.value c.in-Some.is in
     let same = ap (λ s. s.key) c.poll_again.ensures.after ∙ again_key e.source l.dir first c.args.w in (
       omega arith,
       omega arith,
@@ -54,9 +64,9 @@ returns-in-Some-clause-meets g c =
     let i = c.self.inside in
     let seat = c.in-Polled in
     let e = c.in-Some.entry in
-    let first = listened_in seat.place seat.a c.first_poll-first_poll.result.now in
+    let first = listened_in seat.place c.first_poll-first_poll.result.now in
     let l = seated seat.key seat.dir (Some first) in
-    let r = again_read i.sources.items i.listeners c.args.listener seat.key seat.dir seat.place seat.a _ _ e c.self.invariant.3 seat.ensures c.first_poll-first_poll.ensures c.index_mut.ensures.value c.in-Some.is in
+    let r = again_read i.sources.items i.listeners c.args.listener seat.key seat.dir seat.place seat.early _ _ e c.self.invariant.3 seat.ensures c.first_poll-first_poll.ensures c.index_mut.ensures.value c.in-Some.is in
     let core : CoreValue = record { sources = i.sources.items; listeners = i.listeners; ticker = i.ticker; book = i.book.entries; ids_drawn = i.ids_drawn; round = i.round } in
     rw (← c.self.view_is)
     (again_meets g.P.Arm.arm_step g.P.EventWait.wait_step g.P.Arm.interests i.poller c.poll_again.new.arm core c.args.listener l first c.args.w e c.poll_again.new.source c.poll_again.result _ _
@@ -68,9 +78,9 @@ returns-in-Some-clause-lent g c =
     let i = c.self.inside in
     let seat = c.in-Polled in
     let e = c.in-Some.entry in
-    let first = listened_in seat.place seat.a c.first_poll-first_poll.result.now in
+    let first = listened_in seat.place c.first_poll-first_poll.result.now in
     let l = seated seat.key seat.dir (Some first) in
-    let r = again_read i.sources.items i.listeners c.args.listener seat.key seat.dir seat.place seat.a _ _ e c.self.invariant.3 seat.ensures c.first_poll-first_poll.ensures c.index_mut.ensures.value c.in-Some.is in
+    let r = again_read i.sources.items i.listeners c.args.listener seat.key seat.dir seat.place seat.early _ _ e c.self.invariant.3 seat.ensures c.first_poll-first_poll.ensures c.index_mut.ensures.value c.in-Some.is in
     rw (← c.self.view_is)
     (again_asked g.P.Arm.arm_step g.P.Arm.interests g.P.Arm.rest g.P.Faults.fault_count g.P.Faults.is_sure i.sources.items i.listeners c.args.listener l first e c.args.w _
     c.poll_again.result i.poller c.poll_again.new.arm r.is r.there refl c.poll_again.ensures.lent)
