@@ -1,13 +1,15 @@
 //! A thread that polls a task until it ends, and makes rounds of a shared reactor in between.
 
-ghost use Rattle.std.specs.Prelude.{◌≡◌, ◌+◌, ◌^◌, ◌<◌, ◌≤◌, [], ◌∷◌, length, IfOk, IfErr, IfSome, OnErr};
+ghost use Rattle.std.specs.Prelude.{◌≡◌, ℕ, ◌+◌, ◌^◌, ◌<◌, ◌≤◌, [], ◌∷◌, length, IfOk, IfErr, IfSome, OnErr};
+ghost use Rattle.aio_base.specs.declared.seats.Mode.TheVariants as mode;
+ghost use Rattle.aio_base.specs.declared.seats.WordStep.TheVariants as word_step;
 ghost use Rattle.aio_shared.specs.Cells.{IsIdle};
 ghost use Rattle.aio_shared.specs.Inside.{IsLaterInside};
 ghost use Rattle.aio_shared.specs.Members.{IsLaterMember, IsMemberOf};
 ghost use Rattle.aio_shared.specs.OneCell.{IsCellOf};
 ghost use Rattle.aio_words.specs.Seats.{Blocks};
 ghost use Rattle.aio_park.specs.Blocking.{HasFaultCause, KeepsThread, PolledUntil, gained, taken_of};
-ghost use Rattle.aio_park.specs.Driving.{Gains, GainsNone, Passes, mask_list};
+ghost use Rattle.aio_park.specs.Driving.{Gains, GainsNone, ParksFor, Passes, ReactsBlocked, ReactsUntilWoken, Turns, WaitsForSlots, mask_list, member_did};
 ghost use Rattle.aio_park.specs.Polls.{Polled};
 
 use crate::rounds::{BlockFault, react_once};
@@ -165,6 +167,8 @@ fn turn<R: Wait, N: Notify, C: Clock, A: Arm, W: EventWait>(
 ) -> Result<u64, ReactFault>
     requires belongs { IsMemberOf shared.now m.old }
     requires parker { parker < shared.now.words.parkers }
+    ensures turns { IfOk result (λ mask. Turns W N.fault_count shared.now.words.parkers
+        shared.now.sure_of_arms (C.latest clock.old) parker mask m.old m.new) }
     ensures took { IfOk result (λ mask.
         Gains parker m.old.pass.view m.new.pass.view (mask_list mask)) }
     ensures keeps { KeepsThread N.fault_count N.is_sure C.bounds C.latest shared.now
@@ -188,8 +192,8 @@ fn take<N: Notify, A: Arm, W: EventWait>(
 ) -> u64
     requires belongs { IsMemberOf shared.now m.old }
     requires parker { parker < shared.now.words.parkers }
+    ensures swapped { m.new ≡ member_did (word_step.SwapMask parker result) m.old }
     ensures took { Gains parker m.old.pass.view m.new.pass.view (mask_list result) }
-    ensures kept { m.new ≡ record m.old { pass = m.new.pass } }
     ensures belongs { IsMemberOf shared.now m.new }
     ensures later { IsLaterMember N.fault_count N.is_sure m.old m.new }
 {
@@ -234,6 +238,9 @@ fn wait_for_slots<R: Wait, N: Notify, C: Clock, A: Arm, W: EventWait>(
 ) -> Result<u64, ReactFault>
     requires belongs { IsMemberOf shared.now m.old }
     requires parker { parker < shared.now.words.parkers }
+    ensures waits { IfOk result (λ mask. WaitsForSlots W N.fault_count
+        shared.now.words.parkers shared.now.sure_of_arms (C.latest clock.old) parker mask
+        m.old m.new) }
     ensures took { IfOk result (λ mask.
         Gains parker m.old.pass.view m.new.pass.view (mask_list mask)) }
     ensures keeps { KeepsThread N.fault_count N.is_sure C.bounds C.latest shared.now
@@ -261,6 +268,7 @@ fn park<R: Wait, N: Notify, A: Arm, W: EventWait>(
 ) -> u64
     requires belongs { IsMemberOf shared.now m.old }
     requires parker { parker < shared.now.words.parkers }
+    ensures parks { ParksFor parker result m.old m.new }
     ensures took { Gains parker m.old.pass.view m.new.pass.view (mask_list result) }
     ensures belongs { IsMemberOf shared.now m.new }
     ensures later { IsLaterMember N.fault_count N.is_sure m.old m.new }
@@ -282,6 +290,9 @@ fn react_blocking<R: Wait, N: Notify, C: Clock, A: Arm, W: EventWait>(
     requires cell { IsCellOf m.old.turn cell.old }
     requires idle { IsIdle cell.old }
     requires parker { parker < shared.now.words.parkers }
+    ensures reacts { IfOk result (λ none. ReactsBlocked N.fault_count
+        shared.now.words.parkers shared.now.sure_of_arms (C.latest clock.old) parker
+        cell.old cell.new m.old m.new) }
     ensures took { GainsNone m.old.pass.view m.new.pass.view }
     ensures keeps { KeepsThread N.fault_count N.is_sure C.bounds C.latest shared.now
         m.old m.new clock.old clock.new result }
@@ -308,6 +319,11 @@ fn react_until_woken<R: Wait, N: Notify, C: Clock, A: Arm, W: EventWait>(
     requires belongs { IsMemberOf shared.now m.old }
     requires cell { IsCellOf m.old.turn cell.old }
     requires blocks { Blocks cell.old.seat }
+    ensures reacts { IfOk result (λ none.
+        (parker : ℕ) → cell.old.seat.view.mode ≡ mode.Block parker
+        → ReactsUntilWoken N.fault_count shared.now.words.parkers
+        shared.now.sure_of_arms (C.latest clock.old) parker
+        cell.old cell.new m.old m.new) }
     ensures took { GainsNone m.old.pass.view m.new.pass.view }
     ensures keeps { KeepsThread N.fault_count N.is_sure C.bounds C.latest shared.now
         m.old m.new clock.old clock.new result }
