@@ -6,17 +6,17 @@ use Rattle.aio_park.proofs.Waiting.{blocked_where, cell_step}
 use Rattle.aio_park.proofs.blocking.react_blocking.Goals as goal
 
 pub react_until_woken-reacted-requires-clause-blocks : goal.react_until_woken-reacted-requires-clause-blocks
-react_until_woken-reacted-requires-clause-blocks g c = (c.args.parker, ap (λ (v : SeatView). v.mode) c.block.ensures.view)
+react_until_woken-reacted-requires-clause-blocks g c = (_, ap (λ (v : SeatView). v.mode) c.block.ensures.view)
 
 pub unblock-requires : goal.unblock-requires
 unblock-requires g c = (
   search rules,
-  (c.args.parker, ap (λ (s : SeatValue). s.view.mode) c.seat-2.ensures.value ∙ c.react_until_woken-reacted.ensures.mode ∙ ap (λ (v : SeatView). v.mode) c.block.ensures.view),
+  (_, ap (λ (s : SeatValue). s.view.mode) c.seat-2.ensures.value ∙ c.react_until_woken-reacted.ensures.mode ∙ ap (λ (v : SeatView). v.mode) c.block.ensures.view),
 )
 
 pub returns-clause-idle : goal.returns-clause-idle
 returns-clause-idle g c =
-    ap (λ (v : SeatView). v.mode) (c.unblock.ensures.view c.args.parker
+    ap (λ (v : SeatView). v.mode) (c.unblock.ensures.view _
     (ap (λ (s : SeatValue). s.view.mode) c.seat-2.ensures.value ∙ c.react_until_woken-reacted.ensures.mode ∙ ap (λ (v : SeatView). v.mode) c.block.ensures.view))
 
 pub returns-clause-reacts : goal.returns-clause-reacts

@@ -45,7 +45,7 @@ loop-preserved g c = record {
 pub returns-in-Some-take_or_wait-clause-reacts : goal.returns-in-Some-take_or_wait-clause-reacts
 returns-in-Some-take_or_wait-clause-reacts g c parker is =
     found_woken g.N.Faults.fault_count c.args.shared.now.words.parkers c.args.shared.now.sure_of_arms (g.C.Clock.latest c.args.clock.now) parker
-    c.args.cell.now c.loop.cell (record c.loop.cell { seat = c.take_or_wait.new.s }) c.args.m.now c.loop.m c.in-Some-take_or_wait.field-0
+    c.args.cell.now c.loop.cell (record c.loop.cell { seat = c.take_or_wait.new.s }) c.args.m.now c.loop.m _
     (c.loop.invariant.waited parker is) (c.loop.invariant.mode ∙ is) c.in-Some-take_or_wait.ensures.some.0
-    (cell_step (word_step.LoadMask parker c.in-Some-take_or_wait.field-0) c.loop.cell c.seat.result.now c.take_or_wait.new.s c.seat.ensures.value c.take_or_wait.ensures.words
+    (cell_step (word_step.LoadMask parker _) c.loop.cell c.seat.result.now c.take_or_wait.new.s c.seat.ensures.value c.take_or_wait.ensures.words
     (c.in-Some-take_or_wait.ensures.view parker (ap (λ (s : SeatValue). s.view.mode) c.seat.ensures.value ∙ c.loop.invariant.mode ∙ is)))
