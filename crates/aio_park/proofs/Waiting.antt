@@ -9,7 +9,7 @@ use Rattle.aio_shared.specs.declared.reacting.ReactedIn.{ReactedIn}
 use Rattle.aio_shared.specs.declared.reacting.ReactFault.{ReactFault}
 use Rattle.aio_shared.specs.Cells.{CellValue}
 use Rattle.aio_shared.specs.Members.{MemberValue}
-use Rattle.aio_park.specs.Driving.{LooksAndReacts, LooksBetween, Passes, ReactsBlocked, ReactsUntilWoken, Tries, Turns, WaitsForSlots, cell_did, member_did}
+use Rattle.aio_park.specs.Driving.{LooksAndReacts, LooksBetween, Passes, ReactsBlocked, ReactsUntilWoken, Tries, Turns, TurnsIdly, TurnsUntil, WaitsForSlots, cell_did, member_did}
 use Rattle.aio_park.specs.Driving.Turns.{TakesAndPasses, TakesNoneAndWaits}
 
 -- one step of the seat that a cell lent
@@ -79,3 +79,30 @@ module _ {N : Type 0} (W : Type 0) (faults : N → ℕ) (parkers : ℕ) (all_sur
   turns_waiting found m mid later (Ok mask) none is waits =
       TakesNoneAndWaits (subst (λ (x : MemberValue N). WaitsForSlots W faults parkers all_sure earliest parker mask x later) (is ∙ ap (λ k. member_did (word_step.SwapMask parker k) m) none) waits)
   turns_waiting found m mid later (Err fault) none is waits = tt
+
+  -- some turns so far that took no mask
+  abbrev pub Turned : MemberValue N → MemberValue N → Type 0
+  Turned m later = (times : ℕ) × TurnsIdly W faults parkers all_sure earliest parker times m later
+
+  pub turned_none : (m : MemberValue N) → Turned m m
+  turned_none m = (zero, refl)
+
+  -- one more, and one that took a mask
+  pub turned_further : (moment mask : ℕ) (m by later : MemberValue N) → Turned m by → earliest ≤ moment → mask ≡ 0 → Turns W faults parkers all_sure moment parker mask by later → Turned m later
+  turned_further moment mask m by later so_far before none turns = (
+    suc so_far.0,
+    (
+      by,
+      so_far.1,
+      record {
+        moment = moment;
+        not_before = before;
+        turns = subst (λ k. Turns W faults parkers all_sure moment parker k by later) none turns;
+      },
+    ),
+  )
+
+  pub turned_until : (moment mask : ℕ) (m by later : MemberValue N) → Turned m by → earliest ≤ moment → Turns W faults parkers all_sure moment parker mask by later
+      → TurnsUntil W faults parkers all_sure earliest parker mask m later
+  turned_until moment mask m by later so_far before turns =
+      record { times = so_far.0; by = by; idle = so_far.1; last = record { moment = moment; not_before = before; turns = turns } }

@@ -171,3 +171,22 @@ module _ {N : Type 0} (W : Type 0) (faults : N → ℕ) where
     -- the swap found none, and the member waits for some
     TakesNoneAndWaits : WaitsForSlots parkers all_sure earliest parker mask (member_did (word_step.SwapMask parker 0) m) later
         → Turns parkers all_sure earliest parker mask m later
+
+  -- A turn that took this mask, from a moment on that is not before the earliest.
+  pub record TurnsAt (parkers : ℕ) (all_sure : Bool) (earliest parker mask : ℕ) (m later : MemberValue N) : Type 0 where
+    pub moment : ℕ
+    pub not_before : earliest ≤ moment
+    pub turns : Turns parkers all_sure moment parker mask m later
+
+  -- so many turns that took no mask, one after the other
+  abbrev pub TurnsIdly : ℕ → Bool → ℕ → ℕ → ℕ → MemberValue N → MemberValue N → Type 0
+  TurnsIdly parkers all_sure earliest parker zero m later = later ≡ m
+  TurnsIdly parkers all_sure earliest parker (suc times) m later = (by : MemberValue N)
+      × TurnsIdly parkers all_sure earliest parker times m by × TurnsAt parkers all_sure earliest parker 0 by later
+
+  -- Any number of these, and then a turn that took this mask.
+  pub record TurnsUntil (parkers : ℕ) (all_sure : Bool) (earliest parker mask : ℕ) (m later : MemberValue N) : Type 0 where
+    pub times : ℕ
+    pub by : MemberValue N
+    pub idle : TurnsIdly parkers all_sure earliest parker times m by
+    pub last : TurnsAt parkers all_sure earliest parker mask by later

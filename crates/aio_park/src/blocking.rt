@@ -9,7 +9,7 @@ ghost use Rattle.aio_shared.specs.Members.{IsLaterMember, IsMemberOf};
 ghost use Rattle.aio_shared.specs.OneCell.{IsCellOf};
 ghost use Rattle.aio_words.specs.Seats.{Blocks};
 ghost use Rattle.aio_park.specs.Blocking.{HasFaultCause, KeepsThread, PolledUntil, gained, taken_of};
-ghost use Rattle.aio_park.specs.Driving.{Gains, GainsNone, ParksFor, Passes, ReactsBlocked, ReactsUntilWoken, Turns, WaitsForSlots, mask_list, member_did};
+ghost use Rattle.aio_park.specs.Driving.{Gains, GainsNone, ParksFor, Passes, ReactsBlocked, ReactsUntilWoken, Turns, TurnsUntil, WaitsForSlots, mask_list, member_did};
 ghost use Rattle.aio_park.specs.Polls.{Polled};
 
 use crate::rounds::{BlockFault, react_once};
@@ -119,6 +119,9 @@ fn next_mask<R: Wait + Copy, N: Notify, C: Clock, A: Arm, W: EventWait>(
     clock: &mut C,
 ) -> Result<u64, ReactFault>
     requires { parker < host.old.shared.words.parkers }
+    ensures turns { IfOk result (λ mask. TurnsUntil W N.fault_count
+        host.old.shared.words.parkers host.old.shared.sure_of_arms (C.latest clock.old) parker
+        mask host.old.member host.new.member) }
     ensures took { IfOk result (λ mask.
         Gains parker host.old.member.pass.view host.new.member.pass.view (mask ∷ [])) }
     ensures shared { host.new.shared ≡ host.old.shared }
@@ -138,6 +141,8 @@ fn next_mask_of<R: Wait, N: Notify, C: Clock, A: Arm, W: EventWait>(
 ) -> Result<u64, ReactFault>
     requires belongs { IsMemberOf shared.now m.old }
     requires parker { parker < shared.now.words.parkers }
+    ensures turns { IfOk result (λ mask. TurnsUntil W N.fault_count shared.now.words.parkers
+        shared.now.sure_of_arms (C.latest clock.old) parker mask m.old m.new) }
     ensures took { IfOk result (λ mask. Gains parker m.old.pass.view m.new.pass.view (mask ∷ [])) }
     ensures keeps { KeepsThread N.fault_count N.is_sure C.bounds C.latest shared.now
         m.old m.new clock.old clock.new result }
