@@ -4,28 +4,14 @@ ghost use Rattle.std.specs.Prelude.{◌≡◌, ◌⊎◌, true, false, IfOk, IsT
 ghost use Rattle.std.specs.Arc.{arc_value};
 ghost use Rattle.aio_base.specs.Devices.{Rose};
 ghost use Rattle.aio_source.specs.Rules.{direction_of, is_ready};
-ghost use Rattle.aio_shared.specs.Sources.{Adds, outside};
+ghost use Rattle.aio_shared.specs.Sources.{Adds};
 
 use aio_base::{Arm, Dir, EventWait, Poll, Waker};
 use aio_shared::{InsertFault, Shared, SourceRef};
+use aio_shared_tests::owners::insert_io;
 use aio_source::SourceCell;
 use std::alloc::Global;
 use std::sync::{Arc, Wait};
-
-/// Inserts a connection, which is let go where it is refused.
-fn insert_io<A: Arm + Drop, W: EventWait, R: Wait>(
-    rt: &R,
-    shared: &Shared<A, W>,
-    io: A,
-) -> Result<SourceRef<A>, InsertFault>
-    ensures token { IfOk result (λ s. s ≡ outside shared.now.words.identity s.key (A.rest io)) }
-    ensures added { IfOk result (λ s. Adds A.arm_step s.key io) }
-{
-    match shared.sources(rt).insert(io) {
-        Ok(token) => Ok(token),
-        Err((_, fault)) => Err(fault),
-    }
-}
 
 /// The token of a source with the reactor that it belongs to. It is outside.
 #[derive(Drop)]

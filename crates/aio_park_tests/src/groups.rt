@@ -6,11 +6,14 @@ use aio_park::{Group, GroupRefusal};
 use std::process::Abort;
 use std::thread::{Threads, join};
 
-/// A host of which each state is later than each other.
+/// A host in which each task notes its slot when it is polled: a digit for each poll, which is the slot
+/// counted from one. Each state of it is later than each other.
 #[derive(Drop)]
-struct Still;
+struct Log {
+    digits: u64,
+}
 
-impl Later for Still {
+impl Later for Log {
     ghost use Rattle.std.specs.Prelude.{⊤, true, refl};
 
     ghost notifier_is_sure = { λ host. true };
@@ -40,7 +43,7 @@ struct Ending {
     polls: u64,
 }
 
-impl<H: Later> Task<H> for Ending {
+impl Task<Log> for Ending {
     ghost use Rattle.std.specs.Prelude.{⊤};
 
     type Output = Seen;
@@ -51,7 +54,9 @@ impl<H: Later> Task<H> for Ending {
 
     ghost poll_count = { λ task. task.polls };
 
-    fn poll(&mut self, _host: &mut H, cx: Cx) -> Poll<Seen> {
+    fn poll(&mut self, host: &mut Log, cx: Cx) -> Poll<Seen> {
+        let digit = cx.mask.trailing_zeros() as u64 + 1;
+        host.digits = host.digits.wrapping_mul(10).wrapping_add(digit);
         self.polls = self.polls.saturating_add(1);
         let now = cx.now.get();
         if now < self.end {
@@ -87,9 +92,9 @@ fn add(rt: &impl Abort, group: &mut Endings, end: u64, slot: u32) {
 }
 
 /// Polls the group as the task of parker 9 with this mask at this moment: its answers, once it ends.
-fn poll_at(group: &mut Endings, mask: u64, now: Moment) -> Option<Vec<Seen>> {
+fn poll_in(log: &mut Log, group: &mut Endings, mask: u64, now: Moment) -> Option<Vec<Seen>> {
     match group.poll(
-        &mut Still,
+        log,
         Cx {
             parker: 9,
             mask,
@@ -99,6 +104,11 @@ fn poll_at(group: &mut Endings, mask: u64, now: Moment) -> Option<Vec<Seen>> {
         Poll::Ready(answers) => Some(answers),
         Poll::Pending => None,
     }
+}
+
+/// The same where nobody reads what was noted.
+fn poll_at(group: &mut Endings, mask: u64, now: Moment) -> Option<Vec<Seen>> {
+    poll_in(&mut Log { digits: 0 }, group, mask, now)
 }
 
 fn is_pending(rt: &impl Abort, group: &mut Endings, mask: u64, now: u64) {
@@ -152,7 +162,7 @@ fn only_what_was_woken_is_polled(rt: HostRuntime) {
     is_pending(&rt, &mut group, (1 << 40) | 2, 0);
     let wanted = [poll_seen(1, 1, 1), poll_seen(2, 1, 2), poll_seen(4, 1, 1)];
     ends_with(&rt, &mut group, u64::MAX, 1, &wanted);
-    same(&rt, Task::<Still>::polls(&group), 2);
+    same(&rt, Task::<Log>::polls(&group), 2);
 }
 
 #[test]
@@ -165,6 +175,21 @@ fn each_slot_is_told_its_own_bit_and_answers_stand_in_the_order_of_slots(rt: Hos
     is_pending(&rt, &mut group, 7, 7);
     let wanted = [poll_seen(1, 7, 1), poll_seen(2, 8, 2), poll_seen(4, 6, 1)];
     ends_with(&rt, &mut group, 7, 8, &wanted);
+}
+
+#[test]
+fn the_slots_of_a_mask_are_polled_in_rising_order(rt: HostRuntime) {
+    let mut group = Group::new(rt.alloc(), 5);
+    for slot in 0..6 {
+        add(&rt, &mut group, slot as u64 % 2, slot);
+    }
+    let mut log = Log { digits: 0 };
+    let pending = poll_in(&mut log, &mut group, 0b11_0110, moment(&rt, 0));
+    same(&rt, (pending.is_none(), log.digits), (true, 2356));
+    // slots 2 and 4 have ended
+    let mut log = Log { digits: 0 };
+    let ended = poll_in(&mut log, &mut group, u64::MAX, moment(&rt, 1));
+    same(&rt, (ended.is_some(), log.digits), (true, 1246));
 }
 
 #[test]
@@ -185,7 +210,7 @@ fn tasks_added_later_join_and_none_is_left_at_the_end(rt: HostRuntime) {
     ends_with(&rt, &mut group, 3, 4, &wanted);
     add(&rt, &mut group, 5, 0);
     ends_with(&rt, &mut group, 1, 5, &[poll_seen(1, 5, 1)]);
-    same(&rt, Task::<Still>::polls(&group), 4);
+    same(&rt, Task::<Log>::polls(&group), 4);
 }
 
 /// Takes what may go to another thread and be let go there.

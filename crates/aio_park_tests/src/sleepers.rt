@@ -183,8 +183,8 @@ impl<R: Wait + Copy, N: Notify, A: Arm, W: EventWait, C: Clock> Sleeper<R, N, A,
 /// What a thread comes to that blocks on a timer.
 pub type Fired = Result<Result<Moment, TimerFault>, BlockFault>;
 
-/// Blocks on a task whose timer fires at a moment: where the task ends without a fault, that moment has
-/// come by the thread's clock.
+/// Blocks on a task whose timer fires at a moment. Where the task ends without a fault it answers that
+/// moment, which is not after the greatest one of the thread's clock, where that tells one.
 pub fn fire<R: Wait + Copy, N: Notify, A: Arm, W: EventWait, C: Clock>(
     thread: &mut Sleeper<R, N, A, W, C>,
     at: Moment,

@@ -30,8 +30,8 @@ pub fn reacted(events: u32, woken: u64) -> Reaction
     }))
 }
 
-/// Blocks parker 0 and looks at its mask: whether the seat waits now, which it does exactly where the mask
-/// was empty. Else it blocks.
+/// Blocks parker 0 and looks at its mask. Whether the seat waits now: then the look found no woken slot.
+/// Else it blocks.
 pub fn waits_for_first(words: &Words, seat: &mut RoundSeat) -> bool
     requires idle { Belongs words.now seat.old × (seat.old.view.mode ≡ mode.Idle) }
     requires parker { 0 < words.now.parkers }
@@ -43,8 +43,8 @@ pub fn waits_for_first(words: &Words, seat: &mut RoundSeat) -> bool
     words.take_or_wait(seat).is_none()
 }
 
-/// Reacts where the seat waits for parker 0 then, and leaves it blocking that parker. `None` where a slot of
-/// the parker is woken already: then there is no round.
+/// Blocks parker 0, looks at its mask, and reacts where the seat waits then. It leaves the seat blocking that
+/// parker. `None` where it does not wait: then there is no round.
 pub fn react_where_waiting<R: Wait, N: Notify, A: Arm, W: EventWait, C: Clock>(
     rt: &R,
     shared: &Shared<A, W>,
@@ -75,8 +75,8 @@ pub fn react_where_waiting<R: Wait, N: Notify, A: Arm, W: EventWait, C: Clock>(
     Some(shared.react_in(rt, m, cell, clock, Some(0)))
 }
 
-/// Reacts with a seat that waits for parker 0, and unblocks it. `None` where a slot of the parker is woken
-/// already.
+/// Reacts with a seat that waits for parker 0, and unblocks it. `None` where it does not wait: then the member
+/// is as it was.
 pub fn react_blocked<R: Wait, N: Notify, A: Arm, W: EventWait, C: Clock>(
     rt: &R,
     shared: &Shared<A, W>,
