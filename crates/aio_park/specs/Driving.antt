@@ -1,4 +1,4 @@
--- Rounds that a member makes one after the other, while it holds the round cell.
+-- Rounds that a member makes one after the other while it holds the round cell, and what it does between two polls of its task.
 use Rattle.std.specs.Prelude.{◌≡◌, ◌≢◌, ℕ, zero, suc, ◌+◌, ◌-◌, ◌^◌, ◌≤◌, Bool, false, ◌==◌, if◌then◌else◌, List, [], ◌∷◌, ◌++◌, map, All, Option, None, Some, Result, Ok, Err, ⊤}
 use Rattle.aio_base.specs.declared.seats.Mode.TheVariants as mode
 use Rattle.aio_base.specs.declared.seats.SeatView.{SeatView}
