@@ -65,7 +65,6 @@ listener-again l (Some first) = refl
 pub opened-read : (seats : List PackedSeat) (at : ℕ) (p : PackedSeat) → p ≡ get_or seats at p → opened p ≡ get_or (map opened seats) at (opened p)
 opened-read seats at p is = ap opened is ∙ sym (get_or-map opened seats at p)
 
-
 -- a seat is that of its listener
 seat-back : (s : Seat) (p : FirstPoll) → IsEarly s p → seat_in (listener_in s p) ≡ s
 seat-back seat.Gone p early = refl

@@ -116,9 +116,7 @@ pub(crate) fn told_listen(listened: Result<u64, CoreRefusal>) -> Result<Answer, 
 }
 
 /// Of a poll of a listener. `OutOfMemory` where memory ran out.
-pub(crate) fn told_step(
-    stepped: Result<Poll<Result<(), ArmFault>>, CoreRefusal>,
-) -> PollReply
+pub(crate) fn told_step(stepped: Result<Poll<Result<(), ArmFault>>, CoreRefusal>) -> PollReply
     requires { IsTold step_reply stepped }
     ensures { IfSome (reply_answer result) (λ answer. step_reply stepped ≡ Some answer) }
 {

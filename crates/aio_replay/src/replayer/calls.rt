@@ -49,13 +49,7 @@ impl Replayer {
 
     /// The same, with the answer in one byte.
     #[inline(never)]
-    fn poll_source(
-        &mut self,
-        key: Key,
-        dir: Dir,
-        waker: Waker,
-        wakes: &mut Vec<Waker>,
-    ) -> PollReply
+    fn poll_source(&mut self, key: Key, dir: Dir, waker: Waker, wakes: &mut Vec<Waker>) -> PollReply
         requires { wakes.old.items ≡ [] }
         ensures { IfSome (reply_answer result) (λ answer.
             Replays (step.Poll key dir waker) answer wakes.new.items self.old self.new) }

@@ -28,6 +28,8 @@ returns c =
 pub invariant_of-self : goal.invariant_of-self
 invariant_of-self c =
     let i = c.self.inside in
-    let one : IsEarly (opened c.seat_of.result) c.first_poll_of.result = rw (c.seat_of.ensures, c.first_poll_of.ensures) (early-again c.args.listener c.args.listener.first) in
-    (search rules, rw (map-set opened i.seats.items (c.args.number - 1) c.seat_of.result)
-    (early-set (map opened i.seats.items) i.first_polls.items (c.args.number - 1) (opened c.seat_of.result) c.first_poll_of.result (c.self.invariant.0 ∙ sym (length-map i.seats.items opened)) c.self.invariant.1 one))
+    let one : IsEarly (opened c.seat_of.result) c.first_poll_of.result = rw (c.seat_of.ensures, c.first_poll_of.ensures) (early-again c.args.listener c.args.listener.first) in (
+      search rules,
+      rw (map-set opened i.seats.items (c.args.number - 1) c.seat_of.result)
+          (early-set (map opened i.seats.items) i.first_polls.items (c.args.number - 1) (opened c.seat_of.result) c.first_poll_of.result (c.self.invariant.0 ∙ sym (length-map i.seats.items opened)) c.self.invariant.1 one),
+    )

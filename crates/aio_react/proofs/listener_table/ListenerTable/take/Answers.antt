@@ -43,6 +43,8 @@ returns-clause-after c =
 
 pub invariant_of-self : goal.invariant_of-self
 invariant_of-self c =
-    let i = c.self.inside in
-    (search rules, rw (map-set opened i.seats.items (c.args.number - 1) c.gone.result, c.gone.ensures)
-    (early-gone (map opened i.seats.items) i.first_polls.items (c.args.number - 1) (c.self.invariant.0 ∙ sym (length-map i.seats.items opened)) c.self.invariant.1))
+    let i = c.self.inside in (
+      search rules,
+      rw (map-set opened i.seats.items (c.args.number - 1) c.gone.result, c.gone.ensures)
+          (early-gone (map opened i.seats.items) i.first_polls.items (c.args.number - 1) (c.self.invariant.0 ∙ sym (length-map i.seats.items opened)) c.self.invariant.1),
+    )
