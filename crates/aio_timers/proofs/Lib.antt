@@ -22,3 +22,4 @@ mod LentLemmas
 mod FrontLemmas
 mod RenewLemmas
 mod LateLemmas
+mod LastLemmas

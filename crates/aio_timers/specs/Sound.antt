@@ -14,6 +14,10 @@ use Rattle.aio_timers.specs.Chains.{IsTable, used_of}
 abbrev pub registrations : List Held → List Registration
 registrations hs = in_order (filter_map live_of hs)
 
+-- no id of a registration is greater
+abbrev pub HasIdsTo : ℕ → List Registration → Type 0
+HasIdsTo last book = All (λ (r : Registration). r.id ≤ last) book
+
 pub record IsSound (nodes : List Node) (buckets : List (Option ℕ)) (root free : Option ℕ)
     (used : ℕ) : Type 0 where
   pub heap : IsHeap nodes root free

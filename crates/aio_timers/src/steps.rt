@@ -5,7 +5,7 @@ ghost use Rattle.aio_base.specs.World.{Registration};
 ghost use Rattle.aio_timers.specs.Held.{held_at, helds, live_of};
 ghost use Rattle.aio_timers.specs.Due.{NoneDue};
 ghost use Rattle.aio_timers.specs.Writes.{renamed, with_waker};
-ghost use Rattle.aio_timers.specs.Sound.{IsSound, IsAbsent, IsPairAt, Gains, Drops, Renews};
+ghost use Rattle.aio_timers.specs.Sound.{registrations, HasIdsTo, IsSound, IsAbsent, IsPairAt, Gains, Drops, Renews};
 
 use crate::chains::{bucket_of, head_of, join, leave, seek};
 use crate::heap::{place, take_inner, take_root};
@@ -29,6 +29,28 @@ pub(crate) fn find(
         (λ at. IsPairAt nodes.now.items deadline id.0 at) }
 {
     find_in(nodes.as_slice(), buckets.as_slice(), deadline, id)
+}
+
+/// The same where no id of a timer is greater than `last`: a later id is not searched for.
+pub(crate) fn find_to(
+    nodes: &Vec<Node>,
+    buckets: &Vec<Link>,
+    last: u64,
+    deadline: Moment,
+    id: TimerId,
+) -> Option<usize>
+    requires { (root : Option ℕ) × (free : Option ℕ) × (used : ℕ)
+        × IsSound nodes.now.items buckets.now.items root free used }
+    ensures { (root free : Option ℕ) (used : ℕ)
+        → IsSound nodes.now.items buckets.now.items root free used
+        → HasIdsTo last (registrations (helds nodes.now.items))
+        → MatchOption result (IsAbsent deadline id.0 (helds nodes.now.items))
+        (λ at. IsPairAt nodes.now.items deadline id.0 at) }
+{
+    if last < id.0 {
+        return None;
+    }
+    find(nodes, buckets, deadline, id)
 }
 
 /// Registers a timer whose deadline and id are not there yet. The answer is the new root and the next

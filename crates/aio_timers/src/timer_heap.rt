@@ -14,7 +14,7 @@ use crate::link::Link;
 use crate::node::Node;
 use crate::reads::{is_due_at, pair_at, waker_at};
 use crate::room::{grow, wanted};
-use crate::steps::{add, find, renew, set_waker, take};
+use crate::steps::{add, find, find_to, renew, set_waker, take};
 use aio_base::{Moment, OutOfMemory, TimerId, Waker};
 use std::alloc::Global;
 use std::marker::Model;
@@ -32,12 +32,14 @@ pub(crate) struct TimerHeap {
     root: Option<usize>,
     free: Link,
     used: u32,
+    /// No id of a timer is greater.
+    last: u64,
 }
 
 impl Model for TimerHeap {
     ghost use Rattle.std.specs.Prelude.{◌-◌, length};
     ghost use Rattle.aio_timers.specs.Held.{helds};
-    ghost use Rattle.aio_timers.specs.Sound.{registrations, IsSound};
+    ghost use Rattle.aio_timers.specs.Sound.{registrations, HasIdsTo, IsSound};
     ghost use Rattle.aio_timers.specs.Room.{Book};
 
     ghost Value = { Book };
@@ -47,7 +49,8 @@ impl Model for TimerHeap {
       spare = length b.nodes.items - b.used;
     } };
 
-    ghost invariant = { λ b. IsSound b.nodes.items b.buckets.items b.root b.free b.used };
+    ghost invariant = { λ b. IsSound b.nodes.items b.buckets.items b.root b.free b.used
+        × HasIdsTo b.last (registrations (helds b.nodes.items)) };
 }
 
 impl TimerHeap {
@@ -61,6 +64,7 @@ impl TimerHeap {
             root: None,
             free: Link::none(),
             used: 0,
+            last: 0,
         }
     }
 
@@ -99,7 +103,7 @@ impl TimerHeap {
             ≡ fold_changes self.old.entries (change_of (TimerOp.Insert deadline id waker) ∷ []) }
         ensures spare { self.old.spare ≤ self.new.spare + 1 }
     {
-        match find(&self.nodes, &self.buckets, deadline, id) {
+        match find_to(&self.nodes, &self.buckets, self.last, deadline, id) {
             Some(at) => set_waker(&mut self.nodes, at, waker),
             None => {
                 let timer = (deadline, id, waker);
@@ -113,6 +117,7 @@ impl TimerHeap {
                 self.root = Some(root);
                 self.free = free;
                 self.used += 1;
+                self.last = self.last.max(id.0);
             }
         }
     }
@@ -157,10 +162,11 @@ impl TimerHeap {
                 if !has_later_children(self.nodes.as_slice(), at, deadline) {
                     return false;
                 }
-                match find(&self.nodes, &self.buckets, deadline, next) {
+                match find_to(&self.nodes, &self.buckets, self.last, deadline, next) {
                     Some(_) => false,
                     None => {
                         renew(&mut self.nodes, &mut self.buckets, at, next, waker);
+                        self.last = self.last.max(next.0);
                         true
                     }
                 }

@@ -11,7 +11,7 @@ use Rattle.aio_timers.proofs.DueCountLemmas.{due-wakers, due-few}
 use Rattle.aio_timers.proofs.timer_heap.TimerHeap.due_count.Goals as goal
 
 pub count_due-requires : goal.count_due-requires
-count_due-requires c = (c.self.inside.free, rw c.as_slice.ensures.value c.self.invariant.heap)
+count_due-requires c = (c.self.inside.free, rw c.as_slice.ensures.value c.self.invariant.0.heap)
 
 pub returns-clause-value : goal.returns-clause-value
 returns-clause-value c =
