@@ -88,10 +88,41 @@ pub fn write_reply(
     }
 }
 
-/// Writes a line of a word and a number by one copy. It is made from its end: the digits go before the
-/// line feed, and the word before them.
+/// Writes a line of a word and a number. Where there is room for the longest such line, it is written in
+/// place, with line feeds behind the word that the digits then replace but for one: the digits are counted
+/// first, and nothing that was just written is read again.
 #[inline]
 pub(crate) fn push_numbered<const N: usize>(
+    out: &mut Vec<u8>,
+    word: &[u8; N],
+    number: u64,
+) -> Result<(), AllocError>
+    requires { N ≤ 11 }
+    ensures ok { OnOk result (out.new.items
+        ≡ out.old.items ++ ended_line (word.now ++ decimal number)) }
+    ensures kept { OnErr result (KeepsFront out.old.items out.new.items) }
+    ensures full { OnErr result (LacksRoom (vec_capacity out.old) out.old.items
+        (ended_line (word.now ++ decimal number))) }
+    ensures grown { vec_capacity out.old ≤ vec_capacity out.new }
+{
+    let len = out.len();
+    if out.capacity() - len < 32 {
+        return push_close(out, word, number);
+    }
+    let mut uncounted = [0; 20];
+    let count = 20 - write_digits(number, &mut uncounted, 20);
+    out.extend_from_slice(word)?;
+    out.extend_from_slice(&[b'\n'; 21])?;
+    let end = len + N + count;
+    write_digits(number, out.as_mut_slice(), end);
+    out.truncate(end + 1);
+    Ok(())
+}
+
+/// The same by one copy, where there is little room. The line is made from its end: the digits go before
+/// the line feed, and the word before them.
+#[inline(never)]
+fn push_close<const N: usize>(
     out: &mut Vec<u8>,
     word: &[u8; N],
     number: u64,
