@@ -310,6 +310,19 @@ pub row-before : (ns : List Node) (b : ℕ) (l : Option ℕ) (front : List ℕ) 
 row-before ns b l [] i back r = r.2
 row-before ns b l (x ∷ xs) i back r = row-before ns x (node_at ns x).next xs i back r.3
 
+-- the node before another one leads on to it
+row-onto : (ns : List Node) (b : ℕ) (l : Option ℕ) (x : ℕ) (xs : List ℕ) (i : ℕ) (back : List ℕ) → IsRow ns b l (x ∷ xs ++ i ∷ back) → (node_at ns (last_or x xs)).next ≡ Some i
+row-onto ns b l x [] i back r = r.3.0
+row-onto ns b l x (y ∷ ys) i back r = row-onto ns x (node_at ns x).next y ys i back r.3
+
+-- a node of a row leads on to nodes of the row alone
+row-on : (ns : List Node) (b : ℕ) (l : Option ℕ) (ks : List ℕ) (q i : ℕ) → IsRow ns b l ks → 0 < times_in q ks → (node_at ns q).next ≡ Some i → 0 < times_in i ks
+row-on ns b l [] q i r c e = absurd (omega (arith, c))
+row-on ns b l (x ∷ ks) q i r c e = elim (cases_eq q x) as (λ _. 0 < times_in i (x ∷ ks)) [
+  | inl same ↦ omega (arith, row-first ns x (node_at ns x).next ks i r.3 (ap (λ (k : ℕ). (node_at ns k).next) (sym same) ∙ e))
+  | inr ne ↦ omega (arith, row-on ns x (node_at ns x).next ks q i r.3 (omega (arith, c, one_if-other q x ne)) e)
+]
+
 pub row-rest : (ns : List Node) (b : ℕ) (l : Option ℕ) (front : List ℕ) (i : ℕ) (back : List ℕ) → IsRow ns b l (front ++ i ∷ back) → IsRow ns i (node_at ns i).next back
 row-rest ns b l [] i back r = r.3
 row-rest ns b l (x ∷ xs) i back r = row-rest ns x (node_at ns x).next xs i back r.3
@@ -333,6 +346,18 @@ row-skip old new b l (x ∷ xs) i back once w behind r =
     goes [] once w behind = behind (omega arith)
     goes (y ∷ ys) once w behind = w.next x (λ e. omega (arith, once x, one_if-same x, times-append x (y ∷ ys) (i ∷ back), last-inside y ys, ap (λ (k : ℕ). times_in k (y ∷ ys)) e))
 
+-- a parent does not lead on to its child
+parent-on : (ns : List Node) (f : Family) (i q : ℕ) → IsFamily ns f → f.above i ≡ Some q → (f.above q ≡ None → (node_at ns q).next ≢ Some i) → (node_at ns q).next ≢ Some i
+parent-on ns f i q h up top e = go (f.above q) refl
+  where
+    go : (o : Option ℕ) → f.above q ≡ o → ⊥
+    go None above = top above e
+    go (Some r) above =
+        let p : IsParent ns r q = h.order r q above in
+        let inside : 0 < times_in i (f.below r) = row-on ns r (node_at ns r).child (f.below r) q i (h.linked r p.parent) (omega (arith, has-below ns f r q h above)) e in
+        let same : r ≡ q = cc (sym (below-has ns f r i h p.parent inside) ∙ up) in
+        no-own-child ns f q h (above ∙ ap (λ (x : ℕ). Some x) same)
+
 -- the row without the node, and what is left elsewhere
 record Skips (old new : List Node) (f : Family) (q : ℕ) (front back : List ℕ) : Type 0 where
   kept : KeepsHeld old new
@@ -340,8 +365,8 @@ record Skips (old new : List Node) (f : Family) (q : ℕ) (front back : List ℕ
   child : (k : ℕ) → k ≢ q → (node_at new k).child ≡ (node_at old k).child
   still : (j : ℕ) → f.above j ≢ Some q → ((node_at new j).next ≡ (node_at old j).next) × ((node_at new j).prev ≡ (node_at old j).prev)
 
-skips-row : (ns : List Node) (f : Family) (i q : ℕ) (front back : List ℕ) → IsFamily ns f → f.above i ≡ Some q → f.below q ≡ front ++ i ∷ back → Skips ns (without ns i) f q front back
-skips-row ns f i q front back h up is =
+skips-row : (ns : List Node) (f : Family) (i q : ℕ) (front back : List ℕ) → IsFamily ns f → f.above i ≡ Some q → (f.above q ≡ None → (node_at ns q).next ≢ Some i) → f.below q ≡ front ++ i ∷ back → Skips ns (without ns i) f q front back
+skips-row ns f i q front back h up tops is =
     let p : IsParent ns q i = h.order q i up in
     let r : IsRow ns q (node_at ns q).child (front ++ i ∷ back) = rw (← is) (h.linked q p.parent) in
     let has : (j : ℕ) → 0 < times_in j (front ++ i ∷ back) → f.above j ≡ Some q = λ j c. below-has ns f q j h p.parent (omega (arith, c, ap (times_in j) is)) in
@@ -354,13 +379,10 @@ skips-row ns f i q front back h up is =
     let behind : (j : ℕ) → (node_at ns i).next ≡ Some j → f.above j ≡ Some q = λ j e. has j (omega (arith, row-first ns i (node_at ns i).next back j (row-rest ns q (node_at ns q).child front i back r) e, times-append j front (i ∷ back))) in
     go front r has all_once behind p
   where
-    own : (b : ℕ) → b ≡ q → f.above b ≡ Some q → f.above q ≡ Some q
-    own b e above = ap f.above (sym e) ∙ above
-
     go : (xs : List ℕ) → IsRow ns q (node_at ns q).child (xs ++ i ∷ back) → ((j : ℕ) → 0 < times_in j (xs ++ i ∷ back) → f.above j ≡ Some q) → ((j : ℕ) → times_in j (q ∷ xs ++ i ∷ back) ≤ 1)
         → ((j : ℕ) → (node_at ns i).next ≡ Some j → f.above j ≡ Some q) → IsParent ns q i → Skips ns (without ns i) f q xs back
     go [] r has once behind p =
-        let w : LeavesFirst ns (without ns i) q i = leaves-first ns q i (used-within ns q p.parent) r.2 r.0 in
+        let w : LeavesFirst ns (without ns i) q i = leaves-first ns q i (used-within ns q p.parent) r.2 (parent-on ns f i q h up tops) in
         let l : Leaves ns (without ns i) q i = w.leaves in
         record {
           kept = record { len = l.len; held = l.held };
@@ -378,8 +400,7 @@ skips-row ns f i q front back h up is =
         let before : ℕ = last_or x xs in
         let above : f.above before ≡ Some q = has before (omega (arith, last-inside x xs, times-append before xs (i ∷ back))) in
         let b : IsParent ns q before = h.order q before above in
-        let not_first : (node_at ns before).child ≢ Some i = λ e. no-own-child ns f q h (own before (cc (sym (below-has ns f before i h b.child (row-first ns before (node_at ns before).child (f.below before) i (h.linked before b.child) e)) ∙ up)) above) in
-        let w : LeavesInner ns (without ns i) before i = leaves-inner ns before i (used-within ns before b.child) (row-before ns q (node_at ns q).child (x ∷ xs) i back r) not_first in
+        let w : LeavesInner ns (without ns i) before i = leaves-inner ns before i (used-within ns before b.child) (row-before ns q (node_at ns q).child (x ∷ xs) i back r) (row-onto ns q (node_at ns q).child x xs i back r) in
         let l : Leaves ns (without ns i) before i = w.leaves in
         let children : (k : ℕ) → (node_at (without ns i) k).child ≡ (node_at ns k).child = λ k. elim (cases_eq k before) as (λ _. (node_at (without ns i) k).child ≡ (node_at ns k).child) [
           | inl e ↦ rw e w.child
@@ -402,8 +423,8 @@ parted-here f i q front back = ap (λ (b : Bool). cond b None (f.above i)) (same
 pub parted-other : (f : Family) (i q j : ℕ) (front back : List ℕ) → j ≢ i → (parted f i q front back).above j ≡ f.above j
 parted-other f i q j front back ne = ap (λ (b : Bool). cond b None (f.above j)) (other-test j i ne)
 
-pub family-without : (ns : List Node) (f : Family) (i q : ℕ) (front back : List ℕ) → IsFamily ns f → f.above i ≡ Some q → f.below q ≡ front ++ i ∷ back → IsFamily (without ns i) (parted f i q front back)
-family-without ns f i q front back h up is = rest (skips-row ns f i q front back h up is)
+pub family-without : (ns : List Node) (f : Family) (i q : ℕ) (front back : List ℕ) → IsFamily ns f → f.above i ≡ Some q → (f.above q ≡ None → (node_at ns q).next ≢ Some i) → f.below q ≡ front ++ i ∷ back → IsFamily (without ns i) (parted f i q front back)
+family-without ns f i q front back h up tops is = rest (skips-row ns f i q front back h up tops is)
   where
     none : (k : ℕ) → ◌≡◌ {A = Option ℕ} None (Some k) → ⊥
     none k e = cc
@@ -448,9 +469,9 @@ pub record Stands (old new : List Node) (f : Family) (i : ℕ) : Type 0 where
   pub child : (node_at new i).child ≡ (node_at old i).child
   pub still : (j : ℕ) → f.above j ≡ None → ((node_at new j).next ≡ (node_at old j).next) × ((node_at new j).prev ≡ (node_at old j).prev)
 
-pub without-still : (ns : List Node) (f : Family) (i q : ℕ) (front back : List ℕ) → IsFamily ns f → f.above i ≡ Some q → f.below q ≡ front ++ i ∷ back → Stands ns (without ns i) f i
-without-still ns f i q front back h up is =
-    let s : Skips ns (without ns i) f q front back = skips-row ns f i q front back h up is in
+pub without-still : (ns : List Node) (f : Family) (i q : ℕ) (front back : List ℕ) → IsFamily ns f → f.above i ≡ Some q → (f.above q ≡ None → (node_at ns q).next ≢ Some i) → f.below q ≡ front ++ i ∷ back → Stands ns (without ns i) f i
+without-still ns f i q front back h up tops is =
+    let s : Skips ns (without ns i) f q front back = skips-row ns f i q front back h up tops is in
     record { kept = s.kept; child = s.child i (λ e. no-own-child ns f q h (ap f.above (sym e) ∙ up)); still = λ j free. s.still j (λ e. none (sym free ∙ e)) }
   where
     none : ◌≡◌ {A = Option ℕ} None (Some q) → ⊥

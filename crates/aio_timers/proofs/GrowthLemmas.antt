@@ -1,5 +1,5 @@
 -- Free nodes that join the others, and a row of buckets that is filled anew.
-use Rattle.std.proofs.Common.{inl, inr, ◌⊎◌, ◌≡◌, ◌≢◌, ℕ, zero, suc, ◌+◌, ◌<◌, ◌≤◌, ◌^◌, ◌==◌, Bool, true, false, cond, List, [], ◌∷◌, ◌++◌, length, Option, None, Some, IfSome, is_some, refl, sym, ap, ◌∙◌, arith}
+use Rattle.std.proofs.Common.{inl, inr, ◌⊎◌, ◌≡◌, ◌≢◌, ℕ, zero, suc, ◌+◌, ◌<◌, ◌≤◌, ◌^◌, ◌==◌, Bool, true, false, cond, List, [], ◌∷◌, ◌++◌, length, Option, None, Some, IfSome, is_some, Result, Ok, Err, IfOk, OnErr, refl, sym, ap, ◌∙◌, arith}
 use Rattle.std.specs.Prelude.{nat_lt}
 use Rattle.std.specs.Int.{IsPowerOfTwo}
 use Rattle.std.specs.List.{filter_map, cons_option}
@@ -15,7 +15,7 @@ use Rattle.aio_timers.specs.Family.{Family, IsFamily, IsParent}
 use Rattle.aio_timers.specs.Heap.{IsHeap, IsRoot, one_free}
 use Rattle.aio_timers.specs.Chains.{IsTable, IsWithout, ChainsChange, used_of, bucket_in}
 use Rattle.aio_timers.specs.Sound.{registrations, IsSound}
-use Rattle.aio_timers.specs.Growth.{IsBlankRow, used_before, Rehashes, Extends, GrowsTo}
+use Rattle.aio_timers.specs.Growth.{IsBlankRow, used_before, Rehashes, Extends, GrowsTo, Grows}
 use Rattle.aio_timers.proofs.CountLemmas.{one_if-same, one_if-other, some_or_none}
 use Rattle.aio_timers.proofs.RunLemmas.{used-within, run-within}
 use Rattle.aio_timers.proofs.FamilyLemmas.{used-as, parent-as, apart-as}
@@ -219,3 +219,10 @@ grown ns us ms ds root free first used total bs s r e len row few power =
         used_is = omega (arith, s.used_is, ap (λ (rs : List Registration). length rs) regs);
       };
     }
+
+-- or where there was no memory for more nodes, they are as they were
+pub grows : {E : Type 0} (ns us ms : List Node) (ds : List (Option ℕ)) (root free : Option ℕ) (used total : ℕ) (bs : List (Option ℕ)) (r : Result (Option ℕ) E) → IsSound ns bs root free used → Rehashes ns us ds → IfOk r (λ first. Extends us ms free first) → IfOk r (λ first. length ms ≡ total)
+    → OnErr r (ms ≡ us) → total ≤ length ds → length ns ≤ total → total < 2 ^ 32 → (0 < length ds → IsPowerOfTwo (length ds)) → Grows ns ms ds root free used total r
+grows ns us ms ds root free used total bs (Ok first) s r e len none row more few power = grown ns us ms ds root free first used total bs s r e len row few power
+grows ns us ms ds root free used total bs (Err x) s r e len none row more few power =
+    rw none (grown ns us us ds root free free used (length ns) bs s r (Extends-refl us free) r.change.len (omega (arith, row, more)) (omega (arith, more, few)) power)

@@ -346,8 +346,16 @@ pub opens-inner : (ns us mid : List Node) (root at : ℕ) (first free : Option �
     → Opens ns mid at (Some root) first
 opens-inner ns us mid root at first free left child is h used ne =
     let c : Child ns h.family at = its-parent ns root at free h used ne in
-    rw (child, is, left) (opened c (family-without ns h.family at c.parent c.front c.back h.rows c.up c.is) (without-still ns h.family at c.parent c.front c.back h.rows c.up c.is))
+    let p : IsParent ns c.parent at = h.rows.order c.parent at c.up in
+    let tops : h.family.above c.parent ≡ None → (node_at ns c.parent).next ≢ Some at = λ above e. none_on at (sym (alone c.parent (cc (h.single c.parent (record { used = p.parent; free = above })))) ∙ e) in
+    rw (child, is, left) (opened c (family-without ns h.family at c.parent c.front c.back h.rows c.up tops c.is) (without-still ns h.family at c.parent c.front c.back h.rows c.up tops c.is))
   where
+    none_on : (k : ℕ) → ◌≡◌ {A = Option ℕ} None (Some k) → ⊥
+    none_on k e = cc
+
+    alone : (q : ℕ) → root ≡ q → (node_at ns q).next ≡ None
+    alone q e = ap (λ (x : ℕ). (node_at ns x).next) (sym e) ∙ h.root_is.next
+
     opened : (c : Child ns h.family at) → IsFamily (without ns at) (parted h.family at c.parent c.front c.back) → Stands ns (without ns at) h.family at → Opens ns (released (without ns at) at free) at (Some root) (node_at (without ns at) at).child
     opened c fam st =
         let us : List Node = without ns at in
@@ -447,6 +455,7 @@ merged-alone ns mid new at first (Some top) o m =
 pub record Rejoins (ns new : List Node) (at root top : ℕ) : Type 0 where
   pub first : IsInside new root
   pub second : IsInside new top
+  pub len : length new ≡ length ns
   pub holds : Holds ns (joined new root top) at (gone (held_at ns at)) (Some (upper new root top)) (Some at)
 
 pub rejoins : (ns mid new : List Node) (at root top : ℕ) (first : Option ℕ) → (o : Opens ns mid at (Some root) first) → MergesTo mid new o.family o.row top → Rejoins ns new at root top
@@ -462,5 +471,6 @@ rejoins ns mid new at root top first o m =
     record {
       first = inside-of new m.melts.now root m.melts.family rr.top.used;
       second = inside-of new m.melts.now top m.melts.family rt.top.used;
+      len = m.melts.kept.len ∙ sym (length-map mid held_of) ∙ ap (λ (hs : List Held). length hs) o.helds_are ∙ length-set (helds ns) at _ ∙ length-map ns held_of;
       holds = record { heap = j.heap; helds_are = helds-same new (joined new root top) j.kept ∙ helds-same mid new m.melts.kept ∙ o.helds_are };
     }

@@ -2,6 +2,7 @@ pub mod OrderLemmas
 pub mod BookLemmas
 pub mod PassLemmas
 pub mod OpLemmas
+mod ColumnLemmas
 mod CountLemmas
 mod RunLemmas
 mod WriteLemmas
@@ -18,7 +19,6 @@ mod AlikeLemmas
 mod WeightLemmas
 mod SoundLemmas
 mod GrowthLemmas
-mod LentLemmas
 mod FrontLemmas
 mod RenewLemmas
 mod LateLemmas

@@ -127,12 +127,12 @@ pub record LeavesInner (old new : List Node) (b i : ℕ) : Type 0 where
   pub child : (node_at new b).child ≡ (node_at old b).child
   pub next : (node_at new b).next ≡ (node_at old i).next
 
-pub leaves-first : (ns : List Node) (b i : ℕ) → b < length ns → (node_at ns i).prev ≡ Some b → (node_at ns b).child ≡ Some i → LeavesFirst ns (without ns i) b i
-leaves-first ns b i hb prev at_child =
+pub leaves-first : (ns : List Node) (b i : ℕ) → b < length ns → (node_at ns i).prev ≡ Some b → (node_at ns b).next ≢ Some i → LeavesFirst ns (without ns i) b i
+leaves-first ns b i hb prev at_next =
     let next : Option ℕ = (node_at ns i).next in
     let a : List Node = with_child ns b next in
     let a_len : length a ≡ length ns = length-set ns b _ in
-    let test : leads_to (node_at ns b).child i ≡ true = ap (λ (l : Option ℕ). leads_to l i) at_child ∙ leads-same i in
+    let test : leads_to (node_at ns b).next i ≡ false = leads-other (node_at ns b).next i at_next in
     let is : without ns i ≡ with_back a next (Some b) = rw (prev, test) refl in
     rw is (record {
       leaves = record {
@@ -147,12 +147,12 @@ leaves-first ns b i hb prev at_child =
       next = back-kept (λ (n : Node). n.next) a next (Some b) b (λ n. refl) ∙ kept (λ (n : Node). n.next) ns b b _ refl;
     })
 
-pub leaves-inner : (ns : List Node) (b i : ℕ) → b < length ns → (node_at ns i).prev ≡ Some b → (node_at ns b).child ≢ Some i → LeavesInner ns (without ns i) b i
-leaves-inner ns b i hb prev at_child =
+pub leaves-inner : (ns : List Node) (b i : ℕ) → b < length ns → (node_at ns i).prev ≡ Some b → (node_at ns b).next ≡ Some i → LeavesInner ns (without ns i) b i
+leaves-inner ns b i hb prev at_next =
     let next : Option ℕ = (node_at ns i).next in
     let a : List Node = with_next ns b next in
     let a_len : length a ≡ length ns = length-set ns b _ in
-    let test : leads_to (node_at ns b).child i ≡ false = leads-other (node_at ns b).child i at_child in
+    let test : leads_to (node_at ns b).next i ≡ true = ap (λ (l : Option ℕ). leads_to l i) at_next ∙ leads-same i in
     let is : without ns i ≡ with_back a next (Some b) = rw (prev, test) refl in
     rw is (record {
       leaves = record {

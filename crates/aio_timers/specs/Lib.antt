@@ -1,7 +1,9 @@
 pub mod Room
 pub mod Book
+pub mod Calls
 pub mod Links
 pub mod Held
+pub mod Columns
 pub mod Precedes
 pub mod Writes
 pub mod Rows

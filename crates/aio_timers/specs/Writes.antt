@@ -84,8 +84,8 @@ leads_to (Some j) i = j == i
 -- what leads to a node, its parent or the sibling before it, leads to the node behind it
 abbrev pub skips : List Node → ℕ → Option ℕ → List Node
 skips nodes i None = nodes
-skips nodes i (Some p) = if leads_to (node_at nodes p).child i
-    then with_child nodes p (node_at nodes i).next else with_next nodes p (node_at nodes i).next
+skips nodes i (Some p) = if leads_to (node_at nodes p).next i
+    then with_next nodes p (node_at nodes i).next else with_child nodes p (node_at nodes i).next
 
 -- a node leaves its row
 abbrev pub without : List Node → ℕ → List Node

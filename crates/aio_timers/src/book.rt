@@ -17,9 +17,10 @@ use std::marker::Model;
 /// The registered timers, in the order in which they fire: by deadline, then by id (`async-io` 2,
 /// `reactor.rs`, `Reactor::timers`). No deadline and id stand twice.
 ///
-/// Contracts see the list of registrations, and for how many more there is room. An insert takes
-/// constant time; a removal, and each timer of a pass, logarithmic time on the average over many
-/// calls. Where many timers have one id, or ids of one bucket, the search of their chain comes on top.
+/// Contracts see the list of registrations, and for how many more there is room. Over many calls an
+/// insert takes constant time, and a removal, as each timer of a pass, logarithmic time; a single
+/// call may take more, and may have the removal to make that the call before it left. Where many
+/// timers have one id, or ids of one bucket, the search of their chain comes on top.
 ///
 /// A timer that is polled with another waker is unregistered, and registered anew with the same
 /// deadline at once. So a removal waits for the next change: where that is an insert of the same
@@ -72,8 +73,8 @@ impl TimerBook {
     }
 
     /// Registers or unregisters a timer, as `op` says. It takes no memory: an `Insert` uses room
-    /// for one timer at most, and a `Remove` loses none. An `Insert` takes constant time, and a
-    /// `Remove` logarithmic time on the average, besides the search of one bucket.
+    /// for one timer at most, and a `Remove` loses none. Over many calls an `Insert` takes constant
+    /// time, and a `Remove` logarithmic time, besides the search of one bucket.
     pub fn apply(&mut self, op: TimerOp)
         requires { entries_needed op ≤ self.old.spare }
         ensures entries { self.new.entries ≡ fold_changes self.old.entries (change_of op ∷ []) }

@@ -8,12 +8,12 @@ ghost use Rattle.aio_timers.specs.Heap.{IsHeap};
 ghost use Rattle.aio_timers.specs.Due.{due_in, is_due, IsLastDue, NoneDue, Trail, IsOnTrail, GoesOn, GoesPast};
 
 use crate::link::Link;
-use crate::node::Node;
+use crate::nodes::Nodes;
 use crate::siblings::{child_of, is_link_to, next_of, prev_of};
 use aio_base::Moment;
 
 /// The last node of a row that is due. A row of which none is due is not walked back.
-fn last_due_of(nodes: &[Node], first: Link, now: Moment) -> Link
+fn last_due_of(nodes: &Nodes, first: Link, now: Moment) -> Link
     requires { (ks : List ℕ) × IsRunOnce nodes.now first ks }
     ensures { (ks : List ℕ) → IsRunOnce nodes.now first ks
         → IsLastDue (held_at nodes.now) now ks result }
@@ -30,7 +30,7 @@ fn last_due_of(nodes: &[Node], first: Link, now: Moment) -> Link
 }
 
 /// Whether each child of a node fires later than at this deadline. It looks at the children alone.
-pub(crate) fn has_later_children(nodes: &[Node], at: usize, deadline: Moment) -> bool
+pub(crate) fn has_later_children(nodes: &Nodes, at: usize, deadline: Moment) -> bool
     requires { (root : Option ℕ) × (free : Option ℕ) × IsHeap nodes.now root free
         × IsUsed (held_at nodes.now at) }
     ensures { (root free : Option ℕ) (h : IsHeap nodes.now root free)
@@ -44,7 +44,7 @@ pub(crate) fn has_later_children(nodes: &[Node], at: usize, deadline: Moment) ->
 }
 
 /// The sibling before a node, or before the nearest node above that has one.
-fn retreat(nodes: &[Node], from: usize) -> Option<usize>
+fn retreat(nodes: &Nodes, from: usize) -> Option<usize>
     requires { (root : Option ℕ) × (free : Option ℕ) × (h : IsHeap nodes.now root free)
         × (t : Trail) × IsOnTrail nodes.now h.family from t }
     ensures { (root free : Option ℕ) (h : IsHeap nodes.now root free) (t : Trail)
@@ -67,7 +67,7 @@ fn retreat(nodes: &[Node], from: usize) -> Option<usize>
 
 /// Where the walk goes from a node: to its last child that is due, where the node is due and has
 /// one, else on to what is before it.
-fn step(nodes: &[Node], at: usize, due: bool, now: Moment) -> Option<usize>
+fn step(nodes: &Nodes, at: usize, due: bool, now: Moment) -> Option<usize>
     requires { (root : Option ℕ) × (free : Option ℕ) × (h : IsHeap nodes.now root free)
         × (t : Trail) × IsOnTrail nodes.now h.family at t }
     ensures { (root free : Option ℕ) (h : IsHeap nodes.now root free) (t : Trail)
@@ -84,7 +84,7 @@ fn step(nodes: &[Node], at: usize, due: bool, now: Moment) -> Option<usize>
 }
 
 /// How many nodes are due at a moment. It looks at those and their children alone.
-pub(crate) fn count_due(nodes: &[Node], root: Option<usize>, now: Moment) -> usize
+pub(crate) fn count_due(nodes: &Nodes, root: Option<usize>, now: Moment) -> usize
     requires { (free : Option ℕ) × IsHeap nodes.now root free }
     ensures { result ≡ due_in now (helds nodes.now) }
 {
@@ -107,9 +107,9 @@ pub(crate) fn count_due(nodes: &[Node], root: Option<usize>, now: Moment) -> usi
 }
 
 /// Whether the timer of a node is due at a moment.
-fn is_due_at(nodes: &[Node], at: usize, now: Moment) -> bool
+pub(crate) fn is_due_at(nodes: &Nodes, at: usize, now: Moment) -> bool
     requires { at < length nodes.now }
     ensures { result ≡ is_due now (held_at nodes.now at) }
 {
-    nodes[at].is_due(now)
+    nodes.get(at).is_due(now)
 }

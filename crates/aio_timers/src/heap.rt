@@ -8,11 +8,12 @@ ghost use Rattle.aio_timers.specs.Heap.{IsHeap, Holds, IsNewPair};
 use crate::link::Link;
 use crate::merge::{join, merge};
 use crate::node::Node;
+use crate::nodes::Nodes;
 use crate::siblings::{child_of, leave_row};
 
 /// Puts a timer into the place at the head of the free list, and joins it with the heap, in constant
 /// time. The answer is the new root.
-pub(crate) fn place(nodes: &mut [Node], root: Option<usize>, at: usize, node: Node) -> usize
+pub(crate) fn place(nodes: &mut Nodes, root: Option<usize>, at: usize, node: Node) -> usize
     requires few { length nodes.old < 2 ^ 32 }
     requires within { at < length nodes.old }
     requires heap { IsHeap nodes.old root (Some at) }
@@ -22,7 +23,7 @@ pub(crate) fn place(nodes: &mut [Node], root: Option<usize>, at: usize, node: No
     ensures { Holds nodes.old nodes.new at (held_of node) (Some result)
         (Node.next (node_at nodes.old at)) }
 {
-    nodes[at] = node;
+    nodes.set(at, node);
     match root {
         None => at,
         Some(top) => join(nodes, top, at),
@@ -30,17 +31,17 @@ pub(crate) fn place(nodes: &mut [Node], root: Option<usize>, at: usize, node: No
 }
 
 /// Takes the timer from a node, which is the head of the free list then.
-fn release(nodes: &mut [Node], at: usize, free: Link)
+fn release(nodes: &mut Nodes, at: usize, free: Link)
     requires { at < length nodes.old }
     ensures { nodes.new ≡ released nodes.old at free }
 {
-    nodes[at].waker = None;
-    nodes[at].next = free;
+    nodes.set_waker(at, None);
+    nodes.set_next(at, free);
 }
 
 /// Takes the timer of the root out of the heap: the node joins the free list, and the trees below it
 /// are merged. The answer is the new root.
-pub(crate) fn take_root(nodes: &mut [Node], root: usize, free: Link) -> Option<usize>
+pub(crate) fn take_root(nodes: &mut Nodes, root: usize, free: Link) -> Option<usize>
     requires few { length nodes.old < 2 ^ 32 }
     requires within { root < length nodes.old }
     requires heap { IsHeap nodes.old (Some root) free }
@@ -54,7 +55,7 @@ pub(crate) fn take_root(nodes: &mut [Node], root: usize, free: Link) -> Option<u
 /// Takes the timer of another node out of the heap, with no search: the node leaves its row by its
 /// own links and joins the free list, and the trees below it are merged and joined with the rest.
 /// The answer is the new root.
-pub(crate) fn take_inner(nodes: &mut [Node], root: usize, at: usize, free: Link) -> usize
+pub(crate) fn take_inner(nodes: &mut Nodes, root: usize, at: usize, free: Link) -> usize
     requires few { length nodes.old < 2 ^ 32 }
     requires within { at < length nodes.old }
     requires heap { IsHeap nodes.old (Some root) free }

@@ -4,25 +4,25 @@
 //! timers stand in the order in which they fire, by deadline and then by id, a change is that of one
 //! pair of a deadline and an id, and a pass takes exactly the wakers that are due, in order.
 //!
-//! The list is kept as a pairing heap in one vector of nodes (`siblings`, `merge`, `heap`, `due`),
-//! with chains of nodes by id (`chains`) and a list of free nodes (`room`). That is the matter of
-//! the book's invariant: no clause above speaks of it.
+//! The list is kept as a pairing heap of nodes that are linked by their indices (`nodes`, `siblings`,
+//! `merge`, `heap`, `due`), with chains of nodes by id (`buckets`, `chains`) and a list of free nodes
+//! (`room`). That is the matter of the book's invariant: no clause above speaks of it.
 #![tactic(auto)]
 
 mod book;
+mod buckets;
 mod chains;
 mod due;
 mod heap;
 mod link;
 mod merge;
 mod node;
+mod nodes;
 mod op;
 mod reads;
 mod room;
 mod siblings;
 mod steps;
-#[cfg(test)]
-mod tests;
 mod timer_heap;
 
 pub use book::TimerBook;

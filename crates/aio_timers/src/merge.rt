@@ -1,6 +1,7 @@
 //! Joining of two trees, and of all trees of a row in two passes.
 
-ghost use Rattle.std.specs.Prelude.{◌≡◌, ◌≢◌, ◌<◌, ◌^◌, ◌++◌, length, ℕ, List, [], ◌∷◌, None, Some, IfSome};
+ghost use Rattle.std.specs.Prelude.{◌≡◌, ◌<◌, ◌^◌, length, ℕ, List, None, Some, IfSome};
+ghost use Rattle.aio_timers.specs.declared.node.Node.{Node};
 ghost use Rattle.aio_timers.specs.Held.{held_at, node_at};
 ghost use Rattle.aio_timers.specs.Precedes.{precedes};
 ghost use Rattle.aio_timers.specs.Writes.{joined, lower, upper, paired, behind_pair, upper_of_pair};
@@ -8,11 +9,11 @@ ghost use Rattle.aio_timers.specs.Rows.{IsInside};
 ghost use Rattle.aio_timers.specs.Family.{Family, AreTops, Pairs, Gathers, Merges};
 
 use crate::link::Link;
-use crate::node::Node;
-use crate::siblings::{next_of, put_under, set_alone, set_next};
+use crate::nodes::Nodes;
+use crate::siblings::{next_of, set_alone};
 
 /// Of two roots the one that fires first, and then the other one.
-fn in_order(nodes: &[Node], a: usize, b: usize) -> (usize, usize)
+fn in_order(nodes: &Nodes, a: usize, b: usize) -> (usize, usize)
     requires first { a < length nodes.now }
     requires second { b < length nodes.now }
     ensures upper { result.0 ≡ upper nodes.now a b }
@@ -25,18 +26,16 @@ fn in_order(nodes: &[Node], a: usize, b: usize) -> (usize, usize)
     }
 }
 
-/// Whether a node fires before another one. The ids are read only where the deadlines are equal: of
-/// most nodes a merge then uses 20 bytes side by side, which seldom lie across two lines of the
-/// cache.
-fn is_before(nodes: &[Node], at: usize, other: usize) -> bool
+/// Whether a node fires before another one. The ids are read only where the deadlines are equal.
+fn is_before(nodes: &Nodes, at: usize, other: usize) -> bool
     requires here { at < length nodes.now }
     requires other { other < length nodes.now }
     ensures { result ≡ precedes (held_at nodes.now at) (held_at nodes.now other) }
 {
-    let own = nodes[at].deadline.get();
-    let limit = nodes[other].deadline.get();
+    let own = nodes.get(at).deadline.get();
+    let limit = nodes.get(other).deadline.get();
     if own == limit {
-        return nodes[at].id.0 < nodes[other].id.0;
+        return nodes.get(at).id.0 < nodes.get(other).id.0;
     }
     own < limit
 }
@@ -45,7 +44,7 @@ fn is_before(nodes: &[Node], at: usize, other: usize) -> bool
 /// the other root, which is the answer. It stays a function of its own, as the choice cannot be
 /// foretold: made part of the loops below, it would be a jump and no longer a move.
 #[inline(never)]
-pub(crate) fn join(nodes: &mut [Node], a: usize, b: usize) -> usize
+pub(crate) fn join(nodes: &mut Nodes, a: usize, b: usize) -> usize
     requires few { length nodes.old < 2 ^ 32 }
     requires first { IsInside nodes.old a }
     requires second { IsInside nodes.old b }
@@ -53,13 +52,13 @@ pub(crate) fn join(nodes: &mut [Node], a: usize, b: usize) -> usize
     ensures root { result ≡ upper nodes.old a b }
 {
     let (top, child) = in_order(nodes, a, b);
-    put_under(nodes, top, child);
+    nodes.put_under(top, child);
     top
 }
 
 /// One step of the first pass: a root is joined with its next sibling, if there is one, and comes in
 /// front of the roots that are done. The answer leads to the siblings behind, and to the result.
-fn pair_step(nodes: &mut [Node], a: usize, done: Link) -> (Link, Link)
+fn pair_step(nodes: &mut Nodes, a: usize, done: Link) -> (Link, Link)
     requires few { length nodes.old < 2 ^ 32 }
     requires first { IsInside nodes.old a }
     requires second { IfSome (Node.next (node_at nodes.old a)) (λ b. IsInside nodes.old b) }
@@ -70,13 +69,13 @@ fn pair_step(nodes: &mut [Node], a: usize, done: Link) -> (Link, Link)
     let second = next_of(nodes, a);
     match second.get() {
         None => {
-            set_next(nodes, a, done);
+            nodes.set_next(a, done);
             (second, Link::to(a))
         }
         Some(b) => {
             let rest = next_of(nodes, b);
             let top = join(nodes, a, b);
-            set_next(nodes, top, done);
+            nodes.set_next(top, done);
             (rest, Link::to(top))
         }
     }
@@ -84,7 +83,7 @@ fn pair_step(nodes: &mut [Node], a: usize, done: Link) -> (Link, Link)
 
 /// The first pass, from the left: joins each two neighbours. The answer leads to the row of the
 /// results, of which the last made comes first; links back are left as they are.
-fn pair(nodes: &mut [Node], first: Link) -> Link
+fn pair(nodes: &mut Nodes, first: Link) -> Link
     requires few { length nodes.old < 2 ^ 32 }
     requires tops { (f : Family) × (ks : List ℕ) × AreTops nodes.old f first ks }
     ensures { (f : Family) (ks : List ℕ) → AreTops nodes.old f first ks
@@ -99,7 +98,7 @@ fn pair(nodes: &mut [Node], first: Link) -> Link
 }
 
 /// The second pass: joins the trees of a row with each other, from the first of the row on.
-fn gather(nodes: &mut [Node], first: Link) -> Option<usize>
+fn gather(nodes: &mut Nodes, first: Link) -> Option<usize>
     requires few { length nodes.old < 2 ^ 32 }
     requires tops { (f : Family) × (ks : List ℕ) × AreTops nodes.old f first ks }
     ensures { (f : Family) (ks : List ℕ) → AreTops nodes.old f first ks
@@ -116,7 +115,7 @@ fn gather(nodes: &mut [Node], first: Link) -> Option<usize>
 
 /// Merges the trees of a row, as a pairing heap does: neighbours first, then all that came of these.
 /// The answer is the root that is left, which has no siblings then; `None` where the row is empty.
-pub(crate) fn merge(nodes: &mut [Node], first: Link) -> Option<usize>
+pub(crate) fn merge(nodes: &mut Nodes, first: Link) -> Option<usize>
     requires few { length nodes.old < 2 ^ 32 }
     requires tops { (f : Family) × (ks : List ℕ) × AreTops nodes.old f first ks }
     ensures { (f : Family) (ks : List ℕ) → AreTops nodes.old f first ks

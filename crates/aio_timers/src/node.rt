@@ -7,8 +7,7 @@ use crate::link::Link;
 use aio_base::{Moment, TimerId, Waker};
 
 /// A registered timer while it has a waker, else a free place. Its deadline, its id and its waker are
-/// the timer's; all else are links to other nodes. What a look along a row of siblings reads stands
-/// side by side.
+/// the timer's; all else are links to other nodes. How it lies in memory is the matter of `Nodes`.
 #[derive(Clone, Copy)]
 pub(crate) struct Node {
     /// The task to wake, where the node is in use.

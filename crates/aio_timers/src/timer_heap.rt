@@ -1,20 +1,20 @@
 //! The registered timers in a heap, and its calls.
 
-ghost use Rattle.std.specs.Prelude.{◌≡◌, ℕ, ◌+◌, ◌^◌, ◌<◌, ◌≤◌, [], ◌∷◌, ◌++◌, length, option_map, OnOk, OnErr, vec_len, vec_capacity};
-ghost use Rattle.std.specs.List.{All};
+ghost use Rattle.std.specs.Prelude.{◌≡◌, ◌+◌, ◌^◌, ◌<◌, ◌≤◌, [], ◌∷◌, length, vec_len, vec_capacity};
 ghost use Rattle.std.specs.Bool.{OnTrue, OnFalse};
-ghost use Rattle.aio_base.specs.declared.names.TimerId.{TimerId};
 ghost use Rattle.aio_timers.specs.declared.op.TimerOp.TheVariants as TimerOp;
 ghost use Rattle.aio_base.specs.World.{Registration};
-ghost use Rattle.aio_base.specs.Timers.{IsBook, fold_changes, due_wakers, after_pass, first_deadline};
+ghost use Rattle.aio_base.specs.Timers.{IsBook, fold_changes, due_wakers};
 ghost use Rattle.aio_timers.specs.Book.{IsBehind, change_of, first_pair, is_first_due};
+ghost use Rattle.aio_timers.specs.Calls.{Reserves, Passes};
 
-use crate::due::{count_due, has_later_children};
+use crate::buckets::Buckets;
+use crate::due::{count_due, has_later_children, is_due_at};
 use crate::link::Link;
-use crate::node::Node;
-use crate::reads::{is_due_at, pair_at, waker_at};
+use crate::nodes::Nodes;
+use crate::reads::{pair_at, waker_at};
 use crate::room::{grow, wanted};
-use crate::steps::{add, find, find_to, renew, set_waker, take};
+use crate::steps::{add, find, find_to, renew, take};
 use aio_base::{Moment, OutOfMemory, TimerId, Waker};
 use std::alloc::Global;
 use std::marker::Model;
@@ -22,13 +22,12 @@ use std::marker::Model;
 /// The registered timers, in the order in which they fire. No deadline and id stand twice.
 ///
 /// Contracts see the list of registrations, and for how many more there is room. The timers stand in
-/// a pairing heap (Fredman, Sedgewick, Sleator and Tarjan, 1986) whose links are indices into one
-/// vector of nodes, and chains through the nodes, one for each bucket of ids, find the node of a
-/// deadline and an id.
+/// a pairing heap (Fredman, Sedgewick, Sleator and Tarjan, 1986) whose links are indices of nodes, and
+/// chains through the nodes, one for each bucket of ids, find the node of a deadline and an id.
 #[derive(Drop)]
 pub(crate) struct TimerHeap {
-    nodes: Vec<Node>,
-    buckets: Vec<Link>,
+    nodes: Nodes,
+    buckets: Buckets,
     root: Option<usize>,
     free: Link,
     used: u32,
@@ -45,22 +44,22 @@ impl Model for TimerHeap {
     ghost Value = { Book };
 
     ghost view = { λ b. record {
-      entries = registrations (helds b.nodes.items);
-      spare = length b.nodes.items - b.used;
+      entries = registrations (helds b.nodes);
+      spare = length b.nodes - b.used;
     } };
 
-    ghost invariant = { λ b. IsSound b.nodes.items b.buckets.items b.root b.free b.used
-        × HasIdsTo b.last (registrations (helds b.nodes.items)) };
+    ghost invariant = { λ b. IsSound b.nodes b.buckets b.root b.free b.used
+        × HasIdsTo b.last (registrations (helds b.nodes)) };
 }
 
 impl TimerHeap {
-    /// No timers. It takes no memory; `reserve` takes it from `alloc`.
+    /// No timers.
     pub(crate) fn new(alloc: Global) -> TimerHeap
         ensures { result ≡ record { entries = []; spare = 0 } }
     {
         TimerHeap {
-            nodes: Vec::new(alloc),
-            buckets: Vec::new(alloc),
+            nodes: Nodes::new(alloc),
+            buckets: Buckets::new(alloc),
             root: None,
             free: Link::none(),
             used: 0,
@@ -68,16 +67,9 @@ impl TimerHeap {
         }
     }
 
-    /// Makes room for `n` more timers, the only call that takes memory. `OutOfMemory` where the room
-    /// is not there yet and memory ran out, or where there would be 2^32 timers: the timers then
-    /// stand as before, and no room is lost. Where the room is there it takes constant time. Growth
-    /// at least doubles it and takes linear time, so that each timer costs constant time on the
-    /// average.
+    /// Makes room for `n` more timers, as the call of the book does.
     pub(crate) fn reserve(&mut self, n: u32) -> Result<(), OutOfMemory>
-        ensures entries { self.new.entries ≡ self.old.entries }
-        ensures room { OnOk result (n ≤ self.new.spare) }
-        ensures spare { self.old.spare ≤ self.new.spare }
-        ensures refused { OnErr result (self.old.spare < n) }
+        ensures { Reserves self.old self.new n result }
     {
         let spare = self.spare();
         if n <= spare {
@@ -104,7 +96,7 @@ impl TimerHeap {
         ensures spare { self.old.spare ≤ self.new.spare + 1 }
     {
         match find_to(&self.nodes, &self.buckets, self.last, deadline, id) {
-            Some(at) => set_waker(&mut self.nodes, at, waker),
+            Some(at) => self.nodes.set_waker(at, Some(waker)),
             None => {
                 let timer = (deadline, id, waker);
                 let (root, free) = add(
@@ -159,7 +151,7 @@ impl TimerHeap {
         match find(&self.nodes, &self.buckets, deadline, before) {
             None => false,
             Some(at) => {
-                if !has_later_children(self.nodes.as_slice(), at, deadline) {
+                if !has_later_children(&self.nodes, at, deadline) {
                     return false;
                 }
                 match find_to(&self.nodes, &self.buckets, self.last, deadline, next) {
@@ -188,17 +180,11 @@ impl TimerHeap {
         }
     }
 
-    /// Moves the wakers of the timers that are due at the moment `now` to the end of `taken`, in the
-    /// order in which they fire; the timers go. Due are those with a deadline at most `now`. It takes
-    /// no memory, and logarithmic time on the average for each of them.
+    /// Takes the timers that are due at the moment `now`, as the call of the book does.
     pub(crate) fn pass(&mut self, now: Moment, taken: &mut Vec<Waker>)
         requires { vec_len taken.old + length (due_wakers now self.old.entries)
             ≤ vec_capacity taken.old }
-        ensures taken { taken.new.items ≡ taken.old.items ++ due_wakers now self.old.entries }
-        ensures capacity { vec_capacity taken.new ≡ vec_capacity taken.old }
-        ensures entries { self.new.entries ≡ after_pass now self.old.entries }
-        ensures later { All (λ (r : Registration). now < r.deadline) self.new.entries }
-        ensures spare { self.old.spare ≤ self.new.spare }
+        ensures { Passes now self.old self.new taken.old taken.new }
     {
         for _ in 0..self.len() {
             if !self.is_first_due(now) {
@@ -246,22 +232,17 @@ impl TimerHeap {
         }
     }
 
-    /// How many timers are due at the moment `now`: the room that a pass needs. It looks at those
-    /// timers and their children in the heap alone, so it takes no more time than the pass, and
-    /// constant time where none is due.
+    /// How many timers are due at the moment `now`.
     pub(crate) fn due_count(&self, now: Moment) -> usize
-        ensures value { result ≡ length (due_wakers now self.now.entries) }
-        ensures bound { result ≤ length self.now.entries }
+        ensures { result ≡ length (due_wakers now self.now.entries) }
     {
-        count_due(self.nodes.as_slice(), self.root, now)
+        count_due(&self.nodes, self.root, now)
     }
 
     /// The deadline and the id of the timer that fires first; `None` exactly where no timer is
-    /// registered. No timer has an earlier deadline. It takes constant time.
+    /// registered.
     pub(crate) fn first(&self) -> Option<(Moment, TimerId)>
         ensures value { result ≡ first_pair self.now.entries }
-        ensures deadline { option_map (λ (pair : ℕ × TimerId). pair.0) result
-            ≡ first_deadline self.now.entries }
         ensures order { IsBook self.now.entries }
     {
         match self.root {
@@ -270,8 +251,7 @@ impl TimerHeap {
         }
     }
 
-    /// How many timers are registered. Each of them fires before all behind it. It takes constant
-    /// time.
+    /// How many timers are registered.
     pub(crate) fn len(&self) -> usize
         ensures value { result ≡ length self.now.entries }
         ensures bound { result < 2 ^ 63 }
@@ -280,7 +260,7 @@ impl TimerHeap {
         self.used as usize
     }
 
-    /// For how many more timers there is room. It takes constant time.
+    /// For how many more timers there is room.
     pub(crate) fn spare(&self) -> u32
         ensures value { result ≡ self.now.spare }
         ensures bound { self.now.spare < 2 ^ 32 }

@@ -3,4 +3,4 @@ use Rattle.std.proofs.lemmas.Nat.{and_mask}
 use Rattle.aio_timers.proofs.chains.bucket_of.Goals as goal
 
 pub returns-clause-value : goal.returns-clause-value
-returns-clause-value c = rw c.requires.1 (and_mask c.args.id.0 c.requires.0)
+returns-clause-value c = rw (c.len.ensures, c.requires.1) (and_mask c.args.id.0 c.requires.0)

@@ -57,3 +57,9 @@ loop-at-preserved c = λ f ks t.
     let on : GathersOn c.args.nodes.now c.join-top.new.nodes f ks c.next_of-rest-in-Some.result c.join-top.result (length g.coming) =
     gather-goes c.args.nodes.now c.loop-at.nodes f c.args.first c.loop-at.rest ks c.loop-at.top c.in-Some.at c.join-top.new.nodes c.next_of-rest-in-Some.result c.join-top.result t g c.in-Some.ensures c.join-top.ensures.nodes c.next_of-rest-in-Some.ensures c.join-top.ensures.root in
     on.gathers
+
+pub join-top-requires-clause-few : goal.join-top-requires-clause-few
+join-top-requires-clause-few c =
+    let t = c.requires.tops in
+    let g : GathersAt c.args.nodes.now c.loop-at.nodes t.0 t.1 c.loop-at.rest c.loop-at.top = c.loop-at.invariant t.0 t.1 t.2 in
+    omega (arith, c.requires.few, g.melts.kept.len)

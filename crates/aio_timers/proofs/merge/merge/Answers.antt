@@ -1,5 +1,5 @@
 -- What both passes do.
-use Rattle.std.proofs.Common.{None}
+use Rattle.std.proofs.Common.{None, arith}
 use Rattle.aio_timers.specs.Rows.{IsInside}
 use Rattle.aio_timers.proofs.MeltLemmas.{Halves, halves, gather-top, merges-none, merges-some}
 use Rattle.aio_timers.proofs.merge.merge.Goals as goal
@@ -27,3 +27,9 @@ pub returns : goal.returns
 returns c = λ f ks t.
     let h : Halves c.args.nodes.now c.pair-pairs.new.nodes f ks c.pair-pairs.result = halves c.args.nodes.now c.pair-pairs.new.nodes f c.args.first c.pair-pairs.result ks t (c.pair-pairs.ensures f ks t) in
     merges-some c.args.nodes.now c.pair-pairs.new.nodes c.gather.new.nodes c.set_alone.new.nodes f c.args.first ks c.pair-pairs.result c.in_ok-top.top t h (c.in_ok-top.ensures h.melts.now h.made h.tops) c.set_alone.ensures
+
+pub gather-requires-clause-few : goal.gather-requires-clause-few
+gather-requires-clause-few c =
+    let t = c.requires.tops in
+    let h : Halves c.args.nodes.now c.pair-pairs.new.nodes t.0 t.1 c.pair-pairs.result = halves c.args.nodes.now c.pair-pairs.new.nodes t.0 c.args.first c.pair-pairs.result t.1 t.2 (c.pair-pairs.ensures t.0 t.1 t.2) in
+    omega (arith, c.requires.few, h.melts.kept.len)

@@ -38,3 +38,9 @@ loop-a-preserved c = λ f ks t.
     let on : PairsOn c.args.nodes.now c.pair_step.new.nodes f ks c.pair_step.result.0 c.pair_step.result.1 (length p.coming) =
     pair-goes c.args.nodes.now c.loop-a.nodes f c.args.first c.loop-a.rest c.loop-a.done ks c.in-Some.a c.pair_step.new.nodes c.pair_step.result.0 c.pair_step.result.1 t p c.in-Some.ensures c.pair_step.ensures.nodes c.pair_step.ensures.rest c.pair_step.ensures.done in
     on.pairs
+
+pub pair_step-requires-clause-few : goal.pair_step-requires-clause-few
+pair_step-requires-clause-few c =
+    let t = c.requires.tops in
+    let p : Pairs c.args.nodes.now c.loop-a.nodes t.0 t.1 c.loop-a.rest c.loop-a.done = c.loop-a.invariant t.0 t.1 t.2 in
+    omega (arith, c.requires.few, p.melts.kept.len)

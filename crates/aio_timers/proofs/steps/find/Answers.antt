@@ -1,12 +1,15 @@
--- The slices are those of the vectors.
-use Rattle.std.proofs.Common.{List, subst}
-use Rattle.std.specs.Prelude.{MatchOption}
-use Rattle.aio_timers.specs.declared.node.Node.{Node}
-use Rattle.aio_timers.specs.Held.{helds}
-use Rattle.aio_timers.specs.Sound.{IsSound, IsAbsent, IsPairAt}
+-- The chain of the bucket holds all nodes in use with this id.
+use Rattle.std.proofs.Common.{length, sym, arith}
+use Rattle.aio_timers.specs.Held.{held_at}
+use Rattle.aio_timers.specs.Chains.{IsBucket}
+use Rattle.aio_timers.specs.Sound.{IsSound}
+use Rattle.aio_timers.proofs.SoundLemmas.{its-bucket, search-tells}
 use Rattle.aio_timers.proofs.steps.find.Goals as goal
+
+pub bucket_of-bucket-requires : goal.bucket_of-bucket-requires
+bucket_of-bucket-requires c = let s : IsSound c.args.nodes.now c.args.buckets.now c.requires.0 c.requires.1 c.requires.2 = c.requires.3 in s.power (omega (arith, c.len.ensures, c.if-len-eq0.false))
 
 pub returns : goal.returns
 returns c = λ root free used s.
-    let lent : IsSound c.as_slice.result.now c.as_slice-2.result.now root free used = rw (c.as_slice.ensures.value, c.as_slice-2.ensures.value) s in
-    subst (λ (xs : List Node). MatchOption c.find_in.result (IsAbsent c.args.deadline c.args.id.0 (helds xs)) (λ at. IsPairAt xs c.args.deadline c.args.id.0 at)) c.as_slice.ensures.value (c.find_in.ensures root free used lent)
+    let first : IsBucket (held_at c.args.nodes.now) (length c.args.nodes.now) c.head-head.result (s.table.chains c.bucket_of-bucket.result) = rw c.head-head.ensures (its-bucket c.args.nodes.now c.args.buckets.now root free used c.bucket_of-bucket.result s c.bucket_of-bucket.ensures.within) in
+    search-tells c.args.nodes.now c.args.buckets.now root free used c.args.deadline c.args.id.0 c.bucket_of-bucket.result c.seek.result s (sym c.bucket_of-bucket.ensures.value) c.bucket_of-bucket.ensures.within (c.seek.ensures (s.table.chains c.bucket_of-bucket.result) first)

@@ -1,5 +1,5 @@
 -- One that was unregistered may be due.
-use Rattle.std.proofs.Common.{◌≡◌, ℕ, ◌+◌, ◌≤◌, ◌<◌, Bool, true, false, cond, List, length, arith, ap, ◌∙◌}
+use Rattle.std.proofs.Common.{◌≡◌, ℕ, ◌+◌, ◌≤◌, ◌<◌, Bool, true, false, cond, List, length, Option, arith, ap, sym, ◌∙◌}
 use Rattle.std.specs.Prelude.{nat_le}
 use Rattle.std.proofs.lemmas.Bool.Decides.{nat_tests}
 use Rattle.aio_base.specs.World.{Registration}
@@ -20,7 +20,7 @@ counted c =
     let i = c.self.inside in
     let entries_is : left_by c.self.inside.late c.self.inside.heap.entries ≡ c.args.self.now.entries = ap Book.entries c.self.view_is in
     let due : nat_le c.in-Some.deadline c.args.now ≡ true = is-due c.in-Some.deadline c.args.now (omega (arith, c.if-get.true, c.get.ensures.value, c.get-in-Some.ensures.value)) in
-    c.due_count-all.ensures.value ∙ left-due c.args.now i.late (c.in-Some.deadline, c.in-Some.field-0-1) i.heap.entries c.in-Some.is c.self.invariant
+    c.due_count-all.ensures ∙ left-due c.args.now i.late (c.in-Some.deadline, c.in-Some.field-0-1) i.heap.entries c.in-Some.is c.self.invariant
     ∙ ap (λ (b : Bool). cond b 1 0 + length (due_wakers c.args.now (left_by c.self.inside.late c.self.inside.heap.entries))) due ∙ ap (λ (rs : List Registration). 1 + length (due_wakers c.args.now rs)) entries_is
 
 counted_later : (c : goal.Else-get) → c.due_count-all.result ≡ length (due_wakers c.args.now c.args.self.now.entries)
@@ -29,7 +29,7 @@ counted_later c =
     let entries_is : left_by c.self.inside.late c.self.inside.heap.entries ≡ c.args.self.now.entries = ap Book.entries c.self.view_is in
     let later : nat_le c.in-Some.deadline c.args.now ≡ false = is-later c.in-Some.deadline c.args.now (omega (arith, c.if-get.false, c.get.ensures.value, c.get-in-Some.ensures.value)) in
     let sum : c.due_count-all.result ≡ 0 + length (due_wakers c.args.now (left_by c.self.inside.late c.self.inside.heap.entries)) =
-    c.due_count-all.ensures.value ∙ left-due c.args.now i.late (c.in-Some.deadline, c.in-Some.field-0-1) i.heap.entries c.in-Some.is c.self.invariant
+    c.due_count-all.ensures ∙ left-due c.args.now i.late (c.in-Some.deadline, c.in-Some.field-0-1) i.heap.entries c.in-Some.is c.self.invariant
     ∙ ap (λ (b : Bool). cond b 1 0 + length (due_wakers c.args.now (left_by c.self.inside.late c.self.inside.heap.entries))) later in
     omega (arith, sum, ap (λ (rs : List Registration). length (due_wakers c.args.now rs)) entries_is)
 
@@ -47,3 +47,9 @@ returns-else-get-clause-value c = counted_later c
 
 pub returns-else-get-clause-bound : goal.returns-else-get-clause-bound
 returns-else-get-clause-bound c = omega (arith, counted_later c, few-due_wakers c.args.now c.args.self.now.entries)
+
+pub returns-in-None-clause-bound : goal.returns-in-None-clause-bound
+returns-in-None-clause-bound c =
+    let none : left_by c.self.inside.late c.self.inside.heap.entries ≡ c.args.self.now.entries = ap Book.entries c.self.view_is in
+    let all : c.self.inside.heap.entries ≡ c.args.self.now.entries = ap (λ (late : Option _). left_by late c.self.inside.heap.entries) (sym c.in-None.is) ∙ none in
+    omega (arith, c.due_count-all.ensures, ap (λ (rs : List Registration). length (due_wakers c.args.now rs)) all, few-due_wakers c.args.now c.args.self.now.entries)

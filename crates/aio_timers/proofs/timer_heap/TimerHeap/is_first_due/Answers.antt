@@ -11,14 +11,14 @@ use Rattle.aio_timers.proofs.timer_heap.TimerHeap.is_first_due.Goals as goal
 
 pub returns-in-None-clause-value : goal.returns-in-None-clause-value
 returns-in-None-clause-value c =
-    let s : IsSound c.self.inside.nodes.items c.self.inside.buckets.items None c.self.inside.free c.self.inside.used = rw (← c.in-None.is) c.self.invariant.0 in
-    let entries_is : registrations (helds c.self.inside.nodes.items) ≡ c.args.self.now.entries = ap Book.entries c.self.view_is in
-    sym (ap (is_first_due c.args.now) (sym entries_is ∙ no-root c.self.inside.nodes.items c.self.inside.buckets.items c.self.inside.free c.self.inside.used s))
+    let s : IsSound c.self.inside.nodes c.self.inside.buckets None c.self.inside.free c.self.inside.used = rw (← c.in-None.is) c.self.invariant.0 in
+    let entries_is : registrations (helds c.self.inside.nodes) ≡ c.args.self.now.entries = ap Book.entries c.self.view_is in
+    sym (ap (is_first_due c.args.now) (sym entries_is ∙ no-root c.self.inside.nodes c.self.inside.buckets c.self.inside.free c.self.inside.used s))
 
 pub returns-in-Some-clause-value : goal.returns-in-Some-clause-value
 returns-in-Some-clause-value c =
-    let ns = c.self.inside.nodes.items in
-    let s : IsSound c.self.inside.nodes.items c.self.inside.buckets.items (Some c.in-Some.at) c.self.inside.free c.self.inside.used = rw (← c.in-Some.is) c.self.invariant.0 in
-    let entries_is : registrations (helds c.self.inside.nodes.items) ≡ c.args.self.now.entries = ap Book.entries c.self.view_is in
-    let r : RootLive c.self.inside.nodes.items c.in-Some.at = root-live ns c.self.inside.buckets.items c.in-Some.at c.self.inside.free c.self.inside.used s in
+    let ns = c.self.inside.nodes in
+    let s : IsSound c.self.inside.nodes c.self.inside.buckets (Some c.in-Some.at) c.self.inside.free c.self.inside.used = rw (← c.in-Some.is) c.self.invariant.0 in
+    let entries_is : registrations (helds c.self.inside.nodes) ≡ c.args.self.now.entries = ap Book.entries c.self.view_is in
+    let r : RootLive c.self.inside.nodes c.in-Some.at = root-live ns c.self.inside.buckets c.in-Some.at c.self.inside.free c.self.inside.used s in
     c.is_due_at.ensures ∙ front-due c.args.now (held_at ns c.in-Some.at) r.registration r.more c.args.self.now.entries (of-node (held_at ns c.in-Some.at) r.registration r.is) (sym entries_is ∙ r.book)

@@ -1,21 +1,23 @@
 -- Each round takes the front while it is due.
-use Rattle.std.proofs.Common.{◌++◌, [], ◌∷◌, List, length, arith, ap, sym, ◌∙◌, append_assoc}
+use Rattle.std.proofs.Common.{◌<◌, subst, ◌++◌, [], ◌∷◌, List, length, arith, ap, sym, ◌∙◌, append_assoc}
+use Rattle.std.specs.List.{All}
 use Rattle.aio_base.specs.declared.names.Waker.{Waker}
 use Rattle.aio_base.specs.World.{Registration}
 use Rattle.aio_base.specs.Timers.{due_wakers}
-use Rattle.aio_timers.proofs.PassLemmas.{Ends, ends, Takes, takes}
+use Rattle.aio_timers.proofs.PassLemmas.{later-after_pass, Ends, ends, Takes, takes}
 use Rattle.aio_timers.proofs.FrontLemmas.{append-nil}
 use Rattle.aio_timers.proofs.timer_heap.TimerHeap.pass.Goals as goal
 
-pub returns-then-not-is_first_due-clause-taken : goal.returns-then-not-is_first_due-clause-taken
-returns-then-not-is_first_due-clause-taken c =
+pub returns-then-not-is_first_due : goal.returns-then-not-is_first_due
+returns-then-not-is_first_due c =
     let e : Ends c.args.now c.loop.self.entries = ends c.args.now c.loop.self.entries c.is_first_due.ensures.order (sym c.is_first_due.ensures.value ∙ c.if-not-is_first_due.true) in
-    sym (append-nil c.loop.taken.items) ∙ ap (λ (ws : List Waker). c.loop.taken.items ++ ws) (sym e.due) ∙ c.loop.invariant.taken
-
-pub returns-then-not-is_first_due-clause-entries : goal.returns-then-not-is_first_due-clause-entries
-returns-then-not-is_first_due-clause-entries c =
-    let e : Ends c.args.now c.loop.self.entries = ends c.args.now c.loop.self.entries c.is_first_due.ensures.order (sym c.is_first_due.ensures.value ∙ c.if-not-is_first_due.true) in
-    sym e.left ∙ c.loop.invariant.left
+    record {
+      taken = sym (append-nil c.loop.taken.items) ∙ ap (λ (ws : List Waker). c.loop.taken.items ++ ws) (sym e.due) ∙ c.loop.invariant.taken;
+      capacity = c.loop.invariant.capacity;
+      entries = sym e.left ∙ c.loop.invariant.left;
+      later = subst (λ (rs : List Registration). All (λ (r : Registration). c.args.now < r.deadline) rs) e.left (later-after_pass c.args.now c.loop.self.entries);
+      spare = c.loop.invariant.spare;
+    }
 
 pub push_reserved-requires : goal.push_reserved-requires
 push_reserved-requires c =

@@ -21,33 +21,33 @@ pub overflow_sub-self : goal.overflow_sub-self
 overflow_sub-self c =
     let p = c.in-Some.ensures c.self.inside.root c.self.inside.free c.self.inside.used c.self.invariant.0 in
     let d = c.take-root.ensures c.self.inside.used p.registration c.self.invariant.0 p.live in
-    dropped-many c.self.inside.nodes.items c.take-root.new.nodes.items c.self.inside.buckets.items c.take-root.new.buckets.items c.self.inside.root c.self.inside.free c.take-root.result.0 c.take-root.result.1 c.self.inside.used p.registration c.self.invariant.0 d
+    dropped-many c.self.inside.nodes c.take-root.new.nodes c.self.inside.buckets c.take-root.new.buckets c.self.inside.root c.self.inside.free c.take-root.result.0 c.take-root.result.1 c.self.inside.used p.registration c.self.invariant.0 d
 
 pub invariant_of-self : goal.invariant_of-self
 invariant_of-self c =
     let p = c.in-Some.ensures c.self.inside.root c.self.inside.free c.self.inside.used c.self.invariant.0 in
     let d = c.take-root.ensures c.self.inside.used p.registration c.self.invariant.0 p.live in (
-      d.sound _ (omega (arith, dropped-many c.self.inside.nodes.items c.take-root.new.nodes.items c.self.inside.buckets.items c.take-root.new.buckets.items c.self.inside.root c.self.inside.free c.take-root.result.0 c.take-root.result.1 c.self.inside.used p.registration c.self.invariant.0 d)),
+      d.sound _ (omega (arith, dropped-many c.self.inside.nodes c.take-root.new.nodes c.self.inside.buckets c.take-root.new.buckets c.self.inside.root c.self.inside.free c.take-root.result.0 c.take-root.result.1 c.self.inside.used p.registration c.self.invariant.0 d)),
       ids-rest c.self.inside.last p.registration _ (rw (← d.entries) c.self.invariant.1),
     )
 
 pub returns-in-Some-clause-entries : goal.returns-in-Some-clause-entries
 returns-in-Some-clause-entries c =
-    let entries_is : registrations (helds c.self.inside.nodes.items) ≡ c.args.self.now.entries = ap Book.entries c.self.view_is in
+    let entries_is : registrations (helds c.self.inside.nodes) ≡ c.args.self.now.entries = ap Book.entries c.self.view_is in
     let p = c.in-Some.ensures c.self.inside.root c.self.inside.free c.self.inside.used c.self.invariant.0 in
     let d = c.take-root.ensures c.self.inside.used p.registration c.self.invariant.0 p.live in
-    dropped-entries c.self.inside.nodes.items c.take-root.new.nodes.items c.take-root.new.buckets.items c.take-root.result.0 c.take-root.result.1 c.self.inside.used c.args.deadline c.args.id.0 p.registration d p.deadline_is p.id_is
+    dropped-entries c.self.inside.nodes c.take-root.new.nodes c.take-root.new.buckets c.take-root.result.0 c.take-root.result.1 c.self.inside.used c.args.deadline c.args.id.0 p.registration d p.deadline_is p.id_is
     ∙ ap (λ (rs : List Registration). without_pair c.args.deadline c.args.id.0 rs) entries_is
 
 pub returns-in-Some-clause-spare : goal.returns-in-Some-clause-spare
 returns-in-Some-clause-spare c =
-    let spare_is : length c.self.inside.nodes.items - c.self.inside.used ≡ c.args.self.now.spare = ap Book.spare c.self.view_is in
+    let spare_is : length c.self.inside.nodes - c.self.inside.used ≡ c.args.self.now.spare = ap Book.spare c.self.view_is in
     let p = c.in-Some.ensures c.self.inside.root c.self.inside.free c.self.inside.used c.self.invariant.0 in
     let d = c.take-root.ensures c.self.inside.used p.registration c.self.invariant.0 p.live in
     omega (arith, spare_is, d.len)
 
 pub returns-in_default-clause-entries : goal.returns-in_default-clause-entries
 returns-in_default-clause-entries c =
-    let entries_is : registrations (helds c.self.inside.nodes.items) ≡ c.args.self.now.entries = ap Book.entries c.self.view_is in
+    let entries_is : registrations (helds c.self.inside.nodes) ≡ c.args.self.now.entries = ap Book.entries c.self.view_is in
     let absent = c.in_default.ensures c.self.inside.root c.self.inside.free c.self.inside.used c.self.invariant.0 in
     sym (without_pair-others c.args.deadline c.args.id.0 c.args.self.now.entries (subst (λ (rs : List Registration). All (IsOther c.args.deadline c.args.id.0) rs) entries_is absent))

@@ -10,35 +10,33 @@ invariant_of-self c = let g = c.in-Err.ensures c.self.inside.root c.self.inside.
 pub invariant_of-self-in-Ok : goal.invariant_of-self-in-Ok
 invariant_of-self-in-Ok c = let g = c.in-Ok.ensures c.self.inside.root c.self.inside.used c.self.invariant.0 in (g.sound, rw g.entries c.self.invariant.1)
 
-pub returns-in-Err-clause-entries : goal.returns-in-Err-clause-entries
-returns-in-Err-clause-entries c = let g = c.in-Err.ensures c.self.inside.root c.self.inside.used c.self.invariant.0 in g.entries ∙ ap Book.entries c.self.view_is
-
-pub returns-in-Ok-clause-entries : goal.returns-in-Ok-clause-entries
-returns-in-Ok-clause-entries c = let g = c.in-Ok.ensures c.self.inside.root c.self.inside.used c.self.invariant.0 in g.entries ∙ ap Book.entries c.self.view_is
-
-pub returns-in-Err-clause-spare : goal.returns-in-Err-clause-spare
-returns-in-Err-clause-spare c =
+pub returns-in-Err : goal.returns-in-Err
+returns-in-Err c =
     let g = c.in-Err.ensures c.self.inside.root c.self.inside.used c.self.invariant.0 in
-    let spare_is : length c.self.inside.nodes.items - c.self.inside.used ≡ c.args.self.now.spare = ap Book.spare c.self.view_is in
-    omega (arith, spare_is, g.len)
+    let spare_is : length c.self.inside.nodes - c.self.inside.used ≡ c.args.self.now.spare = ap Book.spare c.self.view_is in
+    record {
+      entries = g.entries ∙ ap Book.entries c.self.view_is;
+      room = tt;
+      spare = omega (arith, spare_is, g.len);
+      refused = omega (arith, c.spare-spare.ensures.value, c.if-n-spare.false);
+    }
 
-pub returns-in-Ok-clause-room : goal.returns-in-Ok-clause-room
-returns-in-Ok-clause-room c =
+pub returns-in-Ok : goal.returns-in-Ok
+returns-in-Ok c =
     let g = c.in-Ok.ensures c.self.inside.root c.self.inside.used c.self.invariant.0 in
-    let spare_is : length c.self.inside.nodes.items - c.self.inside.used ≡ c.args.self.now.spare = ap Book.spare c.self.view_is in
-    omega (
-      arith,
-      spare_is,
-      g.len,
-      c.in-Some.ensures.enough,
-      c.len.ensures,
-      c.spare-spare.ensures.value,
-      c.if-n-spare.false,
-      used-fits c.self.inside.nodes.items c.self.inside.buckets.items c.self.inside.root c.self.inside.free c.self.inside.used c.self.invariant.0,
-    )
-
-pub returns-in-Ok-clause-spare : goal.returns-in-Ok-clause-spare
-returns-in-Ok-clause-spare c =
-    let g = c.in-Ok.ensures c.self.inside.root c.self.inside.used c.self.invariant.0 in
-    let spare_is : length c.self.inside.nodes.items - c.self.inside.used ≡ c.args.self.now.spare = ap Book.spare c.self.view_is in
-    omega (arith, spare_is, g.len, c.in-Some.ensures.enough, c.len.ensures, c.spare-spare.ensures.value, c.if-n-spare.false)
+    let spare_is : length c.self.inside.nodes - c.self.inside.used ≡ c.args.self.now.spare = ap Book.spare c.self.view_is in
+    record {
+      entries = g.entries ∙ ap Book.entries c.self.view_is;
+      room = omega (
+        arith,
+        spare_is,
+        g.len,
+        c.in-Some.ensures.enough,
+        c.len.ensures,
+        c.spare-spare.ensures.value,
+        c.if-n-spare.false,
+        used-fits c.self.inside.nodes c.self.inside.buckets c.self.inside.root c.self.inside.free c.self.inside.used c.self.invariant.0,
+      );
+      spare = omega (arith, spare_is, g.len, c.in-Some.ensures.enough, c.len.ensures, c.spare-spare.ensures.value, c.if-n-spare.false);
+      refused = tt;
+    }

@@ -4,4 +4,4 @@ use Rattle.aio_timers.proofs.SoundLemmas.{used-fits}
 use Rattle.aio_timers.proofs.timer_heap.TimerHeap.spare.Goals as goal
 
 pub overflow_sub-result : goal.overflow_sub-result
-overflow_sub-result c = omega (arith, c.len.ensures, used-fits c.self.inside.nodes.items c.self.inside.buckets.items c.self.inside.root c.self.inside.free c.self.inside.used c.self.invariant.0)
+overflow_sub-result c = omega (arith, c.len.ensures, used-fits c.self.inside.nodes c.self.inside.buckets c.self.inside.root c.self.inside.free c.self.inside.used c.self.invariant.0)

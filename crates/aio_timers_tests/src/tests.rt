@@ -1,8 +1,8 @@
-//! What no clause says: that room is made with ample memory, how the calls follow one another, that
-//! growth and all shapes of the heap keep the order, and that a book can be shared between threads.
+//! What no clause says, that room is made with ample memory and that a book can be shared between
+//! threads; and calls one after the other, with growth, in heaps of several shapes.
 
-use crate::{TimerBook, TimerOp};
 use aio_base::{Moment, TimerId, Waker};
+use aio_timers::{TimerBook, TimerOp};
 use std::alloc::{AllocError, Global};
 use std::process::Abort;
 use std::test::Fail;

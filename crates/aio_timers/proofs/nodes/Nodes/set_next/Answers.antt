@@ -1,0 +1,12 @@
+-- The link is written in its column.
+use Rattle.std.proofs.Common.{refl}
+use Rattle.aio_timers.specs.declared.node.Node.{Node}
+use Rattle.aio_timers.specs.declared.nodes.Siblings.{Siblings}
+use Rattle.aio_timers.proofs.ColumnLemmas.{row-back}
+use Rattle.aio_timers.proofs.nodes.Nodes.set_next.Goals as goal
+
+pub returns : goal.returns
+returns c =
+    let i = c.self.inside in
+    row-back i.entries.items i.rows c.as_mut_slice-rows.result.now c.args.self.now c.args.at c.index-rows-at.result (λ (s : Siblings). record s { next = c.args.link }) (λ (n : Node). record n { next = c.args.link })
+    c.self.invariant c.self.view_is c.as_mut_slice-rows.ensures.value c.as_mut_slice-rows.ensures.len c.requires (λ x s. refl)
