@@ -610,11 +610,48 @@ fn a_trace_without_end_is_refused_past_its_millionth_line(rt: HostRuntime) -> Re
     assert_exit(&rt, &ran, 2, "no end");
     assert_why(&rt, &ran, why, "no end");
     assert_told(&rt, &ran, b"line 1000001: lines\n", "no end");
-    assert_last_round(&rt, &ran);
+    assert_rounds(&rt, ran.out.bytes(), 999_999);
     assert!(rt; source.given <= 257_000_257, "{}", source.given);
     Ok(())
 }
 
-fn assert_last_round(rt: &impl Abort, ran: &Ran) {
-    assert!(rt; ran.out.bytes().ends_with(b"\nround 999999 events 0 ok\n"));
+/// Asserts that the answers are those of so many rounds without events, and nothing else.
+fn assert_rounds(rt: &impl Abort, answers: &[u8], rounds: u32) {
+    let mut rest = answers;
+    for round in 0..rounds {
+        match past_round(rest, round as u64 + 1) {
+            Some(more) => rest = more,
+            None => assert_eq!(rt;
+                round,
+                rounds,
+                "rounds that were answered one after the other"
+            ),
+        }
+    }
+    assert!(rt; rest.is_empty());
+}
+
+/// What comes behind the answer of the round with this number, where that comes first.
+fn past_round(answers: &[u8], round: u64) -> Option<&[u8]> {
+    let (number, rest) = past_number(answers.strip_prefix(b"round ")?);
+    if number != round {
+        return None;
+    }
+    rest.strip_prefix(b" events 0 ok\n")
+}
+
+/// A number of at most six digits, without leading zeros, and what comes behind it. 0 where there is none.
+fn past_number(text: &[u8]) -> (u64, &[u8]) {
+    let mut number: u64 = 0;
+    let mut rest = text;
+    for _ in 0..6 {
+        match rest.split_first() {
+            Some((digit, more)) if digit.is_ascii_digit() && (number > 0 || *digit > b'0') => {
+                number = number.wrapping_mul(10).wrapping_add((*digit - b'0') as u64);
+                rest = more;
+            }
+            _ => return (number, rest),
+        }
+    }
+    (number, rest)
 }
