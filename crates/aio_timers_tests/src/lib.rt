@@ -1,8 +1,9 @@
 //! Tests of the book of registered timers, by its public calls alone.
 //!
 //! They stand above that crate, so that it is not proved a second time for its tests. Of other code there
-//! is none.
+//! are three calls over plain numbers. They have contracts, so that wrong ones are refused.
 #![tactic(auto)]
 
+pub mod calls;
 #[cfg(test)]
 mod tests;

@@ -1,9 +1,10 @@
 //! What no clause says, that room is made with ample memory and that a book can be shared between
 //! threads; and calls one after the other, with growth, in heaps of several shapes.
 
+use crate::calls::{passed, register, unregister};
 use aio_base::{Moment, TimerId, Waker};
-use aio_timers::{TimerBook, TimerOp};
-use std::alloc::{AllocError, Global};
+use aio_timers::TimerBook;
+use std::alloc::Global;
 use std::process::Abort;
 use std::test::Fail;
 
@@ -12,18 +13,17 @@ fn moment(rt: &impl Abort, nanoseconds: u64) -> Moment {
 }
 
 fn insert(rt: &impl Abort, book: &mut TimerBook, deadline: u64, id: u64, waker: u32) {
-    assert!(rt; book.spare() >= 1, "there is room for one more timer");
-    book.apply(TimerOp::Insert(moment(rt, deadline), TimerId(id), Waker(waker)));
+    assert!(rt;
+        register(book, deadline, id, waker),
+        "there is room for one more timer"
+    );
 }
 
 fn remove(rt: &impl Abort, book: &mut TimerBook, deadline: u64, id: u64) {
-    book.apply(TimerOp::Remove(moment(rt, deadline), TimerId(id)));
-}
-
-fn passed(alloc: Global, book: &mut TimerBook, now: Moment) -> Result<Vec<Waker>, AllocError> {
-    let mut taken = Vec::with_capacity(alloc, book.due_count(now))?;
-    book.pass(now, &mut taken);
-    Ok(taken)
+    assert!(rt;
+        unregister(book, deadline, id),
+        "the moment is at most 10^18"
+    );
 }
 
 fn share<T: Send + Sync + Drop>(_value: T) {}
