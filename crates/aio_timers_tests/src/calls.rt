@@ -35,6 +35,7 @@ pub fn unregister(book: &mut TimerBook, deadline: u64, id: u64) -> bool
     ensures entries { OnTrue result (book.new.entries ≡ fold_changes book.old.entries
         (change_of (TimerOp.Remove deadline (record { 0 = id })) ∷ [])) }
     ensures spare { book.old.spare ≤ book.new.spare }
+    ensures refused { OnFalse result (book.new ≡ book.old) }
     ensures cause { OnFalse result (10 ^ 18 < deadline) }
 {
     match Moment::new(deadline) {
