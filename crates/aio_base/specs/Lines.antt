@@ -13,6 +13,7 @@ use Rattle.aio_base.specs.declared.steps.LineFault.{LineFault}
 use Rattle.aio_base.specs.declared.steps.LineFault.TheVariants as fault
 use Rattle.aio_base.specs.declared.steps.Step.{Step}
 use Rattle.aio_base.specs.declared.steps.Step.TheVariants as step
+use Rattle.aio_base.specs.World.{last_moment}
 use Rattle.aio_base.specs.Text.{dir_text, flags_text, which_text}
 
 -- ## The words of a line
@@ -53,10 +54,6 @@ numeral word = if is_word word && all_ascii_digits word then Some (digits_value 
 -- the greatest key, waker, and number of a listener or a timer
 abbrev pub last_number : ℕ
 last_number = 4294967295
-
--- the greatest moment, period and limit, in nanoseconds
-abbrev pub last_moment : ℕ
-last_moment = 10 ^ 18
 
 -- a number in a range, its ends among it
 abbrev pub is_from_to : ℕ → ℕ → ℕ → Bool
@@ -317,8 +314,8 @@ abbrev pub within : ℕ → ℕ → Option ℕ → Option ℕ
 within low high None = None
 within low high (Some n) = if is_from_to low high n then Some n else None
 
-abbrev pub directions : List Dir
-directions = Read ∷ Write ∷ []
+abbrev pub written_directions : List Dir
+written_directions = Read ∷ Write ∷ []
 
 abbrev pub interests : List Interest
 interests =
@@ -334,19 +331,19 @@ value_of ANumber word = within 0 last_number (numeral word)
 value_of AMoment word = within 0 last_moment (numeral word)
 value_of APeriod word = within 1 last_moment (numeral word)
 value_of ALimit word = if bytes_eq word (codes "none") then Some None else option_map (λ n. Some n) (within 0 last_moment (numeral word))
-value_of ADirection word = find (λ (dir : Dir). bytes_eq word (dir_text dir)) directions
+value_of ADirection word = find (λ (dir : Dir). bytes_eq word (dir_text dir)) written_directions
 value_of SomeFlags word = find (λ (on : Interest). bytes_eq word (flags_text on)) interests
 
 -- a part of a line: a word that stands there as it is, or a place
 pub data Part : Type 0 where
   Said : List ℕ → Part
-  Place : Asked → Part
+  PlaceOf : Asked → Part
 
 -- a step for the values of the places among these parts
 abbrev pub StepBy : List Part → Type 0
 StepBy [] = Step
 StepBy (Said text ∷ parts) = StepBy parts
-StepBy (Place place ∷ parts) = Value place → StepBy parts
+StepBy (PlaceOf place ∷ parts) = Value place → StepBy parts
 
 -- the lines of one kind of step: their parts, and the step for the values of the places
 pub record Shape : Type 0 where
@@ -360,26 +357,26 @@ shape parts step = record { parts = parts; step = step }
 abbrev pub shapes : List Shape
 shapes =
     shape (Said (codes "add") ∷ []) step.Add
-    ∷ shape (Said (codes "del") ∷ Place ANumber ∷ []) (λ k. step.Del (record { 0 = k }))
-    ∷ shape (Said (codes "poll") ∷ Place ANumber ∷ Place ADirection ∷ Place ANumber ∷ []) (λ k d w. step.Poll (record { 0 = k }) d (record { 0 = w }))
-    ∷ shape (Said (codes "new") ∷ Place ANumber ∷ Place ADirection ∷ []) (λ k d. step.New (record { 0 = k }) d)
-    ∷ shape (Said (codes "step") ∷ Place ANumber ∷ Place ANumber ∷ []) (λ n w. step.StepEar n (record { 0 = w }))
-    ∷ shape (Said (codes "drop") ∷ Place ANumber ∷ []) (λ n. step.DropEar n)
-    ∷ shape (Said (codes "timer") ∷ Said (codes "at") ∷ Place AMoment ∷ []) (λ t. step.TimerAt t)
-    ∷ shape (Said (codes "timer") ∷ Said (codes "every") ∷ Place AMoment ∷ Place APeriod ∷ []) (λ t p. step.TimerEvery t p)
+    ∷ shape (Said (codes "del") ∷ PlaceOf ANumber ∷ []) (λ k. step.Del (record { 0 = k }))
+    ∷ shape (Said (codes "poll") ∷ PlaceOf ANumber ∷ PlaceOf ADirection ∷ PlaceOf ANumber ∷ []) (λ k d w. step.Poll (record { 0 = k }) d (record { 0 = w }))
+    ∷ shape (Said (codes "new") ∷ PlaceOf ANumber ∷ PlaceOf ADirection ∷ []) (λ k d. step.New (record { 0 = k }) d)
+    ∷ shape (Said (codes "step") ∷ PlaceOf ANumber ∷ PlaceOf ANumber ∷ []) (λ n w. step.StepEar n (record { 0 = w }))
+    ∷ shape (Said (codes "drop") ∷ PlaceOf ANumber ∷ []) (λ n. step.DropEar n)
+    ∷ shape (Said (codes "timer") ∷ Said (codes "at") ∷ PlaceOf AMoment ∷ []) (λ t. step.TimerAt t)
+    ∷ shape (Said (codes "timer") ∷ Said (codes "every") ∷ PlaceOf AMoment ∷ PlaceOf APeriod ∷ []) (λ t p. step.TimerEvery t p)
     ∷ shape (Said (codes "timer") ∷ Said (codes "never") ∷ []) step.TimerNever
-    ∷ shape (Said (codes "tick") ∷ Place ANumber ∷ Place ANumber ∷ []) (λ n w. step.Tick n (record { 0 = w }))
-    ∷ shape (Said (codes "set") ∷ Place ANumber ∷ Said (codes "at") ∷ Place AMoment ∷ []) (λ n t. step.SetAt n t)
-    ∷ shape (Said (codes "set") ∷ Place ANumber ∷ Said (codes "every") ∷ Place AMoment ∷ Place APeriod ∷ []) (λ n t p. step.SetEvery n t p)
-    ∷ shape (Said (codes "end") ∷ Place ANumber ∷ []) (λ n. step.End n)
-    ∷ shape (Said (codes "now") ∷ Place AMoment ∷ []) (λ t. step.Now t)
-    ∷ shape (Said (codes "event") ∷ Place ANumber ∷ Place SomeFlags ∷ []) (λ k on. step.Note (record { key = record { 0 = k }; on = on }))
+    ∷ shape (Said (codes "tick") ∷ PlaceOf ANumber ∷ PlaceOf ANumber ∷ []) (λ n w. step.Tick n (record { 0 = w }))
+    ∷ shape (Said (codes "set") ∷ PlaceOf ANumber ∷ Said (codes "at") ∷ PlaceOf AMoment ∷ []) (λ n t. step.SetAt n t)
+    ∷ shape (Said (codes "set") ∷ PlaceOf ANumber ∷ Said (codes "every") ∷ PlaceOf AMoment ∷ PlaceOf APeriod ∷ []) (λ n t p. step.SetEvery n t p)
+    ∷ shape (Said (codes "end") ∷ PlaceOf ANumber ∷ []) (λ n. step.End n)
+    ∷ shape (Said (codes "now") ∷ PlaceOf AMoment ∷ []) (λ t. step.Now t)
+    ∷ shape (Said (codes "event") ∷ PlaceOf ANumber ∷ PlaceOf SomeFlags ∷ []) (λ k on. step.Note (record { key = record { 0 = k }; on = on }))
     ∷ shape (Said (codes "fault") ∷ Said (codes "add") ∷ []) (step.Fault which.Add)
     ∷ shape (Said (codes "fault") ∷ Said (codes "arm") ∷ []) (step.Fault which.Arm)
     ∷ shape (Said (codes "fault") ∷ Said (codes "remove") ∷ []) (step.Fault which.Remove)
     ∷ shape (Said (codes "fault") ∷ Said (codes "wait") ∷ []) (step.Fault which.Wait)
     ∷ shape (Said (codes "interrupt") ∷ []) step.Interrupt
-    ∷ shape (Said (codes "begin") ∷ Place ALimit ∷ []) (λ l. step.Begin l)
+    ∷ shape (Said (codes "begin") ∷ PlaceOf ALimit ∷ []) (λ l. step.Begin l)
     ∷ shape (Said (codes "wait") ∷ []) step.Wait
     ∷ shape (Said (codes "handle") ∷ []) step.Handle
     ∷ shape (Said (codes "finish") ∷ []) step.Finish
@@ -392,8 +389,8 @@ step_by [] s [] = Some s
 step_by [] s (word ∷ words) = None
 step_by (Said text ∷ parts) s [] = None
 step_by (Said text ∷ parts) s (word ∷ words) = if bytes_eq word text then step_by parts s words else None
-step_by (Place place ∷ parts) s [] = None
-step_by (Place place ∷ parts) s (word ∷ words) = option_and_then (λ v. step_by parts (s v) words) (value_of place word)
+step_by (PlaceOf place ∷ parts) s [] = None
+step_by (PlaceOf place ∷ parts) s (word ∷ words) = option_and_then (λ v. step_by parts (s v) words) (value_of place word)
 
 -- the step of words that have one of these shapes
 abbrev pub step_among : List Shape → List (List ℕ) → Option Step

@@ -1,7 +1,7 @@
 -- The reactor machine: what each step answers, whom it wakes and what world it leaves, given what the poller answers to its calls.
 -- The rules are those of `async-io` 2 (`reactor.rs`, `driver.rs`, `lib.rs`) over `polling` 3 in oneshot mode; where the project chooses for
 -- itself, a comment says so. What a case does not name stays.
-use Rattle.std.specs.Prelude.{ℕ, ◌+◌, ◌^◌, Bool, true, false, not, ◌&&◌, ◌||◌, ◌==◌, nat_lt, nat_le, if◌then◌else◌, List, [], ◌∷◌, ◌++◌, map, filter, find, length, Option, None, Some, is_some, option_to_list, unwrap_or}
+use Rattle.std.specs.Prelude.{ℕ, ◌+◌, Bool, true, false, not, ◌&&◌, ◌||◌, ◌==◌, nat_lt, nat_le, if◌then◌else◌, List, [], ◌∷◌, ◌++◌, map, filter, find, length, Option, None, Some, is_some, option_to_list, unwrap_or}
 use Rattle.std.specs.List.{list_any}
 use Rattle.std.specs.Option.{option_map_or}
 use Rattle.aio_base.specs.declared.names.Key.{Key}
@@ -16,7 +16,7 @@ use Rattle.aio_base.specs.declared.steps.Step.{Step}
 use Rattle.aio_base.specs.declared.steps.Step.TheVariants as step
 use Rattle.aio_base.specs.declared.steps.Answer.{Answer}
 use Rattle.aio_base.specs.declared.steps.Answer.TheVariants as answer
-use Rattle.aio_base.specs.World.{PollerAnswer, Succeeds, Gives, IsInterrupted, Fails, LiveSource, PollWaiter, Mark, ListenerEntry, Registration, TimerEntry, DueFaults, RoundState, World, directions_of, is_of, serial_of, key_of, poll_waiter, without_waiter, mark_of, without_mark, waiters_of, is_empty_list, is_idle, wanted, is_broken, without_broken, set_armed, clear_armed, is_fresh}
+use Rattle.aio_base.specs.World.{PollerAnswer, Succeeds, Gives, IsInterrupted, Fails, LiveSource, PollWaiter, Mark, ListenerEntry, Registration, TimerEntry, DueFaults, RoundState, World, directions_of, is_of, serial_of, key_of, poll_waiter, without_waiter, mark_of, without_mark, waiters_of, is_empty_list, is_idle, wanted, is_broken, without_broken, set_armed, clear_armed, is_fresh, last_moment}
 use Rattle.aio_base.specs.Timers.{due_wakers, after_pass, limit_of}
 
 -- What a step, or a section of a round, gives: its answer, its wakes in order, the world after it, the kinds of the calls that it made on the
@@ -191,9 +191,6 @@ drop_listener w number (Some entry) answers =
     quiet answer.Dropped (record w { listeners = without_listener w.listeners number }) answers
 
 -- ## Timers
-
-abbrev pub last_moment : ℕ
-last_moment = 10 ^ 18
 
 abbrev pub is_timer : ℕ → TimerEntry → Bool
 is_timer number t = t.number == number
@@ -446,9 +443,9 @@ abbrev pub hand_of : Option RoundState → List Event
 hand_of None = []
 hand_of (Some round) = round.in_hand
 
-abbrev pub fault_of : Option RoundState → EndWord
-fault_of None = Clean
-fault_of (Some round) = round.fault
+abbrev pub fault_of_round : Option RoundState → EndWord
+fault_of_round None = Clean
+fault_of_round (Some round) = round.fault
 
 -- a whole round, as one step: begin with a given limit, one wait, each event handled, finish
 abbrev pub react : World → Option ℕ → List PollerAnswer → Outcome
@@ -460,7 +457,7 @@ react w given answers =
     let ended = finish_round handled.world handled.left in
     if is_some w.round then quiet answer.Locked w answers
     else record {
-      answer = answer.Round (w.rounds + 1) (length hand) (fault_of handled.world.round);
+      answer = answer.Round (w.rounds + 1) (length hand) (fault_of_round handled.world.round);
       wakes = ended.wakes;
       world = ended.world;
       calls = waited.calls ++ handled.calls;

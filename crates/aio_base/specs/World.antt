@@ -1,6 +1,6 @@
 -- The world of the machine: everything that has happened and stands, as plain lists and numbers. It keeps the past (who stored a waker when,
 -- which round handled which event), so freshness is a search of the past and needs no remembered numbers.
-use Rattle.std.specs.Prelude.{ℕ, Bool, true, false, not, ◌&&◌, ◌==◌, nat_lt, if◌then◌else◌, List, [], ◌∷◌, ◌++◌, map, filter, find, filter_map, Option, None, option_map, option_to_list}
+use Rattle.std.specs.Prelude.{ℕ, ◌^◌, Bool, true, false, not, ◌&&◌, ◌==◌, nat_lt, if◌then◌else◌, List, [], ◌∷◌, ◌++◌, map, filter, find, filter_map, Option, None, option_map, option_to_list}
 use Rattle.std.specs.List.{list_any}
 use Rattle.aio_base.specs.declared.names.Waker.{Waker}
 use Rattle.aio_base.specs.declared.names.Dir.{Dir}
@@ -145,6 +145,10 @@ opening = record {
   begun = [];
   handled = [];
 }
+
+-- the greatest moment, period and limit, in nanoseconds
+abbrev pub last_moment : ℕ
+last_moment = 10 ^ 18
 
 -- all directions, in the order in which one event takes waiters
 abbrev pub directions : List Dir

@@ -53,8 +53,9 @@ pub trait Task<H: Later> {
     /// or later, was allowed before.
     ghost gives: { Self → Bool → ℕ → Self.Output → Type 0 };
 
-    /// The relation of the state before a poll, what the poll is told, its answer, and the state after.
-    ghost poll_step: { Self → Cx → Poll Self.Output → Self → Type 0 };
+    /// The relation of the task and its host before a poll, what the poll is told, its answer, and the
+    /// two after it. Generic code that polls a task can name by it what the poll made of the host.
+    ghost poll_step: { Self → H → Cx → Poll Self.Output → Self → H → Type 0 };
 
     /// The number of its polls so far.
     ghost poll_count: { Self → ℕ };
@@ -65,7 +66,7 @@ pub trait Task<H: Later> {
         ensures pending { WhilePending result ((moment : ℕ) (output : Self.Output) → cx.now ≤ moment
             → gives self.new (H.notifier_is_sure host.old) moment output
             → gives self.old (H.notifier_is_sure host.old) moment output) }
-        ensures step { poll_step self.old cx result self.new }
+        ensures step { poll_step self.old host.old cx result self.new host.new }
         ensures polls { poll_count self.new ≡ raised (poll_count self.old) }
         ensures host { H.is_later host.old host.new };
 
@@ -75,29 +76,4 @@ pub trait Task<H: Later> {
         ensures { result ≡ poll_count self.now };
 
     ghost gives_later: { (s : Self) (sure : Bool) (a b : ℕ) (output : Self.Output) → a ≤ b → gives s sure a output → gives s sure b output };
-}
-
-#[cfg(test)]
-mod tests {
-    use super::Cx;
-    use crate::names::Moment;
-
-    #[test]
-    fn own_waker_is_of_the_lowest_slot(rt: HostRuntime) {
-        let wanted = [
-            (0, 1, 0),
-            (2, 0b1000, 131),
-            (2, (1 << 63) | (1 << 40), 168),
-            (2, 1 << 63, 191),
-            (2, 0, 128),
-            (67_108_863, u64::MAX, 4_294_967_232),
-            (67_108_864, 2, 1),
-        ];
-        for (parker, mask, number) in wanted {
-            match Moment::new(0) {
-                Some(now) => assert_eq!(rt; Cx { parker, mask, now }.own_waker().0, number),
-                None => unreachable!(),
-            }
-        }
-    }
 }

@@ -1,41 +1,6 @@
--- Laws for the callers of a reader of lines: no byte is lost, and how a recursion over bytes passes a line.
-use Rattle.std.proofs.Common.{◌≡◌, ℕ, ◌∷◌, ◌++◌, List, [], Bool, true, false, ◌||◌, Option, refl, sym, ap, ◌∙◌, subst, append_assoc, append-nil}
-use Rattle.std.specs.Io.KnownBytes.{Consumes, Keeps}
-use Rattle.std.proofs.KnownBytes.{Consumes-trans, Consumes-kept}
-use Rattle.aio_bytes.specs.Held.{HasNoLineFeed, is_line_feed, PutsAhead}
-
--- In each of these `given` is what a caller took so far, with its line feeds, and the source had `given`, then what lies ahead, and then what it has left.
-
--- a read keeps this
-pub nothing_lost-read : (had before after : Option (List ℕ)) (given old new : List ℕ) (n : ℕ)
-    → Consumes had before (given ++ old) → PutsAhead before after old new n → Consumes had after (given ++ new)
-nothing_lost-read had before after given old new n whole put =
-    subst (Consumes had after) (append_assoc given old put.piece ∙ ap (λ l. given ++ l) (sym put.ahead))
-    (Consumes-trans had before after (given ++ old) put.piece whole put.taken)
-
--- a read that failed keeps this
-pub nothing_lost-failed : (had before after : Option (List ℕ)) (given old new : List ℕ)
-    → Consumes had before (given ++ old) → Keeps before after → new ≡ old → Consumes had after (given ++ new)
-nothing_lost-failed had before after given old new whole kept same =
-    subst (λ l. Consumes had after (given ++ l)) (sym same) (Consumes-kept had before after (given ++ old) whole kept)
-
--- a line that was found is given with its line feed
-pub nothing_lost-line : (had left : Option (List ℕ)) (given old line new : List ℕ)
-    → Consumes had left (given ++ old) → old ≡ line ++ 10 ∷ new → Consumes had left ((given ++ (line ++ 10 ∷ [])) ++ new)
-nothing_lost-line had left given old line new whole cut =
-    let parts : given ++ old ≡ (given ++ (line ++ 10 ∷ [])) ++ new =
-    ap (λ l. given ++ l) (cut ∙ sym (append_assoc line (10 ∷ []) new)) ∙ sym (append_assoc given (line ++ 10 ∷ []) new) in
-    subst (Consumes had left) parts whole
-
--- the rest is given as it is
-pub nothing_lost-rest : (had left : Option (List ℕ)) (given old line new : List ℕ)
-    → Consumes had left (given ++ old) → line ≡ old → new ≡ [] → Consumes had left ((given ++ line) ++ new)
-nothing_lost-rest had left given old line new whole all none =
-    let parts : given ++ old ≡ (given ++ line) ++ new =
-    ap (λ l. given ++ l) (sym all) ∙ sym (append-nil (given ++ line)) ∙ ap (λ l. (given ++ line) ++ l) (sym none) in
-    subst (Consumes had left) parts whole
-
--- ---- a recursion over bytes
+-- A law for the callers of a reader of lines: how a recursion over bytes passes a line.
+use Rattle.std.proofs.Common.{◌≡◌, ℕ, ◌∷◌, ◌++◌, List, [], Bool, true, false, ◌||◌, refl, sym, ap, ◌∙◌, append_assoc, append-nil}
+use Rattle.aio_bytes.specs.Held.{HasNoLineFeed, is_line_feed}
 
 or_false_left : (a b : Bool) → (a || b) ≡ false → a ≡ false
 or_false_left true b e = e

@@ -8,12 +8,8 @@
 
 pub mod adapters;
 pub mod lines;
-#[cfg(test)]
-mod lines_tests;
 pub mod memory;
 pub mod sure;
-#[cfg(test)]
-mod tests;
 pub mod traits;
 pub mod writing;
 

@@ -1,5 +1,6 @@
-pub mod Scripts
-pub mod Arms
-pub mod Waits
 pub mod Answers
+pub mod Arms
+pub mod Blocking
 pub mod Clocks
+pub mod Scripts
+pub mod Waits

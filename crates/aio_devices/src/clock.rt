@@ -1,11 +1,23 @@
 //! A clock in memory.
 
-ghost use Rattle.std.specs.Prelude.{◌≡◌, ◌<◌, ◌≤◌, IfOk, length};
+ghost use Rattle.std.specs.Prelude.{
+  ◌≡◌,
+  ◌<◌,
+  ◌≤◌,
+  ◌++◌,
+  ◌∷◌,
+  [],
+  ℕ,
+  length,
+  replicate,
+  IfOk,
+};
 ghost use Rattle.std.specs.List.Sorted.{IsNonDecreasing};
 ghost use Rattle.aio_base.specs.ClockBounds.{IsWithin};
 ghost use Rattle.aio_devices.specs.Clocks.{after_look, bounds_of, moment_at};
 
 use aio_base::{Clock, Moment, OutOfMemory};
+use std::alloc::{AllocError, Global};
 use std::marker::Model;
 
 /// A clock that gives its moments in order, and then the last again and again. Its least moment is the
@@ -71,4 +83,31 @@ impl Clock for MemClock {
             Err(_) => Err(OutOfMemory),
         }
     }
+}
+
+/// So many times the first moment of all. `AllocError` where memory ran out.
+fn zeros(alloc: Global, count: usize) -> Result<Vec<Moment>, AllocError>
+    ensures { IfOk result (λ moments. moments.items ≡ replicate {A = ℕ} count 0) }
+{
+    let Some(zero) = Moment::new(0) else {
+        return Err(AllocError);
+    };
+    vec![in alloc; zero; count]
+}
+
+/// A clock that stands at 0 for so many looks, and then at this moment. `AllocError` where memory ran out.
+pub fn clock_until(alloc: Global, looks: usize, moment: Moment) -> Result<MemClock, AllocError>
+    ensures { IfOk result (λ clock.
+        clock ≡ record { moments = replicate {A = ℕ} looks 0 ++ moment ∷ []; next = 0 }) }
+{
+    let mut moments = zeros(alloc, looks)?;
+    moments.push(moment)?;
+    Ok(MemClock::new(moments))
+}
+
+/// A clock that stands still at this moment. `AllocError` where memory ran out.
+pub fn clock_at(alloc: Global, moment: Moment) -> Result<MemClock, AllocError>
+    ensures { IfOk result (λ clock. clock ≡ record { moments = moment ∷ []; next = 0 }) }
+{
+    clock_until(alloc, 0, moment)
 }

@@ -19,7 +19,7 @@ pub enum WaitAnswer {
 }
 
 /// Adds the first events, as many as there is room for. How many it added.
-fn give(out: &mut Vec<Event>, events: &[Event], room: u32) -> u32
+pub(crate) fn give(out: &mut Vec<Event>, events: &[Event], room: u32) -> u32
     requires { vec_len out.old + room ≤ vec_capacity out.old }
     ensures count { result ≡ min room (length events.now) }
     ensures added { out.new.items ≡ out.old.items ++ take room events.now }

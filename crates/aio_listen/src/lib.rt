@@ -12,8 +12,6 @@ mod link;
 mod listeners;
 mod node;
 mod order;
-#[cfg(test)]
-mod tests;
 mod ticket;
 
 pub use listeners::{AddRefusal, Listeners};

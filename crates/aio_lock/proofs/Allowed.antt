@@ -4,13 +4,13 @@ use mathlib.Core.Option.{none, some}
 use prog.Atomic.{either}
 use lib.ListN.{get_elem?}
 use Rattle.atomic_table.specs.Table.{State, Act, rest, keeps, takes, gives, Allows, Splits, Joins, Arrives, opening, stepped, Valid, carried_after, homes_after}
-use Rattle.aio_base.specs.declared.notes.LockSeat.{LockSeat}
-use Rattle.aio_base.specs.declared.notes.LockView.{LockView}
-use Rattle.aio_base.specs.SharedLock.{nobody, first_owner, second_owner, sole_owner, took_out, put_back, joined, MayPutBack, with_slot, without_slot, is_inside, Place, LockRule}
-use Rattle.aio_base.specs.LockLaws.{TakesOut}
-use Rattle.aio_base.proofs.SeatLists.{beside_set}
-use Rattle.aio_base.proofs.LockSteps.{start_meets_rule, owners_keep_rule, exchange_keeps_rule, lost_exchange_keeps_rule, arrival_keeps_rule, late_arrival_keeps_rule, slot_goes_back, slot_comes_out, store_keeps_rule, join_keeps_rule}
-use Rattle.aio_lock.specs.Plays.{Sitter, Ruled, Took, Closes, Arrived, Opens, IsLaden, LeavesSlot, FetchesSlot}
+use Rattle.aio_rules.specs.declared.lock_views.LockSeat.{LockSeat}
+use Rattle.aio_rules.specs.declared.lock_views.LockView.{LockView}
+use Rattle.aio_rules.specs.SharedLock.{nobody, first_owner, second_owner, sole_owner, took_out, put_back, joined_owner, MayPutBack, with_slot, without_slot, is_inside, ValuePlace, LockRule}
+use Rattle.aio_rules.specs.LockLaws.{TakesOut}
+use Rattle.aio_rules.proofs.SeatLists.{beside_set}
+use Rattle.aio_rules.proofs.LockSteps.{start_meets_rule, owners_keep_rule, exchange_keeps_rule, lost_exchange_keeps_rule, arrival_keeps_rule, late_arrival_keeps_rule, slot_goes_back, slot_comes_out, store_keeps_rule, join_keeps_rule}
+use Rattle.aio_lock.specs.Plays.{SeatState, Ruled, Took, Closes, Arrived, Opens, IsLaden, LeavesSlot, FetchesSlot}
 
 module _ {T : Type 0} (n0 n1 : T → List ℕ) where
   abbrev Lists : Type 0
@@ -25,7 +25,7 @@ module _ {T : Type 0} (n0 n1 : T → List ℕ) where
   words_after : (s : Lists) → (k : Ruled n0 n1 s) → (n : ℕ) → set s.words 0 n ≡ n ∷ []
   words_after s k n = ap (λ l. set l 0 n) k.one_word
 
-  place_after : (s : Lists) → (k : Ruled n0 n1 s) → (place : Place T) → set s.homes 0 place ≡ place ∷ []
+  place_after : (s : Lists) → (k : Ruled n0 n1 s) → (place : ValuePlace T) → set s.homes 0 place ≡ place ∷ []
   place_after s k place = ap (λ l. set l 0 place) k.one_slot
 
   -- the rule at the word that was found
@@ -37,7 +37,7 @@ module _ {T : Type 0} (n0 n1 : T → List ℕ) where
   at_home s k y e = ap (λ l. get_elem? l 0) k.one_slot ∙ ap some e
 
   -- what is to show of a step of the seat that carries this, where its word was m and becomes f m
-  abbrev Shows : Lists → ℕ → List (ℕ × Option T) → (ℕ → ℕ) → (ℕ → Sitter T → Type 0) → ℕ → Type 0
+  abbrev Shows : Lists → ℕ → List (ℕ × Option T) → (ℕ → ℕ) → (ℕ → SeatState T → Type 0) → ℕ → Type 0
   Shows s id c f then m = (w : LockSeat) × (a : Act (Option T)) × Valid s.homes c a × Ruled n0 n1 (stepped s 0 (f m) id c w a) × then m (w, carried_after c a)
 
   -- the word is 0 or 1, so what is shown of both is shown of it
@@ -57,9 +57,9 @@ module _ {T : Type 0} (n0 n1 : T → List ℕ) where
       record { word = k.word; place = k.place; one_word = k.one_word; one_slot = k.one_slot; rule = owners_keep_rule n0 n1 k.word k.place s.views id k.rule (at ∙ ap some e) }
 
   pub joins : (id : ℕ) (v : LockSeat) (other : ℕ) (w : LockSeat) → v.view.taken ≡ None → w.view.taken ≡ None
-      → Joins (Ruled n0 n1) id v other w (without_slot (joined v.view w.view)) (without_slot nobody)
+      → Joins (Ruled n0 n1) id v other w (without_slot (joined_owner v.view w.view)) (without_slot nobody)
   joins id v other w free free' s k at apart two =
-      let was : get_elem? s.views other ≡ some w = sym (beside_set s.views id other (without_slot (joined v.view w.view)) apart) ∙ two in
+      let was : get_elem? s.views other ≡ some w = sym (beside_set s.views id other (without_slot (joined_owner v.view w.view)) apart) ∙ two in
       record { word = k.word; place = k.place; one_word = k.one_word; one_slot = k.one_slot; rule = join_keeps_rule n0 n1 k.word k.place s.views id other v w k.rule at free apart was free' }
 
   -- an exchange from 0 to 1
@@ -78,9 +78,9 @@ module _ {T : Type 0} (n0 n1 : T → List ℕ) where
       (λ e. (v, keeps, tt, record { word = 1; place = k.place; one_word = words_after s k 1; one_slot = k.one_slot; rule = lost_exchange_keeps_rule n0 n1 k.place s.views id v (rule_at s k 1 e) at }, refl))
 
   -- a seat that found 0 has the slot with the value
-  pub laden_at_zero : (me after : Sitter T) (found : ℕ) → Closes n0 n1 me found after → found ≡ 0 → IsLaden after
+  pub laden_at_zero : (me after : SeatState T) (found : ℕ) → Closes n0 n1 me found after → found ≡ 0 → IsLaden after
   laden_at_zero me after found closed zero_found = let took : Took n0 n1 me after = subst (λ (n : ℕ). Closes n0 n1 me n after) zero_found closed in
-      (took.value, took.now ∙ ap (λ (m : Sitter T). (with_slot m.0.view, (0, Some took.value) ∷ [])) (sym took.now))
+      (took.value, took.now ∙ ap (λ (m : SeatState T). (with_slot m.0.view, (0, Some took.value) ∷ [])) (sym took.now))
 
   pub arrives : (slots : ℕ) → Arrives (Ruled n0 n1) slots 0 (λ _. 1) (Arrived n0 n1)
   arrives slots s k len small = of_both s k (λ m. (w : LockSeat) × (a : Act (Option T)) × Valid s.homes [] a
@@ -129,22 +129,22 @@ module _ {T : Type 0} (n0 n1 : T → List ℕ) where
   )
 
   -- The same of a call's seat, by the way that it came: it began as `start`, without the slot.
-  module _ (slots id : ℕ) (v : LockView) (start : Sitter T) (rests : start ≡ (without_slot v, [])) where
+  module _ (slots id : ℕ) (v : LockView) (start : SeatState T) (rests : start ≡ (without_slot v, [])) where
     pub may_close : Allows (Ruled n0 n1) slots id start 0 to_one (Closes n0 n1 start)
-    may_close = subst (λ (m : Sitter T). Allows (Ruled n0 n1) slots id m 0 to_one (Closes n0 n1 m)) (sym rests) (closes slots id (without_slot v))
+    may_close = subst (λ (m : SeatState T). Allows (Ruled n0 n1) slots id m 0 to_one (Closes n0 n1 m)) (sym rests) (closes slots id (without_slot v))
 
     pub may_fetch_slot : is_inside v ≡ true → Allows (Ruled n0 n1) slots id start 0 to_one (λ _. FetchesSlot start)
-    may_fetch_slot t = subst (λ (m : Sitter T). Allows (Ruled n0 n1) slots id m 0 to_one (λ _. FetchesSlot m)) (sym rests) (fetches slots id v t)
+    may_fetch_slot t = subst (λ (m : SeatState T). Allows (Ruled n0 n1) slots id m 0 to_one (λ _. FetchesSlot m)) (sym rests) (fetches slots id v t)
 
     -- it fetched the slot, and put a value in
-    pub may_open : (y : T) (fetched filled : Sitter T) → FetchesSlot start fetched → filled ≡ (fetched.0, (0, Some y) ∷ rest fetched.1) → MayPutBack v (n0 y) (n1 y)
+    pub may_open : (y : T) (fetched filled : SeatState T) → FetchesSlot start fetched → filled ≡ (fetched.0, (0, Some y) ∷ rest fetched.1) → MayPutBack v (n0 y) (n1 y)
         → Allows (Ruled n0 n1) slots id filled 0 (λ _. 0) (λ _. Opens n0 n1 filled)
     may_open y fetched filled out put may = let is : filled ≡ (with_slot v, (0, Some y) ∷ []) =
-        put ∙ ap (λ (m : Sitter T). (m.0, (0, Some y) ∷ rest m.1)) out ∙ ap (λ (m : Sitter T). (with_slot m.0.view, (0, Some y) ∷ m.1)) rests in
-        subst (λ (m : Sitter T). Allows (Ruled n0 n1) slots id m 0 (λ _. 0) (λ _. Opens n0 n1 m)) (sym is) (opens slots id v y may)
+        put ∙ ap (λ (m : SeatState T). (m.0, (0, Some y) ∷ rest m.1)) out ∙ ap (λ (m : SeatState T). (with_slot m.0.view, (0, Some y) ∷ m.1)) rests in
+        subst (λ (m : SeatState T). Allows (Ruled n0 n1) slots id m 0 (λ _. 0) (λ _. Opens n0 n1 m)) (sym is) (opens slots id v y may)
 
   -- and of a seat whose slot was emptied
-  pub may_leave_slot : (slots id : ℕ) (laden emptied : Sitter T) → IsLaden laden → emptied ≡ (laden.0, (0, None) ∷ rest laden.1)
+  pub may_leave_slot : (slots id : ℕ) (laden emptied : SeatState T) → IsLaden laden → emptied ≡ (laden.0, (0, None) ∷ rest laden.1)
       → Allows (Ruled n0 n1) slots id emptied 0 to_one (λ _. LeavesSlot emptied)
-  may_leave_slot slots id laden emptied has empty = let is : emptied ≡ (with_slot laden.0.view, (0, None) ∷ []) = empty ∙ ap (λ (m : Sitter T). (m.0, (0, None) ∷ rest m.1)) has.1 in
-      subst (λ (m : Sitter T). Allows (Ruled n0 n1) slots id m 0 to_one (λ _. LeavesSlot m)) (sym is) (leaves slots id laden.0.view)
+  may_leave_slot slots id laden emptied has empty = let is : emptied ≡ (with_slot laden.0.view, (0, None) ∷ []) = empty ∙ ap (λ (m : SeatState T). (m.0, (0, None) ∷ rest m.1)) has.1 in
+      subst (λ (m : SeatState T). Allows (Ruled n0 n1) slots id m 0 to_one (λ _. LeavesSlot m)) (sym is) (leaves slots id laden.0.view)

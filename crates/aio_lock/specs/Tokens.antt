@@ -1,9 +1,9 @@
 -- What contracts see of the tokens of a lock, and what their types keep.
 use Rattle.std.specs.Prelude.{◌≡◌, ℕ, List, [], ◌∷◌, None}
 use Rattle.atomic_table.specs.Seated.{TableId}
-use Rattle.aio_base.specs.declared.notes.LockView.{LockView}
-use Rattle.aio_base.specs.declared.notes.LockSeat.{LockSeat}
-use Rattle.aio_base.specs.SharedLock.{nobody, took_out, taken_first, taken_second, without_slot, Agrees}
+use Rattle.aio_rules.specs.declared.lock_views.LockView.{LockView}
+use Rattle.aio_rules.specs.declared.lock_views.LockSeat.{LockSeat}
+use Rattle.aio_rules.specs.SharedLock.{nobody, took_out, taken_first, taken_second, without_slot, AgreesWithNotes}
 
 -- an owner: the lock to which it belongs, and what it knows
 pub record OwnerValue : Type 0 where
@@ -48,4 +48,4 @@ IsOutside lock token = (token.lock ≡ lock) × (token.knows.taken ≡ None)
 module _ {T : Type 0} (first_note second_note : T → List ℕ) where
   -- A token of this lock took out this value: it knows the notes, which agree with what it knew before.
   abbrev pub Entered : TableId → LockView → T → OwnerValue → Type 0
-  Entered lock before value token = (token ≡ owner_of lock (took_out (first_note value) (second_note value) before)) × Agrees before (first_note value) (second_note value)
+  Entered lock before value token = (token ≡ owner_of lock (took_out (first_note value) (second_note value) before)) × AgreesWithNotes before (first_note value) (second_note value)

@@ -1,12 +1,13 @@
 //! The way in and out of a lock: the table, those who sleep at it, and what each token knows.
 
 ghost use Rattle.std.specs.Prelude.{◌≡◌, [], ◌∷◌, Some, IfSome, IfNone, IfOk};
-ghost use Rattle.aio_base.specs.SharedLock.{MayPutBack, first_owner, joined, nobody, put_back, second_owner, took_out, without_slot};
+ghost use Rattle.aio_rules.specs.SharedLock.{MayPutBack, first_owner, joined_owner, nobody, put_back, second_owner, took_out, without_slot};
 ghost use Rattle.aio_lock.specs.Plays.{IsLaden};
 ghost use Rattle.aio_lock.specs.Tokens.{Entered, IsOutside, IsResting, owner_of, view_of};
 
 use crate::plays::{Arrive, Close, FetchSlot, LeaveSlot, Open, Rule, TakeIn, TwoOwners};
-use aio_base::{LockSeat, Noted, OutOfMemory};
+use aio_base::{Noted, OutOfMemory};
+use aio_rules::LockSeat;
 use atomic_table::{Badge, Seat, Table};
 use std::alloc::Global;
 use std::marker::Model;
@@ -14,8 +15,11 @@ use std::mem;
 use std::sync::Wait;
 use std::sync::atomic::{AtomicU64, Ordering};
 
-// 0 where the value is in its place, and 1 where it is out.
+// 0 where the value is in its place, and `OUT` where it is out.
 const TAKEN: usize = 0;
+
+// What the exchanges and the swap leave where the value is out, and so what a sleep begins on.
+const OUT: u64 = 1;
 
 // The place of the value.
 const PLACE: usize = 0;
@@ -81,7 +85,7 @@ impl<T: Noted> Gate<T> {
             made.1 ≡ owner_of made.0 (took_out [] [] (first_owner []))) }
         ensures second { IfOk result (λ made. made.2 ≡ owner_of made.0 (second_owner [])) }
     {
-        match Table::vacant(alloc, &[1], 1, &()) {
+        match Table::vacant(alloc, &[OUT], 1, &()) {
             Ok((table, mut seat)) => {
                 let second = table.shared.split_seat::<TwoOwners>(&mut seat);
                 let sleepers = AtomicU64::new(0);
@@ -101,7 +105,7 @@ impl<T: Noted> Gate<T> {
     {
         let table = &self.table.shared;
         let content = table.exchange(&mut seat, PLACE, None);
-        table.compare_exchange::<LeaveSlot>(&mut seat, TAKEN, 0, 1);
+        table.compare_exchange::<LeaveSlot>(&mut seat, TAKEN, 0, OUT);
         (content.unwrap(), Token::of(seat))
     }
 
@@ -116,7 +120,7 @@ impl<T: Noted> Gate<T> {
         let found = self
             .table
             .shared
-            .compare_exchange::<Close<T>>(&mut seat, TAKEN, 0, 1);
+            .compare_exchange::<Close<T>>(&mut seat, TAKEN, 0, OUT);
         if found != 0 {
             token.badge = seat.into_badge();
             return None;
@@ -137,7 +141,7 @@ impl<T: Noted> Gate<T> {
                 return value;
             }
             self.sleepers.fetch_add(1, Ordering::SeqCst);
-            self.table.shared.park(rt, TAKEN, 1);
+            self.table.shared.park(rt, TAKEN, OUT as u32);
             self.sleepers.fetch_sub(1, Ordering::SeqCst);
         }
         unreachable!()
@@ -149,7 +153,7 @@ impl<T: Noted> Gate<T> {
             Entered T.first_note T.second_note self.now nobody value result.1) }
         ensures none { IfNone result.0 (result.1 ≡ owner_of self.now nobody) }
     {
-        let (taken, seat) = self.table.shared.swap_new_seat::<Arrive<T>>(TAKEN, 1);
+        let (taken, seat) = self.table.shared.swap_new_seat::<Arrive<T>>(TAKEN, OUT);
         if taken != 0 {
             return (None, Token::of(seat));
         }
@@ -166,7 +170,7 @@ impl<T: Noted> Gate<T> {
     {
         let table = &self.table.shared;
         let mut seat = Token::seat(&mut token.badge);
-        table.compare_exchange::<FetchSlot>(&mut seat, TAKEN, 0, 1);
+        table.compare_exchange::<FetchSlot>(&mut seat, TAKEN, 0, OUT);
         match table.exchange(&mut seat, PLACE, Some(value)) {
             None => table.store::<Open<T>>(&mut seat, TAKEN, 0),
             Some(_) => unreachable!(),
@@ -185,7 +189,7 @@ impl<T: Noted> Gate<T> {
     pub fn merge(&self, into: &mut Token, other: Token)
         requires into { IsOutside self.now into.old }
         requires other { IsOutside self.now other }
-        ensures { into.new ≡ owner_of self.now (joined into.old.knows other.knows) }
+        ensures { into.new ≡ owner_of self.now (joined_owner into.old.knows other.knows) }
     {
         let Token { badge } = other;
         let other = badge.into_seat::<Option<T>>();

@@ -1,6 +1,6 @@
 //! A lock whose tokens know what it holds.
 //!
-//! It stands on the definitions of `aio_base` and on the kit's table of atomic words. The value that
+//! It stands on the rules of `aio_rules` and on the kit's table of atomic words. The value that
 //! it holds has two notes, and each owner is the token of one of them: it knows what its own last give
 //! left there, whatever visitors and the other owner did in between, for a visitor changes no note.
 //! The rule of the lock holds after every step of every thread. Only `take` and `visit` wait; every
@@ -10,7 +10,5 @@
 mod gate;
 mod lock;
 mod plays;
-#[cfg(test)]
-mod tests;
 
 pub use lock::{Lock, Owner, Visit};

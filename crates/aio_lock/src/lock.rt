@@ -1,7 +1,7 @@
 //! The lock and its tokens.
 
 ghost use Rattle.std.specs.Prelude.{◌≡◌, [], ◌∷◌, false, true, None, IfOk};
-ghost use Rattle.aio_base.specs.SharedLock.{Agrees, first_owner, is_inside, joined, put_back, second_owner, taken_first, taken_second, took_out};
+ghost use Rattle.aio_rules.specs.SharedLock.{AgreesWithNotes, first_owner, is_inside, joined_owner, put_back, second_owner, taken_first, taken_second, took_out};
 ghost use Rattle.aio_lock.specs.Tokens.{owner_of};
 
 use crate::gate::{Gate, Token};
@@ -78,7 +78,7 @@ impl<T: Noted> Lock<T> {
     pub fn take<R: Wait>(&self, rt: &R, o: &mut Owner) -> T
         requires belongs { o.old.lock ≡ self.now }
         requires outside { o.old.knows.taken ≡ None }
-        ensures notes { Agrees o.old.knows (T.first_note result) (T.second_note result) }
+        ensures notes { AgreesWithNotes o.old.knows (T.first_note result) (T.second_note result) }
         ensures inside { o.new
             ≡ owner_of self.now (took_out (T.first_note result) (T.second_note result) o.old.knows) }
     {
@@ -130,7 +130,7 @@ impl<T: Noted> Lock<T> {
     pub fn join(&self, into: &mut Owner, other: Owner)
         requires belongs { (into.old.lock ≡ self.now) × (other.lock ≡ self.now) }
         requires outside { (into.old.knows.taken ≡ None) × (other.knows.taken ≡ None) }
-        ensures { into.new ≡ owner_of self.now (joined into.old.knows other.knows) }
+        ensures { into.new ≡ owner_of self.now (joined_owner into.old.knows other.knows) }
     {
         self.gate.merge(&mut into.token, other.token);
     }

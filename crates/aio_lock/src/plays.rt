@@ -1,6 +1,7 @@
 //! The rule of a lock as the table takes it, and what each kind of step tells its seat.
 
-use aio_base::{LockSeat, Noted};
+use aio_base::Noted;
+use aio_rules::LockSeat;
 use atomic_table::{Join, Play, Split, TableRule};
 use std::marker::PhantomData;
 
@@ -10,7 +11,7 @@ pub struct Rule<T> {
 }
 
 impl<T: Noted> TableRule<Option<T>, LockSeat, ()> for Rule<T> {
-    ghost use Rattle.aio_base.specs.SharedLock.{sole_owner, without_slot};
+    ghost use Rattle.aio_rules.specs.SharedLock.{sole_owner, without_slot};
     ghost use Rattle.aio_lock.specs.Plays.{Ruled};
 
     ghost holds = { λ _. Ruled T.first_note T.second_note };
@@ -23,7 +24,7 @@ pub struct TwoOwners;
 
 impl Split<LockSeat> for TwoOwners {
     ghost use Rattle.std.specs.Prelude.{[]};
-    ghost use Rattle.aio_base.specs.SharedLock.{first_owner, second_owner, took_out, without_slot};
+    ghost use Rattle.aio_rules.specs.SharedLock.{first_owner, second_owner, took_out, without_slot};
 
     ghost left = { λ _. without_slot (took_out [] [] (first_owner [])) };
 
@@ -34,9 +35,9 @@ impl Split<LockSeat> for TwoOwners {
 pub struct TakeIn;
 
 impl Join<LockSeat> for TakeIn {
-    ghost use Rattle.aio_base.specs.SharedLock.{joined, nobody, without_slot};
+    ghost use Rattle.aio_rules.specs.SharedLock.{joined_owner, nobody, without_slot};
 
-    ghost both = { λ s other. without_slot (joined s.view other.view) };
+    ghost both = { λ s other. without_slot (joined_owner s.view other.view) };
 
     ghost spent = { without_slot nobody };
 }

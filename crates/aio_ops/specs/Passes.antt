@@ -1,4 +1,4 @@
--- What contracts see of a pass, and what its calls do.
+-- What contracts see of a seat, and what its calls do.
 use Rattle.std.specs.Prelude.{◌≡◌, ◌⊎◌, ℕ, ◌+◌, ◌-◌, ◌^◌, ◌<◌, ◌≤◌, List, [], ◌∷◌, ◌++◌, length, map, min, Option, None, Some}
 use Rattle.atomic_table.specs.Seated.{TableId}
 use Rattle.aio_base.specs.Timers.{fold_changes}
@@ -9,9 +9,9 @@ use Rattle.aio_timers.specs.declared.op.TimerOp.{TimerOp}
 use Rattle.aio_ops.specs.declared.queue.Entry.{Entry}
 use Rattle.aio_ops.specs.declared.queue.Pushed.{Pushed}
 
--- A pass: the queue that it belongs to, and its number there; the entries that it pushed, each with how many it had popped by then; the entries
--- that it popped; how many of its pushes found the queue full, and how many of its pops found it empty; and, of the first pass alone, how many
--- passes were made, itself among them.
+-- A seat: the queue that it belongs to, and its number there; the entries that it pushed, each with how many it had popped by then; the entries
+-- that it popped; how many of its pushes found the queue full, and how many of its pops found it empty; and, of the first seat alone, how many
+-- seats were made, itself among them.
 pub record PassView : Type 0 where
   pub queue : TableId
   pub number : ℕ
@@ -21,11 +21,11 @@ pub record PassView : Type 0 where
   pub empties : ℕ
   pub made : ℕ
 
--- a pass that has pushed and popped nothing
+-- a seat that has pushed and popped nothing
 abbrev pub new_pass : TableId → ℕ → ℕ → PassView
 new_pass queue number made = record { queue = queue; number = number; own = []; pulled = []; fulls = 0; empties = 0; made = made }
 
--- the most passes of a queue
+-- the most seats of a queue
 abbrev pub pass_limit : ℕ
 pass_limit = 2 ^ 24
 
@@ -33,15 +33,15 @@ pass_limit = 2 ^ 24
 abbrev pub RoseBy : ℕ → ℕ → ℕ → Type 0
 RoseBy n before after = (before ≤ after) × (after ≡ min (before + n) (2 ^ 64 - 1))
 
--- the entry that a pass pushes next
+-- the entry that a seat pushes next
 abbrev pub next_entry : PassView → TimerOp → Entry
 next_entry p op = record { pass = p.number; number = length p.own + 1; empties = p.empties; op = op }
 
--- a pass whose operation is in the queue
+-- a seat whose operation is in the queue
 abbrev pub pushed : TimerOp → PassView → PassView
 pushed op p = record p { own = p.own ++ record { entry = next_entry p op; pulled = length p.pulled } ∷ [] }
 
--- A push of a pass found the queue full, which the pass counted, and nothing joined the queue.
+-- A push of a seat found the queue full, which the seat counted, and nothing joined the queue.
 pub record FindsFull (before after : PassView) : Type 0 where
   pub pass : after ≡ record before { fulls = after.fulls }
   pub counted : RoseBy 1 before.fulls after.fulls
@@ -50,7 +50,7 @@ pub record FindsFull (before after : PassView) : Type 0 where
 abbrev pub changed_by : List Entry → List Registration → List Registration
 changed_by entries book = fold_changes book (map (λ (e : Entry). change_of e.op) entries)
 
--- How pops leave a pass and a book: so many entries were popped, and each was applied, in the order in which it was popped.
+-- How pops leave a seat and a book: so many entries were popped, and each was applied, in the order in which it was popped.
 pub record Takes (count : ℕ) (before after : PassView) (book_before book_after : Book) : Type 0 where
   pub entries : List Entry
   pub number : length entries ≡ count
@@ -58,7 +58,7 @@ pub record Takes (count : ℕ) (before after : PassView) (book_before book_after
   pub book : book_after.entries ≡ changed_by entries book_before.entries
   pub spare : book_before.spare ≤ book_after.spare + count
 
--- how a drain that took so many entries ended, by the pass's count of empty pops before and after: after 1,000 entries, with no such pop, or earlier,
+-- how a drain that took so many entries ended, by the seat's count of empty pops before and after: after 1,000 entries, with no such pop, or earlier,
 -- at the only one
 abbrev pub Ended : ℕ → ℕ → ℕ → Type 0
 Ended count before after = ((count ≡ 1000) × (after ≡ before)) ⊎ ((count < 1000) × RoseBy 1 before after)
@@ -69,7 +69,7 @@ pub record Drains (count : ℕ) (before after : PassView) (book_before book_afte
   pub most : count ≤ 1000
   pub ends : Ended count before.empties after.empties
 
--- How one pop leaves a pass: it took this operation out of the queue, with its entry; or it found none, and counted that.
+-- How one pop leaves a seat: it took this operation out of the queue, with its entry; or it found none, and counted that.
 abbrev pub Pops : Option TimerOp → PassView → PassView → Type 0
 Pops None before after = (after ≡ record before { empties = after.empties }) × RoseBy 1 before.empties after.empties
 Pops (Some op) before after = (entry : Entry) × (entry.op ≡ op) × (after ≡ record before { pulled = before.pulled ++ entry ∷ [] })

@@ -10,8 +10,6 @@
 
 mod ops;
 mod queue;
-#[cfg(test)]
-mod tests;
 
 pub use ops::{OpPass, Ops, PassRefusal};
 pub use queue::{Entry, Pushed};

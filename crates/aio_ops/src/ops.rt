@@ -1,9 +1,9 @@
-//! The queue of operations and its passes.
+//! The queue of operations and its seats.
 
 ghost use Rattle.std.specs.Prelude.{◌≡◌, ◌==◌, ◌↔◌, ℕ, ◌+◌, ◌<◌, ◌≤◌, ◌^◌, [], IfOk, IfErr, OnOk, OnErr, Err};
 ghost use Rattle.aio_ops.specs.Passes.{Drains, FindsFull, Pops, new_pass, pass_limit, pushed};
 
-use crate::queue::{Entry, Hand, NewPass, OpQueue, Pop, Push};
+use crate::queue::{Entry, NewPass, OpQueue, Pop, Push, QueueSeat};
 use aio_base::OutOfMemory;
 use aio_timers::{TimerBook, TimerOp};
 use crossbeam_queue::Pass;
@@ -17,11 +17,11 @@ const CAPACITY: usize = 1_000;
 /// How many operations a drain takes at most.
 const DRAINED: u32 = 1_000;
 
-/// How many passes of a queue there are at most.
+/// How many seats of a queue there are at most.
 const PASSES: u32 = 1 << 24;
 
 /// A queue of at most 1,000 operations on registered timers, for any number of threads, each of which
-/// has a pass of its own. Contracts see which queue it is; what it holds no clause can say, since
+/// has a seat of its own. Contracts see which queue it is; what it holds no clause can say, since
 /// other threads may change it at any moment.
 #[derive(Drop)]
 pub struct Ops {
@@ -44,7 +44,7 @@ impl Model for Ops {
 /// popped, and how often it found the queue full and empty.
 #[derive(Drop)]
 pub struct OpPass {
-    pass: Pass<Entry, Hand>,
+    pass: Pass<Entry, QueueSeat>,
     number: u32,
     pushes: u64,
     fulls: u64,
@@ -70,20 +70,21 @@ impl Model for OpPass {
 
     ghost invariant = { λ p. (p.pass.me.1 ≡ [])
         × (length p.pass.me.0.client.own ≡ p.pushes)
-        × (p.number < 2 ^ 24) × (p.made ≤ 2 ^ 24) };
+        × (p.number < 2 ^ 24) × (p.made ≤ 2 ^ 24)
+        × (p.pass.me.0.client.number ≡ p.number) × (p.pass.me.0.client.made ≡ p.made) };
 }
 
-/// Why no further pass was made.
+/// Why no further seat was made.
 #[derive(Clone, Copy, Debug, PartialEq, Eq)]
 pub enum PassRefusal {
-    /// 2^24 passes were made.
+    /// 2^24 seats were made.
     PassesSpent,
     /// Memory ran out.
     OutOfMemory,
 }
 
 impl Ops {
-    /// A queue that holds nothing, and its first pass, with the number 0. Takes all the memory that
+    /// A queue that holds nothing, and its first seat, with the number 0. Takes all the memory that
     /// the queue ever takes; `OutOfMemory` where it is not there.
     pub fn new(alloc: Global) -> Result<(Ops, OpPass), OutOfMemory>
         ensures { IfOk result (λ made. made.1 ≡ new_pass made.0 0 1) }
@@ -104,12 +105,12 @@ impl Ops {
         }
     }
 
-    /// A further pass, for another thread, made by the first pass, which counts it. Its number is how
+    /// A further seat, for another thread, made by the first seat, which counts it. Its number is how
     /// many were made before.
     ///
     /// # Errors
     ///
-    /// `PassesSpent` exactly where 2^24 passes were made; then nothing changes.
+    /// `PassesSpent` exactly where 2^24 seats were made; then nothing changes.
     pub fn pass<R: Wait>(&self, _rt: &R, from: &mut OpPass) -> Result<OpPass, PassRefusal>
         requires belongs { from.old.queue ≡ self.now }
         requires first { from.old.number ≡ 0 }
@@ -133,12 +134,12 @@ impl Ops {
         })
     }
 
-    /// Puts an operation at the end of the queue, as the next entry of the pass. It takes no memory.
+    /// Puts an operation at the end of the queue, as the next entry of the seat. It takes no memory.
     ///
     /// # Errors
     ///
     /// The operation comes back only where the queue held 1,000 operations at a step of this call,
-    /// which the pass counts once.
+    /// which the seat counts once.
     pub fn push<R: Wait>(&self, rt: &R, p: &mut OpPass, op: TimerOp) -> Result<(), TimerOp>
         requires belongs { p.old.queue ≡ self.now }
         ensures pushed { OnOk result (p.new ≡ pushed op p.old) }
@@ -168,7 +169,7 @@ impl Ops {
 
     /// Takes at most 1,000 operations out of the queue and applies each to the book, in the order in
     /// which it takes them. The answer is how many. It ends after 1,000 of them, or where it finds the
-    /// queue empty, which the pass counts. It takes no memory.
+    /// queue empty, which the seat counts. It takes no memory.
     pub fn drain_into<R: Wait>(&self, rt: &R, p: &mut OpPass, book: &mut TimerBook) -> u32
         requires belongs { p.old.queue ≡ self.now }
         requires room { 1000 ≤ book.old.spare }
@@ -186,7 +187,7 @@ impl Ops {
     }
 
     /// Takes the first operation out of the queue; `None` only where the queue was empty at a step of
-    /// this call, which the pass counts.
+    /// this call, which the seat counts.
     fn pop<R: Wait>(&self, rt: &R, p: &mut OpPass) -> Option<TimerOp>
         requires belongs { p.old.queue ≡ self.now }
         ensures { Pops result p.old p.new }
@@ -201,7 +202,7 @@ impl Ops {
     }
 }
 
-/// The number of the next entry of a pass that has pushed so many. The kit's queue takes fewer than
+/// The number of the next entry of a seat that has pushed so many. The kit's queue takes fewer than
 /// 2^64 in all, so it waits for ever where there is no further number.
 fn next_number<R: Wait>(rt: &R, pushes: u64) -> u64
     ensures { result ≡ pushes + 1 }
@@ -215,7 +216,7 @@ fn next_number<R: Wait>(rt: &R, pushes: u64) -> u64
 }
 
 impl OpPass {
-    /// The number of the pass, from 0 in the order in which the passes of its queue were made.
+    /// The number of the seat, from 0 in the order in which the seats of its queue were made.
     pub fn number(&self) -> u32
         ensures value { result ≡ self.now.number }
         ensures bound { result < pass_limit }
@@ -223,7 +224,7 @@ impl OpPass {
         self.number
     }
 
-    /// Whether no further pass can be made, as far as this pass has counted them: it counts 2^24.
+    /// Whether no further seat can be made, as far as this seat has counted them: it counts 2^24.
     pub fn is_spent(&self) -> bool
         ensures { result ≡ (self.now.made == pass_limit) }
     {

@@ -1,17 +1,17 @@
 -- The steps of a member's seat, one list of them after another, what the swaps among them took, and the causes that they show.
-use Rattle.std.proofs.Common.{◌≡◌, ◌≢◌, ◌==◌, ◌≤◌, ℕ, zero, suc, Bool, true, false, ◌||◌, if◌then◌else◌, nat_lt, ◌/◌, ◌%◌, List, [], ◌∷◌, ◌++◌, length, drop, filter, refl, sym, ap, ◌∙◌, subst, append-nil, append_assoc, le_refl, le_trans, Result, Ok, Err, IfOk, IfErr, eq-eqb, ne_eqb, arith}
+use Rattle.std.proofs.Common.{◌≡◌, ◌≢◌, ◌==◌, ◌≤◌, ℕ, zero, suc, Bool, true, false, ◌||◌, if◌then◌else◌, nat_lt, ◌/◌, ◌%◌, List, [], ◌∷◌, ◌++◌, length, drop, filter, refl, sym, ap, ◌∙◌, subst, append-nil, append_assoc, le_refl, le_trans, Result, Ok, Err, IfOk, IfErr, OnErr, eq-eqb, ne_eqb, arith}
 use Rattle.std.proofs.Math.Bool.{or-true}
 use Rattle.std.proofs.Math.Seq.{drop-append_seam}
 use Rattle.std.proofs.lemmas.List.Elements.{filter-append}
 use Rattle.std.proofs.lemmas.List.Folds.{list_any-append}
 use Rattle.std.specs.List.{list_any}
 use Rattle.aio_base.specs.declared.names.Waker.{Waker}
-use Rattle.aio_base.specs.declared.seats.SeatView.{SeatView}
-use Rattle.aio_base.specs.declared.seats.WordStep.{WordStep}
-use Rattle.aio_base.specs.declared.seats.WordStep.TheVariants as word_step
-use Rattle.aio_base.specs.SharedWords.{after}
-use Rattle.aio_base.specs.WordCalls.{Found, all_wake_steps, is_look_at_end, park_steps, slot_steps, taken_masks, wake_steps}
-use Rattle.aio_base.proofs.WordCounts.{taken-append, taken-park}
+use Rattle.aio_rules.specs.declared.seats.SeatView.{SeatView}
+use Rattle.aio_rules.specs.declared.seats.WordStep.{WordStep}
+use Rattle.aio_rules.specs.declared.seats.WordStep.TheVariants as word_step
+use Rattle.aio_rules.specs.SharedWords.{after}
+use Rattle.aio_rules.specs.WordCalls.{Found, all_wake_steps, is_look_at_end, park_steps, slot_steps, taken_masks, wake_steps}
+use Rattle.aio_rules.proofs.WordCounts.{taken-append, taken-park}
 use Rattle.aio_words.specs.Calls.{Parks}
 use Rattle.aio_words.specs.Seats.{SeatValue}
 use Rattle.aio_shared.specs.declared.reacting.ReactedIn.{ReactedIn}
@@ -20,9 +20,9 @@ use Rattle.aio_shared.specs.declared.reacting.ReactFault.TheVariants as react_fa
 use Rattle.aio_shared.specs.Cells.{CellValue}
 use Rattle.aio_shared.specs.Later.{later_itself, later_further}
 use Rattle.aio_shared.specs.Members.{Extends, IsLaterMember, MemberValue, SharedValue}
-use Rattle.aio_shared.specs.Reacting.{NoteCounts, Reacts, Start, Wakes}
-use Rattle.aio_park.specs.Blocking.{HasFaultCause, gained, swaps_mask_of, taken_of}
-use Rattle.aio_park.specs.Driving.{Gains, GainsNone, mask_list}
+use Rattle.aio_shared.specs.Reacting.{NotifierCounts, Reacts, Start, Wakes}
+use Rattle.aio_park.specs.Blocking.{Gains, GainsOneAtMost, HasFaultCause, gained, mask_list, swaps_mask_of, taken_of}
+use Rattle.aio_park.specs.Driving.{GainsNone}
 
 -- ## What the steps of a wake take: nothing
 
@@ -90,16 +90,17 @@ own_park parker (suc idle) found =
 -- ## What a seat gains
 
 -- steps that took nothing
-pub gains_none : (steps : List WordStep) (v w : SeatView) → w.did ≡ v.did ++ steps → taken_masks steps ≡ [] → GainsNone v w
-gains_none steps v w did none = λ parker. record { steps = steps; did = did; taken = none; own = own_none parker steps none }
+pub gains_none : (steps : List WordStep) (v w : SeatView) → w.did ≡ v.did ++ steps → w.made ≡ v.made → taken_masks steps ≡ [] → GainsNone v w
+gains_none steps v w did made none = λ parker. record { steps = steps; did = did; made = made; taken = none; own = own_none parker steps none }
 
 pub gains_itself : (v : SeatView) → GainsNone v v
-gains_itself v = gains_none [] v v (sym (append-nil v.did)) refl
+gains_itself v = gains_none [] v v (sym (append-nil v.did)) refl refl
 
 pub gains_further : (parker : ℕ) (a b c : SeatView) (xs ys : List ℕ) → Gains parker a b xs → Gains parker b c ys → Gains parker a c (xs ++ ys)
 gains_further parker a b c xs ys x y = record {
   steps = x.steps ++ y.steps;
   did = y.did ∙ ap (λ l. l ++ y.steps) x.did ∙ append_assoc a.did x.steps y.steps;
+  made = y.made ∙ x.made;
   taken = taken-append x.steps y.steps ∙ (λ i. x.taken i ++ y.taken i);
   own = own-append parker x.steps y.steps ∙ (λ i. x.own i ++ y.own i);
 }
@@ -110,12 +111,12 @@ gains_same p q same = subst (λ (s : SeatValue). GainsNone p.view s.view) (sym s
 
 -- one look at the ticker
 pub gains_look : (found : ℕ) (v w : SeatView) → w ≡ after (word_step.LoadTicker found) v → GainsNone v w
-gains_look found v w looked = gains_none (word_step.LoadTicker found ∷ []) v w (ap (λ (x : SeatView). x.did) looked) refl
+gains_look found v w looked = gains_none (word_step.LoadTicker found ∷ []) v w (ap (λ (x : SeatView). x.did) looked) (ap (λ (x : SeatView). x.made) looked) refl
 
 -- one swap of the parker's mask
 pub gains_swap : (parker found : ℕ) (v w : SeatView) → w ≡ after (word_step.SwapMask parker found) v → Gains parker v w (mask_list found)
 gains_swap parker found v w swapped =
-    record { steps = word_step.SwapMask parker found ∷ []; did = ap (λ (x : SeatView). x.did) swapped; taken = refl; own = own_swap parker found }
+    record { steps = word_step.SwapMask parker found ∷ []; did = ap (λ (x : SeatView). x.did) swapped; made = ap (λ (x : SeatView). x.made) swapped; taken = refl; own = own_swap parker found }
 
 -- a swap that found nothing took nothing, and any other took what it found
 pub mask_none : (mask : ℕ) → mask ≡ 0 → mask_list mask ≡ []
@@ -126,12 +127,13 @@ mask_some mask some = ap (λ (b : Bool). if b then [] else mask ∷ []) (ne_eqb 
 
 -- so a swap that found nothing took nothing of any parker
 pub gains_nothing : (parker found : ℕ) (v w : SeatView) → found ≡ 0 → Gains parker v w (mask_list found) → GainsNone v w
-gains_nothing parker found v w nothing x = gains_none x.steps v w x.did (x.taken ∙ mask_none found nothing)
+gains_nothing parker found v w nothing x = gains_none x.steps v w x.did x.made (x.taken ∙ mask_none found nothing)
 
 pub gains_park : (parker found : ℕ) (v w : SeatView) → Parks parker found v w → Gains parker v w (mask_list found)
 gains_park parker found v w parked = record {
   steps = park_steps parker parked.1.0 found;
   did = ap (λ (x : SeatView). x.did) parked.1.1;
+  made = ap (λ (x : SeatView). x.made) parked.1.1;
   taken = taken-park parker parked.1.0 found parked.0 ∙ sym (mask_some found parked.0);
   own = own_park parker parked.1.0 found;
 }
@@ -149,7 +151,7 @@ pub gains_neither : (a b c : SeatView) → GainsNone a b → GainsNone b c → G
 gains_neither a b c x y = λ parker. gains_after parker a b c [] x (y parker)
 
 -- the member took the cell, took no mask while it held it, and gave it back
-pub gains_locked : {N : Type 0} (a b c d : MemberValue N) → b ≡ record a { turn = b.turn } → GainsNone b.pass.view c.pass.view → d ≡ record c { turn = record c.turn { holds = false } }
+pub gains_locked : {N : Type 0} (a b c d : MemberValue N) → b ≡ record a { claim = b.claim } → GainsNone b.pass.view c.pass.view → d ≡ record c { claim = record c.claim { holds = false } }
     → GainsNone a.pass.view d.pass.view
 gains_locked {N} a b c d taken took gave =
     gains_neither a.pass.view b.pass.view d.pass.view (gains_same a.pass b.pass (ap (λ (x : MemberValue N). x.pass) taken))
@@ -162,9 +164,16 @@ gains_where parker a b c none (Ok mask) is x y =
     subst (λ l. Gains parker a c (l ++ mask_list mask)) (mask_none none is) (gains_further parker a b c (mask_list none) (mask_list mask) x y)
 gains_where parker a b c none (Err fault) is x y = tt
 
+-- and at its fault too
+pub gains_most : {X : Type 0} (parker : ℕ) (a b c : SeatView) (none : ℕ) (r : Result X ReactFault) → none ≡ 0 → Gains parker a b (mask_list none) → OnErr r (GainsNone b c)
+    → OnErr r (GainsOneAtMost parker a c)
+gains_most parker a b c none (Ok x) is x_took y = tt
+gains_most parker a b c none (Err fault) is took y =
+    (0, subst (Gains parker a c) (sym (mask_none 0 refl)) (gains_neither a b c (gains_nothing parker none a b is took) y parker))
+
 pub gains_wakes : (parkers : ℕ) (wakers : List Waker) (p q : SeatValue) → Wakes parkers wakers p q → GainsNone p.view q.view
 gains_wakes parkers wakers p q woken =
-    gains_none (all_wake_steps wakers parkers woken.founds) p.view q.view (ap (λ (x : SeatValue). x.view.did) woken.seat) (wakes_take wakers parkers woken.founds)
+    gains_none (all_wake_steps wakers parkers woken.founds) p.view q.view (ap (λ (x : SeatValue). x.view.did) woken.seat) (ap (λ (x : SeatValue). x.view.made) woken.seat) (wakes_take wakers parkers woken.founds)
 
 -- ## Causes
 
@@ -176,31 +185,31 @@ gained_is a b steps did = ap (drop (length a.did)) did ∙ drop-append_seam a.di
 
 module _ {N W : Type 0} where
   -- a call of `react_in` takes no mask
-  pub gains_reacts : (parkers : ℕ) (all_sure : Bool) (start : Start) (old new : CellValue W) (m later : MemberValue N) (note : NoteCounts) (r : Result ReactedIn ReactFault)
-      → Reacts parkers all_sure start old new m later note r → GainsNone m.pass.view later.pass.view
-  gains_reacts parkers all_sure start old new m later note (Ok reacted) r = gains_wakes parkers new.round.taken m.pass later.pass r.0.woke
-  gains_reacts parkers all_sure start old new m later note (Err (react_fault.Wait fault)) r = gains_wakes parkers new.round.taken m.pass later.pass r.0.woke
-  gains_reacts parkers all_sure start old new m later note (Err (react_fault.Arm fault)) r = gains_wakes parkers new.round.taken m.pass later.pass r.0.woke
-  gains_reacts parkers all_sure start old new m later note (Err (react_fault.Notify fault)) r = gains_wakes parkers new.round.taken m.pass later.pass r.0.woke
-  gains_reacts parkers all_sure start old new m later note (Err react_fault.RoundsSpent) r = gains_same m.pass later.pass (ap (λ (x : MemberValue N). x.pass) r.1)
-  gains_reacts parkers all_sure start old new m later note (Err react_fault.OutOfMemory) r = gains_same m.pass later.pass (ap (λ (x : MemberValue N). x.pass) r.member)
+  pub gains_reacts : (parkers : ℕ) (all_sure : Bool) (start : Start W) (old new : CellValue W) (m later : MemberValue N) (notifier : NotifierCounts) (r : Result ReactedIn ReactFault)
+      → Reacts parkers all_sure start old new m later notifier r → GainsNone m.pass.view later.pass.view
+  gains_reacts parkers all_sure start old new m later notifier (Ok reacted) r = gains_wakes parkers new.round.taken m.pass later.pass r.0.woke
+  gains_reacts parkers all_sure start old new m later notifier (Err (react_fault.Wait fault)) r = gains_wakes parkers new.round.taken m.pass later.pass r.0.woke
+  gains_reacts parkers all_sure start old new m later notifier (Err (react_fault.Arm fault)) r = gains_wakes parkers new.round.taken m.pass later.pass r.0.woke
+  gains_reacts parkers all_sure start old new m later notifier (Err (react_fault.Notify fault)) r = gains_wakes parkers new.round.taken m.pass later.pass r.0.woke
+  gains_reacts parkers all_sure start old new m later notifier (Err react_fault.RoundsSpent) r = gains_same m.pass later.pass (ap (λ (x : MemberValue N). x.pass) r.1)
+  gains_reacts parkers all_sure start old new m later notifier (Err react_fault.OutOfMemory) r = gains_same m.pass later.pass (ap (λ (x : MemberValue N). x.pass) r.member)
 
 -- What holds of a member's state and a later one, also where it took or gave the cell between them.
 pub record Follows {N : Type 0} (faults : N → ℕ) (is_sure : N → Bool) (old new : MemberValue N) : Type 0 where
-  pub wait : new.turn.sure_of_wait ≡ old.turn.sure_of_wait
-  pub arms : new.turn.sure_of_arms ≡ old.turn.sure_of_arms
+  pub wait : new.claim.sure_of_wait ≡ old.claim.sure_of_wait
+  pub arms : new.claim.sure_of_arms ≡ old.claim.sure_of_arms
   pub did : Extends old.pass.view.did new.pass.view.did
-  pub note : faults old.note ≤ faults new.note
-  pub sure : is_sure new.note ≡ is_sure old.note
+  pub notifier : faults old.notifier ≤ faults new.notifier
+  pub sure : is_sure new.notifier ≡ is_sure old.notifier
 
 module _ {N : Type 0} (faults : N → ℕ) (is_sure : N → Bool) where
   -- a cause in the middle of some steps is one over all of them
   pub cause_within : (a b c d : MemberValue N) (fault : ReactFault) → Follows faults is_sure a b → Follows faults is_sure b c → HasFaultCause faults is_sure b c fault → Follows faults is_sure c d
       → HasFaultCause faults is_sure a d fault
-  cause_within a b c d (react_fault.Wait fault) first mid cause last = sym first.wait ∙ cause
-  cause_within a b c d (react_fault.Arm fault) first mid cause last = sym first.arms ∙ cause
+  cause_within a b c d (react_fault.Wait fault) first mid cause last = (sym first.wait ∙ cause.0, cause.1)
+  cause_within a b c d (react_fault.Arm fault) first mid cause last = (sym first.arms ∙ cause.0, cause.1)
   cause_within a b c d (react_fault.Notify fault) first mid cause last =
-      (record { least = le_trans first.note cause.0.least; most = le_trans cause.0.most last.note; rose = cause.0.rose }, sym first.sure ∙ cause.1)
+      (record { least = le_trans first.notifier cause.0.least; most = le_trans cause.0.most last.notifier; rose = cause.0.rose }, sym first.sure ∙ cause.1)
   cause_within a b c d react_fault.RoundsSpent first mid cause last =
       let xs = first.did.0 in let ys = mid.did.0 in let zs = last.did.0 in
       let whole : d.pass.view.did ≡ a.pass.view.did ++ (xs ++ (ys ++ zs)) = last.did.1 ∙ ap (λ l. l ++ zs) (mid.did.1 ∙ ap (λ l. l ++ ys) first.did.1)
@@ -215,19 +224,19 @@ module _ {N : Type 0} (faults : N → ℕ) (is_sure : N → Bool) where
   causes_within a b c d (Err fault) first mid cause last = cause_within a b c d fault first mid cause last
 
   pub follows_itself : (a : MemberValue N) → Follows faults is_sure a a
-  follows_itself a = record { wait = refl; arms = refl; did = ([], sym (append-nil a.pass.view.did)); note = le_refl (faults a.note); sure = refl }
+  follows_itself a = record { wait = refl; arms = refl; did = ([], sym (append-nil a.pass.view.did)); notifier = le_refl (faults a.notifier); sure = refl }
 
   pub follows_later : (a b : MemberValue N) → IsLaterMember faults is_sure a b → Follows faults is_sure a b
   follows_later a b later = record {
-    wait = ap (λ t. t.sure_of_wait) later.turn;
-    arms = ap (λ t. t.sure_of_arms) later.turn;
+    wait = ap (λ t. t.sure_of_wait) later.claim;
+    arms = ap (λ t. t.sure_of_arms) later.claim;
     did = later.did;
-    note = later.note;
+    notifier = later.notifier;
     sure = later.sure;
   }
 
   any_shared : MemberValue N → SharedValue
-  any_shared a = record { lock = a.turn.lock; words = record { identity = a.pass.words; parkers = 0 }; ops = a.ops.queue; sure_of_arms = a.turn.sure_of_arms }
+  any_shared a = record { lock = a.claim.lock; words = record { identity = a.pass.words; parkers = 0 }; ops = a.ops.queue; sure_of_arms = a.claim.sure_of_arms }
 
   pub member_itself : (a : MemberValue N) → IsLaterMember faults is_sure a a
   member_itself a = (later_itself faults is_sure (record { shared = any_shared a; member = a })).member

@@ -1,23 +1,33 @@
 -- Rounds by a member that holds the cell, one after the other.
-use Rattle.std.proofs.Common.{◌≡◌, ◌≢◌, ◌^◌, ◌-◌, ◌+◌, ◌≤◌, ℕ, suc, Bool, true, false, ◌||◌, [], ◌∷◌, ◌++◌, map, refl, sym, ap, ◌∙◌, subst, append-nil, append_assoc, IfOk, Result, Ok, Err, eq-eqb, arith}
+use Rattle.std.proofs.Common.{◌≡◌, ◌≢◌, ◌^◌, ◌-◌, ◌+◌, ◌≤◌, ℕ, zero, suc, Bool, true, false, ◌||◌, [], ◌∷◌, ◌++◌, map, refl, sym, ap, ◌∙◌, subst, append-nil, append_assoc, le_trans, Option, None, IfOk, Result, Ok, Err, eq-eqb, arith}
 use Rattle.std.specs.List.{list_any}
 use Rattle.std.proofs.lemmas.List.{map-append}
 use Rattle.std.proofs.lemmas.List.Elements.{All-append, All-cons, All-nil}
-use Rattle.aio_base.specs.declared.seats.SeatView.{SeatView}
-use Rattle.aio_base.specs.declared.seats.WordStep.TheVariants as word_step
-use Rattle.aio_base.specs.SharedWords.{after}
-use Rattle.aio_base.specs.WordCalls.{is_look_at_end}
+use Rattle.aio_rules.specs.declared.seats.SeatView.{SeatView}
+use Rattle.aio_rules.specs.declared.seats.WordStep.{WordStep}
+use Rattle.aio_rules.specs.declared.seats.WordStep.TheVariants as word_step
+use Rattle.aio_base.specs.ClockBounds.{ClockBounds}
+use Rattle.aio_rules.specs.SharedWords.{after}
+use Rattle.aio_rules.specs.WordCalls.{is_look_at_end}
+use Rattle.aio_shared.specs.declared.reacting.ReactedIn.{ReactedIn}
+use Rattle.aio_words.specs.Seats.{SeatValue}
 use Rattle.aio_shared.specs.declared.reacting.ReactFault.{ReactFault}
-use Rattle.aio_shared.specs.Cells.{CellValue}
+use Rattle.aio_shared.specs.Cells.{CellValue, WaitStep}
 use Rattle.aio_shared.specs.Members.{Extends, IsLaterMember, MemberValue}
-use Rattle.aio_shared.specs.OneCell.{Takes, TurnValue, with_empties}
-use Rattle.aio_shared.specs.Reacting.{BeginsNone}
+use Rattle.aio_shared.specs.OneCell.{Takes, ClaimValue, with_empties}
+use Rattle.aio_shared.specs.Reacting.{BeginsNone, NotifierCounts, Reacts, Start, until}
 use Rattle.aio_park.specs.Blocking.{gained}
-use Rattle.aio_park.specs.Driving.{ComesToNothing, Drives, DrivesRound, DrivesRounds}
+use Rattle.aio_park.specs.Driving.{ComesToNothing, Drives, DrivesRound, DrivesRounds, Passes, SwapsFirst, Tries, member_did}
 use Rattle.aio_park.proofs.Gaining.{Follows, gained_is, member_itself}
 
 le_same : (a b : ℕ) → b ≡ a → a ≤ b
 le_same a b same = omega (arith, same)
+
+-- one step of the seat that a member lent
+pub member_step : {N : Type 0} (step : WordStep) (m : MemberValue N) (was now : SeatValue) → was ≡ m.pass → now.words ≡ was.words → now.view ≡ after step was.view
+    → record m { pass = now } ≡ member_did step m
+member_step step m was now is words view =
+    λ i. record m { pass = record { words = (words ∙ ap (λ (s : SeatValue). s.words) is) i; view = (view ∙ ap (λ (s : SeatValue). after step s.view) is) i } }
 
 module _ {N : Type 0} where
   -- a look at the ticker that found its end
@@ -32,27 +42,27 @@ module _ {N : Type 0} where
     pub later_by_seat : (m later : MemberValue N) → later ≡ record m { pass = later.pass } → later.pass.words ≡ m.pass.words → Extends m.pass.view.did later.pass.view.did
         → IsLaterMember faults is_sure m later
     later_by_seat m later is words did =
-        let turn : later.turn ≡ m.turn = ap (λ (x : MemberValue N). x.turn) is in
+        let claim : later.claim ≡ m.claim = ap (λ (x : MemberValue N). x.claim) is in
         record {
-          turn = turn ∙ (λ i. with_empties (sym (ap (λ (x : TurnValue). x.empties) turn) i) m.turn);
+          claim = claim ∙ (λ i. with_empties (sym (ap (λ (x : ClaimValue). x.empties) claim) i) m.claim);
           words = words;
           queue = ap (λ (x : MemberValue N). x.ops.queue) is;
           number = ap (λ (x : MemberValue N). x.ops.number) is;
-          sure = ap (λ (x : MemberValue N). is_sure x.note) is;
+          sure = ap (λ (x : MemberValue N). is_sure x.notifier) is;
           did = did;
           own = ([], ap (λ (x : MemberValue N). x.ops.own) is ∙ sym (append-nil m.ops.own));
           pulled = ([], ap (λ (x : MemberValue N). x.ops.pulled) is ∙ sym (append-nil m.ops.pulled));
           fulls = le_same m.ops.fulls later.ops.fulls (ap (λ (x : MemberValue N). x.ops.fulls) is);
           empties = le_same m.ops.empties later.ops.empties (ap (λ (x : MemberValue N). x.ops.empties) is);
           ids = le_same m.ids later.ids (ap (λ (x : MemberValue N). x.ids) is);
-          note = le_same (faults m.note) (faults later.note) (ap (λ (x : MemberValue N). faults x.note) is);
+          notifier = le_same (faults m.notifier) (faults later.notifier) (ap (λ (x : MemberValue N). faults x.notifier) is);
         }
 
     -- a later member is one also where both are seen with another place at the lock
-    other_turn : (b c : MemberValue N) (was now : TurnValue) → IsLaterMember faults is_sure b c → now ≡ with_empties now.empties was
-        → IsLaterMember faults is_sure (record b { turn = was }) (record c { turn = now })
-    other_turn b c was now later turn = record {
-      turn = turn;
+    other_claim : (b c : MemberValue N) (was now : ClaimValue) → IsLaterMember faults is_sure b c → now ≡ with_empties now.empties was
+        → IsLaterMember faults is_sure (record b { claim = was }) (record c { claim = now })
+    other_claim b c was now later claim = record {
+      claim = claim;
       words = later.words;
       queue = later.queue;
       number = later.number;
@@ -63,34 +73,34 @@ module _ {N : Type 0} where
       fulls = later.fulls;
       empties = later.empties;
       ids = later.ids;
-      note = later.note;
+      notifier = later.notifier;
     }
 
     -- a member whose pop found no cell is later
-    pub later_waited : (a b : MemberValue N) → b ≡ record a { turn = b.turn } → b.turn ≡ with_empties b.turn.empties a.turn → IsLaterMember faults is_sure a b
-    later_waited a b is turn = subst (IsLaterMember faults is_sure a) (sym is) (other_turn a a a.turn b.turn (member_itself faults is_sure a) turn)
+    pub later_waited : (a b : MemberValue N) → b ≡ record a { claim = b.claim } → b.claim ≡ with_empties b.claim.empties a.claim → IsLaterMember faults is_sure a b
+    later_waited a b is claim = subst (IsLaterMember faults is_sure a) (sym is) (other_claim a a a.claim b.claim (member_itself faults is_sure a) claim)
 
     -- A member took the cell, did something, and gave it back: it is later then, where it did not hold the cell before.
-    pub locked_later : (a b c d : MemberValue N) (e : ℕ) → a.turn.holds ≡ false → b ≡ record a { turn = b.turn } → b.turn ≡ record a.turn { holds = true; empties = e }
-        → IsLaterMember faults is_sure b c → d ≡ record c { turn = record c.turn { holds = false } } → IsLaterMember faults is_sure a d
-    locked_later a b c d e free taken turn later gave =
-        let back : record b { turn = a.turn } ≡ a = ap (λ (x : MemberValue N). record x { turn = a.turn }) taken in
-        let held : c.turn ≡ with_empties c.turn.empties (record a.turn { holds = true; empties = e }) = later.turn ∙ ap (with_empties c.turn.empties) turn in
-        let put : record c.turn { holds = false } ≡ with_empties c.turn.empties a.turn =
-        ap (λ (t : TurnValue). record t { holds = false }) held ∙ (λ i. record a.turn { holds = sym free i; empties = c.turn.empties }) in
-        let both = other_turn b c a.turn (record c.turn { holds = false }) later put in
+    pub locked_later : (a b c d : MemberValue N) (e : ℕ) → a.claim.holds ≡ false → b ≡ record a { claim = b.claim } → b.claim ≡ record a.claim { holds = true; empties = e }
+        → IsLaterMember faults is_sure b c → d ≡ record c { claim = record c.claim { holds = false } } → IsLaterMember faults is_sure a d
+    locked_later a b c d e free taken claim later gave =
+        let back : record b { claim = a.claim } ≡ a = ap (λ (x : MemberValue N). record x { claim = a.claim }) taken in
+        let held : c.claim ≡ with_empties c.claim.empties (record a.claim { holds = true; empties = e }) = later.claim ∙ ap (with_empties c.claim.empties) claim in
+        let put : record c.claim { holds = false } ≡ with_empties c.claim.empties a.claim =
+        ap (λ (t : ClaimValue). record t { holds = false }) held ∙ (λ i. record a.claim { holds = sym free i; empties = c.claim.empties }) in
+        let both = other_claim b c a.claim (record c.claim { holds = false }) later put in
         subst (λ (x : MemberValue N). IsLaterMember faults is_sure a x) (sym gave)
-        (subst (λ (x : MemberValue N). IsLaterMember faults is_sure x (record c { turn = record c.turn { holds = false } })) back both)
+        (subst (λ (x : MemberValue N). IsLaterMember faults is_sure x (record c { claim = record c.claim { holds = false } })) back both)
 
   -- what follows from taking the cell, and from giving it back
-  pub follows_turn : (faults : N → ℕ) (is_sure : N → Bool) (a b : MemberValue N) → b ≡ record a { turn = b.turn } → b.turn.sure_of_wait ≡ a.turn.sure_of_wait
-      → b.turn.sure_of_arms ≡ a.turn.sure_of_arms → Follows faults is_sure a b
-  follows_turn faults is_sure a b is wait arms = record {
+  pub follows_claim : (faults : N → ℕ) (is_sure : N → Bool) (a b : MemberValue N) → b ≡ record a { claim = b.claim } → b.claim.sure_of_wait ≡ a.claim.sure_of_wait
+      → b.claim.sure_of_arms ≡ a.claim.sure_of_arms → Follows faults is_sure a b
+  follows_claim faults is_sure a b is wait arms = record {
     wait = wait;
     arms = arms;
     did = ([], ap (λ (x : MemberValue N). x.pass.view.did) is ∙ sym (append-nil a.pass.view.did));
-    note = le_same (faults a.note) (faults b.note) (ap (λ (x : MemberValue N). faults x.note) is);
-    sure = ap (λ (x : MemberValue N). is_sure x.note) is;
+    notifier = le_same (faults a.notifier) (faults b.notifier) (ap (λ (x : MemberValue N). faults x.notifier) is);
+    sure = ap (λ (x : MemberValue N). is_sure x.notifier) is;
   }
 
 module _ {N W : Type 0} where
@@ -119,31 +129,85 @@ module _ {N W : Type 0} where
   }
 
   -- one more round
-  pub one_more : (faults : N → ℕ) (parkers : ℕ) (all_sure : Bool) (earliest rounds : ℕ) (old last new : CellValue W) (m by later : MemberValue N) (before more : ℕ)
-      → DrivesRounds faults parkers all_sure earliest rounds old last m by before → DrivesRound faults parkers all_sure earliest last new by later more
-      → DrivesRounds faults parkers all_sure earliest (rounds + 1) old new m later (before + more)
-  one_more faults parkers all_sure earliest rounds old last new m by later before more x y =
+  pub one_more : (faults : N → ℕ) (parkers : ℕ) (all_sure : Bool) (start : Start W) (rounds : ℕ) (old last new : CellValue W) (m by later : MemberValue N) (before more : ℕ)
+      → DrivesRounds faults parkers all_sure start rounds old last m by before → DrivesRound faults parkers all_sure start last new by later more
+      → DrivesRounds faults parkers all_sure start (rounds + 1) old new m later (before + more)
+  one_more faults parkers all_sure start rounds old last new m by later before more x y =
       let next : suc rounds ≡ rounds + 1 = omega arith in
-      subst (λ k. DrivesRounds faults parkers all_sure earliest k old new m later (before + more)) next (last, by, before, more, x, y, refl)
+      subst (λ k. DrivesRounds faults parkers all_sure start k old new m later (before + more)) next (last, by, before, more, x, y, refl)
 
-  -- a round of a later moment is one of an earlier
-  pub from_earlier : (faults : N → ℕ) (parkers : ℕ) (all_sure : Bool) (earliest moment : ℕ) (old new : CellValue W) (m later : MemberValue N) (events : ℕ)
-      → earliest ≤ moment → DrivesRound faults parkers all_sure moment old new m later events → DrivesRound faults parkers all_sure earliest old new m later events
-  from_earlier faults parkers all_sure earliest moment old new m later events before x = record {
+  -- a call of a clock with the same bounds
+  pub with_bounds : (parkers : ℕ) (all_sure : Bool) (given : Option ℕ) (bounds other : ClockBounds) (earliest latest : ℕ) (step : WaitStep W) (old new : CellValue W) (m later : MemberValue N) (notifier : NotifierCounts)
+      (r : Result (Option ReactedIn) ReactFault) → other ≡ bounds
+      → Tries parkers all_sure (record { given = given; bounds = other; earliest = earliest; latest = latest; step = step }) old new m later notifier r
+      → Tries parkers all_sure (record { given = given; bounds = bounds; earliest = earliest; latest = latest; step = step }) old new m later notifier r
+  with_bounds parkers all_sure given bounds other earliest latest step old new m later notifier r same =
+      subst (λ b. Tries parkers all_sure (record { given = given; bounds = b; earliest = earliest; latest = latest; step = step }) old new m later notifier r) same
+
+  -- rounds of a clock until a moment are also ones until a later moment
+  round_until : (faults : N → ℕ) (parkers : ℕ) (all_sure : Bool) (start : Start W) (stop : ℕ) (old new : CellValue W) (m later : MemberValue N) (events : ℕ) → start.latest ≤ stop
+      → DrivesRound faults parkers all_sure start old new m later events → DrivesRound faults parkers all_sure (until stop start) old new m later events
+  round_until faults parkers all_sure start stop old new m later events on x = record {
     from = x.from;
     by = x.by;
     first = x.first;
     moment = x.moment;
-    not_before = (let on = x.not_before in omega arith);
+    not_before = x.not_before;
+    stop = x.stop;
+    not_after = le_trans x.not_after on;
     reacted = x.reacted;
     reacts = x.reacts;
     events_are = x.events_are;
   }
 
+  pub rounds_until : (faults : N → ℕ) (parkers : ℕ) (all_sure : Bool) (start : Start W) (stop rounds : ℕ) (old new : CellValue W) (m later : MemberValue N) (events : ℕ) → start.latest ≤ stop
+      → DrivesRounds faults parkers all_sure start rounds old new m later events → DrivesRounds faults parkers all_sure (until stop start) rounds old new m later events
+  rounds_until faults parkers all_sure start stop zero old new m later events on x = x
+  rounds_until faults parkers all_sure start stop (suc rounds) old new m later events on (last, by, before, more, front, round, sum) = (
+    last,
+    by,
+    before,
+    more,
+    rounds_until faults parkers all_sure start stop rounds old last m by before on front,
+    round_until faults parkers all_sure start stop last new by later more on round,
+    sum,
+  )
+
+  -- a round of a later moment is one of an earlier, if the bounds are the same
+  pub from_earlier : (faults : N → ℕ) (parkers : ℕ) (all_sure : Bool) (start : Start W) (bounds : ClockBounds) (moment : ℕ) (old new : CellValue W) (m later : MemberValue N) (events : ℕ)
+      → bounds ≡ start.bounds → start.earliest ≤ moment → DrivesRound faults parkers all_sure (record start { bounds = bounds; earliest = moment }) old new m later events → DrivesRound faults parkers all_sure start old new m later events
+  from_earlier faults parkers all_sure start bounds moment old new m later events same before x = record {
+    from = x.from;
+    by = x.by;
+    first = x.first;
+    moment = x.moment;
+    not_before = (let on = x.not_before in omega arith);
+    stop = x.stop;
+    not_after = x.not_after;
+    reacted = x.reacted;
+    reacts =
+        subst
+        (λ b.
+        Reacts parkers all_sure (record { given = None; bounds = b; earliest = x.moment; latest = x.stop; step = start.step }) x.from new x.by later
+        (record { before = faults x.by.notifier; after = faults later.notifier }) (Ok x.reacted))
+        same x.reacts;
+    events_are = x.events_are;
+  }
+
   -- the rounds of a member that took the cell and gave it back
-  pub drives_where : (faults : N → ℕ) (parkers : ℕ) (all_sure : Bool) (earliest rounds : ℕ) (m holding done later : MemberValue N) (taken left : CellValue W) (r : Result ℕ ReactFault)
-      → Takes m.turn holding.turn taken → holding ≡ record m { turn = holding.turn } → later ≡ record done { turn = record done.turn { holds = false } }
-      → IfOk r (λ events. DrivesRounds faults parkers all_sure earliest rounds taken left holding done events) → IfOk r (Drives W faults parkers all_sure earliest rounds m later)
-  drives_where faults parkers all_sure earliest rounds m holding done later taken left (Ok events) takes rest gave made =
+  pub drives_where : (faults : N → ℕ) (parkers : ℕ) (all_sure : Bool) (start : Start W) (rounds : ℕ) (m holding done later : MemberValue N) (taken left : CellValue W) (r : Result ℕ ReactFault)
+      → Takes m.claim holding.claim taken → holding ≡ record m { claim = holding.claim } → later ≡ record done { claim = record done.claim { holds = false } }
+      → IfOk r (λ events. DrivesRounds faults parkers all_sure start rounds taken left holding done events) → IfOk r (Drives W faults parkers all_sure start rounds m later)
+  drives_where faults parkers all_sure start rounds m holding done later taken left (Ok events) takes rest gave made =
       record { taken = taken; left = left; holding = holding; done = done; takes = takes; rest = rest; rounds_are = made; gave = gave }
-  drives_where faults parkers all_sure earliest rounds m holding done later taken left (Err fault) takes rest gave made = tt
+  drives_where faults parkers all_sure start rounds m holding done later taken left (Err fault) takes rest gave made = tt
+
+  -- a turn swapped its mask, and then did what it did by what that found
+  pub swaps_first : (faults : N → ℕ) (parkers : ℕ) (all_sure : Bool) (start : Start W) (parker found : ℕ) (m mid later : MemberValue N) (r : Result ℕ ReactFault)
+      → mid ≡ member_did (word_step.SwapMask parker found) m → Extends mid.pass.view.did later.pass.view.did
+      → (found ≢ 0 → IfOk r (λ mask. (mask ≡ found) × Passes W faults parkers all_sure start mid later)) → SwapsFirst W faults parkers all_sure start parker m later r
+  swaps_first faults parkers all_sure start parker found m mid later r is did passes = record {
+    found = found;
+    did = subst (λ (x : MemberValue N). Extends x.pass.view.did later.pass.view.did) is did;
+    passes = subst (λ (x : MemberValue N). found ≢ 0 → IfOk r (λ mask. (mask ≡ found) × Passes W faults parkers all_sure start x later)) is passes;
+  }

@@ -1,6 +1,6 @@
 pub mod Gaining
 pub mod Holding
 pub mod Keeping
-pub mod Waiting
+pub mod Looking
 pub mod Asking
 pub mod Polling

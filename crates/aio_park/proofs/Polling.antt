@@ -18,28 +18,29 @@ own_front [] others (suc n) all = absurd (omega arith)
 own_front (x ∷ xs) others zero all = absurd (omega arith)
 own_front (x ∷ xs) others (suc n) all = ap (λ l. x ∷ l) (own_front xs others n (omega arith))
 
-module _ {T O : Type 0} (step : T → Cx → Poll O → T → Type 0) (polls : T → ℕ) where
+module _ {T O H : Type 0} (step : T → H → Cx → Poll O → T → H → Type 0) (polls : T → ℕ) where
   -- The slots before this one were polled: whatever the polls of the others make of them, it joins what was made of those.
-  abbrev pub PolledBefore : ℕ → Cx → ℕ → List (Slot T O) → List (Slot T O) → Type 0
-  PolledBefore parker cx i old now =
-      (after : List (Slot T O)) → SlotsAfter step polls parker i cx (drop i now) after → SlotsAfter step polls parker 0 cx old (take i now ++ after)
+  abbrev pub PolledBefore : ℕ → Cx → ℕ → List (Slot T O) → H → List (Slot T O) → H → Type 0
+  PolledBefore parker cx i old host now by =
+      (after : List (Slot T O)) (left : H) → SlotsAfter step polls parker i cx (drop i now) by after left → SlotsAfter step polls parker 0 cx old host (take i now ++ after) left
 
-  pub polled_further : (parker i : ℕ) (cx : Cx) (old now : List (Slot T O)) (d new : Slot T O) → i < length now → PolledBefore parker cx i old now
-      → SlotAfter step polls (is_woken cx.mask i) (slot_cx parker i cx) (get_or now i d) new → PolledBefore parker cx (i + 1) old (set now i new)
-  polled_further parker i cx old now d new below so_far one = λ after rest.
+  pub polled_further : (parker i : ℕ) (cx : Cx) (old : List (Slot T O)) (host : H) (now : List (Slot T O)) (d new : Slot T O) (by later : H) → i < length now → PolledBefore parker cx i old host now by
+      → SlotAfter step polls (is_woken cx.mask i) (slot_cx parker i cx) (get_or now i d) by new later → PolledBefore parker cx (i + 1) old host (set now i new) later
+  polled_further parker i cx old host now d new by later below so_far one = λ after left rest.
       let same : drop (i + 1) (set now i new) ≡ drop (i + 1) now = drop-set-lt (i + 1) now i new (omega arith) in
-      let others : SlotsAfter step polls parker (i + 1) cx (drop (i + 1) now) after = subst (λ l. SlotsAfter step polls parker (i + 1) cx l after) same rest in
-      let from : SlotsAfter step polls parker i cx (drop i now) (new ∷ after) =
-      subst (λ l. SlotsAfter step polls parker i cx l (new ∷ after)) (sym (drop_more now i d below)) (one, others) in
+      let others : SlotsAfter step polls parker (i + 1) cx (drop (i + 1) now) later after left = subst (λ l. SlotsAfter step polls parker (i + 1) cx l later after left) same rest in
+      let from : SlotsAfter step polls parker i cx (drop i now) by (new ∷ after) left =
+      subst (λ l. SlotsAfter step polls parker i cx l by (new ∷ after) left) (sym (drop_more now i d below)) (later, one, others) in
       let joined : take (i + 1) (set now i new) ++ after ≡ take i now ++ new ∷ after =
       ap (λ l. l ++ after) (take_more_set now i new below) ∙ append_assoc (take i now) (new ∷ []) after in
-      subst (λ l. SlotsAfter step polls parker 0 cx old l) (sym joined) (so_far (new ∷ after) from)
+      subst (λ l. SlotsAfter step polls parker 0 cx old host l left) (sym joined) (so_far (new ∷ after) left from)
 
-  pub polled_all : (parker i : ℕ) (cx : Cx) (old now : List (Slot T O)) → i ≡ length now → PolledBefore parker cx i old now → SlotsAfter step polls parker 0 cx old now
-  polled_all parker i cx old now all so_far =
+  pub polled_all : (parker i : ℕ) (cx : Cx) (old : List (Slot T O)) (host : H) (now : List (Slot T O)) (by : H) → i ≡ length now → PolledBefore parker cx i old host now by
+      → SlotsAfter step polls parker 0 cx old host now by
+  polled_all parker i cx old host now by all so_far =
       let none : drop i now ≡ [] = ap (λ k. drop k now) all ∙ drop_whole now in
       let whole : take i now ++ [] ≡ now = append-nil (take i now) ∙ take_all i now (omega arith) in
-      subst (λ l. SlotsAfter step polls parker 0 cx old l) whole (so_far [] (subst (λ l. SlotsAfter step polls parker i cx l []) (sym none) tt))
+      subst (λ l. SlotsAfter step polls parker 0 cx old host l by) whole (so_far [] by (subst (λ l. SlotsAfter step polls parker i cx l by [] by) (sym none) refl))
 
 module _ {T O : Type 0} (gives : T → Bool → ℕ → O → Type 0) where
   -- what slots allow of which one was polled they allowed before, if that one did

@@ -35,31 +35,31 @@ module _ {T O : Type 0} where
   IsAnswer slots (Ready outputs) left = (slots ≡ map Ended outputs.items) × (left ≡ [])
   IsAnswer slots Pending left = (list_any is_running slots ≡ true) × (left ≡ slots)
 
-  module _ (step : T → Cx → Poll O → T → Type 0) (polls : T → ℕ) where
-    -- a task was polled once: its answer stands in its slot, and the task is let go, or it runs on and its polls rose
-    abbrev pub IsPolled : Cx → T → Slot T O → Type 0
-    IsPolled cx task (Running after) = step task cx Pending after × (polls after ≡ raised (polls task))
-    IsPolled cx task (Ended answer) = (after : T) × step task cx (Ready answer) after
+  module _ {H : Type 0} (step : T → H → Cx → Poll O → T → H → Type 0) (polls : T → ℕ) where
+    -- a task was polled once: its answer stands in its slot, and the task is let go, or it runs on and its polls rose; and the host as it left it
+    abbrev pub IsPolled : Cx → T → H → Slot T O → H → Type 0
+    IsPolled cx task host (Running after) left = step task host cx Pending after left × (polls after ≡ raised (polls task))
+    IsPolled cx task host (Ended answer) left = (after : T) × step task host cx (Ready answer) after left
 
-    -- what a poll makes of one slot: a running task whose slot is woken is polled, and any other slot is as before
-    abbrev pub SlotAfter : Bool → Cx → Slot T O → Slot T O → Type 0
-    SlotAfter true cx (Running task) new = IsPolled cx task new
-    SlotAfter true cx (Ended answer) new = new ≡ Ended answer
-    SlotAfter false cx old new = new ≡ old
+    -- what a poll makes of one slot and the host: a running task whose slot is woken is polled; any other slot is as before, and so is the host then
+    abbrev pub SlotAfter : Bool → Cx → Slot T O → H → Slot T O → H → Type 0
+    SlotAfter true cx (Running task) host new left = IsPolled cx task host new left
+    SlotAfter true cx (Ended answer) host new left = (new ≡ Ended answer) × (left ≡ host)
+    SlotAfter false cx old host new left = (new ≡ old) × (left ≡ host)
 
-    -- and of each of these slots, which begin with this one
-    abbrev pub SlotsAfter : ℕ → ℕ → Cx → List (Slot T O) → List (Slot T O) → Type 0
-    SlotsAfter parker slot cx [] [] = ⊤
-    SlotsAfter parker slot cx [] (new ∷ after) = ⊥
-    SlotsAfter parker slot cx (old ∷ slots) [] = ⊥
-    SlotsAfter parker slot cx (old ∷ slots) (new ∷ after) = SlotAfter (is_woken cx.mask slot) (slot_cx parker slot cx) old new
-        × SlotsAfter parker (slot + 1) cx slots after
+    -- and of each of these slots, which begin with this one, one after the other
+    abbrev pub SlotsAfter : ℕ → ℕ → Cx → List (Slot T O) → H → List (Slot T O) → H → Type 0
+    SlotsAfter parker slot cx [] host [] left = left ≡ host
+    SlotsAfter parker slot cx [] host (new ∷ after) left = ⊥
+    SlotsAfter parker slot cx (old ∷ slots) host [] left = ⊥
+    SlotsAfter parker slot cx (old ∷ slots) host (new ∷ after) left = (by : H)
+        × SlotAfter (is_woken cx.mask slot) (slot_cx parker slot cx) old host new by × SlotsAfter parker (slot + 1) cx slots by after left
 
-    -- A poll of a group: of its slots just the running ones of the mask are polled, once each. It is Pending exactly where a task runs on then, and
-    -- else its answers are handed out in the order of the slots, of which none is left.
-    pub record GroupPolled (old : GroupValue T O) (cx : Cx) (answer : Poll (Vec O Global)) (new : GroupValue T O) : Type 0 where
+    -- A poll of a group: of its slots just the running ones of the mask are polled, once each, and the host is what these polls leave of it. It is Pending
+    -- exactly where a task runs on then, and else its answers are handed out in the order of the slots, of which none is left.
+    pub record GroupPolled (old : GroupValue T O) (host : H) (cx : Cx) (answer : Poll (Vec O Global)) (new : GroupValue T O) (left : H) : Type 0 where
       pub slots : List (Slot T O)
-      pub each : SlotsAfter old.parker 0 cx old.slots slots
+      pub each : SlotsAfter old.parker 0 cx old.slots host slots left
       pub answer_is : IsAnswer slots answer new.slots
       pub parker : new.parker ≡ old.parker
       pub polls_are : new.polls ≡ raised old.polls

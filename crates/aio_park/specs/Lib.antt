@@ -1,4 +1,5 @@
 pub mod Blocking
 pub mod Driving
+pub mod Looks
 pub mod Polls
 pub mod Groups

@@ -1,15 +1,16 @@
 //! A thread that polls a task until it ends, and makes rounds of a shared reactor in between.
 
-ghost use Rattle.std.specs.Prelude.{◌≡◌, ℕ, ◌+◌, ◌^◌, ◌<◌, ◌≤◌, [], ◌∷◌, length, IfOk, IfErr, IfSome, OnErr};
-ghost use Rattle.aio_base.specs.declared.seats.Mode.TheVariants as mode;
-ghost use Rattle.aio_base.specs.declared.seats.WordStep.TheVariants as word_step;
+ghost use Rattle.std.specs.Prelude.{◌≡◌, false, ℕ, ◌+◌, ◌<◌, ◌≤◌, [], ◌∷◌, length, IfOk, IfErr, OnErr};
+ghost use Rattle.aio_rules.specs.declared.seats.Mode.TheVariants as mode;
+ghost use Rattle.aio_rules.specs.declared.seats.WordStep.TheVariants as word_step;
 ghost use Rattle.aio_shared.specs.Cells.{IsIdle};
 ghost use Rattle.aio_shared.specs.Inside.{IsLaterInside};
 ghost use Rattle.aio_shared.specs.Members.{IsLaterMember, IsMemberOf};
 ghost use Rattle.aio_shared.specs.OneCell.{IsCellOf};
 ghost use Rattle.aio_words.specs.Seats.{Blocks};
-ghost use Rattle.aio_park.specs.Blocking.{HasFaultCause, KeepsThread, PolledUntil, gained, taken_of};
-ghost use Rattle.aio_park.specs.Driving.{Gains, GainsNone, ParksFor, Passes, ReactsBlocked, ReactsUntilWoken, Turns, TurnsUntil, WaitsForSlots, mask_list, member_did};
+ghost use Rattle.aio_park.specs.Blocking.{Gains, GainsOneAtMost, HasFaultCause, IsPast, KeepsThread, PolledUntil, gained, mask_list, taken_of};
+ghost use Rattle.aio_park.specs.Driving.{GainsNone, ParksFor, Passes, SwapsFirst, member_did, start_of};
+ghost use Rattle.aio_park.specs.Looks.{BlocksWhile, HasSeenWoken, WaitsAfterLooks};
 ghost use Rattle.aio_park.specs.Polls.{Polled};
 
 use crate::rounds::{BlockFault, react_once};
@@ -22,6 +23,14 @@ use std::sync::Wait;
 /// woken slots of its parker: those are its mask. In between the thread makes rounds where it has
 /// the reactor lock by a try, and parks where it has not. The clock is read once just before each
 /// poll.
+///
+/// Between two polls the thread takes exactly one mask that is not 0, and the next poll has it
+/// (`polled`): no woken slots that it took are let go. At a fault it took one mask at most.
+///
+/// An output is one that the task allows at each moment past which the clock answers none
+/// (`output`): at 10^18 nanoseconds (`past_end`), and at the greatest moment that the clock tells
+/// (`at_greatest`). After a fault the task allows at none of them what it did not allow before
+/// (`pending`), so that a further call can go on.
 ///
 /// A member that already holds the round cell never has the lock, so it parks, for ever where
 /// nobody else makes rounds. Where the call returns, by an answer or by a fault, other threads may
@@ -49,25 +58,24 @@ pub fn block_on<
 ) -> Result<T::Output, BlockFault>
     requires { parker < host.old.shared.words.parkers }
     ensures output { IfOk result (λ output.
-        T.gives task.old (N.is_sure host.old.member.note) (10 ^ 18) output) }
-    ensures greatest { IfOk result (λ output. IfSome (C.bounds clock.old).greatest (λ moment.
-        T.gives task.old (N.is_sure host.old.member.note) moment output)) }
+        (moment : ℕ) → IsPast (C.bounds clock.old) moment
+        → T.gives task.old (N.is_sure host.old.member.notifier) moment output) }
     ensures polled { PolledUntil T.poll_step parker
         (record {
           bounds = C.bounds clock.old;
           before = C.latest clock.old;
           after = C.latest clock.new;
         })
-        (gained host.old.member.pass.view host.new.member.pass.view)
-        task.old task.new result }
+        task.old host.old result task.new host.new }
     ensures polls { T.poll_count task.new ≤ T.poll_count task.old
         + length (taken_of parker (gained host.old.member.pass.view host.new.member.pass.view)) + 1 }
-    ensures pending { OnErr result ((output : T.Output)
-        → T.gives task.new (N.is_sure host.old.member.note) (10 ^ 18) output
-        → T.gives task.old (N.is_sure host.old.member.note) (10 ^ 18) output) }
+    ensures pending { OnErr result ((moment : ℕ) (output : T.Output)
+        → IsPast (C.bounds clock.old) moment
+        → T.gives task.new (N.is_sure host.old.member.notifier) moment output
+        → T.gives task.old (N.is_sure host.old.member.notifier) moment output) }
     ensures cause { IfErr result (HasFaultCause N.fault_count N.is_sure
         host.old.member host.new.member) }
-    ensures cell { host.new.member.turn.holds ≡ host.old.member.turn.holds }
+    ensures cell { host.new.member.claim.holds ≡ host.old.member.claim.holds }
     ensures later { IsLaterInside N.fault_count N.is_sure host.old host.new }
     ensures bounds { C.bounds clock.new ≡ C.bounds clock.old }
     ensures latest { C.latest clock.old ≤ C.latest clock.new }
@@ -101,7 +109,7 @@ fn poll_once<R: Wait, N: Notify, C: Clock, A: Arm, W: EventWait, T: Task<Inside<
           before = C.latest clock.old;
           after = C.latest clock.new;
         })
-        (N.is_sure host.old.member.note) task.old task.new result }
+        (N.is_sure host.old.member.notifier) task.old host.old result task.new host.new }
     ensures polls { T.poll_count task.new ≤ T.poll_count task.old + 1 }
     ensures later { IsLaterInside N.fault_count N.is_sure host.old host.new }
     ensures bounds { C.bounds clock.new ≡ C.bounds clock.old }
@@ -119,14 +127,13 @@ fn next_mask<R: Wait + Copy, N: Notify, C: Clock, A: Arm, W: EventWait>(
     clock: &mut C,
 ) -> Result<u64, ReactFault>
     requires { parker < host.old.shared.words.parkers }
-    ensures turns { IfOk result (λ mask. TurnsUntil W N.fault_count
-        host.old.shared.words.parkers host.old.shared.sure_of_arms (C.latest clock.old) parker
-        mask host.old.member host.new.member) }
     ensures took { IfOk result (λ mask.
         Gains parker host.old.member.pass.view host.new.member.pass.view (mask ∷ [])) }
+    ensures most { OnErr result
+        (GainsOneAtMost parker host.old.member.pass.view host.new.member.pass.view) }
     ensures shared { host.new.shared ≡ host.old.shared }
-    ensures keeps { KeepsThread N.fault_count N.is_sure C.bounds C.latest host.old.shared
-        host.old.member host.new.member clock.old clock.new result }
+    ensures keeps { KeepsThread N.fault_count N.is_sure N.call_count C.bounds C.latest
+        host.old.shared host.old.member host.new.member clock.old clock.new result }
 {
     next_mask_of(&host.rt, &host.shared, &mut host.member, clock, parker)
 }
@@ -141,11 +148,10 @@ fn next_mask_of<R: Wait, N: Notify, C: Clock, A: Arm, W: EventWait>(
 ) -> Result<u64, ReactFault>
     requires belongs { IsMemberOf shared.now m.old }
     requires parker { parker < shared.now.words.parkers }
-    ensures turns { IfOk result (λ mask. TurnsUntil W N.fault_count shared.now.words.parkers
-        shared.now.sure_of_arms (C.latest clock.old) parker mask m.old m.new) }
     ensures took { IfOk result (λ mask. Gains parker m.old.pass.view m.new.pass.view (mask ∷ [])) }
-    ensures keeps { KeepsThread N.fault_count N.is_sure C.bounds C.latest shared.now
-        m.old m.new clock.old clock.new result }
+    ensures most { OnErr result (GainsOneAtMost parker m.old.pass.view m.new.pass.view) }
+    ensures keeps { KeepsThread N.fault_count N.is_sure N.call_count C.bounds C.latest
+        shared.now m.old m.new clock.old clock.new result }
 {
     for _ in rt.forever() {
         match turn(rt, shared, m, clock, parker) {
@@ -172,12 +178,13 @@ fn turn<R: Wait, N: Notify, C: Clock, A: Arm, W: EventWait>(
 ) -> Result<u64, ReactFault>
     requires belongs { IsMemberOf shared.now m.old }
     requires parker { parker < shared.now.words.parkers }
-    ensures turns { IfOk result (λ mask. Turns W N.fault_count shared.now.words.parkers
-        shared.now.sure_of_arms (C.latest clock.old) parker mask m.old m.new) }
+    ensures swaps { SwapsFirst W N.fault_count shared.now.words.parkers shared.now.sure_of_arms
+        (start_of C.bounds C.latest W.wait_step clock.old) parker m.old m.new result }
     ensures took { IfOk result (λ mask.
         Gains parker m.old.pass.view m.new.pass.view (mask_list mask)) }
-    ensures keeps { KeepsThread N.fault_count N.is_sure C.bounds C.latest shared.now
-        m.old m.new clock.old clock.new result }
+    ensures most { OnErr result (GainsOneAtMost parker m.old.pass.view m.new.pass.view) }
+    ensures keeps { KeepsThread N.fault_count N.is_sure N.call_count C.bounds C.latest
+        shared.now m.old m.new clock.old clock.new result }
 {
     let mask = take(shared, m, parker);
     if mask == 0 {
@@ -214,10 +221,10 @@ fn react_in_passing<R: Wait, N: Notify, C: Clock, A: Arm, W: EventWait>(
 ) -> Result<(), ReactFault>
     requires belongs { IsMemberOf shared.now m.old }
     ensures passes { IfOk result (λ none. Passes W N.fault_count shared.now.words.parkers
-        shared.now.sure_of_arms (C.latest clock.old) m.old m.new) }
+        shared.now.sure_of_arms (start_of C.bounds C.latest W.wait_step clock.old) m.old m.new) }
     ensures took { GainsNone m.old.pass.view m.new.pass.view }
-    ensures keeps { KeepsThread N.fault_count N.is_sure C.bounds C.latest shared.now
-        m.old m.new clock.old clock.new result }
+    ensures keeps { KeepsThread N.fault_count N.is_sure N.call_count C.bounds C.latest
+        shared.now m.old m.new clock.old clock.new result }
 {
     match shared.try_round(rt, m) {
         None => Ok(()),
@@ -243,13 +250,11 @@ fn wait_for_slots<R: Wait, N: Notify, C: Clock, A: Arm, W: EventWait>(
 ) -> Result<u64, ReactFault>
     requires belongs { IsMemberOf shared.now m.old }
     requires parker { parker < shared.now.words.parkers }
-    ensures waits { IfOk result (λ mask. WaitsForSlots W N.fault_count
-        shared.now.words.parkers shared.now.sure_of_arms (C.latest clock.old) parker mask
-        m.old m.new) }
     ensures took { IfOk result (λ mask.
         Gains parker m.old.pass.view m.new.pass.view (mask_list mask)) }
-    ensures keeps { KeepsThread N.fault_count N.is_sure C.bounds C.latest shared.now
-        m.old m.new clock.old clock.new result }
+    ensures none { OnErr result (GainsNone m.old.pass.view m.new.pass.view) }
+    ensures keeps { KeepsThread N.fault_count N.is_sure N.call_count C.bounds C.latest
+        shared.now m.old m.new clock.old clock.new result }
 {
     match shared.try_round(rt, m) {
         None => Ok(park(rt, shared, m, parker)),
@@ -292,18 +297,16 @@ fn react_blocking<R: Wait, N: Notify, C: Clock, A: Arm, W: EventWait>(
     parker: u32,
 ) -> Result<(), ReactFault>
     requires belongs { IsMemberOf shared.now m.old }
-    requires cell { IsCellOf m.old.turn cell.old }
+    requires cell { IsCellOf m.old.claim cell.old }
     requires idle { IsIdle cell.old }
     requires parker { parker < shared.now.words.parkers }
-    ensures reacts { IfOk result (λ none. ReactsBlocked N.fault_count
-        shared.now.words.parkers shared.now.sure_of_arms (C.latest clock.old) parker
-        cell.old cell.new m.old m.new) }
+    ensures blocks { BlocksWhile parker cell.old.seat.view cell.new.seat.view result }
     ensures took { GainsNone m.old.pass.view m.new.pass.view }
-    ensures keeps { KeepsThread N.fault_count N.is_sure C.bounds C.latest shared.now
-        m.old m.new clock.old clock.new result }
+    ensures keeps { KeepsThread N.fault_count N.is_sure N.call_count C.bounds C.latest
+        shared.now m.old m.new clock.old clock.new result }
     ensures idle { IsIdle cell.new }
-    ensures turn { m.new.turn ≡ m.old.turn }
-    ensures cell { IsCellOf m.new.turn cell.new }
+    ensures claim { m.new.claim ≡ m.old.claim }
+    ensures cell { IsCellOf m.new.claim cell.new }
 {
     shared.words().block(cell.seat(), parker);
     let reacted = react_until_woken(rt, shared, m, cell, clock);
@@ -322,19 +325,19 @@ fn react_until_woken<R: Wait, N: Notify, C: Clock, A: Arm, W: EventWait>(
     clock: &mut C,
 ) -> Result<(), ReactFault>
     requires belongs { IsMemberOf shared.now m.old }
-    requires cell { IsCellOf m.old.turn cell.old }
+    requires cell { IsCellOf m.old.claim cell.old }
     requires blocks { Blocks cell.old.seat }
-    ensures reacts { IfOk result (λ none.
-        (parker : ℕ) → cell.old.seat.view.mode ≡ mode.Block parker
-        → ReactsUntilWoken N.fault_count shared.now.words.parkers
-        shared.now.sure_of_arms (C.latest clock.old) parker
-        cell.old cell.new m.old m.new) }
+    ensures looks { (parker : ℕ) → cell.old.seat.view.mode ≡ mode.Block parker
+        → WaitsAfterLooks parker false cell.old.seat.view cell.new.seat.view }
+    ensures woken { IfOk result (λ none. (parker : ℕ)
+        → cell.old.seat.view.mode ≡ mode.Block parker
+        → HasSeenWoken parker cell.new.seat.view) }
     ensures took { GainsNone m.old.pass.view m.new.pass.view }
-    ensures keeps { KeepsThread N.fault_count N.is_sure C.bounds C.latest shared.now
-        m.old m.new clock.old clock.new result }
+    ensures keeps { KeepsThread N.fault_count N.is_sure N.call_count C.bounds C.latest
+        shared.now m.old m.new clock.old clock.new result }
     ensures mode { cell.new.seat.view.mode ≡ cell.old.seat.view.mode }
-    ensures turn { m.new.turn ≡ m.old.turn }
-    ensures cell { IsCellOf m.new.turn cell.new }
+    ensures claim { m.new.claim ≡ m.old.claim }
+    ensures cell { IsCellOf m.new.claim cell.new }
 {
     for _ in rt.forever() {
         match shared.words().take_or_wait(cell.seat()) {

@@ -124,7 +124,7 @@ fn poll_slot<H: Later, O: Drop, T: Task<H, Output = O> + Drop>(
     host: &mut H,
     cx: Cx,
 )
-    ensures after { SlotAfter T.poll_step T.poll_count true cx slot.old slot.new }
+    ensures after { SlotAfter T.poll_step T.poll_count true cx slot.old host.old slot.new host.new }
     ensures gives { (moment : ℕ) (output : O) → cx.now ≤ moment
         → SlotGives T.gives slot.new (H.notifier_is_sure host.old) moment output
         → SlotGives T.gives slot.old (H.notifier_is_sure host.old) moment output }
@@ -147,7 +147,7 @@ fn poll_if_woken<H: Later, O: Drop, T: Task<H, Output = O> + Drop>(
 )
     requires { at < 64 }
     ensures after { SlotAfter T.poll_step T.poll_count (is_woken cx.entry.now.mask at)
-        (slot_cx parker at cx.entry.now) slot.old slot.new }
+        (slot_cx parker at cx.entry.now) slot.old host.old slot.new host.new }
     ensures gives { (moment : ℕ) (output : O) → cx.entry.now.now ≤ moment
         → SlotGives T.gives slot.new (H.notifier_is_sure host.old) moment output
         → SlotGives T.gives slot.old (H.notifier_is_sure host.old) moment output }
@@ -175,7 +175,8 @@ fn poll_woken<H: Later, O: Drop, T: Task<H, Output = O> + Drop>(
     cx: &Cx,
 )
     requires { length slots.old ≤ 64 }
-    ensures each { SlotsAfter T.poll_step T.poll_count parker 0 cx.entry.now slots.old slots.new }
+    ensures each { SlotsAfter T.poll_step T.poll_count parker 0 cx.entry.now
+        slots.old host.old slots.new host.new }
     ensures gives { (moment : ℕ) (outputs : List O) → cx.entry.now.now ≤ moment
         → SlotsGive T.gives slots.new (H.notifier_is_sure host.old) moment outputs
         → SlotsGive T.gives slots.old (H.notifier_is_sure host.old) moment outputs }

@@ -11,7 +11,9 @@
 mod blocking;
 mod group;
 mod rounds;
+mod thread;
 
 pub use blocking::block_on;
 pub use group::{Group, GroupRefusal, Slot};
 pub use rounds::{BlockFault, drive};
+pub use thread::Thread;

@@ -1,13 +1,16 @@
 //! A thread that does nothing but make rounds of a shared reactor.
 
-ghost use Rattle.std.specs.Prelude.{◌≡◌, ◌≤◌, [], IfOk, IfErr};
-ghost use Rattle.aio_base.specs.SharedWords.{blocking};
+ghost use Rattle.std.specs.Prelude.{◌≡◌, ◌≤◌, ℕ, true, [], IfOk, IfErr};
+ghost use Rattle.aio_rules.specs.SharedWords.{blocking};
+ghost use Rattle.aio_shared.specs.CallsMade.{CallsAsWon};
 ghost use Rattle.aio_shared.specs.Cells.{IsIdle};
 ghost use Rattle.aio_shared.specs.Members.{IsLaterMember, IsMemberOf};
 ghost use Rattle.aio_shared.specs.OneCell.{IsCellOf};
+ghost use Rattle.aio_shared.specs.Reacting.{until};
 ghost use Rattle.aio_words.specs.Seats.{IsIdleOrWaits};
 ghost use Rattle.aio_park.specs.Blocking.{HasFaultCause, KeepsThread};
-ghost use Rattle.aio_park.specs.Driving.{Drives, DrivesRound, DrivesRounds, GainsNone, Tries};
+ghost use Rattle.aio_park.specs.Driving.{Drives, DrivesRound, DrivesRounds, GainsNone, Tries, start_of};
+ghost use Rattle.aio_park.specs.Looks.{WaitsAfterLooks};
 
 use aio_base::{Arm, Clock, EventWait, Notify};
 use aio_shared::{Member, ReactFault, ReactedIn, RoundCell, Shared};
@@ -15,14 +18,16 @@ use std::sync::Wait;
 
 /// Why `block_on` or `drive` stops before its work is done: a fault of a round, handed on. `Wait`
 /// comes only in a reactor that is not sure of its wait, `Arm` only in one that is not sure of its
-/// arms, `Notify` only where the count of faults of the member's notifier rose, `RoundsSpent` only
-/// where the member found the ticker at 2^64 - 1, and `OutOfMemory` where memory ran out.
+/// arms, each with two counts that differ or stand at 2^64 - 1. `Notify` comes only where the count
+/// of faults of the member's notifier rose, `RoundsSpent` only where the member found the ticker at
+/// 2^64 - 1, and `OutOfMemory` where memory ran out.
 pub type BlockFault = ReactFault;
 
 /// Makes so many rounds of a reactor, and answers how many events they handled together (`async-io`
 /// 2, `driver.rs`, `main_loop`). The call waits until its member has the reactor lock, makes the
 /// rounds without a limit in time, and gives the cell back on every answer. A round that an earlier
-/// call left running is resumed and counts as one of them.
+/// call left running is resumed and counts as one of them. The member's notifier is called exactly
+/// as often as its seat won `notified`, on every answer.
 ///
 /// A member that already holds the cell waits for itself. Where the call returns, other threads may
 /// be parked with nobody to make rounds for them: the caller knows of them, and hands over by
@@ -43,17 +48,21 @@ pub fn drive<R: Wait, N: Notify, C: Clock, A: Arm, W: EventWait>(
 ) -> Result<u64, BlockFault>
     requires belongs { IsMemberOf shared.now m.old }
     ensures drives { IfOk result (Drives W N.fault_count shared.now.words.parkers
-        shared.now.sure_of_arms (C.latest clock.old) rounds m.old m.new) }
+        shared.now.sure_of_arms
+        (until (C.latest clock.new) (start_of C.bounds C.latest W.wait_step clock.old))
+        rounds m.old m.new) }
     ensures cause { IfErr result (HasFaultCause N.fault_count N.is_sure m.old m.new) }
     ensures belongs { IsMemberOf shared.now m.new }
     ensures kept { m.new ≡ record m.old {
-      turn = m.new.turn;
+      claim = m.new.claim;
       pass = m.new.pass;
       ops = m.new.ops;
-      note = m.new.note;
+      notifier = m.new.notifier;
     } }
-    ensures cell { m.new.turn.holds ≡ m.old.turn.holds }
+    ensures cell { m.new.claim.holds ≡ m.old.claim.holds }
     ensures later { IsLaterMember N.fault_count N.is_sure m.old m.new }
+    ensures calls { CallsAsWon m.old.pass.view m.new.pass.view
+        (N.call_count m.old.notifier) (N.call_count m.new.notifier) }
     ensures bounds { C.bounds clock.new ≡ C.bounds clock.old }
     ensures latest { C.latest clock.old ≤ C.latest clock.new }
 {
@@ -74,19 +83,21 @@ fn drive_rounds<R: Wait, N: Notify, C: Clock, A: Arm, W: EventWait>(
     rounds: u32,
 ) -> Result<u64, ReactFault>
     requires belongs { IsMemberOf shared.now m.old }
-    requires cell { IsCellOf m.old.turn cell.old }
+    requires cell { IsCellOf m.old.claim cell.old }
     requires idle { IsIdle cell.old }
     ensures rounds { IfOk result (DrivesRounds N.fault_count shared.now.words.parkers
-        shared.now.sure_of_arms (C.latest clock.old) rounds cell.old cell.new m.old m.new) }
-    ensures keeps { KeepsThread N.fault_count N.is_sure C.bounds C.latest shared.now
-        m.old m.new clock.old clock.new result }
+        shared.now.sure_of_arms
+        (until (C.latest clock.new) (start_of C.bounds C.latest W.wait_step clock.old))
+        rounds cell.old cell.new m.old m.new) }
+    ensures keeps { KeepsThread N.fault_count N.is_sure N.call_count C.bounds C.latest
+        shared.now m.old m.new clock.old clock.new result }
     ensures idle { IsIdle cell.new }
     ensures kept { m.new ≡ record m.old {
       pass = m.new.pass;
       ops = m.new.ops;
-      note = m.new.note;
+      notifier = m.new.notifier;
     } }
-    ensures cell { IsCellOf m.new.turn cell.new }
+    ensures cell { IsCellOf m.new.claim cell.new }
 {
     let mut events = 0;
     for _ in 0..rounds {
@@ -108,20 +119,22 @@ fn drive_round<R: Wait, N: Notify, C: Clock, A: Arm, W: EventWait>(
     clock: &mut C,
 ) -> Result<u32, ReactFault>
     requires belongs { IsMemberOf shared.now m.old }
-    requires cell { IsCellOf m.old.turn cell.old }
+    requires cell { IsCellOf m.old.claim cell.old }
     requires idle { IsIdle cell.old }
     ensures round { IfOk result (DrivesRound N.fault_count shared.now.words.parkers
-        shared.now.sure_of_arms (C.latest clock.old) cell.old cell.new m.old m.new) }
+        shared.now.sure_of_arms
+        (until (C.latest clock.new) (start_of C.bounds C.latest W.wait_step clock.old))
+        cell.old cell.new m.old m.new) }
     ensures few { IfOk result (λ events. events ≤ 1024) }
-    ensures keeps { KeepsThread N.fault_count N.is_sure C.bounds C.latest shared.now
-        m.old m.new clock.old clock.new result }
+    ensures keeps { KeepsThread N.fault_count N.is_sure N.call_count C.bounds C.latest
+        shared.now m.old m.new clock.old clock.new result }
     ensures idle { IsIdle cell.new }
     ensures kept { m.new ≡ record m.old {
       pass = m.new.pass;
       ops = m.new.ops;
-      note = m.new.note;
+      notifier = m.new.notifier;
     } }
-    ensures cell { IsCellOf m.new.turn cell.new }
+    ensures cell { IsCellOf m.new.claim cell.new }
 {
     for _ in rt.forever() {
         match react_once(rt, shared, m, cell, clock, None) {
@@ -145,22 +158,31 @@ pub(crate) fn react_once<R: Wait, N: Notify, C: Clock, A: Arm, W: EventWait>(
     limit: Option<u64>,
 ) -> Result<Option<ReactedIn>, ReactFault>
     requires belongs { IsMemberOf shared.now m.old }
-    requires cell { IsCellOf m.old.turn cell.old }
+    requires cell { IsCellOf m.old.claim cell.old }
     requires seat { IsIdleOrWaits cell.old.seat }
     ensures tries { Tries shared.now.words.parkers shared.now.sure_of_arms
-        (record { given = limit; earliest = C.latest clock.old }) cell.old cell.new m.old m.new
-        (record { before = N.fault_count m.old.note; after = N.fault_count m.new.note })
+        (record {
+          given = limit;
+          bounds = C.bounds clock.old;
+          earliest = C.latest clock.old;
+          latest = C.latest clock.new;
+          step = W.wait_step;
+        })
+        cell.old cell.new m.old m.new
+        (record { before = N.fault_count m.old.notifier; after = N.fault_count m.new.notifier })
         result }
-    ensures keeps { KeepsThread N.fault_count N.is_sure C.bounds C.latest shared.now
-        m.old m.new clock.old clock.new result }
+    ensures keeps { KeepsThread N.fault_count N.is_sure N.call_count C.bounds C.latest
+        shared.now m.old m.new clock.old clock.new result }
     ensures took { GainsNone m.old.pass.view m.new.pass.view }
     ensures seat { cell.new.seat.view.mode ≡ blocking cell.old.seat.view.mode }
+    ensures looks { (parker : ℕ)
+        → WaitsAfterLooks parker true cell.old.seat.view cell.new.seat.view }
     ensures kept { m.new ≡ record m.old {
       pass = m.new.pass;
       ops = m.new.ops;
-      note = m.new.note;
+      notifier = m.new.notifier;
     } }
-    ensures cell { IsCellOf m.new.turn cell.new }
+    ensures cell { IsCellOf m.new.claim cell.new }
 {
     match shared.react_in(rt, m, cell, clock, limit) {
         Ok(reacted) => Ok(Some(reacted)),

@@ -50,7 +50,7 @@ impl Task<Log> for Ending {
 
     ghost gives = { λ task sure moment output. ⊤ };
 
-    ghost poll_step = { λ old cx answer new. ⊤ };
+    ghost poll_step = { λ old host cx answer new left. ⊤ };
 
     ghost poll_count = { λ task. task.polls };
 

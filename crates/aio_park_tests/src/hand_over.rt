@@ -1,8 +1,8 @@
 //! What no clause says of the wakes by which a thread hands over: what is in the masks of two parkers then.
 
 use crate::asserts::{moment, same};
-use crate::sleepers::two;
-use aio_shared_tests::clocks::clock_at;
+use crate::threads::{take, two};
+use aio_devices::clock_at;
 use std::test::Fail;
 
 #[test]
@@ -14,10 +14,10 @@ fn a_thread_that_hands_over_wakes_the_other_parker_and_not_its_own(
         clock_at(rt.alloc(), moment(&rt, 0))?,
     );
     let (mut one, mut other) = two(&rt, rt.alloc(), clocks)?;
-    let told = one.hand_over();
-    same(&rt, (told, one.take(), other.take()), (true, 0, 1));
-    let told = other.hand_over();
-    same(&rt, (told, one.take(), other.take()), (true, 1, 0));
+    let told = one.hand_over().is_ok();
+    same(&rt, (told, take(&mut one), take(&mut other)), (true, 0, 1));
+    let told = other.hand_over().is_ok();
+    same(&rt, (told, take(&mut one), take(&mut other)), (true, 1, 0));
     Ok(())
 }
 
@@ -28,10 +28,10 @@ fn every_slot_of_both_parkers_is_woken(rt: HostRuntime) -> Result<(), Fail> {
         clock_at(rt.alloc(), moment(&rt, 0))?,
     );
     let (mut one, mut other) = two(&rt, rt.alloc(), clocks)?;
-    let told = one.wake_all();
+    let told = one.wake_all().is_ok();
     same(
         &rt,
-        (told, one.take(), other.take()),
+        (told, take(&mut one), take(&mut other)),
         (true, u64::MAX, u64::MAX),
     );
     Ok(())

@@ -8,15 +8,13 @@ ghost use Rattle.aio_shared.specs.OneCell.{IsCellOf};
 ghost use Rattle.aio_park_tests.specs.Telling.{may_tell_prop};
 
 use crate::asserts::{moment, same};
-use crate::sleepers::{Fired, Undisturbed, end_at, fire, two};
-use crate::tasks::poll_timer;
+use crate::threads::{Fired, Undisturbed, end_at, fire, two};
 use aio_base::{Clock, Cx, Moment, OutOfMemory, Poll, Task, Waker};
-use aio_devices::{MemClock, MemNotify, MemWait, SureArm};
+use aio_devices::{MemClock, MemNotify, MemWait, SureArm, clock_at, clock_until};
 use aio_future::Timer;
 use aio_park::BlockFault;
 use aio_react::{Host, TimerHost};
 use aio_shared::{Inside, RoundCell};
-use aio_shared_tests::clocks::{clock_at, clock_until};
 use std::alloc::Global;
 use std::process::Abort;
 use std::sync::{Arc, Mutex, Wait};
@@ -29,8 +27,8 @@ struct Holding<R: Wait> {
     host: Inside<R, MemNotify, SureArm, MemWait>,
     clock: MemClock,
     cell: RoundCell<MemWait>,
-    ghost holds: { host.member.turn.holds ≡ true },
-    ghost says: { IsCellOf host.member.turn cell } by { Prim.hlevel (props, may_tell_prop) },
+    ghost holds: { host.member.claim.holds ≡ true },
+    ghost says: { IsCellOf host.member.claim cell } by { Prim.hlevel (props, may_tell_prop) },
     ghost idle: { IsIdle cell },
 }
 
@@ -166,7 +164,7 @@ fn a_parked_thread_reacts_by_itself_once_it_is_woken(rt: HostRuntime) -> Result<
 /// Blocks on a task that ends at its third poll, and then wakes the other thread.
 fn end_and_wake<R: Wait + Copy>(mut thread: Undisturbed<R, MemClock>) -> Result<u64, BlockFault> {
     let answer = end_at(&mut thread, 3, 7);
-    thread.hand_over();
+    let _told = thread.hand_over();
     answer
 }
 
@@ -337,7 +335,7 @@ impl Meets {
         ensures polls { self.new.polls ≡ self.old.polls }
     {
         if !self.fired {
-            self.fired = poll_timer(&mut self.timer, host, now, waker) != Poll::Pending;
+            self.fired = self.timer.poll(host, now, waker) != Poll::Pending;
         }
     }
 
@@ -369,7 +367,7 @@ impl<H: Host> Task<H> for Meets {
 
     ghost gives = { λ t sure moment output. ⊤ };
 
-    ghost poll_step = { λ old cx answer new. ⊤ };
+    ghost poll_step = { λ old host cx answer new left. ⊤ };
 
     ghost poll_count = { λ t. t.polls };
 
@@ -401,7 +399,7 @@ fn meet<R: Wait + Copy>(
 ) -> Result<u32, BlockFault> {
     let mut task = Meets::new(other, 100);
     let answer = thread.run(&mut task);
-    thread.hand_over();
+    let _told = thread.hand_over();
     answer
 }
 

@@ -1,54 +1,85 @@
-//! A program that waits for a source with a timeout, by `block_on` over a source and a timer. It stands in
+//! A program that reads from a connection with a timeout, by a thread over a source and a timer. It stands in
 //! docs/BLOCK_ON.md too.
 
-use crate::asserts::{moment, same};
-use crate::entries::Entry;
-use crate::sleepers::{Sleeper, alone};
-use aio_base::{
-    Arm, ArmFault, Cx, Dir, Event, EventWait, Interest, Key, Moment, Notify, Poll, Task, Waker,
-};
-use aio_devices::{
-    FailingArm, FailingNotify, MemClock, MemNotify, MemWait, ScriptedWait, SureArm, WaitAnswer,
-};
-use aio_future::Timer;
-use aio_park::BlockFault;
-use aio_react::Host;
-use aio_shared_tests::clocks::{clock_until, fault_after};
+// begin
+ghost use Rattle.std.specs.Prelude.{◌≡◌, false};
+
+use aio_base::{Cx, Dir, EventWait, Moment, Notify, OutOfMemory, Poll, Task};
+use aio_devices::{MemBytes, MemClock, MemNotify, MemWait};
+use aio_future::{Timer, TimerFault};
+use aio_park::{BlockFault, Thread};
+use aio_shared::{Attempt, InsertFault, Inside, PollFault, SourceRef};
 use std::alloc::Global;
 use std::sync::Wait;
-use std::test::Fail;
 
-// begin
-/// Waits until a source is readable or a moment has come.
+/// Reads a byte of a connection, where that does not block.
 #[derive(Drop)]
-struct ReadableInTime<R: Wait, A: Arm, W: EventWait> {
-    source: Entry<R, A, W>,
-    timeout: Timer,
-    polls: u64,
-}
+struct ReadByte;
 
-impl<H: Host, R: Wait, A: Arm, W: EventWait> Task<H> for ReadableInTime<R, A, W> {
+impl Attempt<MemBytes> for ReadByte {
     ghost use Rattle.std.specs.Prelude.{⊤};
 
-    /// Whether the source was readable in time.
-    type Output = bool;
+    type Output = u8;
+
+    ghost attempts = { λ attempt io given left after. ⊤ };
+
+    fn attempt(&mut self, io: &mut MemBytes) -> Option<u8> {
+        io.read()
+    }
+}
+
+/// Why it is not known whether a byte comes in time.
+#[derive(Clone, Copy, Debug, PartialEq, Eq)]
+enum Fault {
+    /// The poller could not be armed, or the task of a replaced waker may not know that it was woken.
+    Source(PollFault),
+    /// The timer has no id or no memory, or a thread that waits may not know of it.
+    Timer(TimerFault),
+    /// A round failed.
+    Round(BlockFault),
+    /// The connection did not join the reactor.
+    Insert(InsertFault),
+    /// Memory ran out for the reactor.
+    OutOfMemory,
+}
+
+/// Reads a byte of a source, unless a moment comes first.
+#[derive(Drop)]
+struct ReadInTime {
+    source: SourceRef<MemBytes>,
+    timeout: Timer,
+    polls: u64,
+    ghost outside: { source.inside ≡ false },
+}
+
+impl<R: Wait, N: Notify, W: EventWait> Task<Inside<R, N, MemBytes, W>> for ReadInTime {
+    ghost use Rattle.std.specs.Prelude.{⊤};
+
+    /// The byte, or `None` where the moment came first.
+    type Output = Result<Option<u8>, Fault>;
 
     ghost gives = { λ t sure moment output. ⊤ };
 
-    ghost poll_step = { λ old cx answer new. ⊤ };
+    ghost poll_step = { λ old host cx answer new left. ⊤ };
 
     ghost poll_count = { λ t. t.polls };
 
-    fn poll(&mut self, host: &mut H, cx: Cx) -> Poll<bool> {
+    fn poll(
+        &mut self,
+        host: &mut Inside<R, N, MemBytes, W>,
+        cx: Cx,
+    ) -> Poll<Result<Option<u8>, Fault>> {
         self.polls = self.polls.saturating_add(1);
         let now = cx.now;
         let waker = cx.own_waker();
-        let ticker = host.ticker();
-        if self.source.is_ready(Dir::Read, waker, ticker) {
-            return Poll::Ready(true);
+        match host.try_source(&mut self.source, Dir::Read, waker, ReadByte) {
+            Poll::Ready(Ok(byte)) => return Poll::Ready(Ok(Some(byte))),
+            Poll::Ready(Err(fault)) => return Poll::Ready(Err(Fault::Source(fault))),
+            Poll::Pending => {}
         }
         match self.timeout.poll(host, now, waker) {
-            Poll::Ready(_) => Poll::Ready(false),
+            Poll::Ready(Ok(_)) => Poll::Ready(Ok(None)),
+            Poll::Ready(Err(fault)) => Poll::Ready(Err(Fault::Timer(fault))),
             Poll::Pending => Poll::Pending,
         }
     }
@@ -60,90 +91,191 @@ impl<H: Host, R: Wait, A: Arm, W: EventWait> Task<H> for ReadableInTime<R, A, W>
     ghost gives_later = { λ t sure a b output later given. given };
 }
 
-/// Waits on this thread. A fault of a round is handed on.
-fn wait_until_readable<R: Wait + Copy, N: Notify, A: Arm + Drop, W: EventWait + Drop>(
-    thread: &mut Sleeper<R, N, A, W, MemClock>,
-    source: Entry<R, A, W>,
+/// Reads a byte of a connection on this thread, unless a moment comes first.
+fn read_in_time<R: Wait + Copy, N: Notify, W: EventWait>(
+    thread: &mut Thread<R, N, MemBytes, W, MemClock>,
+    io: MemBytes,
     at: Moment,
-) -> Result<bool, BlockFault> {
-    let timeout = Timer::at(at);
-    let mut task = ReadableInTime {
+) -> Result<Option<u8>, Fault> {
+    let source = match thread.host.insert_source(io) {
+        Ok(source) => source,
+        Err((_, fault)) => return Err(Fault::Insert(fault)),
+    };
+    let mut task = ReadInTime {
         source,
-        timeout,
+        timeout: Timer::at(at),
         polls: 0,
     };
-    thread.run(&mut task)
+    match thread.run(&mut task) {
+        Ok(read) => read,
+        Err(fault) => Err(Fault::Round(fault)),
+    }
+}
+
+/// Makes a reactor for one thread, whose wait gives an event of its first source each time, and reads.
+fn read_alone<R: Wait + Copy>(
+    rt: R,
+    alloc: Global,
+    clock: MemClock,
+    io: MemBytes,
+    at: Moment,
+) -> Result<Option<u8>, Fault> {
+    match Thread::new(alloc, rt, 1, MemWait::new(1), MemNotify::new(), clock) {
+        Ok(mut thread) => read_in_time(&mut thread, io, at),
+        Err(OutOfMemory) => Err(Fault::OutOfMemory),
+    }
 }
 // end
 
-#[test]
-fn a_source_that_becomes_readable_is_told_before_its_timeout(rt: HostRuntime) -> Result<(), Fail> {
-    let clock = clock_until(rt.alloc(), 1, moment(&rt, 0))?;
-    let devices = (MemWait::new(1), MemNotify::new());
-    let mut thread = alone(&rt, rt.alloc(), devices, clock)?;
-    let source = Entry::new(&rt, &thread.host.shared, SureArm::new(7))?;
-    let readable = wait_until_readable(&mut thread, source, moment(&rt, 1000));
-    same(&rt, readable, Ok(true));
-    Ok(())
+/// Whether this comes of it to read so on a thread.
+fn reads<R: Wait + Copy, N: Notify, W: EventWait>(
+    thread: &mut Thread<R, N, MemBytes, W, MemClock>,
+    io: MemBytes,
+    at: Moment,
+    wanted: Option<u8>,
+) -> bool {
+    read_in_time(thread, io, at) == Ok(wanted)
 }
 
-#[test]
-fn a_source_that_stays_silent_runs_into_its_timeout(rt: HostRuntime) -> Result<(), Fail> {
-    let clock = clock_until(rt.alloc(), 3, moment(&rt, 1000))?;
-    let devices = (MemWait::new(0), MemNotify::new());
-    let mut thread = alone(&rt, rt.alloc(), devices, clock)?;
-    let source = Entry::new(&rt, &thread.host.shared, SureArm::new(7))?;
-    let readable = wait_until_readable(&mut thread, source, moment(&rt, 1000));
-    same(&rt, readable, Ok(false));
-    Ok(())
+/// Whether this comes of it to read so on a thread of a new reactor.
+fn reads_alone<R: Wait + Copy>(
+    rt: R,
+    alloc: Global,
+    clock: MemClock,
+    io: MemBytes,
+    at: Moment,
+    wanted: Option<u8>,
+) -> bool {
+    read_alone(rt, alloc, clock, io, at) == Ok(wanted)
 }
 
-/// A wait that gives one event of the read direction for key 0.
-fn readable_once(alloc: Global) -> Result<ScriptedWait, Fail> {
-    let event = Event {
-        key: Key(0),
-        on: Interest::READ,
+mod tests {
+    use super::{reads, reads_alone};
+    use crate::asserts::{moment, same};
+    use crate::tasks::Readable;
+    use crate::threads::{insert, take, waits};
+    use aio_base::{ArmFault, Dir, Event, Interest, Key, Poll, Waker};
+    use aio_devices::{
+        FailingArm, FailingNotify, MemBytes, MemNotify, MemWait, ScriptedWait, SureArm, WaitAnswer,
+        clock_until, fault_after,
     };
-    let answer = WaitAnswer::Gives(vec![in alloc; event]?);
-    Ok(ScriptedWait::new(vec![in alloc; answer]?))
-}
+    use aio_park::{BlockFault, Thread};
+    use aio_shared::PollFault;
+    use std::alloc::Global;
+    use std::test::Fail;
 
-#[test]
-fn a_failed_arm_is_handed_on_and_the_task_goes_on(rt: HostRuntime) -> Result<(), Fail> {
-    let clock = clock_until(rt.alloc(), 1, moment(&rt, 0))?;
-    let devices = (readable_once(rt.alloc())?, MemNotify::new());
-    let mut thread = alone(&rt, rt.alloc(), devices, clock)?;
-    let io = FailingArm::new(7, vec![in rt.alloc(); 4]?);
-    let mut source = Entry::new(&rt, &thread.host.shared, io)?;
-    same(&rt, source.is_ready(Dir::Write, Waker(1), 0), false);
-    let mut task = ReadableInTime {
-        source,
-        timeout: Timer::never(),
-        polls: 0,
-    };
-    let fault = ArmFault {
-        key: Key(0),
-        before: 0,
-        after: 1,
-    };
-    same(&rt, thread.run(&mut task), Err(BlockFault::Arm(fault)));
-    same(&rt, thread.run(&mut task), Ok(true));
-    Ok(())
-}
+    #[test]
+    fn a_byte_that_comes_is_read_before_the_timeout(rt: HostRuntime) -> Result<(), Fail> {
+        let at = moment(&rt, 1000);
+        let clock = clock_until(rt.alloc(), 3, at)?;
+        let io = MemBytes::new(2, 7);
+        same(
+            &rt,
+            reads_alone(&rt, rt.alloc(), clock, io, at, Some(7)),
+            true,
+        );
+        Ok(())
+    }
 
-#[test]
-fn a_failed_notifier_is_handed_on(rt: HostRuntime) -> Result<(), Fail> {
-    let clock = clock_until(rt.alloc(), 1, moment(&rt, 0))?;
-    let devices = (MemWait::new(1), FailingNotify::new());
-    let mut thread = alone(&rt, rt.alloc(), devices, clock)?;
-    let source = Entry::new(&rt, &thread.host.shared, SureArm::new(7))?;
-    let mut task = ReadableInTime {
-        source,
-        timeout: Timer::never(),
-        polls: 0,
-    };
-    let fault = BlockFault::Notify(fault_after(0));
-    same(&rt, thread.run(&mut task), Err(fault));
-    same(&rt, thread.waits(), Some(1));
-    Ok(())
+    #[test]
+    fn a_byte_that_is_there_is_read_without_a_round(rt: HostRuntime) -> Result<(), Fail> {
+        let at = moment(&rt, 1000);
+        let clock = clock_until(rt.alloc(), 0, at)?;
+        let wait = MemWait::new(0);
+        let mut thread = Thread::new(rt.alloc(), &rt, 1, wait, MemNotify::new(), clock)?;
+        let io = MemBytes::new(0, 7);
+        same(&rt, reads(&mut thread, io, at, Some(7)), true);
+        same(&rt, waits(&mut thread), Some(0));
+        Ok(())
+    }
+
+    #[test]
+    fn a_connection_that_stays_silent_runs_into_its_timeout(rt: HostRuntime) -> Result<(), Fail> {
+        let at = moment(&rt, 1000);
+        let clock = clock_until(rt.alloc(), 3, at)?;
+        let wait = MemWait::new(0);
+        let mut thread = Thread::new(rt.alloc(), &rt, 1, wait, MemNotify::new(), clock)?;
+        let io = MemBytes::new(9, 7);
+        same(&rt, reads(&mut thread, io, at, None), true);
+        Ok(())
+    }
+
+    #[test]
+    fn the_waker_that_another_one_replaced_is_woken(rt: HostRuntime) -> Result<(), Fail> {
+        let clock = clock_until(rt.alloc(), 0, moment(&rt, 0))?;
+        let wait = MemWait::new(0);
+        let mut thread = Thread::new(rt.alloc(), &rt, 1, wait, MemNotify::new(), clock)?;
+        let mut source = insert(&thread.host, SureArm::new(7))?;
+        let host = &mut thread.host;
+        let first = host.poll_source(&mut source, Dir::Read, Waker(3));
+        let second = host.poll_source(&mut source, Dir::Read, Waker(5));
+        same(&rt, (first, second), (Poll::Pending, Poll::Pending));
+        same(&rt, take(&mut thread), 0b1000);
+        Ok(())
+    }
+
+    #[test]
+    fn a_failed_arm_is_told_by_the_poll_that_met_it(rt: HostRuntime) -> Result<(), Fail> {
+        let clock = clock_until(rt.alloc(), 0, moment(&rt, 0))?;
+        let wait = MemWait::new(0);
+        let mut thread = Thread::new(rt.alloc(), &rt, 1, wait, MemNotify::new(), clock)?;
+        let io = FailingArm::new(7, vec![in rt.alloc(); 2]?);
+        let mut source = insert(&thread.host, io)?;
+        let host = &mut thread.host;
+        let fault = ArmFault {
+            key: Key(0),
+            before: 0,
+            after: 1,
+        };
+        let first = host.poll_source(&mut source, Dir::Read, Waker(3));
+        same(&rt, first, Poll::Ready(Err(PollFault::Arm(fault))));
+        let second = host.poll_source(&mut source, Dir::Read, Waker(3));
+        same(&rt, second, Poll::Pending);
+        Ok(())
+    }
+
+    /// A wait that gives one event of the read direction for key 0.
+    fn readable_once(alloc: Global) -> Result<ScriptedWait, Fail> {
+        let event = Event {
+            key: Key(0),
+            on: Interest::READ,
+        };
+        let answer = WaitAnswer::Gives(vec![in alloc; event]?);
+        Ok(ScriptedWait::new(vec![in alloc; answer]?))
+    }
+
+    #[test]
+    fn a_failed_arm_of_a_round_is_handed_on_and_the_task_goes_on(
+        rt: HostRuntime,
+    ) -> Result<(), Fail> {
+        let clock = clock_until(rt.alloc(), 1, moment(&rt, 0))?;
+        let wait = readable_once(rt.alloc())?;
+        let mut thread = Thread::new(rt.alloc(), &rt, 1, wait, MemNotify::new(), clock)?;
+        let io = FailingArm::new(7, vec![in rt.alloc(); 4]?);
+        let mut source = insert(&thread.host, io)?;
+        let polled = thread.host.poll_source(&mut source, Dir::Write, Waker(1));
+        same(&rt, polled, Poll::Pending);
+        let mut task = Readable::of(source);
+        let fault = ArmFault {
+            key: Key(0),
+            before: 0,
+            after: 1,
+        };
+        same(&rt, thread.run(&mut task), Err(BlockFault::Arm(fault)));
+        same(&rt, thread.run(&mut task), Ok(Ok(())));
+        Ok(())
+    }
+
+    #[test]
+    fn a_failed_notifier_of_a_round_is_handed_on(rt: HostRuntime) -> Result<(), Fail> {
+        let clock = clock_until(rt.alloc(), 1, moment(&rt, 0))?;
+        let wait = MemWait::new(1);
+        let mut thread = Thread::new(rt.alloc(), &rt, 1, wait, FailingNotify::new(), clock)?;
+        let source = insert(&thread.host, SureArm::new(7))?;
+        let mut task = Readable::of(source);
+        let fault = BlockFault::Notify(fault_after(0));
+        same(&rt, thread.run(&mut task), Err(fault));
+        same(&rt, waits(&mut thread), Some(1));
+        Ok(())
+    }
 }

@@ -1,75 +1,11 @@
-//! Tasks that end once their timer fires, at one of their polls, or never.
+//! Tasks that end at one of their polls, once a source is readable, or never.
 
-ghost use Rattle.std.specs.Prelude.{◌≡◌, Some};
-ghost use Rattle.aio_base.specs.Polls.{IfReady};
-ghost use Rattle.aio_park_tests.specs.Tasks.{FiresBy, WaitsOn};
+ghost use Rattle.std.specs.Prelude.{◌≡◌, false};
 
-use aio_base::{Cx, Later, Moment, Poll, Task, Waker};
-use aio_future::{Timer, TimerFault};
-use aio_react::{Host, TimerHost};
-
-/// Polls a timer.
-pub fn poll_timer<H: TimerHost>(
-    timer: &mut Timer,
-    host: &mut H,
-    now: Moment,
-    waker: Waker,
-) -> Poll<Result<Moment, TimerFault>>
-    ensures fires { IfReady result
-        (FiresBy timer.old.deadline (H.notifier_is_sure host.old) now) }
-    ensures waits { WaitsOn timer.old.deadline now result timer.new.deadline }
-    ensures later { H.is_later host.old host.new }
-{
-    timer.poll(host, now, waker)
-}
-
-/// A task that ends once its timer has fired, or has told a fault.
-#[derive(Drop)]
-pub struct Fires {
-    /// The timer.
-    pub timer: Timer,
-    /// How often it was polled.
-    pub polls: u64,
-}
-
-impl Fires {
-    /// A task whose timer fires at this moment.
-    pub fn at(deadline: Moment) -> Fires
-        ensures timer { result.timer.deadline ≡ Some deadline }
-        ensures polls { result.polls ≡ 0 }
-    {
-        Fires {
-            timer: Timer::at(deadline),
-            polls: 0,
-        }
-    }
-}
-
-impl<H: TimerHost> Task<H> for Fires {
-    ghost use Rattle.std.specs.Prelude.{◌≡◌};
-    ghost use Rattle.aio_base.specs.Devices.{raised};
-    ghost use Rattle.aio_park_tests.specs.Tasks.{FiresBy, WaitsOn, fires_later};
-
-    type Output = Result<Moment, TimerFault>;
-
-    ghost gives = { λ t. FiresBy t.timer.deadline };
-
-    ghost poll_step = { λ old cx answer new. (new.polls ≡ raised old.polls)
-        × WaitsOn old.timer.deadline cx.now answer new.timer.deadline };
-
-    ghost poll_count = { λ t. t.polls };
-
-    fn poll(&mut self, host: &mut H, cx: Cx) -> Poll<Result<Moment, TimerFault>> {
-        self.polls = self.polls.saturating_add(1);
-        poll_timer(&mut self.timer, host, cx.now, cx.own_waker())
-    }
-
-    fn polls(&self) -> u64 {
-        self.polls
-    }
-
-    ghost gives_later = { λ t. fires_later t.timer.deadline };
-}
+use aio_base::{Arm, Cx, Dir, EventWait, Later, Notify, Poll, Task};
+use aio_react::Host;
+use aio_shared::{Inside, PollFault, SourceRef};
+use std::sync::Wait;
 
 /// A task that ends at one of its polls with its answer, and wakes itself at each poll before.
 #[derive(Drop)]
@@ -104,7 +40,7 @@ impl<H: Host> Task<H> for Wakes {
 
     ghost gives = { λ t sure moment output. output ≡ t.answer };
 
-    ghost poll_step = { λ old cx answer new. (answer ≡ ended_at old.last old.answer new.polls)
+    ghost poll_step = { λ old host cx answer new left. (answer ≡ ended_at old.last old.answer new.polls)
         × (new ≡ record old { polls = raised old.polls }) };
 
     ghost poll_count = { λ t. t.polls };
@@ -141,7 +77,7 @@ impl<H: Later> Task<H> for Never {
 
     ghost gives = { λ t sure moment output. ⊥ };
 
-    ghost poll_step = { λ old cx answer new. (answer ≡ Pending)
+    ghost poll_step = { λ old host cx answer new left. (answer ≡ Pending)
         × (new.polls ≡ raised old.polls) };
 
     ghost poll_count = { λ t. t.polls };
@@ -149,6 +85,46 @@ impl<H: Later> Task<H> for Never {
     fn poll(&mut self, _host: &mut H, _cx: Cx) -> Poll<u64> {
         self.polls = self.polls.saturating_add(1);
         Poll::Pending
+    }
+
+    fn polls(&self) -> u64 {
+        self.polls
+    }
+
+    ghost gives_later = { λ t sure a b output later given. given };
+}
+
+/// A task that ends once its source is readable, or with the fault of a poll.
+#[derive(Drop)]
+pub struct Readable<A: Arm> {
+    source: SourceRef<A>,
+    polls: u64,
+    ghost outside: { source.inside ≡ false },
+}
+
+impl<A: Arm> Readable<A> {
+    /// A task over this source, which is outside.
+    pub fn of(source: SourceRef<A>) -> Readable<A>
+        requires { source.inside ≡ false }
+    {
+        Readable { source, polls: 0 }
+    }
+}
+
+impl<R: Wait, N: Notify, A: Arm, W: EventWait> Task<Inside<R, N, A, W>> for Readable<A> {
+    ghost use Rattle.std.specs.Prelude.{⊤};
+
+    type Output = Result<(), PollFault>;
+
+    ghost gives = { λ t sure moment output. ⊤ };
+
+    ghost poll_step = { λ old host cx answer new left. ⊤ };
+
+    ghost poll_count = { λ t. t.polls };
+
+    fn poll(&mut self, host: &mut Inside<R, N, A, W>, cx: Cx) -> Poll<Result<(), PollFault>> {
+        self.polls = self.polls.saturating_add(1);
+        host.poll_source(&mut self.source, Dir::Read, cx.own_waker())
     }
 
     fn polls(&self) -> u64 {

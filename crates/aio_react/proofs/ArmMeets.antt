@@ -19,7 +19,7 @@ use Rattle.aio_base.specs.Machine.{Outcome, armed_world, broken_world, case_of, 
 use Rattle.aio_base.specs.Moves.{answer_of}
 use Rattle.aio_base.specs.World.{PollerAnswer, World, BrokenSource, without_broken, set_armed, is_broken, is_armed, has_dir}
 use Rattle.aio_base.specs.World as machine
-use Rattle.aio_base.proofs.Arming.{without_unbroken}
+use Rattle.aio_base.proofs.BrokenSources.{without_unbroken}
 use Rattle.aio_source.specs.Lent.{ArmsOnce, TellsArmed, arm_of, settled}
 use Rattle.aio_source.specs.Rules.{wanted}
 use Rattle.aio_react.specs.declared.entries.SourceEntry.{SourceEntry}

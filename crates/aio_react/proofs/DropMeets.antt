@@ -29,7 +29,7 @@ use Rattle.aio_react.specs.Standing.{DirectionStands, IsBefore, polled_entry, St
 use Rattle.aio_react.proofs.ArmMeets.{Within, step_comes}
 use Rattle.aio_react.proofs.Departures.{distinct_filter}
 use Rattle.aio_react.proofs.HeardAgain.{value_here, value_aside, value_length}
-use Rattle.aio_react.proofs.HeardListeners.{Known, known, unknown, is_mine, unpolled_others, is_of_ticket, ticket_tells, without_aside}
+use Rattle.aio_react.proofs.KnownListeners.{Known, known, unknown, is_mine, unpolled_others, is_of_ticket, ticket_tells, without_aside}
 use Rattle.aio_react.proofs.Later.{quiet_comes, stands_inside}
 use Rattle.aio_react.proofs.ListenerChanges.{Hears, with_entries, with_heard, numbered_aside, entries_aside, listener_changes}
 use Rattle.aio_react.proofs.NewListeners.{listener_same}

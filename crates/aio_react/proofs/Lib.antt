@@ -15,7 +15,7 @@ mod DelMeets
 mod DirectionFacts
 mod Rearming
 mod SourceChanges
-mod Waiting
+pub mod Waiting
 mod ArmMeets
 mod PollMeets
 mod HeldSources
@@ -24,17 +24,17 @@ mod ListenMeets
 mod PolledEntries
 mod ListenerChanges
 mod HeardAgain
-mod HeardListeners
+mod KnownListeners
 mod DropMeets
 mod StepEntries
 mod StepMeets
 mod StepKeeps
-mod RoundPast
+pub mod RoundPast
 pub mod BookPasses
 mod BeginMeets
 mod FinishMeets
 mod TakenFacts
-mod Taking
+pub mod Taking
 mod PartMeets
 mod RoundMoves
 mod HandleMeets
@@ -44,7 +44,5 @@ mod RoundFaults
 mod ReactMeets
 mod Asked
 mod FreshCores
-mod PastKept
-mod SoundRuns
 mod SeatLemmas
 mod LaterPolls

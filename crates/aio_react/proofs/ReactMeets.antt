@@ -8,7 +8,7 @@ use Rattle.aio_base.specs.declared.steps.Answer.{Answer}
 use Rattle.aio_base.specs.declared.steps.Answer.TheVariants as replies
 use Rattle.aio_base.specs.declared.steps.Step.TheVariants as step
 use Rattle.aio_base.specs.Devices.{Interests, PollerMove}
-use Rattle.aio_base.specs.Machine.{Outcome, quiet, moved_on, begin_round, wait_round, handle_each, finish_in, finish_round, hand_of, fault_of, react, step_result}
+use Rattle.aio_base.specs.Machine.{Outcome, quiet, moved_on, begin_round, wait_round, handle_each, finish_in, finish_round, hand_of, fault_of_round, react, step_result}
 use Rattle.aio_base.specs.Moves.{answer_of}
 use Rattle.aio_base.specs.Timers.{limit_of}
 use Rattle.aio_base.specs.World.{PollerAnswer, World, RoundState}
@@ -32,7 +32,7 @@ use Rattle.aio_react.proofs.WaitMeets.{none_runs, one_runs}
 -- a whole round, by its wait, the handling of its events and its finish
 abbrev row : World → Outcome → Outcome → Outcome → ℕ → Outcome
 row w waited handled ended given = record {
-  answer = replies.Round (w.rounds + 1) given (fault_of handled.world.round);
+  answer = replies.Round (w.rounds + 1) given (fault_of_round handled.world.round);
   wakes = ended.wakes;
   world = ended.world;
   calls = waited.calls ++ handled.calls;
@@ -80,8 +80,8 @@ reply_is : (number events rounds given : ℕ) (word : EndWord) (fault : Option R
 reply_is number events rounds given word fault first second third =
     ap (λ (n : ℕ). replies.Round n given word) first ∙ ap (λ (n : ℕ). replies.Round number n word) second ∙ ap (λ (e : EndWord). replies.Round number events e) third
 
-fault_in : (round : Option RoundState) (s : RoundState) (word : EndWord) → round ≡ Some s → s.fault ≡ word → fault_of round ≡ word
-fault_in round s word is same = ap fault_of is ∙ same
+fault_in : (round : Option RoundState) (s : RoundState) (word : EndWord) → round ≡ Some s → s.fault ≡ word → fault_of_round round ≡ word
+fault_in round s word is same = ap fault_of_round is ∙ same
 
 calls_in : (a b c : List PollerMove) → map kind_of c ≡ [] → map kind_of a ++ map kind_of b ≡ map kind_of (a ++ (b ++ c))
 calls_in a b c none =
@@ -125,7 +125,7 @@ whole_meets {P = P} poller_step tells given now events fault waits wakes poller 
           ∙ row_is w x hand first second (ap hand_of running.1 ∙ running.2.hand_is) one.left_are two.left_are in
           subst (λ (o : Outcome). Comes (moved_on o) (replies.Round (core.ticker + 1) events (end_word fault)) wakes (a ++ (b ++ c)) later (tells new.0) new.1) (sym made)
           (record {
-            answer_is = reply_is (core.ticker + 1) events w.rounds (length hand) (fault_of y.world.round) fault (ap (λ (n : ℕ). n + 1) stands.ticker_is) events_are
+            answer_is = reply_is (core.ticker + 1) events w.rounds (length hand) (fault_of_round y.world.round) fault (ap (λ (n : ℕ). n + 1) stands.ticker_is) events_are
                 (fault_in y.world.round still.0 (end_word fault) still.1 (still.2.fault_is ∙ ap end_word fault_is));
             wakes_are = three.wakes_are;
             calls_are = ap (λ (kinds : List Which). kinds ++ y.calls) one.calls_are ∙ ap (λ (kinds : List Which). map kind_of a ++ kinds) two.calls_are

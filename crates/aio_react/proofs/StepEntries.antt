@@ -28,7 +28,7 @@ use Rattle.aio_react.specs.Numbers.{value_of, with_value}
 use Rattle.aio_react.specs.Standing.{Remembers, DirectionStands, ListenerStands, IsBefore, numbers_in, polled_entry, serial_in, ticket_in, StandsWithin, Stands}
 use Rattle.aio_react.proofs.Departures.{distinct_filter}
 use Rattle.aio_react.proofs.HeardAgain.{value_here, value_aside, value_length}
-use Rattle.aio_react.proofs.HeardListeners.{Known, is_its, is_mine, unpolled_others, is_of_ticket, ticket_tells, without_aside}
+use Rattle.aio_react.proofs.KnownListeners.{Known, is_its, is_mine, unpolled_others, is_of_ticket, ticket_tells, without_aside}
 use Rattle.aio_react.proofs.ListenerChanges.{Hears, with_entries, numbered_aside, entries_aside}
 use Rattle.aio_react.proofs.NewListeners.{listener_same, numbers_differ, pushed_all, pushed_out}
 use Rattle.aio_react.proofs.PolledEntries.{mapped_filter, mapped_through, mapped_same_all, pushed_in}

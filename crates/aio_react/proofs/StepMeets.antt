@@ -34,7 +34,7 @@ use Rattle.aio_react.specs.Polls.{waiting_reply}
 use Rattle.aio_react.specs.Standing.{numbers_in, serial_in, LiveSound, Stands, StandsWithin}
 use Rattle.aio_react.proofs.ArmMeets.{Within, step_comes, arm_moves, arm_waits, arm_runs, unasked, arm_reply, arm_within}
 use Rattle.aio_react.proofs.DirectionFacts.{idle_stands, remembered_fresh}
-use Rattle.aio_react.proofs.HeardListeners.{Known, known, unknown, unpolled}
+use Rattle.aio_react.proofs.KnownListeners.{Known, known, unknown, unpolled}
 use Rattle.aio_react.proofs.Later.{quiet_comes, stands_inside}
 use Rattle.aio_react.proofs.ListenerChanges.{with_entries, with_heard, listener_changes}
 use Rattle.aio_react.proofs.PollMeets.{poll_told, Finds, finds_either, reply_is}

@@ -1,25 +1,17 @@
-//! Laws of the worlds for which a core stands, as contracts of functions with no work to do.
+//! The law of the worlds for which a core stands, as the contract of a function with no work to do.
 
 ghost use Rattle.std.specs.Prelude.{◌≡◌, ℕ, List, find, Option, Some};
 ghost use Rattle.aio_base.specs.declared.names.Dir.{Dir};
 ghost use Rattle.aio_base.specs.Devices.{Interests};
 ghost use Rattle.aio_base.specs.Machine.{is_fresh_since, is_listener};
-ghost use Rattle.aio_base.specs.Runs.{PolledStep, world_of};
-ghost use Rattle.aio_base.specs.World.{ListenerEntry, World, mark_of, opening, serial_of};
+ghost use Rattle.aio_base.specs.World.{ListenerEntry, World, mark_of, serial_of};
 ghost use Rattle.aio_source.specs.Rules.{direction_of, is_above, is_ready};
 ghost use Rattle.aio_source.specs.declared.answers.Listened.{Listened};
 ghost use Rattle.aio_react.specs.declared.entries.Listener.{Listener};
 ghost use Rattle.aio_react.specs.declared.entries.SourceEntry.{SourceEntry};
 ghost use Rattle.aio_react.specs.Cores.{CoreValue, entry_at};
 ghost use Rattle.aio_react.specs.Numbers.{value_of};
-ghost use Rattle.aio_react.specs.Standing.{Sound, Stands};
-
-/// Each world that a run of the machine reaches is sound, whatever the poller answered in it. So a core
-/// that stands for a world of a run asks nothing of it by asking that it is sound.
-pub fn each_world_of_a_run_is_sound()
-    ensures { (run : List PolledStep)
-        → Sound (world_of opening run).pos (world_of opening run) }
-{}
+ghost use Rattle.aio_react.specs.Standing.{Stands};
 
 /// The numbers that a core remembers in place of the past tell what a search of the past tells. A
 /// direction of a live source is ready exactly where a round that began after its last poll waiter was

@@ -11,12 +11,12 @@ use Rattle.aio_base.specs.declared.steps.Step.TheVariants as step
 use Rattle.aio_base.specs.Machine.{Outcome, is_timer}
 use Rattle.aio_base.specs.Runs.{PolledStep, scripted, wakes_of, world_of}
 use Rattle.aio_base.specs.Script.{outcomes_from}
-use Rattle.aio_base.specs.Storings.{Place, OfTimer, Once, Stored, Storings, storings_of, times, wakers}
-use Rattle.aio_base.specs.Succession.{StoringsFollow, own_storing, poll_places, stored_as, stores, waker_kept}
+use Rattle.aio_laws.specs.Storings.{Place, OfTimer, Once, Stored, Storings, storings_of, times, wakers}
+use Rattle.aio_laws.specs.Succession.{StoringsFollow, own_storing, poll_places, stored_as, stores, waker_kept}
 use Rattle.aio_base.specs.World.{PollerAnswer, World, opening, serial_of}
-use Rattle.aio_base.proofs.Following.{run_follows}
-use Rattle.aio_base.proofs.OnceRuns.{run_once}
-use Rattle.aio_base.proofs.RunLemmas.{scripted_steps, scripted_wakes}
+use Rattle.aio_laws.proofs.storings.Following.{run_follows}
+use Rattle.aio_laws.proofs.storings.OnceRuns.{run_once}
+use Rattle.aio_laws.proofs.runs.RunLemmas.{scripted_steps, scripted_wakes}
 
 -- ## Storings with different numbers
 

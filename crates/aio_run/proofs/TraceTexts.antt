@@ -1,4 +1,4 @@
--- What stands while the trace of a seed's steps is gathered and written.
+-- What stands while the trace of a seed's steps is buffered and written.
 use Rattle.std.proofs.Common.{◌≡◌, ℕ, ◌≤◌, List, [], ◌∷◌, ◌++◌, Option, Result, Ok, refl, sym, ap, ◌∙◌, subst, append_assoc, append-nil, arith}
 use Rattle.std.specs.Prelude.{Bool, IsTrue, flat_map}
 use Rattle.std.specs.List.{All}
@@ -57,8 +57,8 @@ module _ (n seed : ℕ) (left rest : StepsLeft) (first now : Option (List ℕ)) 
   pub next_in_range : n ≤ 999999 → IsInRange next
   next_in_range few = in_range next (behind traces.done next (steps_left rest) (subst (All HasSpelling) with_next (all_spelled n seed few)))
 
-  gathered : (line : List ℕ) → line ≡ ended_line (written_line next) → traces.sent ++ (text ++ line) ≡ trace_text (traces.done ++ next ∷ [])
-  gathered line is =
+  buffered : (line : List ℕ) → line ≡ ended_line (written_line next) → traces.sent ++ (text ++ line) ≡ trace_text (traces.done ++ next ∷ [])
+  buffered line is =
       sym (append_assoc traces.sent text line) ∙ ap (λ t. t ++ line) traces.text_is ∙ ap (λ t. trace_text traces.done ++ t) is ∙ sym (trace_text-push traces.done next)
 
   -- its line was put at the end of the text
@@ -68,7 +68,7 @@ module _ (n seed : ℕ) (left rest : StepsLeft) (first now : Option (List ℕ)) 
     whole = with_next ∙ sym (append_assoc traces.done (next ∷ []) (steps_left rest));
     sent = traces.sent ++ sends.sent;
     appended = Appends-trans first now new traces.sent sends.sent traces.appended sends.appended;
-    text_is = append_assoc traces.sent sends.sent kept ∙ ap (λ t. traces.sent ++ t) (sym sends.whole) ∙ gathered (ended_line (written_line next)) refl;
+    text_is = append_assoc traces.sent sends.sent kept ∙ ap (λ t. traces.sent ++ t) (sym sends.whole) ∙ buffered (ended_line (written_line next)) refl;
   }
 
   -- it was refused
@@ -80,7 +80,7 @@ module _ (n seed : ℕ) (left rest : StepsLeft) (first now : Option (List ℕ)) 
       record {
         added = traces.sent ++ part.added;
         rest = part.rest ++ more;
-        whole = all ∙ ap (λ t. t ++ more) (sym (gathered (ended_line (written_line next)) refl) ∙ ap (λ t. traces.sent ++ t) part.whole ∙ sym (append_assoc traces.sent part.added part.rest))
+        whole = all ∙ ap (λ t. t ++ more) (sym (buffered (ended_line (written_line next)) refl) ∙ ap (λ t. traces.sent ++ t) part.whole ∙ sym (append_assoc traces.sent part.added part.rest))
             ∙ append_assoc (traces.sent ++ part.added) part.rest more;
         appended = Appends-trans first now new traces.sent part.added traces.appended part.appended;
       }

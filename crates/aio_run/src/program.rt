@@ -1,7 +1,7 @@
 //! The top call of the program.
 
 ghost use Rattle.std.specs.Prelude.{◌≡◌, ◌≢◌, ℕ, ◌<◌, ◌≤◌, ◌^◌, ◌↔◌, ◌++◌, List, Some, IfErr, codes, string_bytes, map, take};
-ghost use Rattle.aio_base.specs.Between.{StandsAfter};
+ghost use Rattle.aio_laws.specs.Between.{StandsAfter};
 ghost use Rattle.aio_base.specs.Generated.{generated_steps};
 ghost use Rattle.aio_base.specs.Trace.{trace_of};
 ghost use Rattle.aio_base.specs.Devices.{TellsFaults};

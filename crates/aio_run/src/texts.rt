@@ -10,7 +10,7 @@ ghost use Rattle.aio_bytes.specs.Sinks.{HasFailed, Writes};
 ghost use Rattle.aio_replay.specs.Driving.{BlockWent};
 ghost use Rattle.aio_replay.specs.Summing.{counts_told};
 ghost use Rattle.aio_run.specs.Commands.{header_text, summary_text, trace_text};
-ghost use Rattle.aio_run.specs.Texts.{Gathers};
+ghost use Rattle.aio_run.specs.Texts.{Buffers};
 
 use aio_base::Step;
 use aio_bytes::{BLOCK, Sink, SinkRefusal, flush, write_all};
@@ -41,7 +41,7 @@ pub(crate) fn write_trace<K: Sink>(
         Err(_) => return Err(SinkRefusal::OutOfMemory),
     };
     for step in gen_steps(n, seed) {
-        match gather(&step, &mut text, out) {
+        match buffer_line(&step, &mut text, out) {
             Ok(()) => {}
             Err(refusal) => return Err(refusal),
         }
@@ -61,9 +61,9 @@ fn header(alloc: Global) -> Result<Vec<u8>, AllocError>
 /// Writes the line of a step at the end of the text, and the text to the output where it fills a
 /// block, and not before. Where memory runs out, the text before is written as far as the output
 /// takes it.
-fn gather<K: Sink>(step: &Step, text: &mut Vec<u8>, out: &mut K) -> Result<(), SinkRefusal>
+fn buffer_line<K: Sink>(step: &Step, text: &mut Vec<u8>, out: &mut K) -> Result<(), SinkRefusal>
     requires { IsInRange step.now }
-    ensures gathers { Gathers result (K.contents out.old) (K.contents out.new)
+    ensures buffers { Buffers result (K.contents out.old) (K.contents out.new)
         text.old.items text.new.items (ended_line (written_line step.now)) }
     ensures blocks { OnOk result ((out.new ≡ out.old)
         ⊎ BlockWent (K.contents out.old) (K.contents out.new)) }

@@ -10,8 +10,6 @@
 mod clock;
 mod events;
 mod poller;
-#[cfg(test)]
-mod tests;
 
 pub use clock::{Back, ScriptClock};
 pub use poller::ScriptPoller;

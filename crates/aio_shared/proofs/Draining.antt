@@ -1,4 +1,4 @@
--- What drains leave of a pass, one after the other.
+-- What drains leave of a seat, one after the other.
 use Rattle.std.proofs.Common.{◌≡◌, ℕ, List, [], ◌++◌, sym, ap, ◌∙◌, append-nil, append_assoc, le_refl, le_trans, arith}
 use Rattle.aio_ops.specs.Passes.{PassView}
 use Rattle.aio_ops.specs.declared.queue.Entry.{Entry}

@@ -1,17 +1,16 @@
 -- The wakes of a hand-over, one more behind those so far.
-use Rattle.std.proofs.Common.{◌≡◌, ℕ, ◌+◌, ◌*◌, ◌≤◌, Bool, cond, not, eqb, List, [], ◌∷◌, ◌++◌, length, length-append, append_assoc, append-nil, map, filter, refl, sym, ap, ◌∙◌, subst, le_refl, arith}
-use Rattle.std.specs.List.{range_with_len}
+use Rattle.std.proofs.Common.{◌≡◌, ℕ, ◌+◌, ◌*◌, ◌≤◌, Bool, cond, not, eqb, List, [], ◌∷◌, ◌++◌, length, length-append, append_assoc, append-nil, sym, ap, ◌∙◌, subst, le_refl, arith}
 use Rattle.std.proofs.lemmas.Bool.{eq-eqb, ne_eqb}
 use Rattle.std.proofs.lemmas.List.FromFn.{map-range_with_len_more, filter_of_map_range_with_len_more}
 use Rattle.aio_base.specs.declared.names.Waker.{Waker}
-use Rattle.aio_base.specs.declared.seats.WordStep.{WordStep}
-use Rattle.aio_base.specs.declared.seats.SeatView.{SeatView}
+use Rattle.aio_rules.specs.declared.seats.WordStep.{WordStep}
+use Rattle.aio_rules.specs.declared.seats.SeatView.{SeatView}
 use Rattle.aio_base.specs.Devices.{TellsFaults}
-use Rattle.aio_base.specs.WordCalls.{and_did, Found, wake_steps, all_wake_steps}
+use Rattle.aio_rules.specs.WordCalls.{and_did, Found, wake_steps, all_wake_steps}
 use Rattle.aio_words.specs.Seats.{SeatValue}
 use Rattle.aio_shared.specs.HandOver.{first_slot, first_slots_of, slots_below}
 use Rattle.aio_shared.specs.Members.{IsLaterMember, MemberValue}
-use Rattle.aio_shared.specs.OneCell.{TurnValue, with_empties}
+use Rattle.aio_shared.specs.OneCell.{ClaimValue, with_empties}
 use Rattle.aio_shared.specs.Reacting.{Wakes}
 
 one_behind : (wakers : List Waker) (parkers : ℕ) (founds : List Found) (found : Found) (w : Waker) → length founds ≡ length wakers
@@ -58,13 +57,13 @@ first_slots_one n but other =
 
 module _ {N : Type 0} (faults : N → ℕ) (is_sure : N → Bool) (parkers : ℕ) (wakers : List Waker) (failed : Type 0) where
   -- a member that only woke is later
-  pub woken_later : (m after : MemberValue N) → after ≡ record m { pass = after.pass; note = after.note } → Wakes parkers wakers m.pass after.pass
-      → TellsFaults faults is_sure m.note after.note failed → IsLaterMember faults is_sure m after
+  pub woken_later : (m after : MemberValue N) → after ≡ record m { pass = after.pass; notifier = after.notifier } → Wakes parkers wakers m.pass after.pass
+      → TellsFaults faults is_sure m.notifier after.notifier failed → IsLaterMember faults is_sure m after
   woken_later m after kept woke t = let ids : after.ids ≡ m.ids = ap (λ (x : MemberValue N). x.ids) kept in
-      let turn : after.turn ≡ m.turn = ap (λ (x : MemberValue N). x.turn) kept in
+      let claim : after.claim ≡ m.claim = ap (λ (x : MemberValue N). x.claim) kept in
       let own = ap (λ (x : MemberValue N). x.ops) kept in
       record {
-        turn = turn ∙ (λ i. with_empties (sym (ap (λ (x : TurnValue). x.empties) turn) i) m.turn);
+        claim = claim ∙ (λ i. with_empties (sym (ap (λ (x : ClaimValue). x.empties) claim) i) m.claim);
         words = ap (λ (x : SeatValue). x.words) woke.seat;
         queue = ap (λ o. o.queue) own;
         number = ap (λ o. o.number) own;
@@ -75,5 +74,5 @@ module _ {N : Type 0} (faults : N → ℕ) (is_sure : N → Bool) (parkers : ℕ
         fulls = subst (λ o. m.ops.fulls ≤ o.fulls) (sym own) (le_refl m.ops.fulls);
         empties = subst (λ o. m.ops.empties ≤ o.empties) (sym own) (le_refl m.ops.empties);
         ids = omega arith;
-        note = t.cause.later;
+        notifier = t.cause.later;
       }

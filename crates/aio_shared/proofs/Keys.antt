@@ -208,3 +208,16 @@ module _ {X : Type 0} where
 
   pub has_key : (places : List (Option X)) (at : ℕ) (x : X) → slice_get places at ≡ Some (Some x) → Contains (live_keys 0 places) at
   has_key places at x is = live_at 0 at places at x is (omega arith)
+
+-- a key that was taken out is no longer there
+pub is_gone : (keys : List ℕ) (key : ℕ) → Contains (without_key keys key) key → ⊥
+is_gone [] key among = let within = among.1 in omega arith
+is_gone (k ∷ keys) key among =
+    ⊎_elim (λ (same : k ≡ key). is_gone keys key (subst (λ ks. Contains ks key) (sym (same_goes k key keys (without_key keys key) same refl)) among))
+    (λ (apart : k ≢ key). still_gone (without_key keys key) apart (is_gone keys key)
+    (subst (λ ks. Contains ks key) (sym (other_stays k key keys (without_key keys key) apart refl)) among))
+    (cases_eq k key)
+  where
+    still_gone : (kept : List ℕ) → k ≢ key → (Contains kept key → ⊥) → Contains (k ∷ kept) key → ⊥
+    still_gone kept apart none (zero, within, is) = apart is
+    still_gone kept apart none (suc at, within, is) = none (at, omega (arith, within), is)

@@ -2,12 +2,13 @@
 use Rattle.std.proofs.Common.{◌≡◌, inr, ℕ, ◌≤◌, Bool, true, false, true≢false, List, [], ◌∷◌, ◌++◌, length, append_assoc, append-nil, refl, sym, ap, ◌∙◌, subst, le_trans, Option, Some, None, Result, Ok, Err, IsErr, arith}
 use Rattle.aio_base.specs.declared.outcomes.CountFault.{CountFault}
 use Rattle.aio_base.specs.declared.outcomes.Waited.{Waited}
-use Rattle.aio_base.specs.declared.seats.SeatView.{SeatView}
-use Rattle.aio_base.specs.declared.seats.WordStep.{WordStep}
-use Rattle.aio_base.specs.declared.seats.WordStep.TheVariants as word_step
+use Rattle.aio_rules.specs.declared.seats.SeatView.{SeatView}
+use Rattle.aio_rules.specs.declared.seats.WordStep.{WordStep}
+use Rattle.aio_rules.specs.declared.seats.WordStep.TheVariants as word_step
+use Rattle.aio_base.specs.ClockBounds.{ClockBounds, IsWithin}
 use Rattle.aio_base.specs.Devices.{HasCause, Rose, TellsFaults}
-use Rattle.aio_base.specs.SharedWords.{after}
-use Rattle.aio_base.specs.WordCalls.{all_wake_steps}
+use Rattle.aio_rules.specs.SharedWords.{after}
+use Rattle.aio_rules.specs.WordCalls.{all_wake_steps}
 use Rattle.aio_ops.specs.Passes.{PassView}
 use Rattle.aio_react.specs.declared.round.RoundFault.{RoundFault}
 use Rattle.aio_react.specs.declared.round.RoundFault.TheVariants as round_fault
@@ -16,13 +17,13 @@ use Rattle.aio_words.specs.Seats.{SeatValue}
 use Rattle.aio_shared.specs.declared.reacting.ReactedIn.{ReactedIn}
 use Rattle.aio_shared.specs.declared.reacting.ReactFault.{ReactFault}
 use Rattle.aio_shared.specs.declared.reacting.ReactFault.TheVariants as react_fault
-use Rattle.aio_shared.specs.Cells.{CellValue, CellSays, Awaits, MayTell}
+use Rattle.aio_shared.specs.Cells.{CellValue, CellSays, Awaits, MayTell, WaitStep}
 use Rattle.aio_shared.specs.Members.{IsLaterMember, MemberValue}
-use Rattle.aio_shared.specs.OneCell.{TurnValue, about, with_empties}
+use Rattle.aio_shared.specs.OneCell.{ClaimValue, about, with_empties}
 use Rattle.aio_shared.specs.Sources.{KeepsFault}
 use Rattle.aio_shared.specs.TimerCalls.{Drained, PushedNothing}
 use Rattle.aio_shared.proofs.Draining.{drained_pushed_nothing, pushed_nothing_itself, pushed_nothing_further}
-use Rattle.aio_shared.specs.Reacting.{BeginsAs, Ends, Enters, Finished, Finishes, HandlesSome, NoteCounts, RaisesOnce, RanOut, Reacts, RunsOn, Start, Tells, WaitFailed, Wakes, WholeRound, rose}
+use Rattle.aio_shared.specs.Reacting.{Begins, BeginsAs, Ends, Enters, Finished, Finishes, HandlesSome, IsMoment, NotifierCounts, RaisesOnce, RanOut, Reacts, RunsOn, Start, Tells, WaitFailed, Wakes, WholeRound, rose, until}
 
 by_bool : {A : Type 0} (b : Bool) → (b ≡ true → A) → (b ≡ false → A) → A
 by_bool true t f = t refl
@@ -67,13 +68,21 @@ told_wait all_sure (Err told_fault) before after sure f g fault was keeps is cou
     error_of (Err x) = x
     error_of (Ok x) = told_fault
 
-module _ (number earliest : ℕ) (given : Option ℕ) (ops ops_after : PassView) (begun new : RoundValue) (waits faults after_waits after_faults : ℕ) (sure : Bool)
-    (b : BeginsAs number earliest given ops ops_after begun) (a : Awaits begun new waits faults after_waits after_faults sure) where
+module _ {W : Type 0} (step : WaitStep W) (wait wait_after : W) (number : ℕ) (bounds : ClockBounds) (earliest latest : ℕ) (given : Option ℕ) (ops ops_after : PassView) (begun new : RoundValue) (waits faults after_waits after_faults : ℕ) (sure : Bool)
+    (b : BeginsAs number bounds earliest latest given ops ops_after begun) (a : Awaits step begun new wait wait_after waits faults after_waits after_faults sure) where
   fault_is : new.fault ≡ wait_fault a.answer
   fault_is = ap (λ (r : RoundValue). r.fault) a.round ∙ ap (λ (r : RoundValue). (waited r a.answer new.hand).fault) b.round
 
   pub begun_may : (arms : Bool) → MayTell sure arms new.fault
   begun_may arms = subst (λ f. MayTell sure arms f) (sym fault_is) (wait_may a.answer faults after_faults sure arms a.cause)
+
+-- ## The clock
+
+moment_until : (bounds : ClockBounds) (earliest latest later now : ℕ) → latest ≤ later → IsMoment bounds earliest latest now → IsMoment bounds earliest later now
+moment_until bounds earliest latest later now on x = (x.0, le_trans x.1 on, x.2)
+
+moment_from : (bounds all : ClockBounds) (earliest later latest now : ℕ) → bounds ≡ all → earliest ≤ later → IsMoment bounds later latest now → IsMoment all earliest latest now
+moment_from bounds all earliest later latest now same on x = (le_trans on x.0, x.1, subst (λ (b : ClockBounds). IsWithin b now) same x.2)
 
 -- ## The seat
 
@@ -83,25 +92,49 @@ raises_once v found = let a : List WordStep = word_step.LoadTicker v.seen ∷ []
 
 module _ {W : Type 0} where
   -- what a cell may tell once it was entered
-  entered_may : (start : Start) (old new : CellValue W) (ops ops_after : PassView) (arms : Bool) → Enters start old new ops ops_after → MayTell old.sure arms old.round.fault → MayTell old.sure arms new.round.fault
+  entered_may : (start : Start W) (old new : CellValue W) (ops ops_after : PassView) (arms : Bool) → Enters start old new ops ops_after → MayTell old.sure arms old.round.fault → MayTell old.sure arms new.round.fault
   entered_may start old new ops ops_after arms e may = by_bool old.round.running
       (λ runs. subst (λ (r : RoundValue). MayTell old.sure arms r.fault) (sym (ap (λ (c : CellValue W). c.round) (e.goes_on runs).cell)) may)
-      (λ idle. let b = e.begins idle in begun_may _ _ _ _ _ b.begun new.round _ _ _ _ old.sure b.begins b.waits arms)
+      (λ idle. let b = e.begins idle in begun_may start.step old.wait new.wait _ _ _ _ _ _ _ b.begun new.round _ _ _ _ old.sure b.begins b.waits arms)
+
+  begins_until : (start : Start W) (latest : ℕ) (old new : CellValue W) (ops ops_after : PassView) → start.latest ≤ latest → Begins start old new ops ops_after
+      → Begins (until latest start) old new ops ops_after
+  begins_until start latest old new ops ops_after on b = let a = b.begins in record {
+    room = b.room;
+    begun = b.begun;
+    begins = record { count = a.count; found = a.found; book = a.book; drains = a.drains; now = a.now; moment = moment_until start.bounds start.earliest start.latest latest a.now on a.moment; round = a.round };
+    found = b.found;
+    seat = b.seat;
+    waits = b.waits;
+    drained = b.drained;
+  }
+
+  -- a round that was entered in the first part of a call was entered in the call
+  pub entered_until : (start : Start W) (latest : ℕ) (old new : CellValue W) (ops ops_after : PassView) → Enters start old new ops ops_after → start.latest ≤ latest
+      → Enters (until latest start) old new ops ops_after
+  entered_until start latest old new ops ops_after e on = record {
+    begins = λ idle. begins_until start latest old new ops ops_after on (e.begins idle);
+    goes_on = e.goes_on;
+    running = e.running;
+    words = e.words;
+    mode = e.mode;
+    sure = e.sure;
+  }
 
   -- what it did to the queue of operations
-  pub entered_pushed : (start : Start) (old new : CellValue W) (ops ops_after : PassView) → Enters start old new ops ops_after → PushedNothing ops ops_after
+  pub entered_pushed : (start : Start W) (old new : CellValue W) (ops ops_after : PassView) → Enters start old new ops ops_after → PushedNothing ops ops_after
   entered_pushed start old new ops ops_after e = by_bool old.round.running
       (λ runs. subst (λ (o : PassView). PushedNothing ops o) (sym (e.goes_on runs).pass) (pushed_nothing_itself ops))
       (λ idle. drained_pushed_nothing ops ops_after (e.begins idle).drained)
 
   -- ## The end
 
-  module _ (all_sure : Bool) (start : Start) (old entered handled : CellValue W) (ops between : PassView) (e : Enters start old entered ops between)
+  module _ (all_sure : Bool) (start : Start W) (old entered handled : CellValue W) (ops between : PassView) (e : Enters start old entered ops between)
       (h : HandlesSome all_sure entered.round handled.round) (hc : handled ≡ record entered { round = handled.round }) where
     pub runs_on : (ops_after : PassView) → PushedNothing between ops_after → RunsOn all_sure start old handled ops ops_after
     runs_on ops_after d = record { entered = entered; between = between; enters = e; handles = h; cell = hc; drained = d; running = h.running ∙ e.running }
 
-    module _ (new : CellValue W) (ops_after : PassView) (later : ℕ) (on : start.earliest ≤ later) (f : Finishes later between ops_after handled.round new.round) (fc : new ≡ record handled { round = new.round })
+    module _ (new : CellValue W) (ops_after : PassView) (bounds : ClockBounds) (later : ℕ) (one_clock : bounds ≡ start.bounds) (on : start.earliest ≤ later) (f : Finishes bounds later start.latest between ops_after handled.round new.round) (fc : new ≡ record handled { round = new.round })
         (none : handled.round.hand ≡ []) (d : Drained between ops_after) where
       new_is : new ≡ record entered { round = new.round }
       new_is = fc ∙ (λ i. record (hc i) { round = new.round })
@@ -123,7 +156,7 @@ module _ {W : Type 0} where
         handled = handled.round;
         handles = h;
         none_left = none;
-        finishes = record { count = f.count; found = f.found; book = f.book; drains = f.drains; now = f.now; moment = le_trans on f.moment; round = f.round };
+        finishes = record { count = f.count; found = f.found; book = f.book; drains = f.drains; now = f.now; moment = moment_from bounds start.bounds start.earliest later start.latest f.now one_clock on f.moment; round = f.round };
         cell = new_is;
         drained = d;
         idle = ap (λ (r : RoundValue). r.running) f.round;
@@ -139,18 +172,18 @@ module _ {W : Type 0} where
           let faults : new.faults ≡ entered.faults = ap (λ (c : CellValue W). c.faults) new_is in
           subst (λ (k : ℕ). (fault ≡ record { before = old.faults; after = k }) × Rose old.faults k) (sym faults)
           (told_wait all_sure b.waits.answer old.faults entered.faults old.sure entered.round.fault handled.round.fault fault
-          (fault_is _ _ _ _ _ b.begun entered.round _ _ _ _ old.sure b.begins b.waits) h.fault (sym fault_kept ∙ told_is) b.waits.fault b.waits.cause)
+          (fault_is start.step old.wait entered.wait _ _ _ _ _ _ _ b.begun entered.round _ _ _ _ old.sure b.begins b.waits) h.fault (sym fault_kept ∙ told_is) b.waits.fault b.waits.cause)
 
-module _ {N W : Type 0} (all_sure : Bool) (start : Start) (old entered handled : CellValue W) (m m1 m2 : MemberValue N)
+module _ {N W : Type 0} (all_sure : Bool) (start : Start W) (old entered handled : CellValue W) (m m1 m2 : MemberValue N)
     (e : Enters start old entered m.ops m1.ops) (h : HandlesSome all_sure entered.round handled.round) (hc : handled ≡ record entered { round = handled.round })
-    (says : CellSays old (about m.turn)) (sure : m.turn.sure_of_arms ≡ all_sure) where
-  pub handled_says : (turn : TurnValue) → turn ≡ m.turn → CellSays handled (about turn)
-  handled_says turn same =
+    (says : CellSays old (about m.claim)) (sure : m.claim.sure_of_arms ≡ all_sure) where
+  pub handled_says : (claim : ClaimValue) → claim ≡ m.claim → CellSays handled (about claim)
+  handled_says claim same =
       let entered_tells : MayTell old.sure all_sure entered.round.fault =
       entered_may start old entered m.ops m1.ops all_sure e (subst (λ (s : Bool × Bool). MayTell s.0 s.1 old.round.fault) (λ i. (sym says.wait i, sure i)) says.fault) in
       let tells : MayTell old.sure all_sure handled.round.fault = handled_may old.sure all_sure entered.round.fault handled.round.fault entered_tells h.fault in
       let handled_sure : handled.sure ≡ old.sure = ap (λ (c : CellValue W). c.sure) hc ∙ e.sure in
-      subst (λ (t : TurnValue). CellSays handled (about t)) (sym same) record {
+      subst (λ (t : ClaimValue). CellSays handled (about t)) (sym same) record {
         words = ap (λ (c : CellValue W). c.seat.words) hc ∙ e.words ∙ says.words;
         wait = handled_sure ∙ says.wait;
         fault = subst (λ (s : Bool × Bool). MayTell s.0 s.1 handled.round.fault) (λ i. (says.wait i, sym sure i)) tells;
@@ -160,26 +193,26 @@ module _ {N W : Type 0} (all_sure : Bool) (start : Start) (old entered handled :
   pub ran_out : m1 ≡ record m { ops = m1.ops } → m2 ≡ record m1 { ops = m2.ops } → PushedNothing m.ops m2.ops → PushedNothing m1.ops m2.ops → RanOut all_sure start old handled m m2
   ran_out one two all last = record { member = two ∙ (λ i. record (one i) { ops = m2.ops }); ops = all; round = inr (runs_on all_sure start old entered handled m.ops m1.ops e h hc m2.ops last) }
 
-  module _ (new : CellValue W) (m3 : MemberValue N) (later : ℕ) (on : start.earliest ≤ later) (f : Finishes later m1.ops m2.ops handled.round new.round) (fc : new ≡ record handled { round = new.round })
-      (none : handled.round.hand ≡ []) (d : Drained m1.ops m2.ops) (one : m1 ≡ record m { ops = m1.ops }) (two : m2 ≡ record m1 { ops = m2.ops }) (three : m3 ≡ record m2 { pass = m3.pass; note = m3.note }) where
+  module _ (new : CellValue W) (m3 : MemberValue N) (bounds : ClockBounds) (later : ℕ) (one_clock : bounds ≡ start.bounds) (on : start.earliest ≤ later) (f : Finishes bounds later start.latest m1.ops m2.ops handled.round new.round) (fc : new ≡ record handled { round = new.round })
+      (none : handled.round.hand ≡ []) (d : Drained m1.ops m2.ops) (one : m1 ≡ record m { ops = m1.ops }) (two : m2 ≡ record m1 { ops = m2.ops }) (three : m3 ≡ record m2 { pass = m3.pass; notifier = m3.notifier }) where
     ended : Ends all_sure start old new m.ops m2.ops
-    ended = ends all_sure start old entered handled m.ops m1.ops e h hc new m2.ops later on f fc none d
+    ended = ends all_sure start old entered handled m.ops m1.ops e h hc new m2.ops bounds later one_clock on f fc none d
 
     ops_are : m3.ops ≡ m2.ops
     ops_are = ap (λ (x : MemberValue N). x.ops) three
 
-    turn_is : m3.turn ≡ m.turn
-    turn_is = ap (λ (x : MemberValue N). x.turn) three ∙ ap (λ (x : MemberValue N). x.turn) two ∙ ap (λ (x : MemberValue N). x.turn) one
+    claim_is : m3.claim ≡ m.claim
+    claim_is = ap (λ (x : MemberValue N). x.claim) three ∙ ap (λ (x : MemberValue N). x.claim) two ∙ ap (λ (x : MemberValue N). x.claim) one
 
     pass_is : m2.pass ≡ m.pass
     pass_is = ap (λ (x : MemberValue N). x.pass) two ∙ ap (λ (x : MemberValue N). x.pass) one
 
     -- the cell still says what the member knows
-    pub new_says : CellSays new (about m3.turn)
-    new_says = let s = handled_says m3.turn turn_is in record {
+    pub new_says : CellSays new (about m3.claim)
+    new_says = let s = handled_says m3.claim claim_is in record {
       words = ap (λ (c : CellValue W). c.seat.words) fc ∙ s.words;
       wait = ap (λ (c : CellValue W). c.sure) fc ∙ s.wait;
-      fault = subst (λ x. MayTell m3.turn.sure_of_wait m3.turn.sure_of_arms x) (sym (ap (λ (r : RoundValue). r.fault) f.round)) s.fault;
+      fault = subst (λ x. MayTell m3.claim.sure_of_wait m3.claim.sure_of_arms x) (sym (ap (λ (r : RoundValue). r.fault) f.round)) s.fault;
     }
 
     module _ (parkers : ℕ) (woke : Wakes parkers new.round.taken m2.pass m3.pass) where
@@ -189,42 +222,42 @@ module _ {N W : Type 0} (all_sure : Bool) (start : Start) (old entered handled :
         woke = subst (λ (p : SeatValue). Wakes parkers new.round.taken p m3.pass) pass_is woke;
       }
 
-      pub is_later : (faults : N → ℕ) (is_sure : N → Bool) (failed : Type 0) → TellsFaults faults is_sure m2.note m3.note failed → IsLaterMember faults is_sure m m3
+      pub is_later : (faults : N → ℕ) (is_sure : N → Bool) (failed : Type 0) → TellsFaults faults is_sure m2.notifier m3.notifier failed → IsLaterMember faults is_sure m m3
       is_later faults is_sure failed t =
           let woken = finished_is.woke in
           let pushed = subst (λ (o : PassView). PushedNothing m.ops o) (sym ops_are) (pushed_nothing_further m.ops m1.ops m2.ops (entered_pushed start old entered m.ops m1.ops e) (drained_pushed_nothing m1.ops m2.ops d)) in
-          let note : m2.note ≡ m.note = ap (λ (x : MemberValue N). x.note) two ∙ ap (λ (x : MemberValue N). x.note) one in
+          let notifier : m2.notifier ≡ m.notifier = ap (λ (x : MemberValue N). x.notifier) two ∙ ap (λ (x : MemberValue N). x.notifier) one in
           let ids : m3.ids ≡ m.ids = ap (λ (x : MemberValue N). x.ids) three ∙ ap (λ (x : MemberValue N). x.ids) two ∙ ap (λ (x : MemberValue N). x.ids) one in
           record {
-            turn = turn_is ∙ (λ i. with_empties (sym (ap (λ (x : TurnValue). x.empties) turn_is) i) m.turn);
+            claim = claim_is ∙ (λ i. with_empties (sym (ap (λ (x : ClaimValue). x.empties) claim_is) i) m.claim);
             words = ap (λ (x : SeatValue). x.words) woken.seat;
             queue = ap (λ (x : PassView). x.queue) pushed.pass;
             number = ap (λ (x : PassView). x.number) pushed.pass;
-            sure = t.sure ∙ ap is_sure note;
+            sure = t.sure ∙ ap is_sure notifier;
             did = (all_wake_steps new.round.taken parkers woken.founds, ap (λ (x : SeatValue). x.view.did) woken.seat);
             own = ([], ap (λ (x : PassView). x.own) pushed.pass ∙ sym (append-nil m.ops.own));
             pulled = (pushed.entries, ap (λ (x : PassView). x.pulled) pushed.pass);
             fulls = pushed.fulls;
             empties = pushed.empties;
             ids = omega arith;
-            note = subst (λ (x : N). faults x ≤ faults m3.note) note t.cause.later;
+            notifier = subst (λ (x : N). faults x ≤ faults m3.notifier) notifier t.cause.later;
           }
 
-      told_may : (fault : RoundFault) → new.round.fault ≡ Some fault → MayTell m.turn.sure_of_wait m.turn.sure_of_arms (Some fault)
-      told_may fault is = subst (λ (t : TurnValue). MayTell t.sure_of_wait t.sure_of_arms (Some fault)) turn_is (subst (λ x. MayTell m3.turn.sure_of_wait m3.turn.sure_of_arms x) is new_says.fault)
+      told_may : (fault : RoundFault) → new.round.fault ≡ Some fault → MayTell m.claim.sure_of_wait m.claim.sure_of_arms (Some fault)
+      told_may fault is = subst (λ (t : ClaimValue). MayTell t.sure_of_wait t.sure_of_arms (Some fault)) claim_is (subst (λ x. MayTell m3.claim.sure_of_wait m3.claim.sure_of_arms x) is new_says.fault)
 
       failed : (fault : CountFault) → new.round.fault ≡ Some (round_fault.Wait fault) → old.round.running ≡ false → WaitFailed old new fault
-      failed fault is idle = wait_failed all_sure start old entered handled m.ops m1.ops e h hc new m2.ops later on f fc none d fault is idle
+      failed fault is idle = wait_failed all_sure start old entered handled m.ops m1.ops e h hc new m2.ops bounds later one_clock on f fc none d fault is idle
 
-      answers : (note : NoteCounts) (r : Result ReactedIn ReactFault) → Tells new.round old.round.running (length old.round.hand) note r → Reacts parkers all_sure start old new m m3 note r
-      answers note (Ok reacted) t = (finished_is, t)
-      answers note (Err (react_fault.Wait fault)) t = (finished_is, (t, told_may (round_fault.Wait fault) t, failed fault t))
-      answers note (Err (react_fault.Arm fault)) t = (finished_is, (t, told_may (round_fault.Arm fault) t))
-      answers note (Err (react_fault.Notify fault)) t = (finished_is, t)
-      answers note (Err react_fault.RoundsSpent) t = absurd t
-      answers note (Err react_fault.OutOfMemory) t = absurd t
+      answers : (notifier : NotifierCounts) (r : Result ReactedIn ReactFault) → Tells new.round old.round.running (length old.round.hand) notifier r → Reacts parkers all_sure start old new m m3 notifier r
+      answers notifier (Ok reacted) t = (finished_is, t)
+      answers notifier (Err (react_fault.Wait fault)) t = (finished_is, (t, told_may (round_fault.Wait fault) t.0, failed fault t.0))
+      answers notifier (Err (react_fault.Arm fault)) t = (finished_is, (t, told_may (round_fault.Arm fault) t.0))
+      answers notifier (Err (react_fault.Notify fault)) t = (finished_is, t)
+      answers notifier (Err react_fault.RoundsSpent) t = absurd t
+      answers notifier (Err react_fault.OutOfMemory) t = absurd t
 
-      pub reacts : (note told : NoteCounts) (r : Result ReactedIn ReactFault) (resumed : Bool) (in_hand : ℕ) → told ≡ note → resumed ≡ old.round.running → in_hand ≡ length old.round.hand
-          → Tells new.round resumed in_hand told r → Reacts parkers all_sure start old new m m3 note r
-      reacts note told r resumed in_hand same was many t =
-          answers note r (subst (λ (x : NoteCounts × Bool × ℕ). Tells new.round x.1 x.2 x.0 r) (λ i. (same i, was i, many i)) t)
+      pub reacts : (notifier told : NotifierCounts) (r : Result ReactedIn ReactFault) (resumed : Bool) (in_hand : ℕ) → told ≡ notifier → resumed ≡ old.round.running → in_hand ≡ length old.round.hand
+          → Tells new.round resumed in_hand told r → Reacts parkers all_sure start old new m m3 notifier r
+      reacts notifier told r resumed in_hand same was many t =
+          answers notifier r (subst (λ (x : NotifierCounts × Bool × ℕ). Tells new.round x.1 x.2 x.0 r) (λ i. (same i, was i, many i)) t)

@@ -1,4 +1,4 @@
--- Tries of a pass to push an operation, one after the other, and what they leave of it.
+-- Tries of a seat to push an operation, one after the other, and what they leave of it.
 use Rattle.std.proofs.Common.{◌≡◌, ℕ, zero, suc, ◌+◌, Bool, true, false, Result, Ok, Err, OnOk, OnErr, inr, [], ◌∷◌, length, refl, sym, ap, ◌∙◌, subst, append-nil, le_refl, le_trans, arith}
 use Rattle.aio_base.specs.declared.outcomes.OutOfMemory.{OutOfMemory}
 use Rattle.aio_ops.specs.Passes.{PassView, FindsFull, next_entry, pushed}
@@ -75,7 +75,7 @@ tried_later op p q (Ok true) (room, drained, is_pushed) = later_further p room q
 tried_later op p q (Ok false) in_vain = in_vain_later p q in_vain
 tried_later op p q (Err refused) same = subst (λ r. IsLaterPass p r) (sym same) (later_itself p)
 
--- a pass whose operation the queue did not take at 1,000 tries more, once it was drained for the last time, or could not be
+-- a seat whose operation the queue did not take at 1,000 tries more, once it was drained for the last time, or could not be
 pub kept_out : (op : TimerOp) (n : ℕ) (p q r : PassView) (answer : Result (Unit {0}) OutOfMemory) → n ≡ 1000 → FoundFull n p q → OnOk answer (Drained q r)
     → OnOk answer (CarriesOut op p r)
 kept_out op n p q r (Ok done) is full drained = inr record { last = q; full = subst (λ k. FoundFull k p q) is full; drained = drained }

@@ -2,10 +2,10 @@
 use Rattle.std.proofs.Common.{◌≡◌, ℕ, zero, suc, ◌+◌, ◌<◌, ◌≤◌, Bool, true≢false, List, [], ◌∷◌, ◌++◌, length, length-append, take, get_or, append_assoc, append-nil, refl, sym, ap, ◌∙◌, subst, le_trans, Option, Some, None, Result, Ok, Err, IsSome, IsErr, IfSome, IfErr, IsTrue, arith}
 use Rattle.aio_base.specs.declared.names.Waker.{Waker}
 use Rattle.aio_base.specs.declared.outcomes.CountFault.{CountFault}
-use Rattle.aio_base.specs.declared.seats.WordStep.{WordStep}
-use Rattle.aio_base.specs.declared.seats.SeatView.{SeatView}
+use Rattle.aio_rules.specs.declared.seats.WordStep.{WordStep}
+use Rattle.aio_rules.specs.declared.seats.SeatView.{SeatView}
 use Rattle.aio_base.specs.Devices.{HasCause, Rose}
-use Rattle.aio_base.specs.WordCalls.{and_did, Found, wake_steps, all_wake_steps}
+use Rattle.aio_rules.specs.WordCalls.{and_did, Found, wake_steps, all_wake_steps}
 use Rattle.aio_words.specs.Calls.{TellsCounts}
 use Rattle.aio_words.specs.Seats.{SeatValue}
 use Rattle.aio_shared.specs.Reacting.{Wakes, IsFaultWithin, first_fault}

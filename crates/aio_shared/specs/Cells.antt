@@ -1,15 +1,20 @@
 -- What contracts see of a round cell, and what it says of its reactor.
-use Rattle.std.specs.Prelude.{◌≡◌, ℕ, Bool, true, false, Option, None, Some, is_some, Result, IsErr, ⊤}
+use Rattle.std.specs.Prelude.{◌≡◌, ℕ, Bool, true, false, List, [], ◌∷◌, ◌++◌, Option, None, Some, is_some, Result, IsErr, ⊤}
 use Rattle.atomic_table.specs.Seated.{TableId}
-use Rattle.aio_base.specs.declared.seats.Mode.TheVariants as mode
+use Rattle.aio_rules.specs.declared.seats.Mode.TheVariants as mode
+use Rattle.aio_rules.specs.declared.seats.SeatView.{SeatView}
+use Rattle.aio_rules.specs.declared.seats.WordStep.{WordStep}
+use Rattle.aio_rules.specs.declared.seats.WordStep.TheVariants as word_step
 use Rattle.aio_base.specs.declared.outcomes.CountFault.{CountFault}
 use Rattle.aio_base.specs.declared.outcomes.Waited.{Waited}
-use Rattle.aio_base.specs.Devices.{HasCause, raised}
-use Rattle.aio_base.specs.RoundLock.{About}
+use Rattle.aio_base.specs.declared.names.Event.{Event}
+use Rattle.aio_base.specs.declared.outcomes.Failed.{Failed}
+use Rattle.aio_base.specs.Devices.{HasCause, WaitCall, raised}
+use Rattle.aio_rules.specs.RoundLock.{About}
 use Rattle.aio_base.specs.Waits.{IsCountOf}
 use Rattle.aio_react.specs.declared.round.RoundFault.{RoundFault}
 use Rattle.aio_react.specs.declared.round.RoundFault.TheVariants.{Wait, Arm}
-use Rattle.aio_react.specs.Rounds.{RoundValue, poller_told, wait_told, waited}
+use Rattle.aio_react.specs.Rounds.{RoundValue, poller_told, wait_of, wait_told, waited}
 use Rattle.aio_words.specs.Seats.{SeatValue}
 
 -- A round cell: its seat, its round, and the half of the poller that waits, of which contracts also see its counts of waits and of faults, and
@@ -47,9 +52,19 @@ module _ {W : Type 0} where
   abbrev pub said_by : Bool → CellValue W → About TableId
   said_by arms c = record { words = c.seat.words; sure_of_wait = c.sure; sure_of_arms = arms }
 
--- One wait of a round on the half of the poller that waits, with its counts of waits and of faults before and after.
-pub record Awaits (old new : RoundValue) (waits faults after_waits after_faults : ℕ) (sure : Bool) : Type 0 where
+-- the last step of a seat raised the ticker
+abbrev pub HasJustRisen : SeatView → Type 0
+HasJustRisen v = (before : List WordStep) × (found : ℕ) × (v.did ≡ before ++ word_step.AddTicker found ∷ [])
+
+-- what a half that waits tells of its waits: its state before, the wait, the answer, the events that it gave, and its state after
+abbrev pub WaitStep : Type 0 → Type 1
+WaitStep W = W → WaitCall → Result Waited Failed → List Event → W → Type 0
+
+-- One wait of a round on the half of the poller that waits, with its counts of waits and of faults before and after. The events in hand are those that
+-- the half gave, within the round's limit.
+pub record Awaits {W : Type 0} (step : WaitStep W) (old new : RoundValue) (wait wait_after : W) (waits faults after_waits after_faults : ℕ) (sure : Bool) : Type 0 where
   pub answer : Result Waited CountFault
+  pub gave : step wait (wait_of old.limit) (poller_told answer) new.hand wait_after
   pub round : new ≡ waited old answer new.hand
   pub count : IsCountOf (poller_told answer) 1024 new.hand
   pub waits_are : after_waits ≡ raised waits

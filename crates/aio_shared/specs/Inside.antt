@@ -20,7 +20,7 @@ pub record IsLaterInside {N : Type 0} (faults : N → ℕ) (is_sure : N → Bool
 
 -- the host with another seat and notifier of its member, and all else as before
 abbrev pub with_seat : {N : Type 0} → InsideValue N → SeatValue → N → InsideValue N
-with_seat inside seat note = record inside { member = record inside.member { pass = seat; note = note } }
+with_seat inside seat notifier = record inside { member = record inside.member { pass = seat; notifier = notifier } }
 
 -- what such a host tells of its calls, where its notifier is called by such a relation and has such counts of calls and of faults
 abbrev pub inside_rules : {N : Type 0} → (calls faults : N → ℕ) → (N → Result (Unit {0}) Failed → N → Type 0) → HostRules (InsideValue N)
@@ -30,7 +30,7 @@ inside_rules calls faults step = record {
       × CarriesOut (timer_op.Remove at id) old.member.ops new.member.ops;
   insert_refused = λ old at waker new. NotCarriedOut old.member new.member;
   removal_refused = λ old at id new. NotCarriedOut old.member new.member;
-  faults = λ inside. faults inside.member.note;
+  faults = λ inside. faults inside.member.notifier;
   pass = λ inside. inside.member.ops.number;
   drawn = λ inside. inside.member.ids;
 }

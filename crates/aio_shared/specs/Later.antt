@@ -13,7 +13,7 @@ extends_further xs ys zs (more, first) (yet, second) = (more ++ yet, second ∙ 
 module _ {N : Type 0} (faults : N → ℕ) (is_sure : N → Bool) where
   member_itself : (m : MemberValue N) → IsLaterMember faults is_sure m m
   member_itself m = record {
-    turn = refl;
+    claim = refl;
     words = refl;
     queue = refl;
     number = refl;
@@ -24,12 +24,12 @@ module _ {N : Type 0} (faults : N → ℕ) (is_sure : N → Bool) where
     fulls = le_refl m.ops.fulls;
     empties = le_refl m.ops.empties;
     ids = le_refl m.ids;
-    note = le_refl (faults m.note);
+    notifier = le_refl (faults m.notifier);
   }
 
   member_further : (a b c : MemberValue N) → IsLaterMember faults is_sure a b → IsLaterMember faults is_sure b c → IsLaterMember faults is_sure a c
   member_further a b c x y = record {
-    turn = y.turn ∙ ap (with_empties c.turn.empties) x.turn;
+    claim = y.claim ∙ ap (with_empties c.claim.empties) x.claim;
     words = y.words ∙ x.words;
     queue = y.queue ∙ x.queue;
     number = y.number ∙ x.number;
@@ -40,7 +40,7 @@ module _ {N : Type 0} (faults : N → ℕ) (is_sure : N → Bool) where
     fulls = le_trans x.fulls y.fulls;
     empties = le_trans x.empties y.empties;
     ids = le_trans x.ids y.ids;
-    note = le_trans x.note y.note;
+    notifier = le_trans x.notifier y.notifier;
   }
 
   pub later_itself : (i : InsideValue N) → IsLaterInside faults is_sure i i

@@ -10,3 +10,5 @@ pub mod Later
 pub mod Sources
 pub mod Starting
 pub mod Reacting
+pub mod CallsMade
+pub mod Polling

@@ -3,13 +3,14 @@ use Rattle.std.specs.Prelude.{◌≡◌, ◌≢◌, ◌⊎◌, ℕ, ◌+◌, ◌
 use Rattle.aio_base.specs.declared.names.Event.{Event}
 use Rattle.aio_base.specs.declared.names.Waker.{Waker}
 use Rattle.aio_base.specs.declared.outcomes.CountFault.{CountFault}
-use Rattle.aio_base.specs.declared.seats.WordStep.{WordStep}
-use Rattle.aio_base.specs.declared.seats.WordStep.TheVariants as word_step
-use Rattle.aio_base.specs.declared.seats.SeatView.{SeatView}
+use Rattle.aio_rules.specs.declared.seats.WordStep.{WordStep}
+use Rattle.aio_rules.specs.declared.seats.WordStep.TheVariants as word_step
+use Rattle.aio_rules.specs.declared.seats.SeatView.{SeatView}
+use Rattle.aio_base.specs.ClockBounds.{ClockBounds, IsWithin}
 use Rattle.aio_base.specs.Devices.{Rose, raised}
-use Rattle.aio_base.specs.SharedWords.{after, blocking}
+use Rattle.aio_rules.specs.SharedWords.{after, blocking}
 use Rattle.aio_base.specs.Timers.{due_wakers, limit_of}
-use Rattle.aio_base.specs.WordCalls.{Found, and_did, all_wake_steps, count_of, is_raise}
+use Rattle.aio_rules.specs.WordCalls.{Found, and_did, all_wake_steps, count_of, is_raise}
 use Rattle.aio_ops.specs.Passes.{PassView, Drains}
 use Rattle.aio_react.specs.declared.round.RoundFault.TheVariants as round_fault
 use Rattle.aio_react.specs.Rounds.{RoundValue, begun, finished, given_by, second_wakers}
@@ -18,27 +19,34 @@ use Rattle.aio_words.specs.Seats.{SeatValue, is_waiting}
 use Rattle.aio_shared.specs.declared.reacting.ReactedIn.{ReactedIn}
 use Rattle.aio_shared.specs.declared.reacting.ReactFault.{ReactFault}
 use Rattle.aio_shared.specs.declared.reacting.ReactFault.TheVariants as react_fault
-use Rattle.aio_shared.specs.Cells.{CellValue, Awaits}
+use Rattle.aio_shared.specs.Cells.{CellValue, Awaits, WaitStep}
 use Rattle.aio_shared.specs.Members.{MemberValue}
-use Rattle.aio_shared.specs.Sources.{KeepsFault}
+use Rattle.aio_shared.specs.Sources.{HandlesEach, KeepsFault}
 use Rattle.aio_shared.specs.TimerCalls.{Drained, PushedNothing}
 
 -- ## The round
 
+-- A moment that a clock with these bounds answered, between these two of its latest moments.
+abbrev pub IsMoment : ClockBounds → ℕ → ℕ → ℕ → Type 0
+IsMoment bounds earliest latest now = (earliest ≤ now) × (now ≤ latest) × IsWithin bounds now
+
 -- A round of this number began: the queue of operations was drained into a book of timers, and then a pass over the book that the drain left was made,
--- at a moment that is not before the earliest.
-pub record BeginsAs (number earliest : ℕ) (given : Option ℕ) (ops ops_after : PassView) (new : RoundValue) : Type 0 where
+-- at a moment of the clock.
+pub record BeginsAs (number : ℕ) (bounds : ClockBounds) (earliest latest : ℕ) (given : Option ℕ) (ops ops_after : PassView) (new : RoundValue) : Type 0 where
   pub count : ℕ
   pub found : Book
   pub book : Book
   pub drains : Drains count ops ops_after found book
   pub now : ℕ
-  pub moment : earliest ≤ now
+  pub moment : IsMoment bounds earliest latest now
   pub round : new ≡ begun number (limit_of now book.entries given) (due_wakers now book.entries)
 
--- Some events are in hand no longer, the first ones; the wakers that their sources gave joined those taken, at their end. The first fault stays.
+-- Some events are in hand no longer, the first ones: each was handled by a source of its key, or skipped where the table had none. The wakers that their
+-- sources gave joined those taken, at their end. The first fault stays.
 pub record HandlesSome (all_sure : Bool) (old new : RoundValue) : Type 0 where
+  pub keys : List ℕ
   pub handled : List Event
+  pub each : HandlesEach all_sure keys handled old new
   pub hand : old.hand ≡ handled ++ new.hand
   pub more : List Waker
   pub taken : new.taken ≡ old.taken ++ more
@@ -49,14 +57,14 @@ pub record HandlesSome (all_sure : Bool) (old new : RoundValue) : Type 0 where
   pub last : new.last ≡ old.last
 
 -- A round ended: the queue of operations was drained into a book of timers, and then, where the round asks for it, a second pass over the book that the
--- drain left was made, at a moment that is not before the earliest.
-pub record Finishes (earliest : ℕ) (ops ops_after : PassView) (old new : RoundValue) : Type 0 where
+-- drain left was made, at a moment of the clock.
+pub record Finishes (bounds : ClockBounds) (earliest latest : ℕ) (ops ops_after : PassView) (old new : RoundValue) : Type 0 where
   pub count : ℕ
   pub found : Book
   pub book : Book
   pub drains : Drains count ops ops_after found book
   pub now : ℕ
-  pub moment : earliest ≤ now
+  pub moment : IsMoment bounds earliest latest now
   pub round : new ≡ finished old (second_wakers old now book.entries)
 
 -- ## The seat
@@ -93,21 +101,29 @@ BeginRefused (react_fault.Notify fault) seat seat_after round round_after ops op
 
 -- ## The cell
 
--- how a call of `react_in` is told of its start: the limit that it was given, and the latest moment of its clock
-pub record Start : Type 0 where
+-- What a call of `react_in` was handed: the limit; the bounds of its clock, and the latest moments that this had answered before the call and after;
+-- and what the half that waits tells of its waits.
+pub record Start (W : Type 0) : Type 1 where
   pub given : Option ℕ
+  pub bounds : ClockBounds
   pub earliest : ℕ
+  pub latest : ℕ
+  pub step : WaitStep W
+
+-- the same call, with a later moment as its latest
+abbrev pub until : {W : Type 0} → ℕ → Start W → Start W
+until latest start = record start { latest = latest }
 
 module _ {W : Type 0} where
   -- A round began in this call and made its wait, after a drain: it has the number to which its seat raised the ticker.
-  pub record Begins (start : Start) (old new : CellValue W) (ops ops_after : PassView) : Type 0 where
+  pub record Begins (start : Start W) (old new : CellValue W) (ops ops_after : PassView) : Type 0 where
     pub room : old.seat.view.seen < 2 ^ 64 - 1
     pub begun : RoundValue
-    pub begins : BeginsAs (old.seat.view.seen + 1) start.earliest start.given ops ops_after begun
+    pub begins : BeginsAs (old.seat.view.seen + 1) start.bounds start.earliest start.latest start.given ops ops_after begun
     -- the seat looked at the ticker, raised it, and cleared notified after the wait
     pub found : ℕ
     pub seat : new.seat.view ≡ after (word_step.SwapNotified found) (rose old.seat.view)
-    pub waits : Awaits begun new.round old.waits old.faults new.waits new.faults old.sure
+    pub waits : Awaits start.step begun new.round old.wait new.wait old.waits old.faults new.waits new.faults old.sure
     pub drained : Drained ops ops_after
 
   -- A call goes on with the round that ran: it begins none and makes no wait.
@@ -117,7 +133,7 @@ module _ {W : Type 0} where
     pub pass : ops_after ≡ ops
 
   -- A round runs that has made its wait, in this call where none ran before.
-  pub record Enters (start : Start) (old new : CellValue W) (ops ops_after : PassView) : Type 0 where
+  pub record Enters (start : Start W) (old new : CellValue W) (ops ops_after : PassView) : Type 0 where
     pub begins : old.round.running ≡ false → Begins start old new ops ops_after
     pub goes_on : old.round.running ≡ true → GoesOn old new ops ops_after
     pub running : new.round.running ≡ true
@@ -151,21 +167,21 @@ module _ {W : Type 0} where
     pub second : Drained between ops_after
 
   -- A round ended in this call. It was entered, its events in hand were handled, and it was finished after a drain.
-  pub record Ends (all_sure : Bool) (start : Start) (old new : CellValue W) (ops ops_after : PassView) : Type 0 where
+  pub record Ends (all_sure : Bool) (start : Start W) (old new : CellValue W) (ops ops_after : PassView) : Type 0 where
     pub entered : CellValue W
     pub between : PassView
     pub enters : Enters start old entered ops between
     pub handled : RoundValue
     pub handles : HandlesSome all_sure entered.round handled
     pub none_left : handled.hand ≡ []
-    pub finishes : Finishes start.earliest between ops_after handled new.round
+    pub finishes : Finishes start.bounds start.earliest start.latest between ops_after handled new.round
     pub cell : new ≡ record entered { round = new.round }
     pub drained : Drained between ops_after
     pub idle : new.round.running ≡ false
     pub whole : old.round.running ≡ false → WholeRound old new ops ops_after
 
   -- A round runs on for want of memory, with the events and the wakers that it has: some of its events were handled.
-  pub record RunsOn (all_sure : Bool) (start : Start) (old new : CellValue W) (ops ops_after : PassView) : Type 0 where
+  pub record RunsOn (all_sure : Bool) (start : Start W) (old new : CellValue W) (ops ops_after : PassView) : Type 0 where
     pub entered : CellValue W
     pub between : PassView
     pub enters : Enters start old entered ops between
@@ -180,7 +196,7 @@ WaitFailed old new fault = (fault ≡ record { before = old.faults; after = new.
 
 -- ## The wakes
 
--- Of a pass only its steps changed: it made those of the wakes of these wakers, in order.
+-- Of a seat only its steps changed: it made those of the wakes of these wakers, in order.
 pub record Wakes (parkers : ℕ) (wakers : List Waker) (old new : SeatValue) : Type 0 where
   pub founds : List Found
   pub each : length founds ≡ length wakers
@@ -201,20 +217,20 @@ first_fault None (Err fault) = Some fault
 -- ## The whole call
 
 -- the counts of faults of a member's notifier before and after a call
-pub record NoteCounts : Type 0 where
+pub record NotifierCounts : Type 0 where
   pub before : ℕ
   pub after : ℕ
 
--- What is answered for a round that ended: its first fault, or else that of its wakes, or else what was done, by whether the round had been running,
--- with so many events in hand.
-abbrev pub Tells : RoundValue → Bool → ℕ → NoteCounts → Result ReactedIn ReactFault → Type 0
-Tells round resumed in_hand note (Ok reacted) = (round.fault ≡ None) × (reacted.resumed ≡ resumed)
+-- What is answered for a round that ended: its first fault, of which the two counts tell that the count rose between them; or else that of its wakes;
+-- or else what was done, by whether the round had been running, with so many events in hand.
+abbrev pub Tells : RoundValue → Bool → ℕ → NotifierCounts → Result ReactedIn ReactFault → Type 0
+Tells round resumed in_hand notifier (Ok reacted) = (round.fault ≡ None) × (reacted.resumed ≡ resumed)
     × (reacted.events ≡ (if resumed then in_hand else given_by round.last)) × (reacted.events ≤ 1024) × (reacted.woken ≡ length round.taken)
-Tells round resumed in_hand note (Err (react_fault.Wait fault)) = round.fault ≡ Some (round_fault.Wait fault)
-Tells round resumed in_hand note (Err (react_fault.Arm fault)) = round.fault ≡ Some (round_fault.Arm fault)
-Tells round resumed in_hand note (Err (react_fault.Notify fault)) = (round.fault ≡ None) × IsFaultWithin note.before note.after fault
-Tells round resumed in_hand note (Err react_fault.RoundsSpent) = ⊥
-Tells round resumed in_hand note (Err react_fault.OutOfMemory) = ⊥
+Tells round resumed in_hand notifier (Err (react_fault.Wait fault)) = (round.fault ≡ Some (round_fault.Wait fault)) × Rose fault.before fault.after
+Tells round resumed in_hand notifier (Err (react_fault.Arm fault)) = (round.fault ≡ Some (round_fault.Arm fault)) × Rose fault.before fault.after
+Tells round resumed in_hand notifier (Err (react_fault.Notify fault)) = (round.fault ≡ None) × IsFaultWithin notifier.before notifier.after fault
+Tells round resumed in_hand notifier (Err react_fault.RoundsSpent) = ⊥
+Tells round resumed in_hand notifier (Err react_fault.OutOfMemory) = ⊥
 
 -- the answer is that a call of the notifier failed
 abbrev pub NotifyFailed : Result ReactedIn ReactFault → Type 0
@@ -227,36 +243,36 @@ NotifyFailed (Err react_fault.OutOfMemory) = ⊥
 
 module _ {N W : Type 0} where
   -- A round ended in this call, and each waker that it took was given to `wake`, in order, also past one that failed.
-  pub record Finished (parkers : ℕ) (all_sure : Bool) (start : Start) (old new : CellValue W) (m later : MemberValue N) : Type 0 where
+  pub record Finished (parkers : ℕ) (all_sure : Bool) (start : Start W) (old new : CellValue W) (m later : MemberValue N) : Type 0 where
     pub ends : Ends all_sure start old new m.ops later.ops
     pub woke : Wakes parkers new.round.taken m.pass later.pass
 
   -- Memory ran out: nobody was woken, and the member did nothing but drain. No round runs, as before, or one runs on.
-  pub record RanOut (all_sure : Bool) (start : Start) (old new : CellValue W) (m later : MemberValue N) : Type 0 where
+  pub record RanOut (all_sure : Bool) (start : Start W) (old new : CellValue W) (m later : MemberValue N) : Type 0 where
     pub member : later ≡ record m { ops = later.ops }
     pub ops : PushedNothing m.ops later.ops
     pub round : BeginsNone old new ⊎ RunsOn all_sure start old new m.ops later.ops
 
   -- what a call answers that ended its round, with the causes of a round's fault
-  abbrev pub AnswersAs : CellValue W → CellValue W → MemberValue N → NoteCounts → Result ReactedIn ReactFault → Type 0
-  AnswersAs old new m note (Ok reacted) = Tells new.round old.round.running (length old.round.hand) note (Ok reacted)
-  AnswersAs old new m note (Err (react_fault.Wait fault)) = Tells new.round old.round.running (length old.round.hand) note (Err (react_fault.Wait fault))
-      × (m.turn.sure_of_wait ≡ false) × (old.round.running ≡ false → WaitFailed old new fault)
-  AnswersAs old new m note (Err (react_fault.Arm fault)) = Tells new.round old.round.running (length old.round.hand) note (Err (react_fault.Arm fault))
-      × (m.turn.sure_of_arms ≡ false)
-  AnswersAs old new m note (Err (react_fault.Notify fault)) = Tells new.round old.round.running (length old.round.hand) note (Err (react_fault.Notify fault))
-  AnswersAs old new m note (Err react_fault.RoundsSpent) = ⊥
-  AnswersAs old new m note (Err react_fault.OutOfMemory) = ⊥
+  abbrev pub AnswersAs : CellValue W → CellValue W → MemberValue N → NotifierCounts → Result ReactedIn ReactFault → Type 0
+  AnswersAs old new m notifier (Ok reacted) = Tells new.round old.round.running (length old.round.hand) notifier (Ok reacted)
+  AnswersAs old new m notifier (Err (react_fault.Wait fault)) = Tells new.round old.round.running (length old.round.hand) notifier (Err (react_fault.Wait fault))
+      × (m.claim.sure_of_wait ≡ false) × (old.round.running ≡ false → WaitFailed old new fault)
+  AnswersAs old new m notifier (Err (react_fault.Arm fault)) = Tells new.round old.round.running (length old.round.hand) notifier (Err (react_fault.Arm fault))
+      × (m.claim.sure_of_arms ≡ false)
+  AnswersAs old new m notifier (Err (react_fault.Notify fault)) = Tells new.round old.round.running (length old.round.hand) notifier (Err (react_fault.Notify fault))
+  AnswersAs old new m notifier (Err react_fault.RoundsSpent) = ⊥
+  AnswersAs old new m notifier (Err react_fault.OutOfMemory) = ⊥
 
   -- what a call of `react_in` does, by its answer
-  abbrev pub Reacts : ℕ → Bool → Start → CellValue W → CellValue W → MemberValue N → MemberValue N → NoteCounts → Result ReactedIn ReactFault → Type 0
-  Reacts parkers all_sure start old new m later note (Ok reacted) =
-      Finished parkers all_sure start old new m later × AnswersAs old new m note (Ok reacted)
-  Reacts parkers all_sure start old new m later note (Err (react_fault.Wait fault)) =
-      Finished parkers all_sure start old new m later × AnswersAs old new m note (Err (react_fault.Wait fault))
-  Reacts parkers all_sure start old new m later note (Err (react_fault.Arm fault)) =
-      Finished parkers all_sure start old new m later × AnswersAs old new m note (Err (react_fault.Arm fault))
-  Reacts parkers all_sure start old new m later note (Err (react_fault.Notify fault)) =
-      Finished parkers all_sure start old new m later × AnswersAs old new m note (Err (react_fault.Notify fault))
-  Reacts parkers all_sure start old new m later note (Err react_fault.RoundsSpent) = BeginsNone old new × (later ≡ m)
-  Reacts parkers all_sure start old new m later note (Err react_fault.OutOfMemory) = RanOut all_sure start old new m later
+  abbrev pub Reacts : ℕ → Bool → Start W → CellValue W → CellValue W → MemberValue N → MemberValue N → NotifierCounts → Result ReactedIn ReactFault → Type 0
+  Reacts parkers all_sure start old new m later notifier (Ok reacted) =
+      Finished parkers all_sure start old new m later × AnswersAs old new m notifier (Ok reacted)
+  Reacts parkers all_sure start old new m later notifier (Err (react_fault.Wait fault)) =
+      Finished parkers all_sure start old new m later × AnswersAs old new m notifier (Err (react_fault.Wait fault))
+  Reacts parkers all_sure start old new m later notifier (Err (react_fault.Arm fault)) =
+      Finished parkers all_sure start old new m later × AnswersAs old new m notifier (Err (react_fault.Arm fault))
+  Reacts parkers all_sure start old new m later notifier (Err (react_fault.Notify fault)) =
+      Finished parkers all_sure start old new m later × AnswersAs old new m notifier (Err (react_fault.Notify fault))
+  Reacts parkers all_sure start old new m later notifier (Err react_fault.RoundsSpent) = BeginsNone old new × (later ≡ m)
+  Reacts parkers all_sure start old new m later notifier (Err react_fault.OutOfMemory) = RanOut all_sure start old new m later

@@ -4,21 +4,21 @@ use Rattle.atomic_table.specs.Seated.{TableId}
 use Rattle.aio_base.specs.declared.outcomes.ArmFault.{ArmFault}
 use Rattle.aio_base.specs.declared.outcomes.Failed.{Failed}
 use Rattle.aio_base.specs.Devices.{ArmCall}
-use Rattle.aio_base.specs.RoundLock.{About}
-use Rattle.aio_base.specs.SharedWords.{first_view, new_view}
+use Rattle.aio_rules.specs.RoundLock.{About}
+use Rattle.aio_rules.specs.SharedWords.{first_view, new_view, with_one_more}
 use Rattle.aio_ops.specs.Passes.{PassView, new_pass}
 use Rattle.aio_words.specs.Seats.{WordsValue, SeatValue}
 use Rattle.aio_shared.specs.Members.{SharedValue, MemberValue, IsMemberOf}
-use Rattle.aio_shared.specs.OneCell.{first_turn}
+use Rattle.aio_shared.specs.OneCell.{first_claim}
 use Rattle.aio_shared.specs.Sources.{Adds, FailsToAdd, IsLeastFree, SourceRefValue, outside, with_key}
 
 -- ## A new reactor
 
--- What a reactor is made of: new words for so many parkers with the seat of the rounds and a first one, and the first pass of a queue of operations.
+-- What a reactor is made of: new words for so many parkers with the seat of the rounds and a first one, and the first seat at a queue of operations.
 pub record AreParts (parkers : ℕ) (words : WordsValue) (seat pass : SeatValue) (queue : TableId) (ops : PassView) : Type 0 where
   pub parkers_are : words.parkers ≡ parkers
-  pub seat_is : seat ≡ record { words = words.identity; view = first_view }
-  pub pass_is : pass ≡ record { words = words.identity; view = new_view 0 }
+  pub seat_is : seat ≡ record { words = words.identity; view = with_one_more first_view }
+  pub pass_is : pass ≡ record { words = words.identity; view = new_view first_view }
   pub ops_are : ops ≡ new_pass queue 0 1
 
 -- what the cell of a reactor with these words says
@@ -30,14 +30,14 @@ pub record IsNewReactor (parkers : ℕ) (sure_of_arms : Bool) (shared : SharedVa
   pub parkers_are : shared.words.parkers ≡ parkers
   pub arms : shared.sure_of_arms ≡ sure_of_arms
 
--- The first member of a new reactor, over a wait that is sure or not: its seat has done nothing, its pass is the first, and it has this notifier and
+-- The first member of a new reactor, over a wait that is sure or not: its seat has done nothing, its seat at the queue is the first, and it has this notifier and
 -- has drawn no id.
-pub record IsFirstMember {N : Type 0} (shared : SharedValue) (sure_of_wait : Bool) (note : N) (m : MemberValue N) : Type 0 where
+pub record IsFirstMember {N : Type 0} (shared : SharedValue) (sure_of_wait : Bool) (notifier : N) (m : MemberValue N) : Type 0 where
   pub member : IsMemberOf shared m
-  pub turn : m.turn ≡ first_turn shared.lock (new_about shared.words.identity sure_of_wait shared.sure_of_arms)
-  pub pass : m.pass.view ≡ new_view 0
+  pub claim : m.claim ≡ first_claim shared.lock (new_about shared.words.identity sure_of_wait shared.sure_of_arms)
+  pub pass : m.pass.view ≡ new_view first_view
   pub ops : m.ops ≡ new_pass shared.ops 0 1
-  pub note_is : m.note ≡ note
+  pub notifier_is : m.notifier ≡ notifier
   pub ids : m.ids ≡ 0
 
 -- ## Its connections
@@ -72,3 +72,9 @@ module _ {S : Type 0} (step : S → ArmCall → Result (Unit {0}) Failed → S �
   -- connections with which a reactor began, that had no source before
   abbrev pub BeginsWith : List S → List (Result SourceRefValue ArmFault) → Type 0
   BeginsWith ios answers = (after : List ℕ) × BeginAll [] ios answers after
+
+-- the keys of the connections that were added, in order
+abbrev pub keys_added : List (Result SourceRefValue ArmFault) → List ℕ
+keys_added [] = []
+keys_added (Ok token ∷ answers) = token.key ∷ keys_added answers
+keys_added (Err fault ∷ answers) = keys_added answers

@@ -1,4 +1,4 @@
--- What a member's calls on timers make of its pass of the queue of operations, and of the member.
+-- What a member's calls on timers make of its seat at the queue of operations, and of the member.
 use Rattle.std.specs.Prelude.{◌≡◌, ◌⊎◌, ℕ, zero, suc, ◌+◌, ◌<◌, ◌≤◌, Bool, true, false, List, ◌∷◌, [], ◌++◌, length, Result, Ok, Err}
 use Rattle.aio_base.specs.Timers.{fold_changes}
 use Rattle.aio_base.specs.declared.names.TimerId.{TimerId}
@@ -18,9 +18,9 @@ use Rattle.aio_react.specs.Hosts.{next_id}
 use Rattle.aio_words.specs.Calls.{Offers, notify_steps}
 use Rattle.aio_shared.specs.Members.{Extends, MemberValue}
 
--- ## The pass of a member
+-- ## The seat of a member at the queue
 
--- One drain by a pass: it took these entries out of the queue, at most 1,000, and pushed nothing. It ended after 1,000 of them, or at a pop that
+-- One drain by a seat: it took these entries out of the queue, at most 1,000, and pushed nothing. It ended after 1,000 of them, or at a pop that
 -- found the queue empty.
 pub record Drained (before after : PassView) : Type 0 where
   pub entries : List Entry
@@ -29,21 +29,21 @@ pub record Drained (before after : PassView) : Type 0 where
   pub ends : Ended (length entries) before.empties after.empties
   pub empties : before.empties ≤ after.empties
 
--- A drain of a book by a pass, and then this operation, applied to the book that the drain left.
+-- A drain of a book by a seat, and then this operation, applied to the book that the drain left.
 pub record DrainsAndApplies (operation : TimerOp) (before after : PassView) (old new : Book) : Type 0 where
   pub count : ℕ
   pub book : Book
   pub drains : Drains count before after old book
   pub applied : new.entries ≡ fold_changes book.entries (change_of operation ∷ [])
 
--- A pass that pushed nothing in between: it took these entries out of the queue, and may have found it full and empty.
+-- A seat that pushed nothing in between: it took these entries out of the queue, and may have found it full and empty.
 pub record PushedNothing (before after : PassView) : Type 0 where
   pub entries : List Entry
   pub pass : after ≡ record before { pulled = before.pulled ++ entries; fulls = after.fulls; empties = after.empties }
   pub fulls : before.fulls ≤ after.fulls
   pub empties : before.empties ≤ after.empties
 
--- One try more of a pass: it drained the queue, and then its push found it full.
+-- One try more of a seat: it drained the queue, and then its push found it full.
 pub record TriesInVain (before after : PassView) : Type 0 where
   pub room : PassView
   pub drained : Drained before room
@@ -63,7 +63,7 @@ pub record FoundFull (tries : ℕ) (before after : PassView) : Type 0 where
   pub nothing : PushedNothing before after
   pub fulls : RoseBy (tries + 1) before.fulls after.fulls
 
--- A push found the queue full, and so did that of each of fewer than 1,000 tries more, and then the pass drained the queue once more.
+-- A push found the queue full, and so did that of each of fewer than 1,000 tries more, and then the seat drained the queue once more.
 pub record DrainsAgain (before after : PassView) : Type 0 where
   pub tries : ℕ
   pub few : tries < 1000
@@ -71,13 +71,13 @@ pub record DrainsAgain (before after : PassView) : Type 0 where
   pub full : FoundFull tries before last
   pub drained : Drained last after
 
--- An operation joined the queue: the pass pushed it, at once or at one of at most 1,000 tries more, and pushed nothing else.
+-- An operation joined the queue: the seat pushed it, at once or at one of at most 1,000 tries more, and pushed nothing else.
 pub record Queued (operation : TimerOp) (before after : PassView) : Type 0 where
   pub last : PassView
   pub first : (last ≡ before) ⊎ DrainsAgain before last
   pub pushed : after ≡ pushed operation last
 
--- An operation was kept out of the queue: its first push found it full, and so did that of each of 1,000 tries more, and then the pass drained it
+-- An operation was kept out of the queue: its first push found it full, and so did that of each of 1,000 tries more, and then the seat drained it
 -- once more. It is left to the call to apply the operation to the book itself.
 pub record KeptOut (before after : PassView) : Type 0 where
   pub last : PassView
@@ -95,13 +95,13 @@ pub record GivesUp (before after : PassView) : Type 0 where
   pub most : tries ≤ 1000
   pub full : FoundFull tries before after
 
--- one try more of a pass to push an operation: it drained the queue and pushed it, or found the queue full, or there was no room to drain
+-- one try more of a seat to push an operation: it drained the queue and pushed it, or found the queue full, or there was no room to drain
 abbrev pub Tries : TimerOp → PassView → PassView → Result Bool OutOfMemory → Type 0
 Tries operation before after (Ok true) = (room : PassView) × Drained before room × (after ≡ pushed operation room)
 Tries operation before after (Ok false) = TriesInVain before after
 Tries operation before after (Err refused) = after ≡ before
 
--- What carrying an operation out, or giving it up, leaves of a pass: its queue, its number and how many passes it made; what it pushed and popped still
+-- What carrying an operation out, or giving it up, leaves of a seat: its queue, its number and how many seats it made; what it pushed and popped still
 -- stands at the front, and no count has fallen.
 pub record IsLaterPass (old new : PassView) : Type 0 where
   pub queue : new.queue ≡ old.queue
@@ -113,18 +113,18 @@ pub record IsLaterPass (old new : PassView) : Type 0 where
 
 -- ## The member
 
--- a member's operation was not carried out, and nothing of the member changed but its pass
+-- a member's operation was not carried out, and nothing of the member changed but its seat
 abbrev pub NotCarriedOut : {N : Type 0} → MemberValue N → MemberValue N → Type 0
 NotCarriedOut old new = (new ≡ record old { ops = new.ops }) × GivesUp old.ops new.ops
 
--- A member registered a timer under the next id of its pass: it carried out the insert, and then set notified by one exchange, and called its
+-- A member registered a timer under the next id of its seat: it carried out the insert, and then set notified by one exchange, and called its
 -- notifier exactly where that had not been set.
 pub record Inserted {N : Type 0} (calls : N → ℕ) (step : N → Result (Unit {0}) Failed → N → Type 0) (at : ℕ) (waker : Waker)
     (old new : MemberValue N) (id : TimerId) (told : Result (Unit {0}) CountFault) : Type 0 where
   pub next : id ≡ next_id old.ops.number old.ids
   pub ids : new.ids ≡ old.ids + 1
   pub ops : CarriesOut (timer_op.Insert at id waker) old.ops new.ops
-  pub notified : Offers calls step notify_steps old.pass.view new.pass.view old.note new.note told
+  pub notified : Offers calls step notify_steps old.pass.view new.pass.view old.notifier new.notifier told
 
 -- an insert by its answer: the timer is registered, also where the notifier failed; where memory ran out it is not, and no id was drawn
 abbrev pub Inserts : {N : Type 0} → (N → ℕ) → (N → Result (Unit {0}) Failed → N → Type 0) → ℕ → Waker → MemberValue N → MemberValue N
@@ -133,7 +133,7 @@ Inserts calls step at waker old new (Ok id) = Inserted calls step at waker old n
 Inserts calls step at waker old new (Err (refusal.Notify id fault)) = Inserted calls step at waker old new id (Err fault)
 Inserts calls step at waker old new (Err refusal.OutOfMemory) = NotCarriedOut old new
 
--- a removal by its answer: it was carried out, and nothing changed but the member's pass; where memory ran out it was not
+-- a removal by its answer: it was carried out, and nothing changed but the member's seat; where memory ran out it was not
 abbrev pub Removes : {N : Type 0} → ℕ → TimerId → MemberValue N → MemberValue N → Result (Unit {0}) OutOfMemory → Type 0
 Removes at id old new (Ok done) = (new ≡ record old { ops = new.ops }) × CarriesOut (timer_op.Remove at id) old.ops new.ops
 Removes at id old new (Err refused) = NotCarriedOut old new

@@ -1,12 +1,11 @@
 //! The round cell: what whoever has the reactor lock holds.
 
-ghost use Rattle.std.specs.Prelude.{◌≡◌, [], true};
+ghost use Rattle.std.specs.Prelude.{◌≡◌};
 ghost use Rattle.std.specs.Borrow.{sem};
 ghost use Rattle.aio_react.specs.Rounds.{new_round};
-ghost use Rattle.aio_words.specs.Seats.{IsIdleOrWaits};
-ghost use Rattle.aio_shared.specs.Cells.{Awaits};
 ghost use Rattle.aio_shared.specs.CellLending.{LendsSeat};
 
+use crate::waiting::WaitHalf;
 use aio_base::EventWait;
 use aio_react::Round;
 use aio_words::RoundSeat;
@@ -19,7 +18,7 @@ use std::marker::Model;
 pub struct RoundCell<W: EventWait> {
     pub(crate) seat: RoundSeat,
     pub(crate) round: Round,
-    pub(crate) wait: W,
+    pub(crate) wait: WaitHalf<W>,
 }
 
 impl<W: EventWait> Model for RoundCell<W> {
@@ -52,7 +51,11 @@ impl<W: EventWait> RoundCell<W> {
           sure = W.is_sure wait;
         } }
     {
-        RoundCell { seat, round, wait }
+        RoundCell {
+            seat,
+            round,
+            wait: WaitHalf::new(wait),
+        }
     }
 
     /// The round seat, to be used in calls on the words. The cell has afterwards the seat that the
@@ -76,19 +79,5 @@ impl<W: EventWait> RoundCell<W> {
         ensures { result ≡ self.now.waits }
     {
         self.wait.waits()
-    }
-
-    /// The poller's wait, by a round that has no event in hand: the one place where the half that waits
-    /// is called. The round seat is idle, or waits for the parker whose thread calls.
-    pub(crate) fn wait_once(_seat: &RoundSeat, round: &mut Round, wait: &mut W)
-        requires seat { IsIdleOrWaits _seat.now }
-        requires running { round.old.running ≡ true }
-        requires hand { round.old.hand ≡ [] }
-        ensures waits { Awaits round.old round.new (W.wait_count wait.old) (W.fault_count wait.old)
-            (W.wait_count wait.new) (W.fault_count wait.new) (W.is_sure wait.old) }
-        ensures sure { W.is_sure wait.new ≡ W.is_sure wait.old }
-    {
-        // A failed wait is the round's first fault, which it keeps.
-        let _answer = round.wait(wait);
     }
 }

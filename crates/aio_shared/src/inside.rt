@@ -1,9 +1,9 @@
 //! A thread's way into a reactor, as a host of timers and tasks.
 
 ghost use Rattle.std.specs.Prelude.{◌≡◌, ◌==◌, ◌-◌, ◌^◌, ◌≤◌, IsTrue, None};
-ghost use Rattle.aio_base.specs.SharedWords.{after};
-ghost use Rattle.aio_base.specs.WordCalls.{wake_steps};
-ghost use Rattle.aio_base.specs.declared.seats.WordStep.TheVariants as word_step;
+ghost use Rattle.aio_rules.specs.SharedWords.{after};
+ghost use Rattle.aio_rules.specs.WordCalls.{wake_steps};
+ghost use Rattle.aio_rules.specs.declared.seats.WordStep.TheVariants as word_step;
 ghost use Rattle.aio_react.specs.Hosts.{NotifierTells, wake_fault};
 ghost use Rattle.aio_words.specs.Calls.{Offers};
 ghost use Rattle.aio_shared.specs.Inside.{IsLaterInside, with_seat};
@@ -47,7 +47,7 @@ impl<R: Wait, N: Notify, A: Arm, W: EventWait> Later for Inside<R, N, A, W> {
     ghost use Rattle.aio_shared.specs.Inside.{IsLaterInside};
     ghost use Rattle.aio_shared.specs.Later.{later_further, later_itself};
 
-    ghost notifier_is_sure = { λ i. N.is_sure i.member.note };
+    ghost notifier_is_sure = { λ i. N.is_sure i.member.notifier };
 
     ghost is_later = { IsLaterInside N.fault_count N.is_sure };
 
@@ -84,11 +84,11 @@ impl<R: Wait, N: Notify, A: Arm, W: EventWait> Host for Inside<R, N, A, W> {
         ensures loaded { self.new.member.pass.view
             ≡ after (word_step.LoadTicker result) self.old.member.pass.view }
         ensures kept { self.new
-            ≡ with_seat self.old self.new.member.pass self.old.member.note }
+            ≡ with_seat self.old self.new.member.pass self.old.member.notifier }
         ensures least { self.old.member.pass.view.seen ≤ result }
         ensures later { IsLaterInside N.fault_count N.is_sure self.old self.new }
-        ensures notifier { NotifierTells (N.is_sure self.old.member.note)
-            (N.fault_count self.old.member.note) (N.fault_count self.new.member.note) None }
+        ensures notifier { NotifierTells (N.is_sure self.old.member.notifier)
+            (N.fault_count self.old.member.notifier) (N.fault_count self.new.member.notifier) None }
         ensures pass { self.new.member.ops.number ≡ self.old.member.ops.number }
         ensures ids { self.new.member.ids ≡ self.old.member.ids }
     {
@@ -99,11 +99,11 @@ impl<R: Wait, N: Notify, A: Arm, W: EventWait> Host for Inside<R, N, A, W> {
         ensures woke { Offers N.call_count N.notify_step
             (wake_steps waker.0 self.old.shared.words.parkers)
             self.old.member.pass.view self.new.member.pass.view
-            self.old.member.note self.new.member.note result }
+            self.old.member.notifier self.new.member.notifier result }
         ensures kept { self.new
-            ≡ with_seat self.old self.new.member.pass self.new.member.note }
-        ensures notifier { NotifierTells (N.is_sure self.old.member.note)
-            (N.fault_count self.old.member.note) (N.fault_count self.new.member.note)
+            ≡ with_seat self.old self.new.member.pass self.new.member.notifier }
+        ensures notifier { NotifierTells (N.is_sure self.old.member.notifier)
+            (N.fault_count self.old.member.notifier) (N.fault_count self.new.member.notifier)
             (wake_fault result) }
         ensures later { IsLaterInside N.fault_count N.is_sure self.old self.new }
         ensures pass { self.new.member.ops.number ≡ self.old.member.ops.number }

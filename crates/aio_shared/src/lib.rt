@@ -13,9 +13,11 @@
 #![tactic(auto)]
 
 mod cell;
+mod closing;
 mod hand_over;
 mod inside;
 mod members;
+mod polling;
 mod reacting;
 mod round_lock;
 mod seats;
@@ -26,11 +28,13 @@ mod starting;
 #[cfg(test)]
 mod tests;
 mod timers;
+mod waiting;
 mod waking;
 
 pub use cell::RoundCell;
 pub use inside::Inside;
 pub use members::Member;
+pub use polling::{Attempt, PollDir, PollFault, Tried, TryDir, Visit};
 pub use reacting::{ReactFault, ReactedIn};
 pub use shared::Shared;
 pub use sources::{InsertFault, SourceRef, Sources};

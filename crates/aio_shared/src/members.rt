@@ -2,16 +2,16 @@
 
 ghost use Rattle.std.specs.Prelude.{◌≡◌, ◌↔◌, ℕ, ◌+◌, ◌^◌, ◌≤◌, IsTrue, Err, IfOk, OnOk, OnErr};
 ghost use Rattle.std.specs.Borrow.{sem};
-ghost use Rattle.aio_base.specs.SharedWords.{after};
-ghost use Rattle.aio_base.specs.WordCalls.{wake_steps};
-ghost use Rattle.aio_base.specs.declared.seats.WordStep.TheVariants as word_step;
+ghost use Rattle.aio_rules.specs.SharedWords.{after};
+ghost use Rattle.aio_rules.specs.WordCalls.{wake_steps};
+ghost use Rattle.aio_rules.specs.declared.seats.WordStep.TheVariants as word_step;
 ghost use Rattle.aio_ops.specs.Passes.{pass_limit};
 ghost use Rattle.aio_react.specs.Hosts.{NotifierTells, wake_fault};
 ghost use Rattle.aio_words.specs.Calls.{Offers};
 ghost use Rattle.aio_shared.specs.Lending.{LendsPass};
 ghost use Rattle.aio_shared.specs.Members.{IsLaterMember, IsMemberOf, IsNewMember, with_one_more_made};
 
-use crate::round_lock::Turn;
+use crate::round_lock::Claim;
 use crate::shared::Shared;
 use aio_base::{Arm, CountFault, EventWait, Notify, Waker};
 use aio_ops::{OpPass, PassRefusal};
@@ -19,14 +19,14 @@ use aio_words::{Pass, Words};
 use std::marker::Model;
 use std::sync::Wait;
 
-/// What one thread may do with a reactor, and what it did: its seat at the words, its pass of the
+/// What one thread may do with a reactor, and what it did: its seat at the words, its seat at the
 /// queue of operations on timers, its notifier, and how many ids it has drawn.
 #[derive(Drop)]
 pub struct Member<N, W: EventWait> {
-    pub(crate) turn: Turn<W>,
+    pub(crate) claim: Claim<W>,
     pub(crate) pass: Pass,
     pub(crate) ops: OpPass,
-    pub(crate) note: N,
+    pub(crate) notifier: N,
     pub(crate) ids: u64,
 }
 
@@ -37,10 +37,10 @@ impl<N, W: EventWait> Model for Member<N, W> {
     ghost Value = { MemberValue N };
 
     ghost view = { λ m. record {
-      turn = m.turn;
+      claim = m.claim;
       pass = m.pass;
       ops = m.ops;
-      note = m.note;
+      notifier = m.notifier;
       ids = m.ids;
     } };
 
@@ -70,8 +70,8 @@ impl<A: Arm, W: EventWait> Shared<A, W> {
         requires belongs { IsMemberOf self.now m.old }
         requires first { m.old.ops.number ≡ 0 }
         ensures made { IfOk result (λ made. IsNewMember self.now m.old made) }
-        ensures twin { IfOk result (λ made. IsTrue (N.is_sure m.old.note)
-            → IsTrue (N.is_sure made.note)) }
+        ensures twin { IfOk result (λ made. IsTrue (N.is_sure m.old.notifier)
+            → IsTrue (N.is_sure made.notifier)) }
         ensures counted { OnOk result (m.new ≡ with_one_more_made m.old) }
         ensures spent { (result ≡ Err PassRefusal.PassesSpent) ↔ (m.old.ops.made ≡ pass_limit) }
         ensures refused { OnErr result (m.new ≡ m.old) }
@@ -79,15 +79,15 @@ impl<A: Arm, W: EventWait> Shared<A, W> {
         if m.ops.is_spent() {
             return Err(PassRefusal::PassesSpent);
         }
-        match m.note.twin() {
+        match m.notifier.twin() {
             Err(_) => Err(PassRefusal::OutOfMemory),
-            Ok(note) => match self.ops.pass(rt, &mut m.ops) {
+            Ok(notifier) => match self.ops.pass(rt, &mut m.ops) {
                 Err(refusal) => Err(refusal),
                 Ok(ops) => Ok(Member {
-                    turn: self.lock.member(&mut m.turn),
+                    claim: self.lock.member(&mut m.claim),
                     pass: self.words.pass(&mut m.pass),
                     ops,
-                    note,
+                    notifier,
                     ids: 0,
                 }),
             },
@@ -114,14 +114,14 @@ impl<A: Arm, W: EventWait> Shared<A, W> {
     ) -> Result<(), CountFault>
         requires belongs { IsMemberOf self.now m.old }
         ensures woke { Offers N.call_count N.notify_step (wake_steps waker.0 self.now.words.parkers)
-            m.old.pass.view m.new.pass.view m.old.note m.new.note result }
-        ensures kept { m.new ≡ record m.old { pass = m.new.pass; note = m.new.note } }
-        ensures notifier { NotifierTells (N.is_sure m.old.note)
-            (N.fault_count m.old.note) (N.fault_count m.new.note) (wake_fault result) }
+            m.old.pass.view m.new.pass.view m.old.notifier m.new.notifier result }
+        ensures kept { m.new ≡ record m.old { pass = m.new.pass; notifier = m.new.notifier } }
+        ensures notifier { NotifierTells (N.is_sure m.old.notifier)
+            (N.fault_count m.old.notifier) (N.fault_count m.new.notifier) (wake_fault result) }
         ensures belongs { IsMemberOf self.now m.new }
         ensures later { IsLaterMember N.fault_count N.is_sure m.old m.new }
     {
-        self.words.wake(&mut m.pass, waker, &mut m.note)
+        self.words.wake(&mut m.pass, waker, &mut m.notifier)
     }
 }
 

@@ -2,8 +2,9 @@
 
 ghost use Rattle.std.specs.Prelude.{◌≡◌, ◌≢◌, ◌↔◌, ℕ, ◌+◌, ◌-◌, ◌^◌, ◌<◌, ◌≤◌, [], true, false, Err, OnOk, OnErr, IfErr};
 ghost use Rattle.aio_base.specs.Devices.{TellsFaults};
-ghost use Rattle.aio_base.specs.SharedWords.{blocking};
+ghost use Rattle.aio_rules.specs.SharedWords.{blocking};
 ghost use Rattle.aio_words.specs.Seats.{Belongs, IsIdleOrWaits, is_waiting};
+ghost use Rattle.aio_shared.specs.CallsMade.{CallsAsWon};
 ghost use Rattle.aio_shared.specs.Members.{IsLaterMember, IsMemberOf};
 ghost use Rattle.aio_shared.specs.OneCell.{IsCellOf};
 ghost use Rattle.aio_shared.specs.Reacting.{BeginRefused, BeginsAs, EnterRefused, Enters, Finishes, HandlesSome, NotifyFailed, Reacts, Settles, Tells, Wakes, rose};
@@ -52,16 +53,17 @@ impl<A: Arm, W: EventWait> Shared<A, W> {
     /// in order. The cell's round seat is idle, or waits for the parker whose thread calls; it is idle
     /// afterwards, or blocks that parker.
     ///
-    /// A round that begins raises the ticker once, and makes one wait, for at most `limit` nanoseconds
-    /// where a limit is given. The queue of operations is drained before each pass over the timers.
+    /// A round that begins raises the ticker once, and then makes one wait, for at most `limit`
+    /// nanoseconds where a limit is given. The queue of operations is drained before each pass over the
+    /// timers, and the pass is made at the moment that the clock then answers.
     ///
     /// # Errors
     ///
-    /// `Wait`, `Arm` and `Notify` tell the first fault, a round's before one of its wakes; the round has
-    /// ended all the same, and each waker was given to `wake`. `RoundsSpent` exactly where a round would
-    /// have to begin and the ticker stands at 2^64 - 1; nothing changes but the round seat.
-    /// `OutOfMemory`: no round runs, as before, or one runs on with the events and wakers that it has;
-    /// nobody was woken.
+    /// `Wait`, `Arm` and `Notify` tell the first fault, a round's before one of its wakes, with two
+    /// counts that differ or stand at 2^64 - 1; the round has ended all the same, and each waker was
+    /// given to `wake`. `RoundsSpent` exactly where a round would have to begin and the ticker stands at
+    /// 2^64 - 1; nothing changes but the round seat. `OutOfMemory`: no round runs, as before, or one
+    /// runs on with the events and wakers that it has; nobody was woken.
     pub fn react_in<R: Wait, N: Notify, C: Clock>(
         &self,
         rt: &R,
@@ -71,24 +73,33 @@ impl<A: Arm, W: EventWait> Shared<A, W> {
         limit: Option<u64>,
     ) -> Result<ReactedIn, ReactFault>
         requires belongs { IsMemberOf self.now m.old }
-        requires cell { IsCellOf m.old.turn cell.old }
+        requires cell { IsCellOf m.old.claim cell.old }
         requires seat { IsIdleOrWaits cell.old.seat }
         ensures reacts { Reacts self.now.words.parkers self.now.sure_of_arms
-            (record { given = limit; earliest = C.latest clock.old }) cell.old cell.new m.old m.new
-            (record { before = N.fault_count m.old.note; after = N.fault_count m.new.note })
+            (record {
+              given = limit;
+              bounds = C.bounds clock.old;
+              earliest = C.latest clock.old;
+              latest = C.latest clock.new;
+              step = W.wait_step;
+            })
+            cell.old cell.new m.old m.new
+            (record { before = N.fault_count m.old.notifier; after = N.fault_count m.new.notifier })
             result }
         ensures spent { (result ≡ Err ReactFault.RoundsSpent)
             ↔ ((cell.old.round.running ≡ false) × (cell.old.seat.view.seen ≡ 2 ^ 64 - 1)) }
+        ensures calls { CallsAsWon m.old.pass.view m.new.pass.view
+            (N.call_count m.old.notifier) (N.call_count m.new.notifier) }
         ensures seat { cell.new.seat.view.mode ≡ blocking cell.old.seat.view.mode }
         ensures kept { m.new ≡ record m.old {
           pass = m.new.pass;
           ops = m.new.ops;
-          note = m.new.note;
+          notifier = m.new.notifier;
         } }
         ensures belongs { IsMemberOf self.now m.new }
-        ensures cell { IsCellOf m.new.turn cell.new }
+        ensures cell { IsCellOf m.new.claim cell.new }
         ensures later { IsLaterMember N.fault_count N.is_sure m.old m.new }
-        ensures faults { TellsFaults N.fault_count N.is_sure m.old.note m.new.note
+        ensures faults { TellsFaults N.fault_count N.is_sure m.old.notifier m.new.notifier
             (NotifyFailed result) }
         ensures bounds { C.bounds clock.new ≡ C.bounds clock.old }
         ensures latest { C.latest clock.old ≤ C.latest clock.new }
@@ -124,7 +135,14 @@ impl<A: Arm, W: EventWait> Shared<A, W> {
         requires words { Belongs self.now.words cell.old.seat }
         requires seat { IsIdleOrWaits cell.old.seat }
         ensures kept { m.new ≡ record m.old { ops = m.new.ops } }
-        ensures entered { OnOk result (Enters (record { given = limit; earliest = C.latest clock.old })
+        ensures entered { OnOk result (Enters
+            (record {
+              given = limit;
+              bounds = C.bounds clock.old;
+              earliest = C.latest clock.old;
+              latest = C.latest clock.new;
+              step = W.wait_step;
+            })
             cell.old cell.new m.old.ops m.new.ops) }
         ensures refused { IfErr result (λ fault.
             EnterRefused fault cell.old cell.new m.old.ops m.new.ops) }
@@ -145,7 +163,7 @@ impl<A: Arm, W: EventWait> Shared<A, W> {
                     return Err(fault);
                 }
                 Ok(()) => {
-                    RoundCell::wait_once(&cell.seat, &mut cell.round, &mut cell.wait);
+                    cell.wait.wait_once(&cell.seat, &mut cell.round);
                     self.words.waited(&mut cell.seat);
                     return Ok(());
                 }
@@ -169,7 +187,8 @@ impl<A: Arm, W: EventWait> Shared<A, W> {
         requires words { Belongs self.now.words seat.old }
         requires idle { round.old.running ≡ false }
         ensures words { seat.new.words ≡ seat.old.words }
-        ensures begun { OnOk result (BeginsAs (seat.old.view.seen + 1) (C.latest clock.old) limit
+        ensures begun { OnOk result (BeginsAs (seat.old.view.seen + 1)
+            (C.bounds clock.old) (C.latest clock.old) (C.latest clock.new) limit
             ops.old ops.new round.new) }
         ensures drained { OnOk result (Drained ops.old ops.new) }
         ensures seat { OnOk result (seat.new.view ≡ rose seat.old.view) }
@@ -206,7 +225,8 @@ impl<A: Arm, W: EventWait> Shared<A, W> {
         requires ops { ops.old.queue ≡ self.now.ops }
         requires idle { round.old.running ≡ false }
         ensures begun { OnOk result
-            (BeginsAs number (C.latest clock.old) limit ops.old ops.new round.new) }
+            (BeginsAs number (C.bounds clock.old) (C.latest clock.old) (C.latest clock.new) limit
+            ops.old ops.new round.new) }
         ensures drained { OnOk result (Drained ops.old ops.new) }
         ensures refused { OnErr result (round.new ≡ round.old) }
         ensures pushed { OnErr result (PushedNothing ops.old ops.new) }
@@ -250,7 +270,8 @@ impl<A: Arm, W: EventWait> Shared<A, W> {
         ensures kept { m.new ≡ record m.old { ops = m.new.ops } }
         ensures cell { cell.new ≡ record cell.old { round = cell.new.round } }
         ensures finished { OnOk result
-            (Finishes (C.latest clock.old) m.old.ops m.new.ops cell.old.round cell.new.round) }
+            (Finishes (C.bounds clock.old) (C.latest clock.old) (C.latest clock.new)
+            m.old.ops m.new.ops cell.old.round cell.new.round) }
         ensures drained { OnOk result (Drained m.old.ops m.new.ops) }
         ensures refused { OnErr result (cell.new ≡ cell.old) }
         ensures pushed { OnErr result (PushedNothing m.old.ops m.new.ops) }
@@ -280,15 +301,22 @@ impl<A: Arm, W: EventWait> Shared<A, W> {
     ) -> Result<ReactedIn, ReactFault>
         requires words { Belongs self.now.words m.old.pass }
         requires few { in_hand ≤ 1024 }
-        ensures kept { m.new ≡ record m.old { pass = m.new.pass; note = m.new.note } }
+        ensures kept { m.new ≡ record m.old { pass = m.new.pass; notifier = m.new.notifier } }
         ensures woke { Wakes self.now.words.parkers cell.now.round.taken m.old.pass m.new.pass }
+        ensures calls { CallsAsWon m.old.pass.view m.new.pass.view
+            (N.call_count m.old.notifier) (N.call_count m.new.notifier) }
         ensures tells { Tells cell.now.round resumed in_hand
-            (record { before = N.fault_count m.old.note; after = N.fault_count m.new.note })
+            (record { before = N.fault_count m.old.notifier; after = N.fault_count m.new.notifier })
             result }
-        ensures faults { TellsFaults N.fault_count N.is_sure m.old.note m.new.note
+        ensures faults { TellsFaults N.fault_count N.is_sure m.old.notifier m.new.notifier
             (NotifyFailed result) }
     {
-        let failed = wake_each(&self.words, &mut m.pass, cell.round.woken(), &mut m.note);
+        let failed = wake_each(
+            &self.words,
+            &mut m.pass,
+            cell.round.woken(),
+            &mut m.notifier,
+        );
         match cell.round.fault() {
             Some(RoundFault::Wait(fault)) => return Err(ReactFault::Wait(fault)),
             Some(RoundFault::Arm(fault)) => return Err(ReactFault::Arm(fault)),

@@ -1,7 +1,8 @@
 //! What each member knows of the reactor lock, the rule of its queue, and what each step tells.
 
 use crate::cell::RoundCell;
-use aio_base::{Arm, EventWait, RoundItem, TurnView};
+use aio_base::{Arm, EventWait};
+use aio_rules::{ClaimView, RoundItem};
 use aio_words::Words;
 use crossbeam_queue::protocol::{Lesson, Outcome, Protocol, Split};
 use crossbeam_queue::{Pass, RuledArrayQueue};
@@ -21,7 +22,7 @@ impl Model for WordsName {
 }
 
 /// What a member knows. No value of it is made.
-pub type Knows = TurnView<WordsName>;
+pub type Knows = ClaimView<WordsName>;
 
 impl<W: EventWait> RoundItem<WordsName> for RoundCell<W> {
     ghost use Rattle.aio_shared.specs.Cells.{CellSays, IsIdle};
@@ -37,13 +38,13 @@ pub struct OneCell<W> {
 }
 
 impl<W: EventWait> Protocol<RoundCell<W>, Knows> for OneCell<W> {
-    ghost use Rattle.aio_base.specs.RoundLock.{RoundLockRule, opening_turn};
+    ghost use Rattle.aio_rules.specs.RoundLock.{RoundLockRule, opening_claim};
     ghost use Rattle.aio_shared.specs.Cells.{CellSays, IsIdle};
     ghost use Rattle.aio_shared.specs.OneCell.{no_words};
 
     ghost holds = { RoundLockRule CellSays IsIdle };
 
-    ghost first = { opening_turn no_words };
+    ghost first = { opening_claim no_words };
 }
 
 /// The first push, in a reactor whose connections are of this type.
@@ -54,7 +55,7 @@ pub struct Open<A, W> {
 
 impl<A: Arm, W: EventWait> Outcome<RoundCell<W>, Knows> for Open<A, W> {
     ghost use Rattle.std.specs.Prelude.{◌≡◌};
-    ghost use Rattle.aio_base.specs.RoundLock.{knowing};
+    ghost use Rattle.aio_rules.specs.RoundLock.{knowing};
     ghost use Rattle.aio_shared.specs.Cells.{said_by};
 
     ghost then = { λ knows cell after. after ≡ knowing (said_by A.all_sure cell) };
@@ -84,7 +85,7 @@ pub struct Push<W> {
 
 impl<W: EventWait> Outcome<RoundCell<W>, Knows> for Push<W> {
     ghost use Rattle.std.specs.Prelude.{◌≡◌};
-    ghost use Rattle.aio_base.specs.RoundLock.{released};
+    ghost use Rattle.aio_rules.specs.RoundLock.{released};
 
     ghost then = { λ knows cell after. after ≡ released knows };
 }
@@ -95,19 +96,19 @@ impl<W: EventWait> Lesson<RoundCell<W>, Knows> for Push<W> {
     ghost fact = { λ knows items. items ≡ [] };
 }
 
-/// A new member beside one that stays as it is.
+/// A new member beside one, which counts it.
 pub struct NewMember;
 
 impl Split<Knows> for NewMember {
-    ghost use Rattle.aio_base.specs.RoundLock.{released};
+    ghost use Rattle.aio_rules.specs.RoundLock.{next_claim, with_one_more};
 
-    ghost left = { λ knows. knows };
+    ghost left = { with_one_more };
 
-    ghost right = { released };
+    ghost right = { next_claim };
 }
 
 /// The kit's bounded queue under this rule.
 pub type CellQueue<W> = RuledArrayQueue<RoundCell<W>, Knows, OneCell<W>>;
 
-/// A member's pass of it.
+/// A member's seat at it.
 pub type CellPass<W> = Pass<RoundCell<W>, Knows>;

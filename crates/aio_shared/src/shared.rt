@@ -1,16 +1,18 @@
 //! The reactor, and how it is made.
 
-ghost use Rattle.std.specs.Prelude.{◌≡◌, ◌≤◌, [], IfOk, IfErr};
+ghost use Rattle.std.specs.Prelude.{◌≡◌, ◌≤◌, [], IfOk, IfErr, IsPermutation};
 ghost use Rattle.std.specs.Arc.{arc_value};
-ghost use Rattle.aio_base.specs.SharedWords.{first_view};
-ghost use Rattle.aio_shared.specs.OneCell.{first_turn};
-ghost use Rattle.aio_shared.specs.Starting.{AreParts, IsFirstMember, IsNewReactor, new_about};
+ghost use Rattle.aio_rules.specs.SharedWords.{first_view, with_one_more};
+ghost use Rattle.aio_shared.specs.OneCell.{first_claim};
+ghost use Rattle.aio_shared.specs.Starting.{AreParts, IsFirstMember, IsNewReactor, keys_added, new_about};
 
 use crate::cell::RoundCell;
 use crate::members::Member;
-use crate::round_lock::{RoundLock, Turn};
+use crate::round_lock::{Claim, RoundLock};
 use crate::source_table::SourceTable;
-use aio_base::{Arm, EventWait, Notify, OutOfMemory};
+use crate::sources::SourceRef;
+use crate::starting::Started;
+use aio_base::{Arm, ArmFault, EventWait, Notify, OutOfMemory};
 use aio_ops::{OpPass, Ops};
 use aio_react::Round;
 use aio_timers::TimerBook;
@@ -79,27 +81,31 @@ impl<A: Arm + Drop> Parts<A> {
         Ok((parts, seat))
     }
 
-    /// The reactor of these parts, with this lock, and its first member, with this notifier.
+    /// The reactor of these parts, with this lock, and its first member, with this notifier, beside the
+    /// answers of the connections that were added: the table has their sources, and no other.
     pub(crate) fn assemble<W: EventWait, N>(
         self,
         alloc: Global,
         lock: RoundLock<W>,
-        turn: Turn<W>,
-        note: N,
-    ) -> (Shared<A, W>, Member<N, W>)
-        ensures shared { result.0 ≡ record {
+        claim: Claim<W>,
+        notifier: N,
+        sources: Vec<Result<SourceRef<A>, ArmFault>>,
+    ) -> Started<A, W, N>
+        requires sources { IsPermutation (keys_added sources.items) self.table }
+        ensures shared { result.shared ≡ record {
           lock = lock;
           words = arc_value self.words;
           ops = self.ops;
           sure_of_arms = A.all_sure;
         } }
-        ensures member { result.1 ≡ record {
-          turn = turn;
+        ensures member { result.member ≡ record {
+          claim = claim;
           pass = self.pass;
           ops = self.first;
-          note = note;
+          notifier = notifier;
           ids = 0;
         } }
+        ensures sources { result.sources ≡ sources }
     {
         let Parts {
             words,
@@ -116,13 +122,17 @@ impl<A: Arm + Drop> Parts<A> {
             timers: Mutex::new(TimerBook::new(alloc)),
         };
         let member = Member {
-            turn,
+            claim,
             pass,
             ops: first,
-            note,
+            notifier,
             ids: 0,
         };
-        (shared, member)
+        Started {
+            shared,
+            member,
+            sources,
+        }
     }
 }
 
@@ -132,10 +142,10 @@ pub(crate) fn open_lock<A: Arm, W: EventWait + Drop>(
     alloc: Global,
     seat: RoundSeat,
     wait: W,
-) -> Result<(RoundLock<W>, Turn<W>), W>
-    requires { seat.view ≡ first_view }
+) -> Result<(RoundLock<W>, Claim<W>), W>
+    requires { seat.view ≡ with_one_more first_view }
     ensures opened { IfOk result (λ made. made.1
-        ≡ first_turn made.0 (new_about seat.words (W.is_sure wait) A.all_sure)) }
+        ≡ first_claim made.0 (new_about seat.words (W.is_sure wait) A.all_sure)) }
     ensures back { IfErr result (λ back. back ≡ wait) }
 {
     let Ok(round) = Round::new(alloc) else {
@@ -143,12 +153,12 @@ pub(crate) fn open_lock<A: Arm, W: EventWait + Drop>(
     };
     match RoundLock::new::<A>(alloc, RoundCell::new(seat, round, wait)) {
         Ok(made) => Ok(made),
-        Err(cell) => Err(cell.wait),
+        Err(cell) => Err(cell.wait.into_half()),
     }
 }
 
 impl<A: Arm + Drop, W: EventWait + Drop> Shared<A, W> {
-    /// A reactor for so many parkers, 1 to 16, and its first member, which has pass 0 of the queue of
+    /// A reactor for so many parkers, 1 to 16, and its first member, which has seat 0 at the queue of
     /// operations and this notifier, and has drawn no id (`async-io` 2, `reactor.rs`, `Reactor::get`). It
     /// has no source, no timer and no operation, and its round is idle, over this wait. Where memory ran
     /// out, the one refusal, wait and notifier come back as they were.
@@ -156,20 +166,27 @@ impl<A: Arm + Drop, W: EventWait + Drop> Shared<A, W> {
         alloc: Global,
         parkers: u32,
         wait: W,
-        note: N,
+        notifier: N,
     ) -> Result<(Shared<A, W>, Member<N, W>), (W, N)>
         requires { (1 ≤ parkers) × (parkers ≤ 16) }
         ensures reactor { IfOk result (λ made. IsNewReactor parkers A.all_sure made.0) }
         ensures member { IfOk result (λ made.
-            IsFirstMember made.0 (W.is_sure wait) note made.1) }
-        ensures back { IfErr result (λ back. back ≡ (wait, note)) }
+            IsFirstMember made.0 (W.is_sure wait) notifier made.1) }
+        ensures back { IfErr result (λ back. back ≡ (wait, notifier)) }
     {
         let Ok((parts, seat)) = Parts::new(alloc, parkers) else {
-            return Err((wait, note));
+            return Err((wait, notifier));
         };
         match open_lock::<A, W>(alloc, seat, wait) {
-            Err(wait) => Err((wait, note)),
-            Ok((lock, turn)) => Ok(parts.assemble(alloc, lock, turn, note)),
+            Err(wait) => Err((wait, notifier)),
+            Ok((lock, claim)) => {
+                let Started {
+                    shared,
+                    member,
+                    sources: _,
+                } = parts.assemble(alloc, lock, claim, notifier, Vec::new(alloc));
+                Ok((shared, member))
+            }
         }
     }
 }

@@ -5,8 +5,7 @@ ghost use Rattle.std.specs.List.{Contains, position_or_len};
 ghost use Rattle.std.specs.List.Sorted.{IsStrictlyIncreasing};
 ghost use Rattle.std.specs.Arc.{arc_value};
 ghost use Rattle.aio_base.specs.declared.names.Event.{Event};
-ghost use Rattle.aio_react.specs.Rounds.{skipped};
-ghost use Rattle.aio_shared.specs.Sources.{Adds, FailsToAdd, HandlesOn, HandlesOne, IsLeastFree, live_keys, outside, with_key, without_key};
+ghost use Rattle.aio_shared.specs.Sources.{Adds, FailsToAdd, HandlesBy, HandlesByKey, HandlesOne, IsLeastFree, KeepsFault, live_keys, outside, with_key, without_key};
 
 use crate::sources::SourceRef;
 use aio_base::{Arm, CountFault, Key, OutOfMemory};
@@ -61,7 +60,7 @@ impl<A: Arm> Model for Vacancy<A> {
     ghost use Rattle.std.specs.Prelude.{◌≡◌, []};
     ghost use Rattle.std.specs.Arc.{arc_value};
     ghost use Rattle.atomic_table.specs.Seated.{TableId};
-    ghost use Rattle.aio_base.specs.SharedLock.{first_owner, took_out};
+    ghost use Rattle.aio_rules.specs.SharedLock.{first_owner, took_out};
     ghost use Rattle.aio_lock.specs.Tokens.{owner_of};
 
     ghost Value = { TableId };
@@ -177,6 +176,7 @@ impl<A: Arm + Drop> SourceTable<A> {
     pub(crate) fn take_out(&mut self, key: Key) -> TakenOut
         requires { key.0 < 4096 }
         ensures keys { self.new ≡ without_key self.old key.0 }
+        ensures gone { ¬ Contains self.new key.0 }
         ensures out { result ≡ key.0 }
     {
         let at = key.0 as usize;
@@ -248,12 +248,17 @@ impl<A: Arm> SourceTable<A> {
 
     /// Handles the first event in hand of a round: by the source of its key, with the source's own
     /// connection as the arm; an event whose key no source has is skipped. `OutOfMemory` where there is no
-    /// memory for the wakers; the round is then as before.
+    /// memory for the wakers; the event is still in hand then, and nothing has changed.
     ///
     /// The caller has the table, so no source goes out of it meanwhile.
     pub(crate) fn handle<R: Wait>(&self, rt: &R, round: &mut Round) -> Result<(), OutOfMemory>
         requires { round.old.hand ≢ [] }
-        ensures handled { OnOk result (HandlesOne A.all_sure round.old round.new) }
+        ensures handled { OnOk result ((event : Event)
+            × HandlesOne A.all_sure self.now event round.old round.new) }
+        ensures lent { (event : Event) → slice_get round.old.hand 0 ≡ Some event
+            → Contains self.now event.key.0 → OnOk result
+            (HandlesByKey A.arm_step A.interests A.rest A.fault_count A.is_sure
+            event.key round.old round.new) }
         ensures refused { OnErr result (round.new ≡ round.old) }
     {
         let Some(event) = round.peek() else {
@@ -270,8 +275,9 @@ impl<A: Arm> SourceTable<A> {
     }
 }
 
-/// Handles the first event in hand, which is of this key, on a source, or skips it where the source has
-/// another key.
+/// Handles the first event in hand, which is of this key, on a source, with its connection as the arm.
+/// `OutOfMemory` where there is no memory for the wakers. A source of another key, which no call puts at
+/// this place, answers so too: no event is lost then.
 fn handle_in<A: Arm>(
     cell: &mut SourceCell<A>,
     key: Key,
@@ -280,15 +286,14 @@ fn handle_in<A: Arm>(
     requires { option_map (λ (event : Event). event.key) (slice_get round.old.hand 0) ≡ Some key }
     ensures key { cell.new.state.key ≡ cell.old.state.key }
     ensures rest { A.rest cell.new.io ≡ A.rest cell.old.io }
-    ensures handled { OnOk result (HandlesOne A.all_sure round.old round.new) }
-    ensures own { cell.old.state.key ≡ key
-        → OnOk result (HandlesOn cell.old.state round.old round.new) }
-    ensures other { cell.old.state.key ≢ key → OnOk result (round.new ≡ skipped round.old) }
+    ensures own { OnOk result (cell.old.state.key ≡ key) }
+    ensures handled { OnOk result (HandlesBy A.arm_step A.interests A.rest A.fault_count A.is_sure
+        cell.old.state cell.old.io cell.new.io round.old round.new) }
+    ensures fault { OnOk result (KeepsFault A.all_sure round.old.fault round.new.fault) }
     ensures refused { OnErr result (round.new ≡ round.old) }
 {
     if cell.state.key() != key {
-        round.skip();
-        return Ok(());
+        return Err(OutOfMemory);
     }
     match round.handle(&mut cell.state, &mut cell.io) {
         Ok(_) => Ok(()),

@@ -4,13 +4,14 @@ ghost use Rattle.std.specs.Prelude.{◌≡◌, ◌↔◌, ◌∷◌, true, false
 ghost use Rattle.std.specs.List.Sorted.{IsStrictlyIncreasing};
 ghost use Rattle.std.specs.Arc.{arc_value};
 ghost use Rattle.aio_base.specs.Devices.{RemoveOf};
-ghost use Rattle.aio_base.specs.SharedLock.{first_owner};
+ghost use Rattle.aio_rules.specs.SharedLock.{first_owner};
 ghost use Rattle.aio_lock.specs.Tokens.{owner_of};
 ghost use Rattle.aio_words.specs.Calls.{told};
 ghost use Rattle.aio_shared.specs.Sources.{Adds, HandsBack, IsUnsure, Joins, Removes, outside, refusal_of, rest_of};
 
+use crate::closing::take_closed;
 use crate::shared::Shared;
-use crate::source_table::{SourceLock, SourceTable, TakenOut};
+use crate::source_table::{SourceLock, SourceTable};
 use aio_base::{Arm, CountFault, EventWait, Key};
 use aio_lock::Owner;
 use aio_source::SourceCell;
@@ -45,7 +46,7 @@ impl<A: Arm> Model for SourceRef<A> {
     ghost use Rattle.std.specs.Prelude.{◌≡◌, ◌<◌};
     ghost use Rattle.std.specs.Arc.{arc_value};
     ghost use Rattle.aio_base.specs.Devices.{RemoveOf};
-    ghost use Rattle.aio_base.specs.SharedLock.{is_inside};
+    ghost use Rattle.aio_rules.specs.SharedLock.{is_inside};
     ghost use Rattle.aio_shared.specs.Sources.{IsSourceOwner, SourceRefValue, rest_of};
 
     ghost Value = { SourceRefValue };
@@ -80,6 +81,25 @@ impl<A: Arm> SourceRef<A> {
             lock,
             owner,
         }
+    }
+
+    /// Takes the source out of its lock, as `Shared::enter` does.
+    pub(crate) fn take<R: Wait>(&mut self, rt: &R) -> SourceCell<A>
+        requires outside { self.old.inside ≡ false }
+        ensures key { result.state.key.0 ≡ self.old.key }
+        ensures rest { A.rest result.io ≡ self.old.rest }
+        ensures inside { self.new ≡ record self.old { inside = true } }
+    {
+        self.lock.take(rt, &mut self.owner)
+    }
+
+    /// Puts the source back into its lock, as `Shared::leave` does.
+    pub(crate) fn give(&mut self, cell: SourceCell<A>)
+        requires inside { self.old.inside ≡ true }
+        requires key { cell.state.key.0 ≡ self.old.key }
+        ensures { self.new ≡ record self.old { inside = false; rest = A.rest cell.io } }
+    {
+        self.lock.give(&mut self.owner, cell);
     }
 
     /// The key of the source.
@@ -164,7 +184,7 @@ impl<A: Arm, W: EventWait> Shared<A, W> {
         ensures rest { A.rest result.io ≡ s.old.rest }
         ensures inside { s.new ≡ record s.old { inside = true } }
     {
-        s.lock.take(rt, &mut s.owner)
+        s.take(rt)
     }
 
     /// Puts a source back into its lock. The token then knows the rest of this connection. Takes no
@@ -175,7 +195,7 @@ impl<A: Arm, W: EventWait> Shared<A, W> {
         requires key { cell.state.key.0 ≡ s.old.key }
         ensures { s.new ≡ record s.old { inside = false; rest = A.rest cell.io } }
     {
-        s.lock.give(&mut s.owner, cell);
+        s.give(cell);
     }
 }
 
@@ -183,6 +203,8 @@ impl<A: Arm + Drop, W: EventWait> Shared<A, W> {
     /// A source goes out of the table, and then its connection is told by one `remove`. Its waiters are
     /// given up without a wake. `CountFault` only where the connection's count of faults rose, and not
     /// all connections of its type are sure; the source is gone all the same. Takes no memory.
+    ///
+    /// No new source gets the key before the `remove` has returned.
     pub fn close_source<R: Wait>(&self, rt: &R, s: SourceRef<A>) -> Result<(), CountFault>
         requires belongs { s.words ≡ self.now.words.identity }
         requires outside { s.inside ≡ false }
@@ -195,27 +217,12 @@ impl<A: Arm + Drop, W: EventWait> Shared<A, W> {
             lock,
             mut owner,
         } = s;
-        let out = self.sources.lock(rt).take_out(key);
-        let SourceCell { state: _, mut io } = lock.take(rt, &mut owner);
-        remove_from(&mut io, &out)
-    }
-}
-
-/// Makes one `remove` on a connection, of the key of its source, which is out of the table.
-fn remove_from<A: Arm>(io: &mut A, out: &TakenOut) -> Result<(), CountFault>
-    ensures step { A.arm_step io.old (RemoveOf (record { 0 = out.now })) (told result) io.new }
-    ensures counts { IfErr result (λ fault. fault ≡ record {
-      before = A.fault_count io.old;
-      after = A.fault_count io.new;
-    }) }
-    ensures cause { IfErr result (λ fault. IsUnsure A.all_sure fault) }
-{
-    let before = io.faults();
-    match io.remove(out.key()) {
-        Ok(()) => Ok(()),
-        Err(_) => Err(CountFault {
-            before,
-            after: io.faults(),
-        }),
+        // The order of the locks: the table first, and under it the one source. A round that visits the
+        // source has the table, so it is over by then. The table is kept until the `remove` was made,
+        // since the key is free as soon as another thread has the table.
+        let mut table = self.sources.lock(rt);
+        let out = table.take_out(key);
+        let closed = take_closed(rt, &*table, &out, &lock, &mut owner);
+        closed.remove(&*table)
     }
 }

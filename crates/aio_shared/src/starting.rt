@@ -39,35 +39,30 @@ impl<A: Arm + Drop, W: EventWait + Drop> Shared<A, W> {
         alloc: Global,
         parkers: u32,
         wait: W,
-        note: N,
+        notifier: N,
         ios: Vec<A>,
     ) -> Result<Started<A, W, N>, (W, N, Vec<A>)>
         requires parkers { (1 ≤ parkers) × (parkers ≤ 16) }
         requires few { vec_len ios ≤ 4096 }
         ensures reactor { IfOk result (λ made. IsNewReactor parkers A.all_sure made.shared) }
         ensures member { IfOk result (λ made.
-            IsFirstMember made.shared (W.is_sure wait) note made.member) }
+            IsFirstMember made.shared (W.is_sure wait) notifier made.member) }
         ensures begun { IfOk result (λ made. BeginsWith A.arm_step A.rest A.fault_count A.is_sure
             made.shared.words.identity ios.items made.sources.items) }
-        ensures devices { IfErr result (λ back. (back.0 ≡ wait) × (back.1 ≡ note)) }
+        ensures devices { IfErr result (λ back. (back.0 ≡ wait) × (back.1 ≡ notifier)) }
         ensures connections { IfErr result (λ back. back.2.items ≡ ios.items) }
     {
         let Ok((mut parts, seat)) = Parts::new(alloc, parkers) else {
-            return Err((wait, note, ios));
+            return Err((wait, notifier, ios));
         };
         let Ok(places) = Places::new(&parts.table, &parts.words, alloc, ios.len()) else {
-            return Err((wait, note, ios));
+            return Err((wait, notifier, ios));
         };
         match open_lock::<A, W>(alloc, seat, wait) {
-            Err(wait) => Err((wait, note, ios)),
-            Ok((lock, turn)) => {
+            Err(wait) => Err((wait, notifier, ios)),
+            Ok((lock, claim)) => {
                 let sources = add_all(&mut parts.table, &parts.words, places, ios);
-                let (shared, member) = parts.assemble(alloc, lock, turn, note);
-                Ok(Started {
-                    shared,
-                    member,
-                    sources,
-                })
+                Ok(parts.assemble(alloc, lock, claim, notifier, sources))
             }
         }
     }

@@ -53,18 +53,6 @@ fn insert<R: Wait>(
     shared.insert_timer(rt, m, at, Waker(0))
 }
 
-/// Registers timers. Whether each of them was.
-fn insert_times<R: Wait>(rt: &R, shared: &Reactor, m: &mut Token, at: Moment, times: u32) -> bool
-    requires { IsMemberOf shared.now m.old }
-    ensures { IsMemberOf shared.now m.new }
-{
-    let mut each = true;
-    for _ in 0..times {
-        each = each && insert(rt, shared, m, at).is_ok();
-    }
-    each
-}
-
 /// Asserts how many operations a drain takes out of the queue into the book that the lock keeps, and how
 /// many timers are registered there then.
 fn assert_drains<R: Wait + Abort>(
@@ -81,28 +69,6 @@ fn assert_drains<R: Wait + Abort>(
     let book = &mut *guard;
     let drained = shared.drain(rt, &mut m.ops, book, 0);
     same(rt, (drained, book.len()), (Ok(count), registered));
-}
-
-#[test]
-fn a_timer_that_is_taken_out_again_is_not_in_the_book(rt: HostRuntime) -> Result<(), Fail> {
-    let (shared, mut m) = reactor(rt.alloc())?;
-    let at = moment(&rt);
-    same(&rt, insert(&rt, &shared, &mut m, at), Ok(TimerId(1)));
-    let removed = shared.remove_timer(&rt, &mut m, at, TimerId(1));
-    same(&rt, removed, Ok(()));
-    assert_drains(&rt, &shared, &mut m, 2, 0);
-    same(&rt, insert(&rt, &shared, &mut m, at), Ok(TimerId(2)));
-    assert_drains(&rt, &shared, &mut m, 1, 1);
-    Ok(())
-}
-
-#[test]
-fn a_full_queue_refuses_no_timer(rt: HostRuntime) -> Result<(), Fail> {
-    let (shared, mut m) = reactor(rt.alloc())?;
-    let each = insert_times(&rt, &shared, &mut m, moment(&rt), 1001);
-    same(&rt, each, true);
-    assert_drains(&rt, &shared, &mut m, 1, 1001);
-    Ok(())
 }
 
 #[test]

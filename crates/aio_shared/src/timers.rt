@@ -22,7 +22,7 @@ const TRIES: u32 = 1_000;
 
 impl<A: Arm, W: EventWait> Shared<A, W> {
     /// Registers a timer for a deadline, with the waker of the task that waits for it, under the next
-    /// id of the member: 2^40 times the number of its pass, and its count of ids after the call
+    /// id of the member: 2^40 times the number of its seat at the queue, and its count of ids after the call
     /// (`async-io` 2, `reactor.rs`, `Reactor::insert_timer`). Whoever waits for events is told. A
     /// member draws at most 2^40 - 1 ids.
     ///
@@ -48,11 +48,11 @@ impl<A: Arm, W: EventWait> Shared<A, W> {
         ensures kept { m.new ≡ record m.old {
           pass = m.new.pass;
           ops = m.new.ops;
-          note = m.new.note;
+          notifier = m.new.notifier;
           ids = m.new.ids;
         } }
-        ensures notifier { NotifierTells (N.is_sure m.old.note)
-            (N.fault_count m.old.note) (N.fault_count m.new.note) (insert_fault result) }
+        ensures notifier { NotifierTells (N.is_sure m.old.notifier)
+            (N.fault_count m.old.notifier) (N.fault_count m.new.notifier) (insert_fault result) }
         ensures belongs { IsMemberOf self.now m.new }
         ensures later { IsLaterMember N.fault_count N.is_sure m.old m.new }
     {
@@ -61,7 +61,7 @@ impl<A: Arm, W: EventWait> Shared<A, W> {
             Err(_) => Err(InsertRefusal::OutOfMemory),
             Ok(()) => {
                 m.ids += 1;
-                match self.words.notify(&mut m.pass, &mut m.note) {
+                match self.words.notify(&mut m.pass, &mut m.notifier) {
                     Ok(()) => Ok(id),
                     Err(fault) => Err(InsertRefusal::Notify { id, fault }),
                 }

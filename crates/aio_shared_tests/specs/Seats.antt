@@ -1,6 +1,6 @@
 -- A seat that waits for the first parker.
-use Rattle.aio_base.specs.SharedWords.{after}
-use Rattle.aio_base.specs.declared.seats.WordStep.TheVariants as word_step
+use Rattle.aio_rules.specs.SharedWords.{after}
+use Rattle.aio_rules.specs.declared.seats.WordStep.TheVariants as word_step
 use Rattle.aio_words.specs.Seats.{SeatValue}
 
 -- an idle seat that blocked parker 0 and then found its mask empty: it waits for that parker

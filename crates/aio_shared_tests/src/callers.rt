@@ -2,9 +2,9 @@
 //! what it has done.
 
 ghost use Rattle.std.specs.Prelude.{◌≡◌, ◌<◌, ◌≤◌, ◌+◌, false, Err, IfOk, IfSome, IsNone, OnOk, IsTrue, true};
-ghost use Rattle.aio_base.specs.SharedWords.{after};
-ghost use Rattle.aio_base.specs.WordCalls.{wake_steps};
-ghost use Rattle.aio_base.specs.declared.seats.WordStep.TheVariants as word_step;
+ghost use Rattle.aio_rules.specs.SharedWords.{after};
+ghost use Rattle.aio_rules.specs.WordCalls.{wake_steps};
+ghost use Rattle.aio_rules.specs.declared.seats.WordStep.TheVariants as word_step;
 ghost use Rattle.aio_react.specs.Hosts.{RegistersAs, has_id_left, registered_id};
 ghost use Rattle.aio_words.specs.Calls.{Offers};
 ghost use Rattle.aio_shared.specs.Inside.{with_seat};
@@ -34,14 +34,14 @@ pub fn enter<R: Wait + Copy, N: Notify + Drop, A: Arm + Drop, W: EventWait + Dro
     rt: R,
     alloc: Global,
     wait: W,
-    note: N,
+    notifier: N,
 ) -> Result<Caller<R, N, A, W>, OutOfMemory>
     ensures reactor { IfOk result (λ made. IsNewReactor 1 A.all_sure made.host.shared) }
     ensures member { IfOk result (λ made.
-        IsFirstMember made.host.shared (W.is_sure wait) note made.host.member) }
+        IsFirstMember made.host.shared (W.is_sure wait) notifier made.host.member) }
     ensures first { IfOk result (λ made. made.host.member.ops.number ≡ 0) }
 {
-    let Ok((shared, member)) = Shared::new(alloc, 1, wait, note) else {
+    let Ok((shared, member)) = Shared::new(alloc, 1, wait, notifier) else {
         return Err(OutOfMemory);
     };
     let Ok(shared) = Arc::new(alloc, shared) else {
@@ -131,11 +131,11 @@ impl<R: Wait, N: Notify, A: Arm, W: EventWait> Caller<R, N, A, W> {
     pub fn react<C: Clock>(&mut self, clock: &mut C) -> Reaction
         ensures shared { self.new.host.shared ≡ self.old.host.shared }
         ensures gave { IfSome result (λ answer.
-            self.new.host.member.turn ≡ self.old.host.member.turn) }
+            self.new.host.member.claim ≡ self.old.host.member.claim) }
         ensures none { IsNone result
-            → FindsNone self.old.host.member.turn self.new.host.member.turn }
+            → FindsNone self.old.host.member.claim self.new.host.member.claim }
         ensures nothing { IsNone result → self.new.host.member
-            ≡ record self.old.host.member { turn = self.new.host.member.turn } }
+            ≡ record self.old.host.member { claim = self.new.host.member.claim } }
         ensures bounds { C.bounds clock.new ≡ C.bounds clock.old }
     {
         let host = &mut self.host;
@@ -152,25 +152,25 @@ impl<R: Wait, N: Notify, A: Arm, W: EventWait> Caller<R, N, A, W> {
         ensures took { self.new.host.member.pass.view
             ≡ after (word_step.SwapMask 0 result) self.old.host.member.pass.view }
         ensures kept { self.new.host
-            ≡ with_seat self.old.host self.new.host.member.pass self.old.host.member.note }
+            ≡ with_seat self.old.host self.new.host.member.pass self.old.host.member.notifier }
     {
         let host = &mut self.host;
         host.shared.words().take(host.member.words_pass(), 0)
     }
 
     /// Wakes a task by the member's seat, with another notifier.
-    pub fn wake_with<M: Notify>(&mut self, waker: Waker, note: &mut M) -> Result<(), CountFault>
+    pub fn wake_with<M: Notify>(&mut self, waker: Waker, notifier: &mut M) -> Result<(), CountFault>
         ensures woke { Offers M.call_count M.notify_step
             (wake_steps waker.0 self.old.host.shared.words.parkers)
             self.old.host.member.pass.view self.new.host.member.pass.view
-            note.old note.new result }
+            notifier.old notifier.new result }
         ensures kept { self.new.host
-            ≡ with_seat self.old.host self.new.host.member.pass self.old.host.member.note }
+            ≡ with_seat self.old.host self.new.host.member.pass self.old.host.member.notifier }
     {
         let host = &mut self.host;
         host.shared
             .words()
-            .wake(host.member.words_pass(), waker, note)
+            .wake(host.member.words_pass(), waker, notifier)
     }
 
     /// Takes the cell and gives it back: how many waits there were, whether its round is idle, and how many
@@ -178,7 +178,7 @@ impl<R: Wait, N: Notify, A: Arm, W: EventWait> Caller<R, N, A, W> {
     pub fn look_at_cell(&mut self) -> (u64, bool, u64)
         ensures { self.new.host ≡ record self.old.host {
           member = record self.old.host.member {
-            turn = with_empties self.new.host.member.turn.empties self.old.host.member.turn;
+            claim = with_empties self.new.host.member.claim.empties self.old.host.member.claim;
           };
         } }
     {
@@ -194,7 +194,7 @@ impl<R: Wait, N: Notify, A: Arm, W: EventWait> Caller<R, N, A, W> {
         ensures loaded { self.new.host.member.pass.view
             ≡ after (word_step.LoadTicker result) self.old.host.member.pass.view }
         ensures kept { self.new.host
-            ≡ with_seat self.old.host self.new.host.member.pass self.old.host.member.note }
+            ≡ with_seat self.old.host self.new.host.member.pass self.old.host.member.notifier }
         ensures least { self.old.host.member.pass.view.seen ≤ result }
     {
         self.host.ticker()
@@ -204,8 +204,8 @@ impl<R: Wait, N: Notify, A: Arm, W: EventWait> Caller<R, N, A, W> {
     /// slot of the parker is woken already.
     pub fn react_waiting<C: Clock>(&mut self, clock: &mut C) -> Reaction
         ensures shared { self.new.host.shared ≡ self.old.host.shared }
-        ensures gave { self.new.host.member.turn
-            ≡ with_empties self.new.host.member.turn.empties self.old.host.member.turn }
+        ensures gave { self.new.host.member.claim
+            ≡ with_empties self.new.host.member.claim.empties self.old.host.member.claim }
     {
         let host = &mut self.host;
         let mut cell = host.shared.take_round(&host.rt, &mut host.member);

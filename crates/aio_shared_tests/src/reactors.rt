@@ -3,12 +3,11 @@
 
 use crate::asserts::{moment, same};
 use crate::callers::{Caller, another, enter};
-use crate::clocks::clock_at;
 use crate::owners::Owner;
 use crate::seats::reacted;
 use aio_base::{Arm, ArmFault, Dir, Event, EventWait, Interest, Key, Notify, Poll, Waker};
-use aio_devices::{FailingArm, MemNotify, MemWait, ScriptedWait, SureArm, WaitAnswer};
-use aio_shared::ReactFault;
+use aio_devices::{FailingArm, MemNotify, MemWait, ScriptedWait, SureArm, WaitAnswer, clock_at};
+use aio_shared::{Member, ReactFault, Shared};
 use std::alloc::Global;
 use std::process::Abort;
 use std::sync::Wait;
@@ -23,6 +22,30 @@ fn a_member_comes_beside_the_first(rt: HostRuntime) -> Result<(), Fail> {
         MemNotify::new(),
     )?;
     another(&mut caller)?;
+    Ok(())
+}
+
+/// Wakes the last slot of the last of 16 parkers of a new reactor, and takes the mask of that parker.
+fn wake_last(alloc: Global) -> Option<u64> {
+    let made: Result<(Shared<SureArm, MemWait>, Member<MemNotify, MemWait>), _> = Shared::new(
+        alloc,
+        16,
+        MemWait::new(0),
+        MemNotify::new(),
+    );
+    let (shared, mut member) = made.ok()?;
+    let mut notifier = MemNotify::new();
+    let words = shared.words();
+    let told = words.wake(member.words_pass(), Waker(16 * 64 - 1), &mut notifier);
+    if told.is_err() || words.take(member.words_pass(), 14) != 0 {
+        return None;
+    }
+    Some(words.take(member.words_pass(), 15))
+}
+
+#[test]
+fn the_last_slot_of_the_last_of_16_parkers_is_woken(rt: HostRuntime) -> Result<(), Fail> {
+    same(&rt, wake_last(rt.alloc()), Some(1 << 63));
     Ok(())
 }
 

@@ -3,11 +3,11 @@
 
 use crate::asserts::{may_be_sent, moment, same};
 use crate::callers::{Caller, enter, enter_quiet, insert};
-use crate::clocks::{clock_at, fault_after};
 use crate::seats::{Reaction, reacted};
 use aio_base::{Arm, EventWait, Notify, TimerId, Waker};
 use aio_devices::{
-    FailingNotify, FailingWait, MemNotify, MemWait, ScriptedWait, SureArm, WaitAnswer,
+    FailingNotify, FailingWait, MemNotify, MemWait, ScriptedWait, SureArm, WaitAnswer, clock_at,
+    fault_after,
 };
 use aio_react::TimerHost;
 use aio_shared::ReactFault;
@@ -65,8 +65,8 @@ fn take_and_give<R: Wait, N: Notify, A: Arm, W: EventWait + Send>(caller: &mut C
 
 #[test]
 fn a_seat_that_waits_blocks_again_and_is_notified(rt: HostRuntime) -> Result<(), Fail> {
-    let note = FailingNotify::new();
-    let mut caller: Caller<_, _, SureArm, _> = enter(&rt, rt.alloc(), MemWait::new(0), note)?;
+    let notifier = FailingNotify::new();
+    let mut caller: Caller<_, _, SureArm, _> = enter(&rt, rt.alloc(), MemWait::new(0), notifier)?;
     let mut clock = clock_at(rt.alloc(), moment(&rt, 5))?;
     let inserted = insert(&mut caller.host, moment(&rt, 5), Waker(0));
     same(&rt, inserted.is_err(), true);

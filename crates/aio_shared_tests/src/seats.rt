@@ -1,9 +1,9 @@
 //! Rounds by a seat that waits for a parker, and looks at a round cell.
 
 ghost use Rattle.std.specs.Prelude.{◌≡◌, ◌<◌, ◌==◌, ℕ, not, false, true, Some, Ok, IfSome, IsNone, IsTrue};
-ghost use Rattle.aio_base.specs.SharedWords.{after};
-ghost use Rattle.aio_base.specs.declared.seats.Mode.TheVariants as mode;
-ghost use Rattle.aio_base.specs.declared.seats.WordStep.TheVariants as word_step;
+ghost use Rattle.aio_rules.specs.SharedWords.{after};
+ghost use Rattle.aio_rules.specs.declared.seats.Mode.TheVariants as mode;
+ghost use Rattle.aio_rules.specs.declared.seats.WordStep.TheVariants as word_step;
 ghost use Rattle.aio_words.specs.Seats.{Belongs};
 ghost use Rattle.aio_shared.specs.Cells.{IsIdle};
 ghost use Rattle.aio_shared.specs.Members.{IsMemberOf};
@@ -54,19 +54,25 @@ pub fn react_where_waiting<R: Wait, N: Notify, A: Arm, W: EventWait, C: Clock>(
 ) -> Reaction
     requires parker { 0 < shared.now.words.parkers }
     requires member { IsMemberOf shared.now m.old }
-    requires cell { IsCellOf m.old.turn cell.old }
+    requires cell { IsCellOf m.old.claim cell.old }
     requires idle { cell.old.seat.view.mode ≡ mode.Idle }
     ensures member { IsMemberOf shared.now m.new }
-    ensures turn { m.new.turn ≡ m.old.turn }
-    ensures cell { IsCellOf m.new.turn cell.new }
+    ensures claim { m.new.claim ≡ m.old.claim }
+    ensures cell { IsCellOf m.new.claim cell.new }
     ensures blocks { cell.new.seat.view.mode ≡ mode.Block 0 }
     ensures none { IsNone result
         → (m.new ≡ m.old) × (cell.new ≡ record cell.old { seat = cell.new.seat }) }
     ensures reacts { IfSome result (λ answer.
         Reacts shared.now.words.parkers shared.now.sure_of_arms
-        (record { given = Some 0; earliest = C.latest clock.old })
+        (record {
+          given = Some 0;
+          bounds = C.bounds clock.old;
+          earliest = C.latest clock.old;
+          latest = C.latest clock.new;
+          step = W.wait_step;
+        })
         (record cell.old { seat = waiting_seat cell.old.seat }) cell.new m.old m.new
-        (record { before = N.fault_count m.old.note; after = N.fault_count m.new.note })
+        (record { before = N.fault_count m.old.notifier; after = N.fault_count m.new.notifier })
         answer) }
 {
     if !waits_for_first(shared.words(), cell.seat()) {
@@ -86,11 +92,11 @@ pub fn react_blocked<R: Wait, N: Notify, A: Arm, W: EventWait, C: Clock>(
 ) -> Reaction
     requires parker { 0 < shared.now.words.parkers }
     requires member { IsMemberOf shared.now m.old }
-    requires cell { IsCellOf m.old.turn cell.old }
+    requires cell { IsCellOf m.old.claim cell.old }
     requires idle { cell.old.seat.view.mode ≡ mode.Idle }
     ensures member { IsMemberOf shared.now m.new }
-    ensures turn { m.new.turn ≡ m.old.turn }
-    ensures cell { IsCellOf m.new.turn cell.new }
+    ensures claim { m.new.claim ≡ m.old.claim }
+    ensures cell { IsCellOf m.new.claim cell.new }
     ensures idle { IsIdle cell.new }
     ensures none { IsNone result → m.new ≡ m.old }
 {

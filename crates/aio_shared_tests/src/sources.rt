@@ -3,10 +3,8 @@
 ghost use Rattle.std.specs.Prelude.{◌≡◌, false, IfOk};
 
 use crate::asserts::{may_be_sent, may_be_shared, same};
-use crate::clocks::fault_after;
-use crate::owners::insert_io;
 use aio_base::{Arm, ArmFault, CountFault, EventWait, Key, OutOfMemory};
-use aio_devices::{FailingArm, MemNotify, MemWait, SureArm};
+use aio_devices::{FailingArm, MemNotify, MemWait, SureArm, fault_after};
 use aio_shared::{InsertFault, Shared, SourceRef};
 use std::alloc::Global;
 use std::process::Abort;
@@ -31,9 +29,13 @@ fn join_as<A: Arm + Drop, W: EventWait, R: Wait + Abort>(
     ensures belongs { IfOk result (λ s. s.words ≡ shared.now.words.identity) }
     ensures outside { IfOk result (λ s. s.inside ≡ false) }
 {
-    let token = insert_io(rt, shared, io)?;
-    same(rt, token.key(), Key(key));
-    Ok(token)
+    match shared.sources(rt).insert(io) {
+        Ok(token) => {
+            same(rt, token.key(), Key(key));
+            Ok(token)
+        }
+        Err((_, fault)) => Err(fault),
+    }
 }
 
 /// Asserts what closing a source answers.
@@ -79,7 +81,9 @@ fn insert_times<R: Wait>(
     times: u64,
 ) -> Result<(), InsertFault> {
     for number in 0..times {
-        insert_io(rt, shared, SureArm::new(number))?;
+        if let Err((_, fault)) = shared.sources(rt).insert(SureArm::new(number)) {
+            return Err(fault);
+        }
     }
     Ok(())
 }

@@ -5,11 +5,10 @@ ghost use Rattle.std.specs.Prelude.{◌≡◌};
 
 use crate::asserts::{moment, same};
 use crate::callers::{Caller, Quiet, another, enter, enter_quiet, insert};
-use crate::clocks::clock_at;
 use crate::owners::Owner;
 use crate::seats::{Reaction, reacted};
 use aio_base::{Dir, Event, Interest, Key, Moment, Poll, Waker};
-use aio_devices::{MemClock, MemNotify, MemWait, ScriptedWait, SureArm, WaitAnswer};
+use aio_devices::{MemClock, MemNotify, MemWait, ScriptedWait, SureArm, WaitAnswer, clock_at};
 use aio_react::TimerHost;
 use aio_source::Polled;
 use std::alloc::Global;

@@ -3,10 +3,9 @@
 
 use crate::asserts::{may_be_sent, may_be_shared, moment, same};
 use crate::callers::{Caller, another, enter, enter_quiet, insert};
-use crate::clocks::{clock_at, fault_after};
 use crate::seats::reacted;
 use aio_base::{CountFault, Moment, Notify, TimerId, Waker};
-use aio_devices::{FailingNotify, MemClock, MemNotify, MemWait, SureArm};
+use aio_devices::{FailingNotify, MemClock, MemNotify, MemWait, SureArm, clock_at, fault_after};
 use aio_react::{Host, InsertRefusal, TimerHost};
 use std::process::Abort;
 use std::sync::Wait;
@@ -80,8 +79,9 @@ fn a_failing_notifier_is_called_once_and_leaves_the_timers_registered(
     Ok(())
 }
 
+// One timer more than the queue of operations holds.
 #[test]
-fn a_round_wakes_every_timer_that_is_due(rt: HostRuntime) -> Result<(), Fail> {
+fn a_full_queue_refuses_no_timer(rt: HostRuntime) -> Result<(), Fail> {
     let mut caller = enter_quiet(&rt, rt.alloc())?;
     let mut clock = clock_at(rt.alloc(), moment(&rt, 5))?;
     let taken = caller.insert_times(moment(&rt, 5), 1001);
@@ -107,8 +107,8 @@ fn ids_of_two_members_differ(rt: HostRuntime) -> Result<(), Fail> {
 #[test]
 fn a_lent_seat_wakes_and_takes(rt: HostRuntime) -> Result<(), Fail> {
     let mut caller = enter_quiet(&rt, rt.alloc())?;
-    let mut note = MemNotify::new();
-    same(&rt, caller.wake_with(Waker(3), &mut note), Ok(()));
+    let mut notifier = MemNotify::new();
+    same(&rt, caller.wake_with(Waker(3), &mut notifier), Ok(()));
     same(&rt, caller.take(), 8);
     assert_inserts(&rt, &mut caller.host, moment(&rt, 5), 1);
     Ok(())

@@ -15,8 +15,6 @@ mod directions;
 mod late;
 pub mod notes;
 mod source;
-#[cfg(test)]
-mod tests;
 
 pub use aio_base::Poll;
 pub use answers::{ListenRefusal, Listened, Polled};

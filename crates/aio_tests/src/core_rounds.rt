@@ -1,10 +1,9 @@
 //! What no clause says of a core's round: that its calls succeed with ample memory, through the
 //! bounds of the poller.
 
-use crate::asserts::same;
+use crate::asserts::{moment, same};
 use crate::hosts::insert;
 use crate::reactors::new_core;
-use crate::rounds::moment;
 use aio_base::{Moment, Poller, Waited, Waker};
 use aio_react::{Core, CoreRefusal, Handled, Reacted, RoundFault};
 use std::process::Abort;

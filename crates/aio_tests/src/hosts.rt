@@ -1,34 +1,43 @@
 //! A host of timers and tasks, and code over the bounds of hosts. That they are proved shows that the traits
 //! can be met, and that such code knows what its calls have done.
 
-ghost use Rattle.std.specs.Prelude.{◌≡◌, ◌-◌, ◌^◌, ◌≤◌, false, IfSome, None};
+ghost use Rattle.std.specs.Prelude.{◌≡◌, ◌-◌, ◌^◌, ◌≤◌, false, IfSome};
 ghost use Rattle.aio_react.specs.Hosts.{NotifierTells, next_id, wake_fault};
 
 use aio_base::{CountFault, Later, Moment, OutOfMemory, TimerId, Waker};
 use aio_react::{Host, InsertRefusal, TimerHost};
+use std::alloc::Global;
 
 /// The id after which a pass draws none.
 pub const LAST_ID: u64 = 0xff_ffff_ffff;
 
-const PASS: u64 = 3;
+/// The number of its pass.
+pub const PASS: u64 = 3;
 
-/// A host in its third pass that keeps the timer that it registered last and counts what else it
-/// does. Its notifier fails where it is told to.
+/// A deadline with its waker, and the id under which it is registered.
+pub type Registered = (Moment, Waker, TimerId);
+
+/// A host in its third pass that keeps its registrations in the order in which they came, and counts what
+/// else it does. It refuses what it is told to refuse, and its notifier fails where it is told to.
 #[derive(Drop)]
-pub struct Counting {
+pub struct ListHost {
+    /// What is registered.
+    pub registered: Vec<Registered>,
     /// How many ids it has drawn.
     pub drawn: u64,
-    /// What it registered last.
-    pub last: Option<(Moment, Waker, TimerId)>,
     /// How many timers it has taken out.
     pub removals: u64,
+    /// Whether it has no memory for a registration.
+    pub refuses_insert: bool,
+    /// Whether it has no memory to take one out.
+    pub refuses_removal: bool,
     wakes: u64,
-    fails: bool,
+    notifier_fails: bool,
     faults: u64,
     ghost bound: { drawn ≤ 2 ^ 40 - 1 },
 }
 
-impl Later for Counting {
+impl Later for ListHost {
     ghost use Rattle.std.specs.Prelude.{◌≤◌, refl, false};
 
     ghost notifier_is_sure = { λ h. false };
@@ -44,14 +53,16 @@ impl Later for Counting {
     ghost stays_sure = { λ a b later. refl };
 }
 
-impl Counting {
+impl ListHost {
     /// Makes the notifier's call, and tells its fault.
     fn notify(&mut self) -> Result<(), CountFault>
         ensures notifier { NotifierTells false self.old.faults self.new.faults (wake_fault result) }
-        ensures rest { self.new ≡ record self.old { faults = self.new.faults } }
+        ensures drawn { self.new.drawn ≡ self.old.drawn }
+        ensures removals { self.new.removals ≡ self.old.removals }
+        ensures registered { self.new.registered.items ≡ self.old.registered.items }
     {
         let before = self.faults;
-        if self.fails {
+        if self.notifier_fails {
             self.faults = before.saturating_add(1);
             return Err(CountFault {
                 before,
@@ -62,11 +73,12 @@ impl Counting {
     }
 }
 
-impl TimerHost for Counting {
-    ghost use Rattle.std.specs.Prelude.{◌≡◌, ◌+◌, Some};
+impl TimerHost for ListHost {
+    ghost use Rattle.std.specs.Prelude.{◌≡◌, ◌+◌, ◌++◌, ◌∷◌, []};
 
     ghost rules = { record {
-      inserted = λ old at waker id new. new.last ≡ Some (at, waker, id);
+      inserted = λ old at waker id new.
+          new.registered.items ≡ old.registered.items ++ (at, waker, id) ∷ [];
       removed = λ old at id new. new.removals ≡ old.removals + 1;
       insert_refused = λ old at waker new. Unit {0};
       removal_refused = λ old at id new. Unit {0};
@@ -82,24 +94,27 @@ impl TimerHost for Counting {
     fn insert_timer(&mut self, at: Moment, waker: Waker) -> Result<TimerId, InsertRefusal> {
         let drawn = self.drawn + 1;
         let id = TimerId((PASS << 40) + drawn);
+        if self.refuses_insert || self.registered.push((at, waker, id)).is_err() {
+            return Err(InsertRefusal::OutOfMemory);
+        }
         self.drawn = drawn;
-        self.last = Some((at, waker, id));
         match self.notify() {
             Ok(()) => Ok(id),
             Err(fault) => Err(InsertRefusal::Notify { id, fault }),
         }
     }
 
-    fn remove_timer(&mut self, _at: Moment, _id: TimerId) -> Result<(), OutOfMemory> {
-        if self.removals == u64::MAX {
+    fn remove_timer(&mut self, at: Moment, id: TimerId) -> Result<(), OutOfMemory> {
+        if self.refuses_removal || self.removals == u64::MAX {
             return Err(OutOfMemory);
         }
+        self.registered.retain(|r| r.0 != at || r.2 != id);
         self.removals += 1;
         Ok(())
     }
 }
 
-impl Host for Counting {
+impl Host for ListHost {
     fn ticker(&mut self) -> u64 {
         self.removals
     }
@@ -153,15 +168,17 @@ pub fn count_and_wake<H: Host>(host: &mut H, waker: Waker) -> (u64, Result<(), C
 }
 
 /// A host that has drawn so many ids and done nothing else, whose notifier fails or does not.
-pub fn make_counting(drawn: u64, fails: bool) -> Counting
+pub fn make_host(alloc: Global, drawn: u64, notifier_fails: bool) -> ListHost
     requires { drawn ≤ 2 ^ 40 - 1 }
 {
-    Counting {
+    ListHost {
+        registered: Vec::new(alloc),
         drawn,
-        last: None,
         removals: 0,
+        refuses_insert: false,
+        refuses_removal: false,
         wakes: 0,
-        fails,
+        notifier_fails,
         faults: 0,
     }
 }

@@ -1,5 +1,5 @@
-//! Tests of calls that cross crates: hosts of timers, rounds and cores through their bounds, a source over
-//! the poller in memory, and a source in a lock.
+//! Tests of calls that cross crates: hosts of timers, timers, rounds and cores through their bounds, and a
+//! source over the poller in memory.
 //!
 //! They stand above every crate that they use, so that none of those is proved a second time for its
 //! tests. Of other code there is a host of the tests' own, with code over any host: it has contracts, so
@@ -9,13 +9,7 @@
 #[cfg(test)]
 mod asserts;
 #[cfg(test)]
-mod books;
-#[cfg(test)]
-mod cells;
-#[cfg(test)]
 mod core_rounds;
-#[cfg(test)]
-mod devices;
 #[cfg(test)]
 mod host_tests;
 pub mod hosts;
@@ -26,8 +20,8 @@ mod polls;
 #[cfg(test)]
 mod reactors;
 #[cfg(test)]
-mod removals;
-#[cfg(test)]
 mod rounds;
 #[cfg(test)]
 mod sources;
+#[cfg(test)]
+mod timers;

@@ -1,9 +1,8 @@
 //! What no clause says of a core: that it is made with ample memory, and that its calls succeed
 //! through the bounds of its poller.
 
-use crate::asserts::same;
+use crate::asserts::{moment, same};
 use crate::hosts::insert_two;
-use crate::rounds::moment;
 use aio_base::{EventWait, Key, Poller, TimerId, Waited, Waker};
 use aio_react::{Core, CoreRefusal};
 use aio_script::ScriptPoller;

@@ -3,7 +3,7 @@
 
 ghost use Rattle.std.specs.Prelude.{◌≡◌, [], true};
 
-use crate::asserts::same;
+use crate::asserts::{moment, same};
 use aio_base::{
     Arm, ArmFault, CountFault, Dir, Event, EventWait, Interest, Key, Moment, OutOfMemory, Poll,
     TimerId, Waited, Waker,
@@ -23,13 +23,6 @@ const READABLE: Event = Event {
     key: KEY,
     on: Interest::READ,
 };
-
-/// The moment so many nanoseconds after the clock's start.
-pub(crate) fn moment(rt: &impl Abort, nanoseconds: u64) -> Moment
-    ensures { result ≡ nanoseconds }
-{
-    Moment::new(nanoseconds).expect(rt, "the moment is at most 10^18")
-}
 
 /// Registers a timer that wakes the task of this waker.
 fn insert(rt: &impl Abort, book: &mut TimerBook, deadline: u64, waker: u32) -> Result<(), Fail> {

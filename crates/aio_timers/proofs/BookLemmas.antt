@@ -4,7 +4,7 @@ use Rattle.std.specs.List.{All, filter}
 use Rattle.std.proofs.lemmas.List.Elements.{All-nil, All-cons, All-head, All-tail, All-filter, All-weaker}
 use Rattle.aio_base.specs.declared.names.TimerId.{TimerId}
 use Rattle.aio_base.specs.World.{Registration}
-use Rattle.aio_base.specs.Timers.{fires_before, placed, in_order, is_pair, without_pair, BookChange, Registers, Unregisters, changed, fold_changes, after_pass, lesser, first_deadline, IsBook}
+use Rattle.aio_base.specs.Timers.{fires_before, placed, in_order, is_pair, without_pair, BookChange, Registers, Unregisters, changed, fold_changes, lesser, first_deadline, IsBook}
 use Rattle.aio_timers.specs.Book.{first_pair}
 use Rattle.aio_timers.proofs.OrderLemmas.{fires_before-asym, fires_before-le, fires_before-trans, fires_before-total}
 
@@ -73,10 +73,6 @@ IsBook-fold_changes book (change ∷ changes) h = IsBook-fold_changes (changed c
 pub fold_changes-push : (book : List Registration) (changes : List BookChange) (change : BookChange) → fold_changes book (changes ++ change ∷ []) ≡ changed change (fold_changes book changes)
 fold_changes-push book [] change = refl
 fold_changes-push book (first ∷ changes) change = fold_changes-push (changed first book) changes change
-
--- a pass keeps it
-pub IsBook-after_pass : (now : ℕ) (book : List Registration) → IsBook book → IsBook (after_pass now book)
-IsBook-after_pass now book h = IsBook-filter _ book h
 
 -- one that fires before all of a book is placed at its front
 pub placed-front : (r : Registration) (book : List Registration) → All (Follows r) book → placed r book ≡ r ∷ book

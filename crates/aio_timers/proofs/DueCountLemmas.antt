@@ -173,10 +173,6 @@ late-few : (now : ℕ) (rs : List Registration) → late_in now rs ≤ length rs
 late-few now [] = omega arith
 late-few now (r ∷ rs) = omega (arith, one-le (nat_le r.deadline now), late-few now rs)
 
--- no more are due than there are
-pub due-few : (now : ℕ) (hs : List Held) → due_in now hs ≤ length (registrations hs)
-due-few now hs = omega (arith, late-registrations now hs, late-few now (registrations hs))
-
 -- a pass takes no more wakers than there are timers
 pub few-due_wakers : (now : ℕ) (rs : List Registration) → length (due_wakers now rs) ≤ length rs
 few-due_wakers now rs = omega (arith, due-length now rs, late-few now rs)

@@ -359,14 +359,14 @@ parent-on ns f i q h up top e = go (f.above q) refl
         no-own-child ns f q h (above ∙ ap (λ (x : ℕ). Some x) same)
 
 -- the row without the node, and what is left elsewhere
-record Skips (old new : List Node) (f : Family) (q : ℕ) (front back : List ℕ) : Type 0 where
+record RowWithout (old new : List Node) (f : Family) (q : ℕ) (front back : List ℕ) : Type 0 where
   kept : KeepsHeld old new
   row : IsRow new q (node_at new q).child (front ++ back)
   child : (k : ℕ) → k ≢ q → (node_at new k).child ≡ (node_at old k).child
   still : (j : ℕ) → f.above j ≢ Some q → ((node_at new j).next ≡ (node_at old j).next) × ((node_at new j).prev ≡ (node_at old j).prev)
 
-skips-row : (ns : List Node) (f : Family) (i q : ℕ) (front back : List ℕ) → IsFamily ns f → f.above i ≡ Some q → (f.above q ≡ None → (node_at ns q).next ≢ Some i) → f.below q ≡ front ++ i ∷ back → Skips ns (without ns i) f q front back
-skips-row ns f i q front back h up tops is =
+row-without : (ns : List Node) (f : Family) (i q : ℕ) (front back : List ℕ) → IsFamily ns f → f.above i ≡ Some q → (f.above q ≡ None → (node_at ns q).next ≢ Some i) → f.below q ≡ front ++ i ∷ back → RowWithout ns (without ns i) f q front back
+row-without ns f i q front back h up tops is =
     let p : IsParent ns q i = h.order q i up in
     let r : IsRow ns q (node_at ns q).child (front ++ i ∷ back) = rw (← is) (h.linked q p.parent) in
     let has : (j : ℕ) → 0 < times_in j (front ++ i ∷ back) → f.above j ≡ Some q = λ j c. below-has ns f q j h p.parent (omega (arith, c, ap (times_in j) is)) in
@@ -380,7 +380,7 @@ skips-row ns f i q front back h up tops is =
     go front r has all_once behind p
   where
     go : (xs : List ℕ) → IsRow ns q (node_at ns q).child (xs ++ i ∷ back) → ((j : ℕ) → 0 < times_in j (xs ++ i ∷ back) → f.above j ≡ Some q) → ((j : ℕ) → times_in j (q ∷ xs ++ i ∷ back) ≤ 1)
-        → ((j : ℕ) → (node_at ns i).next ≡ Some j → f.above j ≡ Some q) → IsParent ns q i → Skips ns (without ns i) f q xs back
+        → ((j : ℕ) → (node_at ns i).next ≡ Some j → f.above j ≡ Some q) → IsParent ns q i → RowWithout ns (without ns i) f q xs back
     go [] r has once behind p =
         let w : LeavesFirst ns (without ns i) q i = leaves-first ns q i (used-within ns q p.parent) r.2 (parent-on ns f i q h up tops) in
         let l : Leaves ns (without ns i) q i = w.leaves in
@@ -424,7 +424,7 @@ pub parted-other : (f : Family) (i q j : ℕ) (front back : List ℕ) → j ≢ 
 parted-other f i q j front back ne = ap (λ (b : Bool). cond b None (f.above j)) (other-test j i ne)
 
 pub family-without : (ns : List Node) (f : Family) (i q : ℕ) (front back : List ℕ) → IsFamily ns f → f.above i ≡ Some q → (f.above q ≡ None → (node_at ns q).next ≢ Some i) → f.below q ≡ front ++ i ∷ back → IsFamily (without ns i) (parted f i q front back)
-family-without ns f i q front back h up tops is = rest (skips-row ns f i q front back h up tops is)
+family-without ns f i q front back h up tops is = rest (row-without ns f i q front back h up tops is)
   where
     none : (k : ℕ) → ◌≡◌ {A = Option ℕ} None (Some k) → ⊥
     none k e = cc
@@ -447,7 +447,7 @@ family-without ns f i q front back h up tops is = rest (skips-row ns f i q front
         owner : (k : ℕ) → IsUsed (held_at ns k) → k ≡ q → IsUsed (held_at ns q)
         owner k u e = used-as (held_at ns q) (held_at ns k) (ap (held_at ns) (sym e)) u
 
-    rest : Skips ns (without ns i) f q front back → IsFamily (without ns i) (parted f i q front back)
+    rest : RowWithout ns (without ns i) f q front back → IsFamily (without ns i) (parted f i q front back)
     rest s =
         let was : (k : ℕ) → IsUsed (held_at (without ns i) k) → IsUsed (held_at ns k) = λ k u. used-as (held_at ns k) (held_at (without ns i) k) (sym (s.kept.held k)) u in
         record {
@@ -471,7 +471,7 @@ pub record Stands (old new : List Node) (f : Family) (i : ℕ) : Type 0 where
 
 pub without-still : (ns : List Node) (f : Family) (i q : ℕ) (front back : List ℕ) → IsFamily ns f → f.above i ≡ Some q → (f.above q ≡ None → (node_at ns q).next ≢ Some i) → f.below q ≡ front ++ i ∷ back → Stands ns (without ns i) f i
 without-still ns f i q front back h up tops is =
-    let s : Skips ns (without ns i) f q front back = skips-row ns f i q front back h up tops is in
+    let s : RowWithout ns (without ns i) f q front back = row-without ns f i q front back h up tops is in
     record { kept = s.kept; child = s.child i (λ e. no-own-child ns f q h (ap f.above (sym e) ∙ up)); still = λ j free. s.still j (λ e. none (sym free ∙ e)) }
   where
     none : ◌≡◌ {A = Option ℕ} None (Some q) → ⊥

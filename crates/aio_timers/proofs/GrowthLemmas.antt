@@ -1,5 +1,5 @@
 -- Free nodes that join the others, and a row of buckets that is filled anew.
-use Rattle.std.proofs.Common.{inl, inr, ◌⊎◌, ◌≡◌, ◌≢◌, ℕ, zero, suc, ◌+◌, ◌<◌, ◌≤◌, ◌^◌, ◌==◌, Bool, true, false, cond, List, [], ◌∷◌, ◌++◌, length, Option, None, Some, IfSome, is_some, Result, Ok, Err, IfOk, OnErr, refl, sym, ap, ◌∙◌, arith}
+use Rattle.std.proofs.Common.{inl, inr, ◌≡◌, ◌≢◌, ℕ, zero, suc, ◌+◌, ◌<◌, ◌≤◌, ◌^◌, ◌==◌, false, List, [], ◌∷◌, ◌++◌, length, Option, None, Some, IfSome, Result, Ok, Err, IfOk, OnErr, refl, sym, ap, ◌∙◌, arith}
 use Rattle.std.specs.Prelude.{nat_lt}
 use Rattle.std.specs.Int.{IsPowerOfTwo}
 use Rattle.std.specs.List.{filter_map, cons_option}
@@ -13,15 +13,15 @@ use Rattle.aio_timers.specs.Held.{Held, IsUsed, held_at, held_of, helds, node_at
 use Rattle.aio_timers.specs.Rows.{one_if, times_in, IsRun, IsRow}
 use Rattle.aio_timers.specs.Family.{Family, IsFamily, IsParent}
 use Rattle.aio_timers.specs.Heap.{IsHeap, IsRoot, one_free}
-use Rattle.aio_timers.specs.Chains.{IsTable, IsWithout, ChainsChange, used_of, bucket_in}
+use Rattle.aio_timers.specs.Chains.{IsTable, ChainsChange, used_of, bucket_in}
 use Rattle.aio_timers.specs.Sound.{registrations, IsSound}
 use Rattle.aio_timers.specs.Growth.{IsBlankRow, used_before, Rehashes, Extends, GrowsTo, Grows}
 use Rattle.aio_timers.proofs.CountLemmas.{one_if-same, one_if-other, some_or_none}
 use Rattle.aio_timers.proofs.RunLemmas.{used-within, run-within}
 use Rattle.aio_timers.proofs.FamilyLemmas.{used-as, parent-as, apart-as}
 use Rattle.aio_timers.proofs.ChainLemmas.{IsTable-frame, cond-zero}
-use Rattle.aio_timers.proofs.AlikeLemmas.{Alike, IsHeap-alike, Alike-chains, live-chains}
-use Rattle.aio_timers.proofs.SoundLemmas.{used-yes, used-some}
+use Rattle.aio_timers.proofs.AlikeLemmas.{IsHeap-alike, Alike-chains, live-chains}
+use Rattle.aio_timers.proofs.SoundLemmas.{used-some}
 
 -- ## One more free node
 
@@ -132,12 +132,6 @@ Extends-trans ns us ms free middle first a b = record {
 pub ChainsChange-refl : (ns : List Node) → ChainsChange ns ns
 ChainsChange-refl ns = record { len = refl; same = λ j. refl }
 
-pub ChainsChange-trans : (ns us ms : List Node) → ChainsChange ns us → ChainsChange us ms → ChainsChange ns ms
-ChainsChange-trans ns us ms a b = record { len = b.len ∙ a.len; same = λ j. b.same j ∙ ap (λ (x : Node). record x { chain = (node_at ms j).chain }) (a.same j) }
-
-before-below : (i : ℕ) (f : ℕ → Held) (j : ℕ) → j < i → used_before i f j ≡ used_of (f j)
-before-below i f j h = let t : nat_lt j i ≡ true = grind (arith, nat_tests) in rw t refl
-
 before-above : (i : ℕ) (f : ℕ → Held) (j : ℕ) → i ≤ j → used_before i f j ≡ 0
 before-above i f j h = let t : nat_lt j i ≡ false = grind (arith, nat_tests) in rw t refl
 
@@ -148,56 +142,6 @@ blank-table ns bs blank = record {
   members = λ b j h. sym (cond-zero ((bucket_in (held_at ns j).id (length bs)) == b) (used_before 0 (held_at ns) j) (before-above 0 (held_at ns) j (omega arith)));
   single = λ j. omega (arith, before-above 0 (held_at ns) j (omega arith));
 }
-
--- an index below a number and one, that is not that number, is below it
-lower : (j i : ℕ) → j ≢ i → (j < i) ⊎ (i + 1 ≤ j)
-lower zero zero ne = absurd (ne refl)
-lower zero (suc i) ne = inl (omega arith)
-lower (suc j) zero ne = inr (omega arith)
-lower (suc j) (suc i) ne = elim (lower j i (λ e. ne (ap (λ (x : ℕ). suc x) e))) as (λ _. (suc j < suc i) ⊎ (suc i + 1 ≤ suc j)) [ inl h ↦ inl (omega (arith, h)) | inr h ↦ inr (omega (arith, h)) ]
-
-pub none-yet : (i : ℕ) (f : ℕ → Held) → used_before i f i ≡ 0
-none-yet i f = before-above i f i (omega arith)
-
-pub next-used : (i : ℕ) (f : ℕ → Held) → is_some (f i).waker ≡ true → IsWithout (used_before (i + 1) f) (used_before i f) i
-next-used i f used j =
-    elim (cases_eq j i) as (λ _. used_before i f j + one_if j i ≡ used_before (i + 1) f j) [
-      | inl e ↦ rw e (omega (arith, none-yet i f, one_if-same i, before-below (i + 1) f i (omega arith), used-yes (f i) used))
-      | inr ne ↦ elim (lower j i ne) as (λ _. used_before i f j + one_if j i ≡ used_before (i + 1) f j) [
-        | inl h ↦ omega (arith, before-below i f j h, before-below (i + 1) f j (omega (arith, h)), one_if-other j i ne)
-        | inr h ↦ omega (arith, before-above i f j (omega (arith, h)), before-above (i + 1) f j h, one_if-other j i ne)
-      ]
-    ]
-
-pub next-free : (i : ℕ) (f : ℕ → Held) → is_some (f i).waker ≡ false → (j : ℕ) → used_before (i + 1) f j ≡ used_before i f j
-next-free i f free j =
-    elim (cases_eq j i) as (λ _. used_before (i + 1) f j ≡ used_before i f j) [
-      | inl e ↦ let none : used_of (f i) ≡ 0 = rw free refl in rw e (omega (arith, none-yet i f, before-below (i + 1) f i (omega arith), none))
-      | inr ne ↦ elim (lower j i ne) as (λ _. used_before (i + 1) f j ≡ used_before i f j) [
-        | inl h ↦ omega (arith, before-below i f j h, before-below (i + 1) f j (omega (arith, h)))
-        | inr h ↦ omega (arith, before-above i f j (omega (arith, h)), before-above (i + 1) f j h)
-      ]
-    ]
-
-pub IsTable-equal : (f : ℕ → Held) (n : ℕ) (bs : List (Option ℕ)) (used more : ℕ → ℕ) → ((j : ℕ) → more j ≡ used j) → IsTable f n bs used → IsTable f n bs more
-IsTable-equal f n bs used more same t = IsTable-frame f f n n bs used more (omega arith) (λ j h. (refl, refl)) same t
-
--- at the end all nodes in use are in their buckets
-pub rehashed : (ns ms : List Node) (bs : List (Option ℕ)) (i : ℕ) → ChainsChange ns ms → IsTable (held_at ms) (length ms) bs (used_before i (held_at ns)) → length ns ≤ i → Rehashes ns ms bs
-rehashed ns ms bs i change t over =
-    let a : Alike ns ms = Alike-chains ns ms change in
-    record {
-      change = change;
-      table = IsTable-equal (held_at ms) (length ms) bs (used_before i (held_at ns)) (λ j. used_of (held_at ms j)) (λ j.
-          let now : used_of (held_at ms j) ≡ used_of (held_at ns j) = ap (λ (b : Bool). cond b 1 0) (a.used j) in
-          elim (some_or_none (used_of (held_at ns j))) as (λ _. used_of (held_at ms j) ≡ used_before i (held_at ns) j) [
-            | inl h ↦ omega (arith, now, before-below i (held_at ns) j (omega (arith, used-within ns j (used-some (held_at ns j) h), over)))
-            | inr z ↦ omega (arith, now, z, before-le i (held_at ns) j)
-          ]) t;
-    }
-  where
-    before-le : (i : ℕ) (f : ℕ → Held) (j : ℕ) → used_before i f j ≤ used_of (f j)
-    before-le i f j = elim (nat_lt j i) as (λ (b : Bool). cond b (used_of (f j)) 0 ≤ used_of (f j)) [ true ↦ omega arith | false ↦ omega arith ]
 
 -- ## Both
 

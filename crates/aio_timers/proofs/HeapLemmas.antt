@@ -13,7 +13,7 @@ use Rattle.aio_timers.proofs.CountLemmas.{one_if-same, one_if-other, some_or_non
 use Rattle.aio_timers.proofs.RunLemmas.{used-within, times-append, run-within, run-frame, row-run, row-frame, Split, split-at}
 use Rattle.aio_timers.proofs.WriteLemmas.{apart, here, Frees, frees}
 use Rattle.aio_timers.proofs.FamilyLemmas.{none-led, below-has, has-below, none-below, inside-of, strict, used-as, parent-as, row-link, same-test, other-test, put, put-here, put-other, family-under, under-held, under-still, orphaned, orphaned-other, orphans, last_or, last-inside, row-before, row-rest, parted, parted-here, parted-other, family-without, Stands, without-still}
-use Rattle.aio_timers.proofs.MeltLemmas.{melts-top}
+use Rattle.aio_timers.proofs.MeldLemmas.{melds-top}
 use Rattle.aio_timers.proofs.AlikeLemmas.{held-read}
 
 -- ## What all nodes hold
@@ -386,27 +386,27 @@ opens-inner ns us mid root at first free left child is h used ne =
 
 -- what a merge leaves of them
 module _ (mid new : List Node) (f : Family) (l : Option ℕ) (ks : List ℕ) (top : ℕ) (t : AreTops mid f l ks) (m : MergesTo mid new f ks top) where
-  merged-root : IsRoot new m.melts.now top
-  merged-root = record { top = melts-top mid new f l ks (top ∷ []) top t m.melts (omega (arith, one_if-same top)); next = m.next; prev = m.prev }
+  merged-root : IsRoot new m.melds.now top
+  merged-root = record { top = melds-top mid new f l ks (top ∷ []) top t m.melds (omega (arith, one_if-same top)); next = m.next; prev = m.prev }
 
   -- each other root was one before
-  merged-other : (j : ℕ) → IsTop new m.melts.now j → j ≢ top → IsTop mid f j × (times_in j ks ≡ 0)
+  merged-other : (j : ℕ) → IsTop new m.melds.now j → j ≢ top → IsTop mid f j × (times_in j ks ≡ 0)
   merged-other j r ne = elim (some_or_none (times_in j ks)) as (λ _. IsTop mid f j × (times_in j ks ≡ 0)) [
-    | inl c ↦ absurd (omega (arith, m.melts.others j c r.free, one_if-other j top ne))
-    | inr z ↦ (record { used = used-as (held_at mid j) (held_at new j) (sym (m.melts.kept.held j)) r.used; free = sym (m.melts.outside j z) ∙ r.free }, z)
+    | inl c ↦ absurd (omega (arith, m.melds.others j c r.free, one_if-other j top ne))
+    | inr z ↦ (record { used = used-as (held_at mid j) (held_at new j) (sym (m.melds.kept.held j)) r.used; free = sym (m.melds.outside j z) ∙ r.free }, z)
   ]
 
-  merged-beside : (r : ℕ) → IsRoot mid f r → times_in r ks ≡ 0 → IsRoot new m.melts.now r
+  merged-beside : (r : ℕ) → IsRoot mid f r → times_in r ks ≡ 0 → IsRoot new m.melds.now r
   merged-beside r is z =
-      let still : ((node_at new r).next ≡ (node_at mid r).next) × ((node_at new r).prev ≡ (node_at mid r).prev) = m.melts.still r z is.top.free in
+      let still : ((node_at new r).next ≡ (node_at mid r).next) × ((node_at new r).prev ≡ (node_at mid r).prev) = m.melds.still r z is.top.free in
       record {
-        top = record { used = used-as (held_at new r) (held_at mid r) (m.melts.kept.held r) is.top.used; free = m.melts.outside r z ∙ is.top.free };
+        top = record { used = used-as (held_at new r) (held_at mid r) (m.melds.kept.held r) is.top.used; free = m.melds.outside r z ∙ is.top.free };
         next = still.0 ∙ is.next;
         prev = still.1 ∙ is.prev;
       }
 
   merged-spares : (free : Option ℕ) → Spares mid free → Spares new free
-  merged-spares free s = spares-keep mid new f free t.family m.melts.kept (λ j none idle. let still = m.melts.still j (out j idle) none in still.0) s
+  merged-spares free s = spares-keep mid new f free t.family m.melds.kept (λ j none idle. let still = m.melds.still j (out j idle) none in still.0) s
     where
       out : (j : ℕ) → (IsUsed (held_at mid j) → ⊥) → times_in j ks ≡ 0
       out j idle = elim (some_or_none (times_in j ks)) as (λ _. times_in j ks ≡ 0) [ inl c ↦ let r : IsTop mid f j = t.tops j c in absurd (idle r.used) | inr z ↦ z ]
@@ -436,11 +436,11 @@ merged-alone ns mid new at first None o m = merged-none ns mid new at None first
 merged-alone ns mid new at first (Some top) o m =
     let s : Spares new (Some at) = merged-spares mid new o.family first o.row top o.tops m (Some at) o.spares in
     record {
-      helds_are = helds-same mid new m.melts.kept ∙ o.helds_are;
+      helds_are = helds-same mid new m.melds.kept ∙ o.helds_are;
       heap = record {
-        family = m.melts.now;
+        family = m.melds.now;
         spare = s.spare;
-        rows = m.melts.family;
+        rows = m.melds.family;
         root_is = merged-root mid new o.family first o.row top o.tops m;
         single = λ j t. elim (cases_eq j top) as (λ _. ◌≡◌ {A = Option ℕ} (Some top) (Some j)) [
           | inl e ↦ ap (λ (x : ℕ). Some x) (sym e)
@@ -460,17 +460,17 @@ pub record Rejoins (ns new : List Node) (at root top : ℕ) : Type 0 where
 
 pub rejoins : (ns mid new : List Node) (at root top : ℕ) (first : Option ℕ) → (o : Opens ns mid at (Some root) first) → MergesTo mid new o.family o.row top → Rejoins ns new at root top
 rejoins ns mid new at root top first o m =
-    let rr : IsRoot new m.melts.now root = merged-beside mid new o.family first o.row top o.tops m root o.root_is.0 o.root_is.1 in
-    let rt : IsRoot new m.melts.now top = merged-root mid new o.family first o.row top o.tops m in
-    let j : Joins new (joined new root top) (upper new root top) (Some at) = joins new m.melts.now root top (Some at) m.melts.family rr rt
-    (λ e. omega (arith, o.root_is.1, m.melts.once top, one_if-same top, ap (λ (x : ℕ). times_in x o.row) e))
+    let rr : IsRoot new m.melds.now root = merged-beside mid new o.family first o.row top o.tops m root o.root_is.0 o.root_is.1 in
+    let rt : IsRoot new m.melds.now top = merged-root mid new o.family first o.row top o.tops m in
+    let j : Joins new (joined new root top) (upper new root top) (Some at) = joins new m.melds.now root top (Some at) m.melds.family rr rt
+    (λ e. omega (arith, o.root_is.1, m.melds.once top, one_if-same top, ap (λ (x : ℕ). times_in x o.row) e))
     (λ j t ne. elim (cases_eq j top) as (λ _. j ≡ top) [
       | inl e ↦ e
       | inr nt ↦ let was = merged-other mid new o.family first o.row top o.tops m j t nt in absurd (ne (cc (o.others j was.0 was.1)))
     ]) (merged-spares mid new o.family first o.row top o.tops m (Some at) o.spares) in
     record {
-      first = inside-of new m.melts.now root m.melts.family rr.top.used;
-      second = inside-of new m.melts.now top m.melts.family rt.top.used;
-      len = m.melts.kept.len ∙ sym (length-map mid held_of) ∙ ap (λ (hs : List Held). length hs) o.helds_are ∙ length-set (helds ns) at _ ∙ length-map ns held_of;
-      holds = record { heap = j.heap; helds_are = helds-same new (joined new root top) j.kept ∙ helds-same mid new m.melts.kept ∙ o.helds_are };
+      first = inside-of new m.melds.now root m.melds.family rr.top.used;
+      second = inside-of new m.melds.now top m.melds.family rt.top.used;
+      len = m.melds.kept.len ∙ sym (length-map mid held_of) ∙ ap (λ (hs : List Held). length hs) o.helds_are ∙ length-set (helds ns) at _ ∙ length-map ns held_of;
+      holds = record { heap = j.heap; helds_are = helds-same new (joined new root top) j.kept ∙ helds-same mid new m.melds.kept ∙ o.helds_are };
     }

@@ -1,13 +1,12 @@
 pub mod OrderLemmas
 pub mod BookLemmas
 pub mod PassLemmas
-pub mod OpLemmas
 mod ColumnLemmas
 mod CountLemmas
 mod RunLemmas
 mod WriteLemmas
 mod FamilyLemmas
-mod MeltLemmas
+mod MeldLemmas
 mod HeapLemmas
 mod LeastLemmas
 pub mod DueCountLemmas

@@ -1,15 +1,8 @@
 -- The order of registrations, by deadline and then by id.
-use Rattle.std.proofs.Common.{◌≡◌, ℕ, ◌<◌, ◌≤◌, ◌⊎◌, true, false, arith}
+use Rattle.std.proofs.Common.{◌≡◌, ◌≤◌, true, false, arith}
 use Rattle.std.proofs.lemmas.Bool.Decides.{nat_tests}
 use Rattle.aio_base.specs.World.{Registration}
 use Rattle.aio_base.specs.Timers.{fires_before, is_pair}
-
--- what the tests tell of the numbers
-pub fires_before-tells : (a b : Registration) → fires_before a b ≡ true → (a.deadline < b.deadline) ⊎ ((a.deadline ≡ b.deadline) × (a.id < b.id))
-fires_before-tells a b h = grind (arith, nat_tests)
-
-pub is_pair-tells : (d n : ℕ) (r : Registration) → is_pair d n r ≡ true → (r.deadline ≡ d) × (r.id ≡ n)
-is_pair-tells d n r h = grind (arith, nat_tests)
 
 -- no two registrations fire before each other, and none before itself
 pub fires_before-asym : (a b : Registration) → fires_before a b ≡ true → fires_before b a ≡ false

@@ -38,9 +38,6 @@ used-yes h e = rw e refl
 pub used-no : (h : Held) → h.waker ≡ None → used_of h ≡ 0
 used-no h e = rw e refl
 
-pub used-le : (h : Held) → used_of h ≤ 1
-used-le h = elim (is_some h.waker) as (λ (b : Bool). cond b 1 0 ≤ 1) [ true ↦ omega arith | false ↦ omega arith ]
-
 pub used-some : (h : Held) → 0 < used_of h → is_some h.waker ≡ true
 used-some h = go h.waker
   where
@@ -160,11 +157,6 @@ absent ns bs root free used d i k s is kt none =
           other-pair d i (held_at ns j) r its.deadline_is its.id_is (none j (omega (arith, inside, used-yes (held_at ns j) its.used)))
       | inr ne ↦ other-id d i r (λ e. ne (sym its.id_is ∙ e))
     ])
-
--- with no node nothing is there
-pub absent-empty : (ns : List Node) (d i : ℕ) → length ns ≡ 0 → IsAbsent d i (helds ns)
-absent-empty [] d i e = λ k r lt. absurd (omega (arith, lt))
-absent-empty (x ∷ ns) d i e = absurd (omega (arith, e))
 
 its-pair : (d i : ℕ) (h : Held) → is_pair_of d i h ≡ true → (h.deadline ≡ d) × (h.id ≡ i)
 its-pair d i h k = grind (arith, nat_tests)

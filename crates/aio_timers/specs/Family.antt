@@ -55,7 +55,7 @@ pub record KeepsHeld (old new : List Node) : Type 0 where
 
 -- Of the roots of a row these ones are left: each other one has a parent now. All other nodes have
 -- the parent that they had, and other roots and free nodes have the links that they had.
-pub record Melts (old new : List Node) (f : Family) (ks left : List ℕ) : Type 0 where
+pub record Melds (old new : List Node) (f : Family) (ks left : List ℕ) : Type 0 where
   pub now : Family
   pub family : IsFamily new now
   pub kept : KeepsHeld old new
@@ -75,24 +75,24 @@ pub record Pairs (old new : List Node) (f : Family) (ks : List ℕ) (rest done :
   pub made : List ℕ
   pub coming_run : IsRun new rest coming
   pub made_run : IsRun new done made
-  pub melts : Melts old new f ks (coming ++ made)
+  pub melds : Melds old new f ks (coming ++ made)
   -- until a root is made, nothing is written
   pub none : done ≡ None → (coming ≡ ks) × (new ≡ old)
 
 -- the second pass, at some time: the root that was made, and those that are still to come
-pub record GathersAt (old new : List Node) (f : Family) (ks : List ℕ) (rest : Option ℕ)
+pub record CombinesAt (old new : List Node) (f : Family) (ks : List ℕ) (rest : Option ℕ)
     (top : ℕ) : Type 0 where
   pub coming : List ℕ
   pub run : IsRun new rest coming
-  pub melts : Melts old new f ks (top ∷ coming)
+  pub melds : Melds old new f ks (top ∷ coming)
 
-abbrev pub Gathers : List Node → List Node → Family → List ℕ → Option ℕ → Option ℕ → Type 0
-Gathers old new f ks rest None = (ks ≡ []) × (new ≡ old)
-Gathers old new f ks rest (Some top) = GathersAt old new f ks rest top
+abbrev pub Combines : List Node → List Node → Family → List ℕ → Option ℕ → Option ℕ → Type 0
+Combines old new f ks rest None = (ks ≡ []) × (new ≡ old)
+Combines old new f ks rest (Some top) = CombinesAt old new f ks rest top
 
 -- a row became one tree, whose root has no siblings
 pub record MergesTo (old new : List Node) (f : Family) (ks : List ℕ) (top : ℕ) : Type 0 where
-  pub melts : Melts old new f ks (top ∷ [])
+  pub melds : Melds old new f ks (top ∷ [])
   pub next : (node_at new top).next ≡ None
   pub prev : (node_at new top).prev ≡ None
 

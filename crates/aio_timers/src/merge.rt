@@ -6,7 +6,7 @@ ghost use Rattle.aio_timers.specs.Held.{held_at, node_at};
 ghost use Rattle.aio_timers.specs.Precedes.{precedes};
 ghost use Rattle.aio_timers.specs.Writes.{joined, lower, upper, paired, behind_pair, upper_of_pair};
 ghost use Rattle.aio_timers.specs.Rows.{IsInside};
-ghost use Rattle.aio_timers.specs.Family.{Family, AreTops, Pairs, Gathers, Merges};
+ghost use Rattle.aio_timers.specs.Family.{Family, AreTops, Pairs, Combines, Merges};
 
 use crate::link::Link;
 use crate::nodes::Nodes;
@@ -98,11 +98,11 @@ fn pair(nodes: &mut Nodes, first: Link) -> Link
 }
 
 /// The second pass: joins the trees of a row with each other, from the first of the row on.
-fn gather(nodes: &mut Nodes, first: Link) -> Option<usize>
+fn combine(nodes: &mut Nodes, first: Link) -> Option<usize>
     requires few { length nodes.old < 2 ^ 32 }
     requires tops { (f : Family) × (ks : List ℕ) × AreTops nodes.old f first ks }
     ensures { (f : Family) (ks : List ℕ) → AreTops nodes.old f first ks
-        → Gathers nodes.old nodes.new f ks None result }
+        → Combines nodes.old nodes.new f ks None result }
 {
     let mut top = first.get()?;
     let mut rest = next_of(nodes, top);
@@ -122,7 +122,7 @@ pub(crate) fn merge(nodes: &mut Nodes, first: Link) -> Option<usize>
         → Merges nodes.old nodes.new f ks result }
 {
     let pairs = pair(nodes, first);
-    let top = gather(nodes, pairs)?;
+    let top = combine(nodes, pairs)?;
     set_alone(nodes, top);
     Some(top)
 }

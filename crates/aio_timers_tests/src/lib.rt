@@ -4,6 +4,10 @@
 //! are three calls over plain numbers. They have contracts, so that wrong ones are refused.
 #![tactic(auto)]
 
+#[cfg(test)]
+mod asserts;
+#[cfg(test)]
+mod books;
 pub mod calls;
 #[cfg(test)]
 mod tests;

@@ -1,16 +1,13 @@
 //! What no clause says, that room is made with ample memory and that a book can be shared between
 //! threads; and calls one after the other, with growth, in heaps of several shapes.
 
+use crate::asserts::moment;
 use crate::calls::{passed, register, unregister};
-use aio_base::{Moment, TimerId, Waker};
+use aio_base::{TimerId, Waker};
 use aio_timers::TimerBook;
 use std::alloc::Global;
 use std::process::Abort;
 use std::test::Fail;
-
-fn moment(rt: &impl Abort, nanoseconds: u64) -> Moment {
-    Moment::new(nanoseconds).expect(rt, "the moment is at most 10^18")
-}
 
 fn insert(rt: &impl Abort, book: &mut TimerBook, deadline: u64, id: u64, waker: u32) {
     assert!(rt;

@@ -11,8 +11,9 @@ use Rattle.aio_base.specs.declared.steps.LineFault.{LineFault}
 use Rattle.aio_base.specs.declared.steps.LineFault.TheVariants as fault
 use Rattle.aio_base.specs.declared.steps.Step.{Step}
 use Rattle.aio_base.specs.declared.steps.Step.TheVariants as step
+use Rattle.aio_base.specs.World.{last_moment}
 use Rattle.aio_base.specs.Text.{dir_text, flags_of, flags_text}
-use Rattle.aio_base.specs.Lines.{numeral, last_number, last_moment, HasSpelling, StepWord, Text, Number, limit_word, step_words, SpellAll}
+use Rattle.aio_base.specs.Lines.{numeral, last_number, HasSpelling, StepWord, Text, Number, limit_word, step_words, SpellAll}
 use Rattle.aio_trace.specs.Reading.{◌>>=◌, with_rest, up_to, take_number, not_zero, take_period, dir_of, take_direction, flags_of_word, take_flags, some_up_to, limit_of, take_limit, ended, timer_of, set_behind, fault_line_of, step_of_words}
 
 -- ## Places

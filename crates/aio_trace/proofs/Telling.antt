@@ -13,8 +13,9 @@ use Rattle.aio_base.specs.declared.steps.LineFault.{LineFault}
 use Rattle.aio_base.specs.declared.steps.LineFault.TheVariants as fault
 use Rattle.aio_base.specs.declared.steps.Step.{Step}
 use Rattle.aio_base.specs.declared.steps.Step.TheVariants as step
+use Rattle.aio_base.specs.World.{last_moment}
 use Rattle.aio_base.specs.Text.{dir_text, flags_text}
-use Rattle.aio_base.specs.Lines.{numeral, last_number, last_moment, is_from_to, HasSpelling, limit_word, step_words, Spells, SpellAll, Asked, ANumber, AMoment, APeriod, ALimit, ADirection, SomeFlags, Form, plain, choose, no_more, fault_in, fault_of_chosen, fault_of_choice, fault_in_form, fault_of_words}
+use Rattle.aio_base.specs.Lines.{numeral, last_number, is_from_to, HasSpelling, limit_word, step_words, Spells, SpellAll, Asked, ANumber, AMoment, APeriod, ALimit, ADirection, SomeFlags, Form, plain, choose, no_more, fault_in, fault_of_chosen, fault_of_choice, fault_in_form, fault_of_words}
 use Rattle.aio_trace.specs.declared.reading.Command.{Command}
 use Rattle.aio_trace.specs.declared.reading.Command.TheVariants as command
 use Rattle.aio_trace.specs.Reading.{◌>>=◌, with_rest, up_to, take_number, not_zero, take_period, take_direction, take_flags, some_up_to, take_limit, ended, del_of, poll_of, new_of, listener_poll_of, drop_of, timer_at_of, timer_every_of, timer_chosen, timer_of, tick_of, set_at_of, set_every_of, set_chosen, set_behind, set_of, end_of, now_of, event_of, fault_chosen, fault_line_of, begin_of, command_named, step_of, step_by, step_of_words}

@@ -9,7 +9,8 @@ use Rattle.aio_base.specs.declared.steps.LineFault.{LineFault}
 use Rattle.aio_base.specs.declared.steps.LineFault.TheVariants as fault
 use Rattle.aio_base.specs.declared.steps.Step.{Step}
 use Rattle.aio_base.specs.declared.steps.Step.TheVariants as step
-use Rattle.aio_base.specs.Lines.{body_of, is_allowed, last_moment, last_number, line_bytes, numeral, words_in}
+use Rattle.aio_base.specs.World.{last_moment}
+use Rattle.aio_base.specs.Lines.{body_of, is_allowed, last_number, line_bytes, numeral, words_in}
 use Rattle.aio_trace.specs.declared.reading.Command.{Command}
 use Rattle.aio_trace.specs.declared.reading.Command.TheVariants as command
 

@@ -3,7 +3,8 @@
 //! other line is left to `reading`.
 
 ghost use Rattle.std.specs.Prelude.{◌≡◌, ◌<◌, ◌≤◌, ◌+◌, ◌^◌, ℕ, [], None, Ok, Some, IfSome, OnSome, length};
-ghost use Rattle.aio_base.specs.Lines.{last_moment, last_number, words_in};
+ghost use Rattle.aio_base.specs.World.{last_moment};
+ghost use Rattle.aio_base.specs.Lines.{last_number, words_in};
 ghost use Rattle.aio_trace.specs.Reading.{begin_of, event_of, fault_line_of, listener_poll_of, new_of, poll_of, set_of, step_of_words, take_direction, take_flags, take_limit, take_number, take_period, tick_of, timer_of};
 
 use crate::reading::moment_at;

@@ -3,7 +3,8 @@
 
 ghost use Rattle.std.specs.Prelude.{◌≡◌, ◌↔◌, None, Some, Ok, Err, MatchResult, IfOk, if◌then◌else◌, ◌≤◌, ◌^◌};
 ghost use Rattle.std.specs.List.{list_all};
-ghost use Rattle.aio_base.specs.Lines.{Reads, body_of, fault_of, is_allowed, last_moment, last_number, words_in};
+ghost use Rattle.aio_base.specs.World.{last_moment};
+ghost use Rattle.aio_base.specs.Lines.{Reads, body_of, fault_of, is_allowed, last_number, words_in};
 ghost use Rattle.aio_base.specs.Trace.{is_header};
 ghost use Rattle.aio_base.specs.declared.steps.LineFault.{LineFault};
 ghost use Rattle.aio_base.specs.declared.steps.Step.{Step};

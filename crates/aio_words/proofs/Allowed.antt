@@ -7,17 +7,17 @@ use mathlib.Core.Logic.{dite}
 use native.Mathlib.Decide.{ℕ_discrete}
 use lib.ListN.{get_elem?}
 use Rattle.atomic_table.specs.Table.{step, keeps, Allows, Splits, Joins}
-use Rattle.aio_base.specs.declared.seats.WordStep.{WordStep}
-use Rattle.aio_base.specs.declared.seats.WordStep.TheVariants as word_step
-use Rattle.aio_base.specs.declared.seats.SeatView.{SeatView}
-use Rattle.aio_base.specs.declared.seats.Role.TheVariants as role
-use Rattle.aio_base.specs.SharedWords.{WordRule, IsFree, joined, new_view, spent_view, after, place_of, found_by, left_by, May, mask_place, blocked_place, held}
-use Rattle.aio_base.proofs.WordFrames.{idle_holds_none}
-use Rattle.aio_base.proofs.WordSteps.{step_keeps_rule}
-use Rattle.aio_base.proofs.WordMoves.{split_keeps_rule, join_keeps_rule}
-use Rattle.aio_base.proofs.SeatLists.{beside_set}
+use Rattle.aio_rules.specs.declared.seats.WordStep.{WordStep}
+use Rattle.aio_rules.specs.declared.seats.WordStep.TheVariants as word_step
+use Rattle.aio_rules.specs.declared.seats.SeatView.{SeatView}
+use Rattle.aio_rules.specs.declared.seats.Role.TheVariants as role
+use Rattle.aio_rules.specs.SharedWords.{WordRule, IsFree, joined_seat, new_view, with_one_more, spent_view, after, place_of, found_by, left_by, May, mask_place, blocked_place, held}
+use Rattle.aio_rules.proofs.WordFrames.{idle_holds_none}
+use Rattle.aio_rules.proofs.WordSteps.{step_keeps_rule}
+use Rattle.aio_rules.proofs.WordMoves.{split_keeps_rule, join_keeps_rule}
+use Rattle.aio_rules.proofs.SeatLists.{beside_set}
 use Rattle.aio_words.specs.Seats.{WordsValue, SeatValue}
-use Rattle.aio_words.specs.Plays.{Sitter, Ruled, Makes, LoadsTicker, AddsTicker, SetsBit, LoadsBlocked, ExchangesNotified, StoresBlocked, SwapsMask, LoadsMask, SwapsNotified}
+use Rattle.aio_words.specs.Plays.{SeatState, Ruled, Makes, LoadsTicker, AddsTicker, SetsBit, LoadsBlocked, ExchangesNotified, StoresBlocked, SwapsMask, LoadsMask, SwapsNotified}
 
 -- a step that the views of a table and of a seat may make, which is what contracts ask, may be made at what is inside
 pub may_inside : {table shown : WordsValue} {seat seen : SeatValue} (s : WordStep) → table ≡ shown → seat ≡ seen → May shown.parkers seen.view s → May table.parkers seat.view s
@@ -41,9 +41,9 @@ chosen : (b : Bool) (x y : ℕ) → (if b then x else y) ≡ either b x y
 chosen true x y = refl
 chosen false x y = refl
 
-module _ (n slots id : ℕ) (me : Sitter) where
+module _ (n slots id : ℕ) (me : SeatState) where
   -- A kind of step, by the number that it finds, on one word: it is allowed where in each state the rule has it leave what the call leaves, the seat may make it, and it is told.
-  by_step : (made : ℕ → WordStep) (at : ℕ) → ((x : ℕ) → place_of (made x) ≡ at) → ((x : ℕ) → found_by (made x) ≡ x) → (leaves : ℕ → ℕ) (Told : ℕ → Sitter → Type 0)
+  by_step : (made : ℕ → WordStep) (at : ℕ) → ((x : ℕ) → place_of (made x) ≡ at) → ((x : ℕ) → found_by (made x) ≡ x) → (leaves : ℕ → ℕ) (Told : ℕ → SeatState → Type 0)
       → ((words : List ℕ) (views : List SeatView) → WordRule n words views → get_elem? views id ≡ some me.0
       → let x : ℕ = get_or words at 0 in (left_by (made x) ≡ leaves x) × May n me.0 (made x) × Told x (after (made x) me.0, me.1))
       → Allows (Ruled n) slots id me at leaves Told
@@ -117,11 +117,11 @@ module _ (n slots id : ℕ) (me : Sitter) where
   swaps_notified _ may = by_step word_step.SwapNotified 1 (λ _. refl) (λ _. refl) (λ _. 0) (SwapsNotified (step slots 1 0 0 none) me) (λ words views rule stands. (refl, may, refl))
 
 -- a new pass, and a pass that takes in another, as the table asks
-pub splits : (n id : ℕ) (v : SeatView) → Splits (Ruled n) id v v (new_view v.seen)
+pub splits : (n id : ℕ) (v : SeatView) → Splits (Ruled n) id v (with_one_more v) (new_view v)
 splits n id v s rule stands = split_keeps_rule n s.words s.views id v rule stands
 
-pub joins : (n id : ℕ) (v : SeatView) (other : ℕ) (w : SeatView) → v.role ≡ role.Pass → IsFree w → Joins (Ruled n) id v other w (joined v w) spent_view
-joins n id v other w pass free s rule stands apart found = join_keeps_rule n s.words s.views id other v w rule stands pass apart (sym (beside_set s.views id other (joined v w) apart) ∙ found) free
+pub joins : (n id : ℕ) (v : SeatView) (other : ℕ) (w : SeatView) → v.role ≡ role.Pass → IsFree w → Joins (Ruled n) id v other w (joined_seat v w) spent_view
+joins n id v other w pass free s rule stands apart found = join_keeps_rule n s.words s.views id other v w rule stands pass apart (sym (beside_set s.views id other (joined_seat v w) apart) ∙ found) free
 
 -- one, shifted by the place of a bit
 pub shifted : (bit : ℕ) → bit < 64 → 1 * 2 ^ bit % 2 ^ 64 ≡ 2 ^ bit

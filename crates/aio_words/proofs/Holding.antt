@@ -1,10 +1,10 @@
 -- The round seat between calls: which parker it holds, and what stays of it over a step.
 use Rattle.std.proofs.Common.{◌≡◌, ℕ, ◌+◌, ◌*◌, ◌<◌, Bool, true, false, if◌then◌else◌, refl, sym, ap, ◌∙◌, arith}
-use Rattle.aio_base.specs.declared.seats.Mode.{Mode}
-use Rattle.aio_base.specs.declared.seats.Mode.TheVariants as mode
-use Rattle.aio_base.specs.declared.seats.WordStep.TheVariants as word_step
-use Rattle.aio_base.specs.SharedWords.{after, held, word_count}
-use Rattle.aio_base.proofs.WordSteps.{if_is}
+use Rattle.aio_rules.specs.declared.seats.Mode.{Mode}
+use Rattle.aio_rules.specs.declared.seats.Mode.TheVariants as mode
+use Rattle.aio_rules.specs.declared.seats.WordStep.TheVariants as word_step
+use Rattle.aio_rules.specs.SharedWords.{after, held, word_count}
+use Rattle.aio_rules.proofs.WordSteps.{if_is}
 use Rattle.aio_words.specs.Seats.{SeatValue, HoldsOnly, is_waiting}
 use Rattle.aio_words.specs.Steps.{stepped}
 

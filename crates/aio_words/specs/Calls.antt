@@ -2,11 +2,11 @@
 use Rattle.std.specs.Prelude.{◌≡◌, ◌≢◌, ℕ, Bool, true, false, List, [], ◌∷◌, Result, Ok, Err, IsOk}
 use Rattle.aio_base.specs.declared.outcomes.CountFault.{CountFault}
 use Rattle.aio_base.specs.declared.outcomes.Failed.{Failed}
-use Rattle.aio_base.specs.declared.seats.WordStep.{WordStep}
-use Rattle.aio_base.specs.declared.seats.WordStep.TheVariants as word_step
-use Rattle.aio_base.specs.declared.seats.SeatView.{SeatView}
+use Rattle.aio_rules.specs.declared.seats.WordStep.{WordStep}
+use Rattle.aio_rules.specs.declared.seats.WordStep.TheVariants as word_step
+use Rattle.aio_rules.specs.declared.seats.SeatView.{SeatView}
 use Rattle.aio_base.specs.Devices.{raised}
-use Rattle.aio_base.specs.WordCalls.{and_did, Found, slot_steps, wins, park_steps}
+use Rattle.aio_rules.specs.WordCalls.{and_did, Found, slot_steps, wins, park_steps}
 use Rattle.aio_words.specs.Seats.{SeatValue}
 use Rattle.aio_words.specs.Steps.{did_all}
 

@@ -1,26 +1,26 @@
 -- The rule of the words as the table takes it, and what a step of each kind tells its seat.
 use Rattle.std.specs.Prelude.{◌≡◌, ℕ, ◌-◌, ◌^◌, ◌≤◌}
 use Rattle.atomic_table.specs.Table.{State, Me, Step}
-use Rattle.aio_base.specs.declared.seats.Role.TheVariants as role
-use Rattle.aio_base.specs.declared.seats.WordStep.{WordStep}
-use Rattle.aio_base.specs.declared.seats.WordStep.TheVariants as word_step
-use Rattle.aio_base.specs.declared.seats.SeatView.{SeatView}
-use Rattle.aio_base.specs.SharedWords.{WordRule, after, mask_place, blocked_place}
+use Rattle.aio_rules.specs.declared.seats.Role.TheVariants as role
+use Rattle.aio_rules.specs.declared.seats.WordStep.{WordStep}
+use Rattle.aio_rules.specs.declared.seats.WordStep.TheVariants as word_step
+use Rattle.aio_rules.specs.declared.seats.SeatView.{SeatView}
+use Rattle.aio_rules.specs.SharedWords.{WordRule, after, mask_place, blocked_place}
 
 -- a seat's view beside the slots that it holds, of which there are none
-abbrev pub Sitter : Type 0
-Sitter = Me (Unit {0}) SeatView
+abbrev pub SeatState : Type 0
+SeatState = Me (Unit {0}) SeatView
 
 abbrev pub Ruled : ℕ → State (Unit {0}) SeatView → Type 0
 Ruled parkers s = WordRule parkers s.words s.views
 
 -- the seat made this one step
-abbrev pub Makes : WordStep → Sitter → Sitter → Type 0
+abbrev pub Makes : WordStep → SeatState → SeatState → Type 0
 Makes s old new = new ≡ (after s old.0, old.1)
 
 -- what a step tells: of its word and operands, the seat before, the number found and the seat after
 abbrev pub Tells : Type 1
-Tells = Step (Unit {0}) → Sitter → ℕ → Sitter → Type 0
+Tells = Step (Unit {0}) → SeatState → ℕ → SeatState → Type 0
 
 -- by the rule a load gives no less than the seat has seen, and to the round seat exactly that
 abbrev pub LoadsTicker : Tells

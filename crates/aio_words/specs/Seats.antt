@@ -1,12 +1,12 @@
 -- What contracts see of the words and of their seats, and what each type keeps between calls.
 use Rattle.std.specs.Prelude.{◌≡◌, ◌⊎◌, ℕ, ◌≤◌, ◌<◌, Bool, true, false, Some}
 use Rattle.atomic_table.specs.Seated.{TableId}
-use Rattle.aio_base.specs.declared.seats.Role.TheVariants as role
-use Rattle.aio_base.specs.declared.seats.Owed.TheVariants as owed
-use Rattle.aio_base.specs.declared.seats.Mode.{Mode}
-use Rattle.aio_base.specs.declared.seats.Mode.TheVariants as mode
-use Rattle.aio_base.specs.declared.seats.SeatView.{SeatView}
-use Rattle.aio_base.specs.SharedWords.{word_count, mask_place, held, IsFree}
+use Rattle.aio_rules.specs.declared.seats.Role.TheVariants as role
+use Rattle.aio_rules.specs.declared.seats.Owed.TheVariants as owed
+use Rattle.aio_rules.specs.declared.seats.Mode.{Mode}
+use Rattle.aio_rules.specs.declared.seats.Mode.TheVariants as mode
+use Rattle.aio_rules.specs.declared.seats.SeatView.{SeatView}
+use Rattle.aio_rules.specs.SharedWords.{word_count, mask_place, held, IsFree}
 
 -- words: which they are, and for how many parkers
 pub record WordsValue : Type 0 where

@@ -1,7 +1,7 @@
 -- A step of a seat, in what contracts see: which steps it may make, and what it is after them.
-use Rattle.aio_base.specs.declared.seats.WordStep.{WordStep}
-use Rattle.aio_base.specs.SharedWords.{May, after}
-use Rattle.aio_base.specs.WordCalls.{and_did}
+use Rattle.aio_rules.specs.declared.seats.WordStep.{WordStep}
+use Rattle.aio_rules.specs.SharedWords.{May, after}
+use Rattle.aio_rules.specs.WordCalls.{and_did}
 use Rattle.std.specs.Prelude.{List}
 use Rattle.aio_words.specs.Seats.{WordsValue, SeatValue, Belongs}
 

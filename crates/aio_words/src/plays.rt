@@ -1,13 +1,13 @@
 //! The rule of the words as the table takes it, and what each kind of step tells its seat.
 
-use aio_base::SeatView;
+use aio_rules::SeatView;
 use atomic_table::{Join, Play, Split, TableRule};
 
 /// The rule of the words. The table is told once for how many parkers it is.
 pub struct Rule;
 
 impl TableRule<(), SeatView, u32> for Rule {
-    ghost use Rattle.aio_base.specs.SharedWords.{first_view};
+    ghost use Rattle.aio_rules.specs.SharedWords.{first_view};
     ghost use Rattle.aio_words.specs.Plays.{Ruled};
 
     ghost holds = { Ruled };
@@ -15,24 +15,24 @@ impl TableRule<(), SeatView, u32> for Rule {
     ghost first = { λ _. first_view };
 }
 
-/// A new pass beside a seat that stays as it is.
+/// A new pass beside a seat, which counts it.
 pub struct NewPass;
 
 impl Split<SeatView> for NewPass {
-    ghost use Rattle.aio_base.specs.SharedWords.{new_view};
+    ghost use Rattle.aio_rules.specs.SharedWords.{new_view, with_one_more};
 
-    ghost left = { λ v. v };
+    ghost left = { with_one_more };
 
-    ghost right = { λ v. new_view v.seen };
+    ghost right = { new_view };
 }
 
 /// A pass that takes in another.
 pub struct TakeIn;
 
 impl Join<SeatView> for TakeIn {
-    ghost use Rattle.aio_base.specs.SharedWords.{joined, spent_view};
+    ghost use Rattle.aio_rules.specs.SharedWords.{joined_seat, spent_view};
 
-    ghost both = { joined };
+    ghost both = { joined_seat };
 
     ghost spent = { spent_view };
 }

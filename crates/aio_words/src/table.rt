@@ -1,9 +1,9 @@
 //! The table of the words: the one place where a word is touched, with a call for each kind of step.
 
 ghost use Rattle.std.specs.Prelude.{◌≡◌, ◌+◌, ◌-◌, ◌*◌, ◌<◌, ◌≤◌, IfOk, replicate};
-ghost use Rattle.aio_base.specs.declared.seats.Role.TheVariants as role;
-ghost use Rattle.aio_base.specs.declared.seats.WordStep.TheVariants as word_step;
-ghost use Rattle.aio_base.specs.SharedWords.{IsFree, first_view, joined, new_view, word_count};
+ghost use Rattle.aio_rules.specs.declared.seats.Role.TheVariants as role;
+ghost use Rattle.aio_rules.specs.declared.seats.WordStep.TheVariants as word_step;
+ghost use Rattle.aio_rules.specs.SharedWords.{IsFree, first_view, joined_seat, new_view, with_one_more, word_count};
 ghost use Rattle.aio_words.specs.Seats.{Belongs, seat_at};
 ghost use Rattle.aio_words.specs.Steps.{MayStep, stepped};
 
@@ -11,7 +11,8 @@ use crate::plays::{
     AddTicker, ExchangeNotified, LoadBlocked, LoadMask, LoadTicker, NewPass, Rule, SetBit,
     StoreBlocked, SwapMask, SwapNotified, TakeIn,
 };
-use aio_base::{OutOfMemory, SeatView};
+use aio_base::OutOfMemory;
+use aio_rules::SeatView;
 use atomic_table::{Seat, Table};
 use std::alloc::Global;
 use std::marker::Model;
@@ -45,7 +46,7 @@ pub struct WordTable {
 
 impl Model for WordTable {
     ghost use Rattle.std.specs.Prelude.{◌≡◌};
-    ghost use Rattle.aio_base.specs.SharedWords.{word_count};
+    ghost use Rattle.aio_rules.specs.SharedWords.{word_count};
     ghost use Rattle.aio_words.specs.Seats.{WordsValue};
 
     ghost Value = { WordsValue };
@@ -79,11 +80,11 @@ impl WordTable {
         }
     }
 
-    /// A new pass, beside a seat that stays as it is.
+    /// A new pass, beside a seat, which counts it.
     pub fn split(&self, from: &mut WordSeat) -> WordSeat
         requires { Belongs self.now from.old }
-        ensures made { result ≡ seat_at self.now (new_view from.old.view.seen) }
-        ensures from { from.new ≡ from.old }
+        ensures made { result ≡ seat_at self.now (new_view from.old.view) }
+        ensures from { from.new ≡ seat_at self.now (with_one_more from.old.view) }
     {
         let seat = self.table.shared.split_seat::<NewPass>(&mut from.seat);
         WordSeat { seat }
@@ -93,7 +94,7 @@ impl WordTable {
     pub fn merge(&self, into: &mut WordSeat, other: WordSeat)
         requires into { Belongs self.now into.old × (into.old.view.role ≡ role.Pass) }
         requires other { Belongs self.now other × IsFree other.view }
-        ensures { into.new ≡ seat_at self.now (joined into.old.view other.view) }
+        ensures { into.new ≡ seat_at self.now (joined_seat into.old.view other.view) }
     {
         let WordSeat { seat } = other;
         self.table.shared.join_seat::<TakeIn>(&mut into.seat, seat);

@@ -2,10 +2,10 @@
 
 ghost use Rattle.std.specs.Prelude.{◌≡◌, ◌≢◌, ◌↔◌, ℕ, ◌+◌, ◌-◌, ◌/◌, ◌^◌, ◌≤◌, ◌<◌, vec_len, unwrap_or, IfSome, IfNone, IfOk, IsOk, IsErr, IfErr, OnErr, OnOk};
 ghost use Rattle.aio_base.specs.Devices.{TellsFaults, raised};
-ghost use Rattle.aio_base.specs.SharedWords.{after, first_view, joined, new_view};
-ghost use Rattle.aio_base.specs.WordCalls.{wake_steps};
-ghost use Rattle.aio_base.specs.declared.seats.Mode.TheVariants as mode;
-ghost use Rattle.aio_base.specs.declared.seats.WordStep.TheVariants as word_step;
+ghost use Rattle.aio_rules.specs.SharedWords.{after, first_view, joined_seat, new_view, with_one_more};
+ghost use Rattle.aio_rules.specs.WordCalls.{wake_steps};
+ghost use Rattle.aio_rules.specs.declared.seats.Mode.TheVariants as mode;
+ghost use Rattle.aio_rules.specs.declared.seats.WordStep.TheVariants as word_step;
 ghost use Rattle.aio_words.specs.Calls.{Called, Offers, Parks, TellsCounts, WakesSlot, notify_steps, told};
 ghost use Rattle.aio_words.specs.Seats.{Belongs, Blocks, IsIdleOrWaits, is_waiting};
 ghost use Rattle.aio_words.specs.Steps.{MayStep};
@@ -96,8 +96,9 @@ impl Words {
     pub fn new(alloc: Global, parkers: u32) -> Result<(Words, RoundSeat, Pass), OutOfMemory>
         requires { (1 ≤ parkers) × (parkers ≤ 16) }
         ensures words { IfOk result (λ made. made.0.parkers ≡ parkers) }
-        ensures round { IfOk result (λ made. Belongs made.0 made.1 × (made.1.view ≡ first_view)) }
-        ensures pass { IfOk result (λ made. Belongs made.0 made.2 × (made.2.view ≡ new_view 0)) }
+        ensures round { IfOk result (λ made. Belongs made.0 made.1
+            × (made.1.view ≡ with_one_more first_view)) }
+        ensures pass { IfOk result (λ made. Belongs made.0 made.2 × (made.2.view ≡ new_view first_view)) }
     {
         let wakes = no_wakes(alloc, parkers)?;
         let (table, mut seat) = WordTable::new(alloc, parkers)?;
@@ -118,11 +119,11 @@ impl Words {
         ))
     }
 
-    /// Another seat, for another thread, which has seen what `from` has seen.
+    /// Another seat, for another thread, which has seen what `from` has seen. `from` counts it.
     pub fn pass(&self, from: &mut Pass) -> Pass
         requires { Belongs self.now from.old }
-        ensures made { Belongs self.now result × (result.view ≡ new_view from.old.view.seen) }
-        ensures from { from.new ≡ from.old }
+        ensures made { Belongs self.now result × (result.view ≡ new_view from.old.view) }
+        ensures from { Belongs self.now from.new × (from.new.view ≡ with_one_more from.old.view) }
     {
         let seat = self.table.split(&mut from.seat);
         Pass { seat }
@@ -132,7 +133,7 @@ impl Words {
     pub fn join(&self, into: &mut Pass, old: Pass)
         requires { Belongs self.now into.old × Belongs self.now old }
         ensures words { into.new.words ≡ into.old.words }
-        ensures view { into.new.view ≡ joined into.old.view old.view }
+        ensures view { into.new.view ≡ joined_seat into.old.view old.view }
     {
         self.table.merge(&mut into.seat, old.seat);
     }
@@ -254,9 +255,10 @@ impl Words {
         s.parker = parker;
     }
 
-    /// Looks at the mask of the parker that the seat blocks, by one load that leaves it as it is. The
-    /// woken slots, where there are any: the seat then still blocks. `None` exactly where there are
-    /// none: the seat then waits, and whoever wakes a slot from now on ends its wait.
+    /// Takes nothing and does not wait: it looks at the mask of the parker that the seat blocks, by one
+    /// load that leaves it as it is. The woken slots, where there are any: the seat then still blocks.
+    /// `None` exactly where there are none: the seat is then one that waits, and whoever wakes a slot
+    /// from now on ends its wait.
     pub fn take_or_wait(&self, s: &mut RoundSeat) -> Option<u64>
         requires { Belongs self.now s.old × Blocks s.old }
         ensures words { s.new.words ≡ s.old.words }

@@ -1,9 +1,9 @@
-use Rattle.std.proofs.Common.{◌^◌, List, ◌++◌, refl, ap, ◌∙◌, append_assoc, le_refl, le_trans}
+use Rattle.std.proofs.Common.{List, ◌++◌, refl, ap, ◌∙◌, append_assoc, le_refl, le_trans}
 use Rattle.aio_shared.specs.Later.{later_itself, later_further}
 use Rattle.aio_shared.specs.Members.{Extends}
-use Rattle.aio_shared.specs.OneCell.{TurnValue}
+use Rattle.aio_shared.specs.OneCell.{ClaimValue}
 use Rattle.aio_park.proofs.Gaining.{cause_within, follows_itself, follows_later, member_further}
-use Rattle.aio_park.proofs.Asking.{at_greatest, counted, ends, fails, past_end, pending_allows, polled_as, polling_starts, polls_on, ready_allows}
+use Rattle.aio_park.proofs.Asking.{counted, ends, fails, pending_allows, polled_as, polling_starts, polls_on, ready_allows}
 use Rattle.aio_park.proofs.blocking.block_on.Goals as goal
 
 extends_both : {X : Type 0} (xs ys zs : List X) → Extends xs ys → Extends ys zs → Extends xs zs
@@ -11,7 +11,7 @@ extends_both xs ys zs x y = (x.0 ++ y.0, y.1 ∙ ap (λ l. l ++ y.0) x.1 ∙ app
 
 pub loop-init : goal.loop-init
 loop-init g c = record {
-  polling = polling_starts _ _ _ _ _ _ _ _ _;
+  polling = polling_starts _ _;
   later = later_itself _ _ _;
   bounds = refl;
   latest = le_refl _;
@@ -19,9 +19,9 @@ loop-init g c = record {
 
 pub loop-preserved : goal.loop-preserved
 loop-preserved g c = record {
-  polling = polls_on _ _ _ _ _ _ _ _ _ _ _ _ _ _ c.loop.invariant.polling _ _ _ c.loop.invariant.latest
-      (polled_as _ _ _ _ _ _ _ _ _ _ _ _ _ c.loop.invariant.bounds c.loop.invariant.later.member.sure c.poll_once.ensures.polled)
-      c.poll_once.new.host.member.pass.view c.poll_once.ensures.later.member.did _ _ _ _ c.in-Pending.is c.poll_once.ensures.latest c.in-Ok.ensures.keeps.latest c.in-Ok.ensures.took c.poll_once.ensures.polls;
+  polling = polls_on _ _ c.loop.invariant.polling c.loop.invariant.latest
+      (polled_as _ _ c.loop.invariant.bounds c.loop.invariant.later.member.sure c.poll_once.ensures.polled)
+      _ c.in-Ok.found c.next_mask.new.host _ c.in-Pending.is c.poll_once.ensures.latest c.in-Ok.ensures.keeps.latest c.poll_once.ensures.later.member.did c.in-Ok.ensures.took c.poll_once.ensures.polls;
   later = later_further _ _ _ _ _ (later_further _ _ _ _ _ c.loop.invariant.later c.poll_once.ensures.later) (record { shared = c.in-Ok.ensures.shared; member = c.in-Ok.ensures.keeps.later });
   bounds = c.in-Ok.ensures.keeps.bounds ∙ c.poll_once.ensures.bounds ∙ c.loop.invariant.bounds;
   latest = le_trans c.loop.invariant.latest (le_trans c.poll_once.ensures.latest c.in-Ok.ensures.keeps.latest);
@@ -30,58 +30,50 @@ loop-preserved g c = record {
 -- ## The task ended
 
 pub returns-in-Ready-clause-output : goal.returns-in-Ready-clause-output
-returns-in-Ready-clause-output g c =
-    ready_allows _ _ _ _ _ _ _ _ _ _ _ _ _ _ c.loop.invariant.polling _ _ _ c.loop.invariant.latest
-    (polled_as _ _ _ _ _ _ _ _ _ _ _ _ _ c.loop.invariant.bounds c.loop.invariant.later.member.sure c.poll_once.ensures.polled)
-    c.in-Ready.output c.in-Ready.is g.met.T.Task.gives_later (10 ^ 18) (past_end (g.C.Clock.bounds c.args.clock.now))
-
-pub returns-in-Ready-clause-greatest : goal.returns-in-Ready-clause-greatest
-returns-in-Ready-clause-greatest g c =
-    at_greatest _ (g.C.Clock.bounds c.args.clock.now) _ refl (λ moment past.
-    ready_allows _ _ _ _ _ _ _ _ _ _ _ _ _ _ c.loop.invariant.polling _ _ _ c.loop.invariant.latest
-    (polled_as _ _ _ _ _ _ _ _ _ _ _ _ _ c.loop.invariant.bounds c.loop.invariant.later.member.sure c.poll_once.ensures.polled)
-    c.in-Ready.output c.in-Ready.is g.met.T.Task.gives_later moment past)
+returns-in-Ready-clause-output g c moment past =
+    ready_allows _ _ c.loop.invariant.polling c.loop.invariant.latest
+    (polled_as _ _ c.loop.invariant.bounds c.loop.invariant.later.member.sure c.poll_once.ensures.polled)
+    c.in-Ready.output c.in-Ready.is g.met.T.Task.gives_later moment past
 
 pub returns-in-Ready-clause-polled : goal.returns-in-Ready-clause-polled
 returns-in-Ready-clause-polled g c =
-    ends _ _ _ _ _ _ _ _ _ _ _ _ _ _ c.loop.invariant.polling _ _ _ c.loop.invariant.latest
-    (polled_as _ _ _ _ _ _ _ _ _ _ _ _ _ c.loop.invariant.bounds c.loop.invariant.later.member.sure c.poll_once.ensures.polled)
-    c.poll_once.new.host.member.pass.view c.poll_once.ensures.later.member.did c.in-Ready.output c.in-Ready.is c.poll_once.ensures.latest
+    ends _ _ c.loop.invariant.polling c.loop.invariant.latest
+    (polled_as _ _ c.loop.invariant.bounds c.loop.invariant.later.member.sure c.poll_once.ensures.polled)
+    c.in-Ready.output c.in-Ready.is c.poll_once.ensures.latest
 
 pub returns-in-Ready-clause-polls : goal.returns-in-Ready-clause-polls
 returns-in-Ready-clause-polls g c =
-    counted _ _ _ _ _ _ _ _ _ _ _ _ _ _ c.loop.invariant.polling _ _ _ c.loop.invariant.latest
-    (polled_as _ _ _ _ _ _ _ _ _ _ _ _ _ c.loop.invariant.bounds c.loop.invariant.later.member.sure c.poll_once.ensures.polled)
-    c.poll_once.new.host.member.pass.view c.poll_once.ensures.later.member.did _ c.poll_once.ensures.polls
+    counted _ _ c.loop.invariant.polling c.loop.invariant.latest
+    (polled_as _ _ c.loop.invariant.bounds c.loop.invariant.later.member.sure c.poll_once.ensures.polled)
+    c.poll_once.new.host c.poll_once.ensures.later.member.did _ c.poll_once.ensures.polls
 
 pub returns-in-Ready-clause-later : goal.returns-in-Ready-clause-later
 returns-in-Ready-clause-later g c = later_further _ _ _ _ _ c.loop.invariant.later c.poll_once.ensures.later
 
 pub returns-in-Ready-clause-cell : goal.returns-in-Ready-clause-cell
 returns-in-Ready-clause-cell g c =
-    ap (λ (t : TurnValue). t.holds) c.poll_once.ensures.later.member.turn ∙ ap (λ (t : TurnValue). t.holds) c.loop.invariant.later.member.turn
+    ap (λ (t : ClaimValue). t.holds) c.poll_once.ensures.later.member.claim ∙ ap (λ (t : ClaimValue). t.holds) c.loop.invariant.later.member.claim
 
 -- ## A fault
 
 pub returns-in-Err-clause-polled : goal.returns-in-Err-clause-polled
 returns-in-Err-clause-polled g c =
-    fails _ _ _ _ _ _ _ _ _ _ _ _ _ _ c.loop.invariant.polling _ _ _ c.loop.invariant.latest
-    (polled_as _ _ _ _ _ _ _ _ _ _ _ _ _ c.loop.invariant.bounds c.loop.invariant.later.member.sure c.poll_once.ensures.polled)
-    c.next_mask.new.host.member.pass.view (extends_both _ c.poll_once.new.host.member.pass.view.did _ c.poll_once.ensures.later.member.did c.in-Err.ensures.keeps.later.did)
-    _ c.in-Err.fault c.in-Pending.is c.poll_once.ensures.latest c.in-Err.ensures.keeps.latest
+    fails _ _ c.loop.invariant.polling c.loop.invariant.latest
+    (polled_as _ _ c.loop.invariant.bounds c.loop.invariant.later.member.sure c.poll_once.ensures.polled)
+    _ c.in-Err.fault c.next_mask.new.host c.in-Pending.is c.poll_once.ensures.latest c.in-Err.ensures.keeps.latest c.in-Err.ensures.most
 
 pub returns-in-Err-clause-polls : goal.returns-in-Err-clause-polls
 returns-in-Err-clause-polls g c =
-    counted _ _ _ _ _ _ _ _ _ _ _ _ _ _ c.loop.invariant.polling _ _ _ c.loop.invariant.latest
-    (polled_as _ _ _ _ _ _ _ _ _ _ _ _ _ c.loop.invariant.bounds c.loop.invariant.later.member.sure c.poll_once.ensures.polled)
-    c.next_mask.new.host.member.pass.view (extends_both _ c.poll_once.new.host.member.pass.view.did _ c.poll_once.ensures.later.member.did c.in-Err.ensures.keeps.later.did)
+    counted _ _ c.loop.invariant.polling c.loop.invariant.latest
+    (polled_as _ _ c.loop.invariant.bounds c.loop.invariant.later.member.sure c.poll_once.ensures.polled)
+    c.next_mask.new.host (extends_both _ c.poll_once.new.host.member.pass.view.did _ c.poll_once.ensures.later.member.did c.in-Err.ensures.keeps.later.did)
     _ c.poll_once.ensures.polls
 
 pub returns-in-Err-clause-pending : goal.returns-in-Err-clause-pending
-returns-in-Err-clause-pending g c output given =
-    pending_allows _ _ _ _ _ _ _ _ _ _ _ _ _ _ c.loop.invariant.polling _ _ _ c.loop.invariant.latest
-    (polled_as _ _ _ _ _ _ _ _ _ _ _ _ _ c.loop.invariant.bounds c.loop.invariant.later.member.sure c.poll_once.ensures.polled)
-    c.in-Pending.is (10 ^ 18) output (past_end (g.C.Clock.bounds c.args.clock.now)) given
+returns-in-Err-clause-pending g c moment output past given =
+    pending_allows _ _ c.loop.invariant.polling c.loop.invariant.latest
+    (polled_as _ _ c.loop.invariant.bounds c.loop.invariant.later.member.sure c.poll_once.ensures.polled)
+    c.in-Pending.is moment output past given
 
 pub returns-in-Err-clause-cause : goal.returns-in-Err-clause-cause
 returns-in-Err-clause-cause g c =
@@ -94,5 +86,5 @@ returns-in-Err-clause-later g c = later_further _ _ _ _ _ (later_further _ _ _ _
 
 pub returns-in-Err-clause-cell : goal.returns-in-Err-clause-cell
 returns-in-Err-clause-cell g c =
-    ap (λ (t : TurnValue). t.holds) c.in-Err.ensures.keeps.later.turn ∙ ap (λ (t : TurnValue). t.holds) c.poll_once.ensures.later.member.turn
-    ∙ ap (λ (t : TurnValue). t.holds) c.loop.invariant.later.member.turn
+    ap (λ (t : ClaimValue). t.holds) c.in-Err.ensures.keeps.later.claim ∙ ap (λ (t : ClaimValue). t.holds) c.poll_once.ensures.later.member.claim
+    ∙ ap (λ (t : ClaimValue). t.holds) c.loop.invariant.later.member.claim

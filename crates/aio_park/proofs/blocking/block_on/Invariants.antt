@@ -7,7 +7,7 @@ use Rattle.aio_park.proofs.blocking.block_on.Given as goal
 abbrev pub invariant-loop : goal.invariant-loop
 invariant-loop g l = record {
   polling : Polling g.T.Task.poll_step g.T.Task.gives l.parker l.mask (g.C.Clock.bounds l.initial.clock) (g.C.Clock.latest l.initial.clock) (g.C.Clock.latest l.clock)
-      (g.N.Faults.is_sure l.initial.host.member.note) l.initial.host.member.pass.view l.host.member.pass.view l.initial.task l.task
+      (g.N.Faults.is_sure l.initial.host.member.notifier) l.initial.host l.host l.initial.task l.task
       (g.T.Task.poll_count l.initial.task) (g.T.Task.poll_count l.task);
   later : IsLaterInside g.N.Faults.fault_count g.N.Faults.is_sure l.initial.host l.host;
   bounds : g.C.Clock.bounds l.clock ≡ g.C.Clock.bounds l.initial.clock;

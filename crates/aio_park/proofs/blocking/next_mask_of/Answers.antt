@@ -1,12 +1,12 @@
 use Rattle.std.proofs.Common.{subst}
-use Rattle.aio_park.specs.Driving.{Gains, mask_list}
+use Rattle.aio_park.specs.Blocking.{Gains, mask_list}
+use Rattle.aio_shared.proofs.CallsMade.{none_called}
 use Rattle.aio_park.proofs.Gaining.{gains_after, gains_itself, gains_neither, gains_nothing, mask_some, member_itself}
 use Rattle.aio_park.proofs.Keeping.{keeps_as, keeps_member, keeps_then}
-use Rattle.aio_park.proofs.Waiting.{turned_further, turned_none, turned_until}
 use Rattle.aio_park.proofs.blocking.next_mask_of.Goals as goal
 
 pub loop-init : goal.loop-init
-loop-init g c = record { took = gains_itself _; keeps = keeps_member c.requires.belongs (member_itself _ _ _); turned = turned_none _ _ _ _ _ _ _ }
+loop-init g c = record { took = gains_itself _; keeps = keeps_member c.requires.belongs (member_itself _ _ _) (none_called _ _) }
 
 pub returns-in-Err-clause-keeps : goal.returns-in-Err-clause-keeps
 returns-in-Err-clause-keeps g c = keeps_then c.loop.invariant.keeps c.in-Err.ensures.keeps
@@ -24,12 +24,9 @@ loop-preserved g c = record {
   took = gains_neither c.args.m.now.pass.view c.loop.m.pass.view c.turn.new.m.pass.view c.loop.invariant.took
       (gains_nothing c.args.parker c.in-Ok.mask c.loop.m.pass.view c.turn.new.m.pass.view c.if-mask-ne0.false c.in-Ok.ensures.took);
   keeps = keeps_then c.loop.invariant.keeps (keeps_as (λ cause. cause) c.in-Ok.ensures.keeps);
-  turned =
-      turned_further _ g.N.Faults.fault_count c.args.shared.now.words.parkers c.args.shared.now.sure_of_arms (g.C.Clock.latest c.args.clock.now) c.args.parker
-      (g.C.Clock.latest c.loop.clock) c.in-Ok.mask c.args.m.now c.loop.m c.turn.new.m c.loop.invariant.turned c.loop.invariant.keeps.latest c.if-mask-ne0.false c.in-Ok.ensures.turns;
 }
 
-pub returns-then-mask-ne0-clause-turns : goal.returns-then-mask-ne0-clause-turns
-returns-then-mask-ne0-clause-turns g c =
-    turned_until _ g.N.Faults.fault_count c.args.shared.now.words.parkers c.args.shared.now.sure_of_arms (g.C.Clock.latest c.args.clock.now) c.args.parker
-    (g.C.Clock.latest c.loop.clock) c.in-Ok.mask c.args.m.now c.loop.m c.turn.new.m c.loop.invariant.turned c.loop.invariant.keeps.latest c.in-Ok.ensures.turns
+pub returns-in-Err-clause-most : goal.returns-in-Err-clause-most
+returns-in-Err-clause-most g c =
+    let took = c.in-Err.ensures.most in
+    (took.0, gains_after c.args.parker c.args.m.now.pass.view c.loop.m.pass.view c.turn.new.m.pass.view (mask_list took.0) c.loop.invariant.took took.1)

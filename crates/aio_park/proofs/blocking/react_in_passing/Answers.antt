@@ -1,20 +1,20 @@
 use Rattle.std.proofs.Common.{refl}
 use Rattle.aio_park.specs.Driving.Passes.{FindsNoCell, TriesOneRound}
 use Rattle.aio_park.proofs.Holding.{later_waited}
-use Rattle.aio_park.proofs.Keeping.{keeps_as, keeps_locked, keeps_member}
+use Rattle.aio_park.proofs.Keeping.{called_turn, keeps_as, keeps_locked, keeps_member}
 use Rattle.aio_park.proofs.blocking.react_in_passing.Goals as goal
 
 pub returns-in-None-clause-keeps : goal.returns-in-None-clause-keeps
-returns-in-None-clause-keeps g c = keeps_member c.in-None.ensures.belongs (later_waited _ _ _ _ c.in-None.ensures.kept (c.in-None.ensures.none refl).turn)
+returns-in-None-clause-keeps g c = keeps_member c.in-None.ensures.belongs (later_waited _ _ _ _ c.in-None.ensures.kept (c.in-None.ensures.none refl).claim) (called_turn g.N.Notify.call_count c.args.m.now c.try_round.new.m c.in-None.ensures.kept)
 
 pub returns-in-Err-clause-keeps : goal.returns-in-Err-clause-keeps
 returns-in-Err-clause-keeps g c =
-    keeps_locked c.args.m.now.turn.empties c.in-Some.ensures.some.before c.in-Some.ensures.kept c.in-Some.ensures.some.turn
+    keeps_locked c.args.m.now.claim.empties c.in-Some.ensures.some.before c.in-Some.ensures.kept c.in-Some.ensures.some.claim
     (keeps_as (λ cause. cause) c.in-Err.ensures.keeps) c.give_round.ensures.gave c.give_round.ensures.belongs
 
 pub returns-in-Ok-clause-keeps : goal.returns-in-Ok-clause-keeps
 returns-in-Ok-clause-keeps g c =
-    keeps_locked c.args.m.now.turn.empties c.in-Some.ensures.some.before c.in-Some.ensures.kept c.in-Some.ensures.some.turn
+    keeps_locked c.args.m.now.claim.empties c.in-Some.ensures.some.before c.in-Some.ensures.kept c.in-Some.ensures.some.claim
     (keeps_as (λ cause. cause) c.in-Ok.ensures.keeps) c.give_round.ensures.gave c.give_round.ensures.belongs
 
 pub returns-in-None-clause-passes : goal.returns-in-None-clause-passes
@@ -28,6 +28,7 @@ returns-in-Ok-clause-passes g c = TriesOneRound (record {
   done = c.react_once-reacted.new.m;
   takes = c.in-Some.ensures.some;
   rest = c.in-Some.ensures.kept;
+  stop = g.C.Clock.latest c.react_once-reacted.new.clock;
   reacted = c.in-Ok.field-0;
   tries = c.in-Ok.ensures.tries;
   gave = c.give_round.ensures.gave;

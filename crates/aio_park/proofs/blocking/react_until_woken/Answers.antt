@@ -1,21 +1,23 @@
 use Rattle.std.proofs.Common.{refl, sym, ap, ◌∙◌}
-use Rattle.aio_base.specs.declared.seats.WordStep.TheVariants as word_step
-use Rattle.aio_base.specs.SharedWords.{blocking}
+use Rattle.aio_rules.specs.declared.seats.SeatView.{SeatView}
+use Rattle.aio_rules.specs.declared.seats.WordStep.TheVariants as word_step
+use Rattle.aio_rules.specs.SharedWords.{after, blocking}
 use Rattle.aio_words.specs.Seats.{SeatValue}
 use Rattle.aio_shared.specs.Members.{MemberValue}
+use Rattle.aio_shared.proofs.CallsMade.{none_called}
 use Rattle.aio_park.proofs.Gaining.{gains_itself, gains_neither, member_itself}
 use Rattle.aio_park.proofs.Keeping.{keeps_as, keeps_member, keeps_then}
-use Rattle.aio_park.proofs.Waiting.{cell_step, found_woken, waited_further, waited_none}
+use Rattle.aio_park.proofs.Looking.{looks_further, looks_itself, looks_round, looks_woken}
 use Rattle.aio_park.proofs.blocking.react_until_woken.Goals as goal
 
 pub loop-init : goal.loop-init
 loop-init g c = record {
   took = gains_itself _;
   mode = refl;
-  turn = refl;
-  keeps = keeps_member c.requires.belongs (member_itself _ _ _);
+  claim = refl;
+  keeps = keeps_member c.requires.belongs (member_itself _ _ _) (none_called _ _);
   cell = c.requires.cell;
-  waited = λ parker is. waited_none _ _ _ _ _ _ _;
+  looks = λ parker is. looks_itself parker _ _;
 }
 
 pub returns-in-Err-clause-took : goal.returns-in-Err-clause-took
@@ -30,22 +32,38 @@ loop-preserved g c = record {
   mode = c.react_once.ensures.seat
       ∙ ap blocking (c.in-None-take_or_wait.ensures.none c.requires.blocks.0 (ap (λ (s : SeatValue). s.view.mode) c.seat.ensures.value ∙ c.loop.invariant.mode ∙ c.requires.blocks.1))
       ∙ sym c.requires.blocks.1;
-  turn = ap (λ (x : MemberValue g.row.N.Denot). x.turn) c.react_once.ensures.kept ∙ c.loop.invariant.turn;
+  claim = ap (λ (x : MemberValue g.row.N.Denot). x.claim) c.react_once.ensures.kept ∙ c.loop.invariant.claim;
   keeps = keeps_then c.loop.invariant.keeps (keeps_as (λ cause. cause) c.in-Ok.ensures.keeps);
   cell = c.react_once.ensures.cell;
-  waited = λ parker is.
-      waited_further g.N.Faults.fault_count c.args.shared.now.words.parkers c.args.shared.now.sure_of_arms (g.C.Clock.latest c.args.clock.now) parker
-      c.args.cell.now c.loop.cell (record c.loop.cell { seat = c.take_or_wait.new.s }) c.react_once.new.cell c.args.m.now c.loop.m c.react_once.new.m
-      (g.C.Clock.latest c.loop.clock) c.in-Ok.field-0 (c.loop.invariant.waited parker is) (c.loop.invariant.mode ∙ is) c.loop.invariant.keeps.latest
-      (cell_step (word_step.LoadMask parker 0) c.loop.cell c.seat.result.now c.take_or_wait.new.s c.seat.ensures.value c.take_or_wait.ensures.words
-      (c.in-None-take_or_wait.ensures.view parker (ap (λ (s : SeatValue). s.view.mode) c.seat.ensures.value ∙ c.loop.invariant.mode ∙ is)))
-      c.in-Ok.ensures.tries;
+  looks = λ parker is.
+      looks_further parker _ c.args.cell.now.seat.view c.loop.cell.seat.view c.react_once.new.cell.seat.view (c.loop.invariant.looks parker is)
+      (looks_round parker c.loop.cell.seat.view c.take_or_wait.new.s.view c.react_once.new.cell.seat.view
+      (c.in-None-take_or_wait.ensures.view parker (ap (λ (s : SeatValue). s.view.mode) c.seat.ensures.value ∙ c.loop.invariant.mode ∙ is)
+      ∙ ap (λ (s : SeatValue). after (word_step.LoadMask parker 0) s.view) c.seat.ensures.value)
+      (c.react_once.ensures.looks parker));
 }
 
-pub returns-in-Some-take_or_wait-clause-reacts : goal.returns-in-Some-take_or_wait-clause-reacts
-returns-in-Some-take_or_wait-clause-reacts g c parker is =
-    found_woken g.N.Faults.fault_count c.args.shared.now.words.parkers c.args.shared.now.sure_of_arms (g.C.Clock.latest c.args.clock.now) parker
-    c.args.cell.now c.loop.cell (record c.loop.cell { seat = c.take_or_wait.new.s }) c.args.m.now c.loop.m _
-    (c.loop.invariant.waited parker is) (c.loop.invariant.mode ∙ is) c.in-Some-take_or_wait.ensures.some.0
-    (cell_step (word_step.LoadMask parker _) c.loop.cell c.seat.result.now c.take_or_wait.new.s c.seat.ensures.value c.take_or_wait.ensures.words
-    (c.in-Some-take_or_wait.ensures.view parker (ap (λ (s : SeatValue). s.view.mode) c.seat.ensures.value ∙ c.loop.invariant.mode ∙ is)))
+pub returns-in-Err-clause-looks : goal.returns-in-Err-clause-looks
+returns-in-Err-clause-looks g c parker is =
+    looks_further parker _ c.args.cell.now.seat.view c.loop.cell.seat.view c.react_once.new.cell.seat.view (c.loop.invariant.looks parker is)
+    (looks_round parker c.loop.cell.seat.view c.take_or_wait.new.s.view c.react_once.new.cell.seat.view
+    (c.in-None-take_or_wait.ensures.view parker (ap (λ (s : SeatValue). s.view.mode) c.seat.ensures.value ∙ c.loop.invariant.mode ∙ is)
+    ∙ ap (λ (s : SeatValue). after (word_step.LoadMask parker 0) s.view) c.seat.ensures.value)
+    (c.react_once.ensures.looks parker))
+
+pub returns-in-Some-take_or_wait-clause-looks : goal.returns-in-Some-take_or_wait-clause-looks
+returns-in-Some-take_or_wait-clause-looks g c parker is =
+    looks_further parker _ c.args.cell.now.seat.view c.loop.cell.seat.view c.take_or_wait.new.s.view (c.loop.invariant.looks parker is)
+    (looks_woken parker _ c.loop.cell.seat.view c.take_or_wait.new.s.view
+    (c.in-Some-take_or_wait.ensures.view parker (ap (λ (s : SeatValue). s.view.mode) c.seat.ensures.value ∙ c.loop.invariant.mode ∙ is)
+    ∙ ap (λ (s : SeatValue). after (word_step.LoadMask parker c.in-Some-take_or_wait.field-0) s.view) c.seat.ensures.value))
+
+pub returns-in-Some-take_or_wait-clause-woken : goal.returns-in-Some-take_or_wait-clause-woken
+returns-in-Some-take_or_wait-clause-woken g c parker is = (
+  c.loop.cell.seat.view.did,
+  _,
+  ap (λ (v : SeatView). v.did)
+      (c.in-Some-take_or_wait.ensures.view parker (ap (λ (s : SeatValue). s.view.mode) c.seat.ensures.value ∙ c.loop.invariant.mode ∙ is)
+      ∙ ap (λ (s : SeatValue). after (word_step.LoadMask parker c.in-Some-take_or_wait.field-0) s.view) c.seat.ensures.value),
+  c.in-Some-take_or_wait.ensures.some.0,
+)

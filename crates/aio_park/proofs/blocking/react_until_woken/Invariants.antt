@@ -1,9 +1,9 @@
-use Rattle.std.proofs.Common.{◌≡◌, ℕ, Ok}
-use Rattle.aio_base.specs.declared.seats.Mode.TheVariants.{Block}
+use Rattle.std.proofs.Common.{◌≡◌, ℕ, false, Ok}
+use Rattle.aio_rules.specs.declared.seats.Mode.TheVariants.{Block}
 use Rattle.aio_shared.specs.OneCell.{IsCellOf}
 use Rattle.aio_park.specs.Blocking.{KeepsThread}
 use Rattle.aio_park.specs.Driving.{GainsNone}
-use Rattle.aio_park.proofs.Waiting.{Waited}
+use Rattle.aio_park.specs.Looks.{WaitsAfterLooks}
 use Rattle.aio_park.proofs.blocking.react_until_woken.Given as goal
 
 -- rounds so far, after each of which the seat blocked its parker again
@@ -11,9 +11,8 @@ abbrev pub invariant-loop : goal.invariant-loop
 invariant-loop g l = record {
   took : GainsNone l.initial.m.pass.view l.m.pass.view;
   mode : l.cell.seat.view.mode ≡ l.initial.cell.seat.view.mode;
-  turn : l.m.turn ≡ l.initial.m.turn;
-  keeps : KeepsThread g.N.Faults.fault_count g.N.Faults.is_sure {X = Unit {0}} g.C.Clock.bounds g.C.Clock.latest l.shared l.initial.m l.m l.initial.clock l.clock (Ok tt);
-  cell : IsCellOf l.m.turn l.cell;
-  waited : (parker : ℕ) → l.initial.cell.seat.view.mode ≡ Block parker
-      → Waited g.N.Faults.fault_count l.shared.words.parkers l.shared.sure_of_arms (g.C.Clock.latest l.initial.clock) parker l.initial.cell l.cell l.initial.m l.m;
+  claim : l.m.claim ≡ l.initial.m.claim;
+  keeps : KeepsThread g.N.Faults.fault_count g.N.Faults.is_sure {X = Unit {0}} g.N.Notify.call_count g.C.Clock.bounds g.C.Clock.latest l.shared l.initial.m l.m l.initial.clock l.clock (Ok tt);
+  cell : IsCellOf l.m.claim l.cell;
+  looks : (parker : ℕ) → l.initial.cell.seat.view.mode ≡ Block parker → WaitsAfterLooks parker false l.initial.cell.seat.view l.cell.seat.view;
 }

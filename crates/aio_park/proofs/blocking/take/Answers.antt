@@ -1,5 +1,5 @@
-use Rattle.aio_base.specs.declared.seats.WordStep.TheVariants as word_step
-use Rattle.aio_park.proofs.Waiting.{member_step}
+use Rattle.aio_rules.specs.declared.seats.WordStep.TheVariants as word_step
+use Rattle.aio_park.proofs.Holding.{member_step}
 use Rattle.aio_park.proofs.blocking.take.Goals as goal
 
 pub returns-clause-swapped : goal.returns-clause-swapped

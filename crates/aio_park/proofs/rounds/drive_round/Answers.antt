@@ -1,6 +1,6 @@
-use Rattle.std.proofs.Common.{refl, ap, ◌∙◌}
-use Rattle.aio_base.specs.SharedWords.{blocking}
-use Rattle.aio_park.proofs.Holding.{nothing_further}
+use Rattle.std.proofs.Common.{refl, ap, ◌∙◌, le_refl, None, Ok}
+use Rattle.aio_rules.specs.SharedWords.{blocking}
+use Rattle.aio_park.proofs.Holding.{nothing_further, with_bounds}
 use Rattle.aio_park.proofs.Keeping.{keeps_as, keeps_then}
 use Rattle.aio_park.proofs.rounds.drive_round.Goals as goal
 
@@ -14,8 +14,13 @@ returns-in-Ok-Some-clause-round g c = record {
   first = c.loop.invariant.nothing;
   moment = g.C.Clock.latest c.loop.clock;
   not_before = c.loop.invariant.keeps.latest;
+  stop = g.C.Clock.latest c.react_once.new.clock;
+  not_after = le_refl _;
   reacted = c.in-Ok-Some.reacted;
-  reacts = rw c.in-Ok-Some.field-0-is at c.in-Ok-Some.ensures.tries;
+  reacts = rw c.in-Ok-Some.field-0-is at (with_bounds c.args.shared.now.words.parkers c.args.shared.now.sure_of_arms None (g.C.Clock.bounds c.args.clock.now) (g.C.Clock.bounds c.loop.clock)
+      (g.C.Clock.latest c.loop.clock) (g.C.Clock.latest c.react_once.new.clock) g.W.EventWait.wait_step c.loop.cell c.react_once.new.cell c.loop.m c.react_once.new.m
+      (record { before = g.N.Faults.fault_count c.loop.m.notifier; after = g.N.Faults.fault_count c.react_once.new.m.notifier }) (Ok c.in-Ok-Some.field-0)
+      c.loop.invariant.keeps.bounds c.in-Ok-Some.ensures.tries);
   events_are = refl;
 }
 

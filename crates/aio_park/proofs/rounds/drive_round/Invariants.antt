@@ -9,7 +9,7 @@ use Rattle.aio_park.proofs.rounds.drive_round.Given as goal
 abbrev pub invariant-loop : goal.invariant-loop
 invariant-loop g l = record {
   nothing : ComesToNothing l.initial.cell l.cell l.initial.m l.m;
-  keeps : KeepsThread g.N.Faults.fault_count g.N.Faults.is_sure {X = Unit {0}} g.C.Clock.bounds g.C.Clock.latest l.shared l.initial.m l.m l.initial.clock l.clock (Ok tt);
-  cell : IsCellOf l.m.turn l.cell;
+  keeps : KeepsThread g.N.Faults.fault_count g.N.Faults.is_sure {X = Unit {0}} g.N.Notify.call_count g.C.Clock.bounds g.C.Clock.latest l.shared l.initial.m l.m l.initial.clock l.clock (Ok tt);
+  cell : IsCellOf l.m.claim l.cell;
   idle : IsIdle l.cell;
 }

@@ -1,16 +1,23 @@
 use Rattle.std.proofs.Common.{rules, arith}
-use Rattle.aio_park.proofs.Holding.{from_earlier, one_more}
+use Rattle.aio_shared.specs.Reacting.{until}
+use Rattle.aio_park.specs.Driving.{start_of}
+use Rattle.aio_park.proofs.Holding.{from_earlier, one_more, rounds_until}
 use Rattle.aio_park.proofs.Keeping.{keeps_as, keeps_then}
 use Rattle.aio_park.proofs.rounds.drive_rounds.Goals as goal
 
 pub loop-preserved : goal.loop-preserved
 loop-preserved g c = record {
-  rounds = one_more g.N.Faults.fault_count c.args.shared.now.words.parkers c.args.shared.now.sure_of_arms (g.C.Clock.latest c.args.clock.now) c.loop.counter c.args.cell.now c.loop.cell
-      c.drive_round.new.cell c.args.m.now c.loop.m c.drive_round.new.m c.loop.events c.in-Ok.handled c.loop.invariant.rounds
-      (from_earlier _ _ _ _ _ _ _ _ _ _ c.loop.invariant.keeps.latest c.in-Ok.ensures.round);
+  rounds = one_more g.N.Faults.fault_count c.args.shared.now.words.parkers c.args.shared.now.sure_of_arms (until (g.C.Clock.latest c.drive_round.new.clock) (start_of g.C.Clock.bounds g.C.Clock.latest g.W.EventWait.wait_step c.args.clock.now)) c.loop.counter c.args.cell.now c.loop.cell
+      c.drive_round.new.cell c.args.m.now c.loop.m c.drive_round.new.m c.loop.events c.in-Ok.handled
+      (rounds_until _ _ _ (until (g.C.Clock.latest c.loop.clock) (start_of g.C.Clock.bounds g.C.Clock.latest g.W.EventWait.wait_step c.args.clock.now)) (g.C.Clock.latest c.drive_round.new.clock) _ _ _ _ _ _ c.in-Ok.ensures.keeps.latest c.loop.invariant.rounds)
+      (from_earlier _ _ _ (until (g.C.Clock.latest c.drive_round.new.clock) (start_of g.C.Clock.bounds g.C.Clock.latest g.W.EventWait.wait_step c.args.clock.now)) (g.C.Clock.bounds c.loop.clock) (g.C.Clock.latest c.loop.clock) _ _ _ _ _ c.loop.invariant.keeps.bounds c.loop.invariant.keeps.latest
+      c.in-Ok.ensures.round);
   few = omega (arith, c.loop.invariant.few, c.in-Ok.ensures.few);
   kept = search rules;
   keeps = keeps_then c.loop.invariant.keeps (keeps_as (λ cause. cause) c.in-Ok.ensures.keeps);
   cell = c.in-Ok.ensures.cell;
   idle = c.in-Ok.ensures.idle;
 }
+
+pub returns-in-Err-clause-keeps : goal.returns-in-Err-clause-keeps
+returns-in-Err-clause-keeps g c = keeps_then c.loop.invariant.keeps (keeps_as (λ cause. cause) c.in-Err.ensures.keeps)

@@ -1,34 +1,105 @@
-use Rattle.std.proofs.Common.{◌≡◌, refl, subst}
-use Rattle.aio_base.specs.declared.seats.WordStep.TheVariants as word_step
-use Rattle.aio_base.specs.SharedWords.{after}
+use Rattle.std.proofs.Common.{◌≡◌, ◌∙◌, refl, ap, subst, Ok}
+use Rattle.aio_rules.specs.declared.seats.WordStep.TheVariants as word_step
+use Rattle.aio_rules.specs.SharedWords.{after}
 use Rattle.aio_words.specs.Seats.{SeatValue}
 use Rattle.aio_shared.specs.Reacting.{BeginsNone}
+use Rattle.aio_park.specs.Blocking.{KeepsThread}
 use Rattle.aio_park.proofs.Gaining.{gains_reacts}
-use Rattle.aio_park.proofs.Holding.{nothing_begun}
+use Rattle.aio_park.proofs.Looking.{reacts_looks}
+use Rattle.aio_park.proofs.Holding.{nothing_begun, spent_cause}
+use Rattle.aio_park.proofs.Keeping.{keeps_as, keeps_look, keeps_then}
 use Rattle.aio_park.proofs.rounds.react_once.Goals as goal
 
 pub returns-in-Ok-clause-took : goal.returns-in-Ok-clause-took
 returns-in-Ok-clause-took g c =
-    gains_reacts c.args.shared.now.words.parkers c.args.shared.now.sure_of_arms (record { given = c.args.limit; earliest = g.C.Clock.latest c.args.clock.now }) c.args.cell.now c.react_in.new.cell
-    c.args.m.now c.react_in.new.m (record { before = g.N.Faults.fault_count c.args.m.now.note; after = g.N.Faults.fault_count c.react_in.new.m.note }) c.react_in.result c.react_in.ensures.reacts
+    gains_reacts c.args.shared.now.words.parkers c.args.shared.now.sure_of_arms _ c.args.cell.now c.react_in.new.cell
+    c.args.m.now c.react_in.new.m (record { before = g.N.Faults.fault_count c.args.m.now.notifier; after = g.N.Faults.fault_count c.react_in.new.m.notifier }) c.react_in.result c.react_in.ensures.reacts
 
 pub returns-in-Err-Wait-clause-took : goal.returns-in-Err-Wait-clause-took
 returns-in-Err-Wait-clause-took g c =
-    gains_reacts c.args.shared.now.words.parkers c.args.shared.now.sure_of_arms (record { given = c.args.limit; earliest = g.C.Clock.latest c.args.clock.now }) c.args.cell.now c.react_in.new.cell
-    c.args.m.now c.react_in.new.m (record { before = g.N.Faults.fault_count c.args.m.now.note; after = g.N.Faults.fault_count c.react_in.new.m.note }) c.react_in.result c.react_in.ensures.reacts
+    gains_reacts c.args.shared.now.words.parkers c.args.shared.now.sure_of_arms _ c.args.cell.now c.react_in.new.cell
+    c.args.m.now c.react_in.new.m (record { before = g.N.Faults.fault_count c.args.m.now.notifier; after = g.N.Faults.fault_count c.react_in.new.m.notifier }) c.react_in.result c.react_in.ensures.reacts
 
 pub returns-in-Err-Arm-clause-took : goal.returns-in-Err-Arm-clause-took
 returns-in-Err-Arm-clause-took g c =
-    gains_reacts c.args.shared.now.words.parkers c.args.shared.now.sure_of_arms (record { given = c.args.limit; earliest = g.C.Clock.latest c.args.clock.now }) c.args.cell.now c.react_in.new.cell
-    c.args.m.now c.react_in.new.m (record { before = g.N.Faults.fault_count c.args.m.now.note; after = g.N.Faults.fault_count c.react_in.new.m.note }) c.react_in.result c.react_in.ensures.reacts
+    gains_reacts c.args.shared.now.words.parkers c.args.shared.now.sure_of_arms _ c.args.cell.now c.react_in.new.cell
+    c.args.m.now c.react_in.new.m (record { before = g.N.Faults.fault_count c.args.m.now.notifier; after = g.N.Faults.fault_count c.react_in.new.m.notifier }) c.react_in.result c.react_in.ensures.reacts
 
 pub returns-in-Err-Notify-clause-took : goal.returns-in-Err-Notify-clause-took
 returns-in-Err-Notify-clause-took g c =
-    gains_reacts c.args.shared.now.words.parkers c.args.shared.now.sure_of_arms (record { given = c.args.limit; earliest = g.C.Clock.latest c.args.clock.now }) c.args.cell.now c.react_in.new.cell
-    c.args.m.now c.react_in.new.m (record { before = g.N.Faults.fault_count c.args.m.now.note; after = g.N.Faults.fault_count c.react_in.new.m.note }) c.react_in.result c.react_in.ensures.reacts
+    gains_reacts c.args.shared.now.words.parkers c.args.shared.now.sure_of_arms _ c.args.cell.now c.react_in.new.cell
+    c.args.m.now c.react_in.new.m (record { before = g.N.Faults.fault_count c.args.m.now.notifier; after = g.N.Faults.fault_count c.react_in.new.m.notifier }) c.react_in.result c.react_in.ensures.reacts
 
 pub returns-else-ticker-clause-tries : goal.returns-else-ticker-clause-tries
 returns-else-ticker-clause-tries g c =
     let reacts : BeginsNone c.args.cell.now c.react_in.new.cell × (c.react_in.new.m ≡ c.args.m.now) = rw c.in-Err-RoundsSpent.field-0-is at c.in-Err-RoundsSpent.ensures.reacts in
     nothing_begun _ _ _ c.react_in.new.m _ c.ticker.result reacts.0 reacts.1 refl
     (subst (λ (p : SeatValue). c.ticker.new.p.view ≡ after (word_step.LoadTicker c.ticker.result) p.view) c.words_pass.ensures.value c.ticker.ensures.view) c.if-ticker.false
+
+pub returns-then-ticker-clause-keeps : goal.returns-then-ticker-clause-keeps
+returns-then-ticker-clause-keeps g c =
+    let view = subst (λ (p : SeatValue). c.ticker.new.p.view ≡ after (word_step.LoadTicker c.ticker.result) p.view) c.words_pass.ensures.value c.ticker.ensures.view in
+    let reacted : KeepsThread g.N.Faults.fault_count g.N.Faults.is_sure {X = Unit {0}} g.N.Notify.call_count g.C.Clock.bounds g.C.Clock.latest c.args.shared.now c.args.m.now c.react_in.new.m
+    c.args.clock.now c.react_in.new.clock (Ok tt) = record {
+      cause = tt;
+      belongs = c.react_in.ensures.belongs;
+      later = c.react_in.ensures.later;
+      calls = c.react_in.ensures.calls;
+      bounds = c.react_in.ensures.bounds;
+      latest = c.react_in.ensures.latest;
+    } in
+    keeps_then reacted
+    (keeps_as (λ none. spent_cause c.react_in.new.m (record c.react_in.new.m { pass = c.ticker.new.p }) c.ticker.result c.if-ticker.true view)
+    (keeps_look c.ticker.result c.react_in.ensures.belongs refl (c.ticker.ensures.words ∙ ap (λ (p : SeatValue). p.words) c.words_pass.ensures.value)
+    view))
+
+pub returns-else-ticker-clause-keeps : goal.returns-else-ticker-clause-keeps
+returns-else-ticker-clause-keeps g c =
+    let reacted : KeepsThread g.N.Faults.fault_count g.N.Faults.is_sure {X = Unit {0}} g.N.Notify.call_count g.C.Clock.bounds g.C.Clock.latest c.args.shared.now c.args.m.now c.react_in.new.m
+    c.args.clock.now c.react_in.new.clock (Ok tt) = record {
+      cause = tt;
+      belongs = c.react_in.ensures.belongs;
+      later = c.react_in.ensures.later;
+      calls = c.react_in.ensures.calls;
+      bounds = c.react_in.ensures.bounds;
+      latest = c.react_in.ensures.latest;
+    } in
+    keeps_then reacted
+    (keeps_as (λ none. none)
+    (keeps_look c.ticker.result c.react_in.ensures.belongs refl (c.ticker.ensures.words ∙ ap (λ (p : SeatValue). p.words) c.words_pass.ensures.value)
+    (subst (λ (p : SeatValue). c.ticker.new.p.view ≡ after (word_step.LoadTicker c.ticker.result) p.view) c.words_pass.ensures.value c.ticker.ensures.view)))
+
+pub returns-in-Ok-clause-looks : goal.returns-in-Ok-clause-looks
+returns-in-Ok-clause-looks g c parker =
+    reacts_looks parker c.args.shared.now.words.parkers c.args.shared.now.sure_of_arms _ c.args.cell.now c.react_in.new.cell
+    c.args.m.now c.react_in.new.m (record { before = g.N.Faults.fault_count c.args.m.now.notifier; after = g.N.Faults.fault_count c.react_in.new.m.notifier }) c.react_in.result c.react_in.ensures.reacts
+
+pub returns-in-Err-Wait-clause-looks : goal.returns-in-Err-Wait-clause-looks
+returns-in-Err-Wait-clause-looks g c parker =
+    reacts_looks parker c.args.shared.now.words.parkers c.args.shared.now.sure_of_arms _ c.args.cell.now c.react_in.new.cell
+    c.args.m.now c.react_in.new.m (record { before = g.N.Faults.fault_count c.args.m.now.notifier; after = g.N.Faults.fault_count c.react_in.new.m.notifier }) c.react_in.result c.react_in.ensures.reacts
+
+pub returns-in-Err-Arm-clause-looks : goal.returns-in-Err-Arm-clause-looks
+returns-in-Err-Arm-clause-looks g c parker =
+    reacts_looks parker c.args.shared.now.words.parkers c.args.shared.now.sure_of_arms _ c.args.cell.now c.react_in.new.cell
+    c.args.m.now c.react_in.new.m (record { before = g.N.Faults.fault_count c.args.m.now.notifier; after = g.N.Faults.fault_count c.react_in.new.m.notifier }) c.react_in.result c.react_in.ensures.reacts
+
+pub returns-in-Err-Notify-clause-looks : goal.returns-in-Err-Notify-clause-looks
+returns-in-Err-Notify-clause-looks g c parker =
+    reacts_looks parker c.args.shared.now.words.parkers c.args.shared.now.sure_of_arms _ c.args.cell.now c.react_in.new.cell
+    c.args.m.now c.react_in.new.m (record { before = g.N.Faults.fault_count c.args.m.now.notifier; after = g.N.Faults.fault_count c.react_in.new.m.notifier }) c.react_in.result c.react_in.ensures.reacts
+
+pub returns-in-Err-OutOfMemory-clause-looks : goal.returns-in-Err-OutOfMemory-clause-looks
+returns-in-Err-OutOfMemory-clause-looks g c parker =
+    reacts_looks parker c.args.shared.now.words.parkers c.args.shared.now.sure_of_arms _ c.args.cell.now c.react_in.new.cell
+    c.args.m.now c.react_in.new.m (record { before = g.N.Faults.fault_count c.args.m.now.notifier; after = g.N.Faults.fault_count c.react_in.new.m.notifier }) c.react_in.result c.react_in.ensures.reacts
+
+pub returns-then-ticker-clause-looks : goal.returns-then-ticker-clause-looks
+returns-then-ticker-clause-looks g c parker =
+    reacts_looks parker c.args.shared.now.words.parkers c.args.shared.now.sure_of_arms _ c.args.cell.now c.react_in.new.cell
+    c.args.m.now c.react_in.new.m (record { before = g.N.Faults.fault_count c.args.m.now.notifier; after = g.N.Faults.fault_count c.react_in.new.m.notifier }) c.react_in.result c.react_in.ensures.reacts
+
+pub returns-else-ticker-clause-looks : goal.returns-else-ticker-clause-looks
+returns-else-ticker-clause-looks g c parker =
+    reacts_looks parker c.args.shared.now.words.parkers c.args.shared.now.sure_of_arms _ c.args.cell.now c.react_in.new.cell
+    c.args.m.now c.react_in.new.m (record { before = g.N.Faults.fault_count c.args.m.now.notifier; after = g.N.Faults.fault_count c.react_in.new.m.notifier }) c.react_in.result c.react_in.ensures.reacts

@@ -1,7 +1,7 @@
 use Rattle.std.proofs.Common.{take}
 use Rattle.std.specs.Prelude.{codes}
 use Rattle.aio_base.specs.Trace.{trace_of}
-use Rattle.aio_base.proofs.BetweenSteps.{stands_after}
+use Rattle.aio_laws.proofs.runs.BetweenSteps.{stands_after}
 use Rattle.aio_run.specs.declared.commands.Command.TheVariants as command
 use Rattle.aio_run.proofs.Causes.{leaves_all}
 use Rattle.aio_run.proofs.Naming.{gen_no_sum, same_numbers, steps_no_replay}

@@ -9,20 +9,20 @@ loop-step-init g c = record {
   cause = tells_none g.K.Faults.fault_count g.K.Faults.is_sure c.args.out.now;
 }
 
-pub gather-requires : goal.gather-requires
-gather-requires g c =
+pub buffer_line-requires : goal.buffer_line-requires
+buffer_line-requires g c =
     next_in_range c.args.n c.args.seed c.loop-step.step-iterator c.next.new.self _ _ c.loop-step.text.items c.loop-step.invariant.traces c.in-Some.step c.in-Some.ensures.steps c.requires.few
 
 pub loop-step-preserved : goal.loop-step-preserved
 loop-step-preserved g c = record {
-  traces = traces_one c.args.n c.args.seed c.loop-step.step-iterator c.next.new.self _ _ c.loop-step.text.items c.loop-step.invariant.traces c.in-Some.step c.in-Some.ensures.steps _ c.gather.new.text.items c.in-Ok-gather.ensures.gathers;
-  cause = tells_on g.K.Faults.fault_count g.K.Faults.is_sure c.args.out.now c.loop-step.out c.gather.new.out ⊥ c.loop-step.invariant.cause
-      (tells_done g.K.Faults.fault_count g.K.Faults.is_sure c.loop-step.out c.gather.new.out c.gather.result c.in-Ok-gather.field-0 c.in-Ok-gather.is c.gather.ensures.cause);
+  traces = traces_one c.args.n c.args.seed c.loop-step.step-iterator c.next.new.self _ _ c.loop-step.text.items c.loop-step.invariant.traces c.in-Some.step c.in-Some.ensures.steps _ c.buffer_line.new.text.items c.in-Ok-buffer_line.ensures.buffers;
+  cause = tells_on g.K.Faults.fault_count g.K.Faults.is_sure c.args.out.now c.loop-step.out c.buffer_line.new.out ⊥ c.loop-step.invariant.cause
+      (tells_done g.K.Faults.fault_count g.K.Faults.is_sure c.loop-step.out c.buffer_line.new.out c.buffer_line.result c.in-Ok-buffer_line.field-0 c.in-Ok-buffer_line.is c.buffer_line.ensures.cause);
 }
 
-pub returns-in-Err-gather-clause-written : goal.returns-in-Err-gather-clause-written
-returns-in-Err-gather-clause-written g c =
-    traces_part c.args.n c.args.seed c.loop-step.step-iterator c.next.new.self _ _ c.loop-step.text.items c.loop-step.invariant.traces c.in-Some.step c.in-Some.ensures.steps _ c.in-Err-gather.ensures.gathers
+pub returns-in-Err-buffer_line-clause-written : goal.returns-in-Err-buffer_line-clause-written
+returns-in-Err-buffer_line-clause-written g c =
+    traces_part c.args.n c.args.seed c.loop-step.step-iterator c.next.new.self _ _ c.loop-step.text.items c.loop-step.invariant.traces c.in-Some.step c.in-Some.ensures.steps _ c.in-Err-buffer_line.ensures.buffers
 
 pub returns-clause-written : goal.returns-clause-written
 returns-clause-written g c =

@@ -1,5 +1,5 @@
 use Rattle.std.proofs.Common.{◌≡◌, ◌∙◌, ap}
-use Rattle.aio_base.specs.declared.seats.SeatView.{SeatView}
+use Rattle.aio_rules.specs.declared.seats.SeatView.{SeatView}
 use Rattle.aio_words.specs.Seats.{SeatValue}
 use Rattle.aio_shared_tests.proofs.seats.react_blocked.Goals as goal
 

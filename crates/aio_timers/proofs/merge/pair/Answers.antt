@@ -1,7 +1,7 @@
 -- Each step of the first pass keeps what is left, and fewer roots are to come.
 use Rattle.std.proofs.Common.{length, arith}
 use Rattle.aio_timers.specs.Family.{Pairs}
-use Rattle.aio_timers.proofs.MeltLemmas.{pairs-start, pairs-steps, AreInside, pair-safe, PairsOn, pair-goes}
+use Rattle.aio_timers.proofs.MeldLemmas.{pairs-start, pairs-steps, AreInside, pair-safe, PairsOn, pair-goes}
 use Rattle.aio_timers.proofs.merge.pair.Goals as goal
 
 pub loop-a-init : goal.loop-a-init
@@ -43,4 +43,4 @@ pub pair_step-requires-clause-few : goal.pair_step-requires-clause-few
 pair_step-requires-clause-few c =
     let t = c.requires.tops in
     let p : Pairs c.args.nodes.now c.loop-a.nodes t.0 t.1 c.loop-a.rest c.loop-a.done = c.loop-a.invariant t.0 t.1 t.2 in
-    omega (arith, c.requires.few, p.melts.kept.len)
+    omega (arith, c.requires.few, p.melds.kept.len)

@@ -1,5 +1,5 @@
 use Rattle.std.proofs.Common.{rules, ap, sym, subst, ◌∙◌}
-use Rattle.aio_base.specs.SharedLock.{MayPutBack, is_inside}
+use Rattle.aio_rules.specs.SharedLock.{MayPutBack, is_inside}
 use Rattle.aio_lock.proofs.Allowed.{may_fetch_slot, may_open}
 use Rattle.aio_lock.proofs.gate.Gate.leave.Goals as goal
 

@@ -1,7 +1,7 @@
 use Rattle.std.proofs.Common.{Some, ap, sym, ◌∙◌}
 use Rattle.std.specs.Option.{option_map}
 use Rattle.aio_base.specs.Trace.{reason_of}
-use Rattle.aio_base.proofs.Shapes.{read_is}
+use Rattle.aio_laws.proofs.traces.Shapes.{read_is}
 use Rattle.aio_replay.proofs.version.FirstVersionVersion.read_line.Goals as goal
 
 pub returns-in-Ok : goal.returns-in-Ok

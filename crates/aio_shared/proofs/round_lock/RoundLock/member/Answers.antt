@@ -1,4 +1,4 @@
-use Rattle.aio_shared.proofs.Turning.{makes}
+use Rattle.aio_shared.proofs.Claiming.{makes}
 use Rattle.aio_shared.proofs.round_lock.RoundLock.member.Goals as goal
 
 pub another-requires-clause-rule : goal.another-requires-clause-rule

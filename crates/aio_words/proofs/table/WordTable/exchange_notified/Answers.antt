@@ -1,5 +1,5 @@
 use Rattle.std.proofs.Common.{rules}
-use Rattle.aio_base.specs.declared.seats.WordStep.TheVariants as word_step
+use Rattle.aio_rules.specs.declared.seats.WordStep.TheVariants as word_step
 use Rattle.aio_words.proofs.Allowed.{may_inside, exchanges_notified}
 use Rattle.aio_words.proofs.table.WordTable.exchange_notified.Goals as goal
 

@@ -1,5 +1,5 @@
 use Rattle.std.proofs.Common.{rules, refl, ap, ◌∙◌}
-use Rattle.aio_base.specs.declared.seats.WordStep.TheVariants as word_step
+use Rattle.aio_rules.specs.declared.seats.WordStep.TheVariants as word_step
 use Rattle.aio_words.proofs.Allowed.{may_inside, loads_mask}
 use Rattle.aio_words.proofs.table.WordTable.load_mask.Goals as goal
 

@@ -1,5 +1,5 @@
 use Rattle.std.proofs.Common.{rules, ap, subst, sym, ◌∙◌}
-use Rattle.aio_base.specs.SharedWords.{IsFree}
+use Rattle.aio_rules.specs.SharedWords.{IsFree}
 use Rattle.aio_words.proofs.Allowed.{joins}
 use Rattle.aio_words.proofs.table.WordTable.merge.Goals as goal
 

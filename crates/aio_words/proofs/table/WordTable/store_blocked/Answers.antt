@@ -1,5 +1,5 @@
 use Rattle.std.proofs.Common.{rules, refl, ap, ◌∙◌}
-use Rattle.aio_base.specs.declared.seats.WordStep.TheVariants as word_step
+use Rattle.aio_rules.specs.declared.seats.WordStep.TheVariants as word_step
 use Rattle.aio_words.proofs.Allowed.{may_inside, stores_blocked}
 use Rattle.aio_words.proofs.table.WordTable.store_blocked.Goals as goal
 

@@ -1,6 +1,6 @@
 use Rattle.std.proofs.Common.{◌≡◌, ℕ, replicate}
-use Rattle.aio_base.specs.declared.seats.WordStep.TheVariants as word_step
-use Rattle.aio_base.specs.WordCalls.{and_did}
+use Rattle.aio_rules.specs.declared.seats.WordStep.TheVariants as word_step
+use Rattle.aio_rules.specs.WordCalls.{and_did}
 use Rattle.aio_words.proofs.words.Words.park.Given as goal
 
 -- each look so far found no woken slot

@@ -1,8 +1,8 @@
 use Rattle.std.proofs.Common.{rules, ◌≡◌, ◌==◌, ◌<◌, ℕ, ap, sym, ◌∙◌, subst, unwrap_or}
-use Rattle.aio_base.specs.declared.seats.Mode.TheVariants as mode
-use Rattle.aio_base.specs.declared.seats.WordStep.TheVariants as word_step
-use Rattle.aio_base.specs.SharedWords.{after, word_count}
-use Rattle.aio_base.proofs.WordSteps.{looking_holds}
+use Rattle.aio_rules.specs.declared.seats.Mode.TheVariants as mode
+use Rattle.aio_rules.specs.declared.seats.WordStep.TheVariants as word_step
+use Rattle.aio_rules.specs.SharedWords.{after, word_count}
+use Rattle.aio_rules.proofs.WordSteps.{looking_holds}
 use Rattle.aio_words.specs.Seats.{IsRoundSeat}
 use Rattle.aio_words.proofs.Holding.{holds_still, looking_waits, the_parker, blocks_it, in_words, saw, waits_at_zero}
 use Rattle.aio_words.proofs.words.Words.take_or_wait.Goals as goal

@@ -1,6 +1,6 @@
 use Rattle.std.proofs.Common.{rules, ◌≡◌, ◌<◌, subst, ap, sym, refl, inr, ◌∙◌}
-use Rattle.aio_base.specs.declared.seats.WordStep.TheVariants as word_step
-use Rattle.aio_base.specs.SharedWords.{after, word_count}
+use Rattle.aio_rules.specs.declared.seats.WordStep.TheVariants as word_step
+use Rattle.aio_rules.specs.SharedWords.{after, word_count}
 use Rattle.aio_words.proofs.Holding.{the_parker, blocks_it, in_words}
 use Rattle.aio_words.proofs.words.Words.unblock.Goals as goal
 

@@ -1,5 +1,5 @@
 use Rattle.std.proofs.Common.{rules, ◌/◌, ◌≤◌, ℕ, Bool, Ok, refl, sym, ap, ◌∙◌, subst}
-use Rattle.aio_base.specs.WordCalls.{Found, wins}
+use Rattle.aio_rules.specs.WordCalls.{Found, wins}
 use Rattle.aio_words.specs.Calls.{Called}
 use Rattle.aio_words.proofs.Waking.{found, no_steps, untouched}
 use Rattle.aio_words.proofs.words.Words.wake.Goals as goal

@@ -1,5 +1,0 @@
-use Rattle.aio_base.proofs.FreshnessLemmas.{is_fresh-remembered}
-use Rattle.aio_base.proofs.freshness.remembered_rounds_tell_freshness.Goals as goal
-
-pub returns : goal.returns
-returns c = is_fresh-remembered

@@ -1,5 +1,0 @@
-use Rattle.aio_base.proofs.Owning.{keeps_its_own}
-use Rattle.aio_base.proofs.laws.a_position_and_a_deadline_have_their_steps.Goals as goal
-
-pub returns : goal.returns
-returns c = keeps_its_own

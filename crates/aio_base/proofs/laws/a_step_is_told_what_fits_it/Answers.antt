@@ -1,5 +1,0 @@
-use Rattle.aio_base.proofs.Answering.{answer_fits}
-use Rattle.aio_base.proofs.laws.a_step_is_told_what_fits_it.Goals as goal
-
-pub returns : goal.returns
-returns c = answer_fits

@@ -1,5 +1,0 @@
-use Rattle.aio_base.proofs.Awaiting.{run_waits_for_timers}
-use Rattle.aio_base.proofs.laws.each_waiting_timer_is_registered.Goals as goal
-
-pub returns : goal.returns
-returns c = run_waits_for_timers

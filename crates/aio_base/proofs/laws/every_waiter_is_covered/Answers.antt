@@ -1,8 +1,0 @@
-use Rattle.aio_base.proofs.CoverRuns.{run_covers, run_waits_for_live}
-use Rattle.aio_base.proofs.laws.every_waiter_is_covered.Goals as goal
-
-pub returns-clause-covered : goal.returns-clause-covered
-returns-clause-covered c = run_covers
-
-pub returns-clause-live : goal.returns-clause-live
-returns-clause-live c = run_waits_for_live

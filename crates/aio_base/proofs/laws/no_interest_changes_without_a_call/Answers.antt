@@ -1,5 +1,0 @@
-use Rattle.aio_base.proofs.Calling.{calls_follow}
-use Rattle.aio_base.proofs.laws.no_interest_changes_without_a_call.Goals as goal
-
-pub returns : goal.returns
-returns c = calls_follow

@@ -1,5 +1,0 @@
-use Rattle.aio_base.proofs.OnceRuns.{run_once}
-use Rattle.aio_base.proofs.laws.no_storing_is_lost_or_woken_twice.Goals as goal
-
-pub returns : goal.returns
-returns c = run_once

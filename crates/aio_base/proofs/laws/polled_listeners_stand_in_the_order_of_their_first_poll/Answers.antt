@@ -1,5 +1,0 @@
-use Rattle.aio_base.proofs.FirstPolls.{run_polls_in_order}
-use Rattle.aio_base.proofs.laws.polled_listeners_stand_in_the_order_of_their_first_poll.Goals as goal
-
-pub returns : goal.returns
-returns c = run_polls_in_order

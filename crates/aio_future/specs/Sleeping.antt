@@ -1,0 +1,27 @@
+-- A task that is ready once its timer has fired.
+use Rattle.std.specs.Prelude.{◌≡◌, ℕ, ◌<◌, ◌≤◌, Bool, false, Option, Some, IfSome, Result, Ok, Err, ⊤}
+use Rattle.std.proofs.Common.{le_trans}
+use Rattle.aio_base.specs.declared.outcomes.Poll.{Poll}
+use Rattle.aio_base.specs.Polls.{WhilePending}
+use Rattle.aio_future.specs.declared.answers.TimerFault.{TimerFault}
+use Rattle.aio_future.specs.declared.answers.TimerFault.TheVariants as fault
+
+-- What a timer with such a deadline may come to by a moment: it fires with its deadline, which has come; or it tells a fault, that of a notifier
+-- only where the host's is not sure.
+abbrev pub FiresBy : Option ℕ → Bool → ℕ → Result ℕ TimerFault → Type 0
+FiresBy deadline sure moment (Ok fired) = (deadline ≡ Some fired) × (fired ≤ moment)
+FiresBy deadline sure moment (Err fault.IdsSpent) = ⊤
+FiresBy deadline sure moment (Err fault.OutOfMemory) = ⊤
+FiresBy deadline sure moment (Err (fault.Notify fired why)) = sure ≡ false
+
+-- what it may come to by a moment it may come to by any later one
+pub fires_later : (deadline : Option ℕ) (sure : Bool) (a b : ℕ) (output : Result ℕ TimerFault) → a ≤ b
+    → FiresBy deadline sure a output → FiresBy deadline sure b output
+fires_later deadline sure a b (Ok fired) bound given = (given.0, le_trans given.1 bound)
+fires_later deadline sure a b (Err fault.IdsSpent) bound given = given
+fires_later deadline sure a b (Err fault.OutOfMemory) bound given = given
+fires_later deadline sure a b (Err (fault.Notify fired why)) bound given = given
+
+-- A poll of a timer at a moment leaves it waiting only for a deadline that is still to come, and with that same deadline.
+abbrev pub WaitsOn : Option ℕ → ℕ → Poll (Result ℕ TimerFault) → Option ℕ → Type 0
+WaitsOn deadline now answer after = WhilePending answer ((after ≡ deadline) × IfSome deadline (λ at. now < at))

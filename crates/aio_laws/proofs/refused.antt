@@ -1,0 +1,12 @@
+-- Steps, histories and worlds of wrong machines, each refused by a law.
+mod FalseAnswers
+mod FalseDraws
+mod FalseCalls
+mod FalseInterests
+mod FalseRefusals
+mod FalseHistories
+mod FalseNotes
+mod FalseRounds
+mod FalseSteps
+mod FalseTimers
+mod RefusedWorlds

@@ -1,0 +1,9 @@
+-- What rounds tell, count, hold in hand and note.
+pub mod Noting
+pub mod RoundAnswers
+pub mod RoundEnds
+pub mod RoundFaults
+pub mod RoundHands
+pub mod RoundLemmas
+pub mod RoundSteps
+pub mod WaitedOut

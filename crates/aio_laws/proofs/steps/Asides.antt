@@ -1,0 +1,170 @@
+-- What the steps of the machine leave of the serials, the marks and the failed arms.
+use Rattle.std.proofs.Common.{◌≡◌, ℕ, Bool, true, false, cond, ◌&&◌, ◌||◌, List, [], ◌∷◌, Option, None, Some, is_some, refl, ap, ◌∙◌}
+use Rattle.std.specs.Prelude.{nat_le, option_to_list, unwrap_or, length}
+use Rattle.aio_base.specs.declared.names.Key.{Key}
+use Rattle.aio_base.specs.declared.names.Waker.{Waker}
+use Rattle.aio_base.specs.declared.names.Dir.{Dir}
+use Rattle.aio_base.specs.declared.names.Event.{Event}
+use Rattle.aio_base.specs.World.{PollerAnswer, Succeeds, Gives, IsInterrupted, Fails, Mark, ListenerEntry, BrokenSource, TimerEntry, RoundState, World, directions_of, serial_of, key_of, poll_waiter, mark_of, is_empty_list, is_idle, is_broken, wanted}
+use Rattle.aio_base.specs.Machine.{fails, next_answer, later_answers, broken_world, armed_world, after_arm, pending, source_limit, add, is_fresh_since, is_waker, with_waiter, poll_source, new_listener, with_listening, step_listener, drop_listener, unregistered, next_deadline, fired, tick_deadline, tick_timer, set_deadline, set_timer, end_timer, begin_round, wait_answered, wait_in, wait_round, without_waiters, world_taken, rearmed, handle_source, handle_first, handle_in, handle_round, handle_each, hand_of, finish_in, react}
+use Rattle.aio_laws.proofs.steps.Frames.{either, either_world}
+
+pub record Aside : Type 0 where
+  pub serials : ℕ
+  pub marks : List Mark
+  pub broken : List BrokenSource
+
+abbrev pub aside : World → Aside
+aside w = record { serials = w.serials; marks = w.marks; broken = w.broken }
+
+-- but for what the steps of sources change
+abbrev pub but_serials : Aside → Aside
+but_serials a = record a { serials = 0 }
+
+abbrev pub but_broken : Aside → Aside
+but_broken a = record a { broken = [] }
+
+-- ## Steps that are of no source
+
+pub new_leaves : (w : World) (dir : Dir) (serial : Option ℕ) (answers : List PollerAnswer) → aside (new_listener w dir serial answers).world ≡ aside w
+new_leaves w dir None answers = refl
+new_leaves w dir (Some serial) answers = refl
+
+pub drop_leaves : (w : World) (number : ℕ) (entry : Option ListenerEntry) (answers : List PollerAnswer) → aside (drop_listener w number entry answers).world ≡ aside w
+drop_leaves w number None answers = refl
+drop_leaves w number (Some entry) answers = refl
+
+gone_leaves : (w : World) (id : Option ℕ) → aside (unregistered w id) ≡ aside w
+gone_leaves w None = refl
+gone_leaves w (Some id) = refl
+
+fired_leaves : (w : World) (entry : TimerEntry) (waker : Waker) (next : Option ℕ) → aside (fired w entry waker next) ≡ aside w
+fired_leaves w entry waker None = refl
+fired_leaves w entry waker (Some deadline) = refl
+
+tick_leaves_at : (w : World) (entry : TimerEntry) (waker : Waker) (deadline : Option ℕ) (answers : List PollerAnswer)
+    → aside (tick_deadline w entry waker deadline answers).world ≡ aside w
+tick_leaves_at w entry waker None answers = refl
+tick_leaves_at w entry waker (Some deadline) answers =
+    let gone = gone_leaves w entry.id in
+    either (λ o. aside o.world ≡ aside w) (nat_le deadline w.now) _ _
+    (fired_leaves (unregistered w entry.id) entry waker (next_deadline deadline entry.period) ∙ gone)
+    (either_world (λ v. aside v ≡ aside w) (is_some entry.id && is_waker waker entry.kept) w _ refl gone)
+
+pub tick_leaves : (w : World) (waker : Waker) (entry : Option TimerEntry) (answers : List PollerAnswer) → aside (tick_timer w waker entry answers).world ≡ aside w
+tick_leaves w waker None answers = refl
+tick_leaves w waker (Some entry) answers = tick_leaves_at w entry waker entry.deadline answers
+
+set_leaves_at : (w : World) (entry : TimerEntry) (deadline : ℕ) (kept : Option Waker) → aside (set_deadline w entry deadline kept) ≡ aside w
+set_leaves_at w entry deadline None = refl
+set_leaves_at w entry deadline (Some waker) = refl
+
+pub set_leaves : (w : World) (deadline : ℕ) (period : Option ℕ) (entry : Option TimerEntry) (answers : List PollerAnswer)
+    → aside (set_timer w deadline period entry answers).world ≡ aside w
+set_leaves w deadline period None answers = refl
+set_leaves w deadline period (Some entry) answers =
+    set_leaves_at (unregistered w entry.id) (cond (is_some period) (record entry { period = period }) entry) deadline entry.kept ∙ gone_leaves w entry.id
+
+pub end_leaves : (w : World) (entry : Option TimerEntry) (answers : List PollerAnswer) → aside (end_timer w entry answers).world ≡ aside w
+end_leaves w None answers = refl
+end_leaves w (Some entry) answers = gone_leaves w entry.id
+
+pub begin_leaves : (w : World) (given : Option ℕ) (answers : List PollerAnswer) → aside (begin_round w given answers).world ≡ aside w
+begin_leaves w given answers = either (λ o. aside o.world ≡ aside w) (is_some w.round) _ _ refl refl
+
+answered_leaves : (w : World) (round : RoundState) (told : PollerAnswer) (rest : List PollerAnswer) → aside (wait_answered w round told rest).world ≡ aside w
+answered_leaves w round Succeeds rest = refl
+answered_leaves w round (Gives events) rest = refl
+answered_leaves w round IsInterrupted rest = refl
+answered_leaves w round Fails rest = refl
+
+pub wait_leaves : (w : World) (round : Option RoundState) (answers : List PollerAnswer) → aside (wait_in w round answers).world ≡ aside w
+wait_leaves w None answers = refl
+wait_leaves w (Some round) answers =
+    either (λ o. aside o.world ≡ aside w) (is_empty_list round.in_hand) _ _ (answered_leaves w round (next_answer answers) (later_answers answers)) refl
+
+pub finish_leaves : (w : World) (round : Option RoundState) (answers : List PollerAnswer) → aside (finish_in w round answers).world ≡ aside w
+finish_leaves w None answers = refl
+finish_leaves w (Some round) answers = either (λ o. aside o.world ≡ aside w) (is_empty_list round.in_hand) _ _ refl refl
+
+-- ## Sources are added and taken out
+
+pub add_leaves : (w : World) (answers : List PollerAnswer) → but_serials (aside (add w answers).world) ≡ but_serials (aside w)
+add_leaves w answers =
+    either (λ o. but_serials (aside o.world) ≡ but_serials (aside w)) (nat_le source_limit (length w.live)) _ _ refl
+    (either_world (λ v. but_serials (aside v) ≡ but_serials (aside w)) (fails (next_answer answers)) w _ refl refl)
+
+-- ## Arming
+
+pub arm_leaves : (w : World) (key serial : ℕ) (told : PollerAnswer) → but_broken (aside (after_arm w key serial told)) ≡ but_broken (aside w)
+arm_leaves w key serial told =
+    either_world (λ v. but_broken (aside v) ≡ but_broken (aside w)) (fails told) (broken_world w serial) (armed_world w key serial) refl refl
+
+pub pending_leaves : (arms : Bool) (w : World) (key serial : ℕ) (wakes : List Waker) (answers : List PollerAnswer)
+    → but_broken (aside (pending arms w key serial wakes answers).world) ≡ but_broken (aside w)
+pending_leaves false w key serial wakes answers = refl
+pending_leaves true w key serial wakes answers = arm_leaves w key serial (next_answer answers)
+
+pub poll_serials : (w : World) (key : ℕ) (dir : Dir) (waker : Waker) (serial : Option ℕ) (answers : List PollerAnswer)
+    → (poll_source w key dir waker serial answers).world.serials ≡ w.serials
+poll_serials w key dir waker None answers = refl
+poll_serials w key dir waker (Some serial) answers =
+    let waiter = poll_waiter w.poll_waiters serial dir in
+    either (λ o. o.world.serials ≡ w.serials) (is_fresh_since w serial dir (mark_of w.marks serial dir)) _ _ refl
+    (either (λ o. o.world.serials ≡ w.serials) (is_waker waker waiter) _ _
+    (ap (λ (a : Aside). a.serials) (pending_leaves (is_broken w serial) w key serial [] answers))
+    (ap (λ (a : Aside). a.serials)
+    (pending_leaves (is_idle w serial dir || is_broken w serial) (with_waiter w serial dir waker) key serial (option_to_list waiter) answers)))
+
+pub step_leaves : (w : World) (waker : Waker) (entry : Option ListenerEntry) (answers : List PollerAnswer)
+    → but_broken (aside (step_listener w waker entry answers).world) ≡ but_broken (aside w)
+step_leaves w waker None answers = refl
+step_leaves w waker (Some entry) answers =
+    either (λ o. but_broken (aside o.world) ≡ but_broken (aside w)) (is_fresh_since w entry.serial entry.dir entry.position) _ _ refl
+    (pending_leaves (is_idle w entry.serial entry.dir || is_broken w entry.serial) (record w { listeners = with_listening w entry waker })
+    (unwrap_or (key_of w entry.serial) 0) entry.serial [] answers)
+
+-- ## Events are handled
+
+taken_leaves : (w : World) (serial begin : ℕ) (dirs : List Dir) → aside (world_taken w serial begin dirs) ≡ aside w
+taken_leaves w serial begin [] = refl
+taken_leaves w serial begin (dir ∷ dirs) = taken_leaves (without_waiters w serial begin dir) serial begin dirs
+
+rearmed_leaves : (w : World) (round : RoundState) (key : Key) (serial : ℕ) (answers : List PollerAnswer)
+    → but_broken (aside (rearmed w round key serial answers).world) ≡ but_broken (aside w)
+rearmed_leaves w round key serial answers =
+    let told = next_answer answers in
+    let arm = arm_leaves w key.0 serial told in
+    either (λ o. but_broken (aside o.world) ≡ but_broken (aside w)) (is_empty_list (wanted w serial)) _ _ refl
+    (either_world (λ v. but_broken (aside v) ≡ but_broken (aside w)) (fails told) _ _ arm arm)
+
+source_leaves : (w : World) (round : RoundState) (event : Event) (serial : Option ℕ) (answers : List PollerAnswer)
+    → but_broken (aside (handle_source w round event serial answers).world) ≡ but_broken (aside w)
+source_leaves w round event None answers = refl
+source_leaves w round event (Some serial) answers =
+    rearmed_leaves _ _ event.key serial answers ∙ ap but_broken (taken_leaves w serial round.begin (directions_of event.on))
+
+first_leaves : (w : World) (round : RoundState) (events : List Event) (answers : List PollerAnswer)
+    → but_broken (aside (handle_first w round events answers).world) ≡ but_broken (aside w)
+first_leaves w round [] answers = refl
+first_leaves w round (event ∷ events) answers = source_leaves w (record round { in_hand = events }) event (serial_of w event.key.0) answers
+
+pub handle_leaves : (w : World) (round : Option RoundState) (answers : List PollerAnswer)
+    → but_broken (aside (handle_in w round answers).world) ≡ but_broken (aside w)
+handle_leaves w None answers = refl
+handle_leaves w (Some round) answers = first_leaves w round round.in_hand answers
+
+pub each_leaves : (events : List Event) (w : World) (answers : List PollerAnswer) → but_broken (aside (handle_each events w answers).world) ≡ but_broken (aside w)
+each_leaves [] w answers = refl
+each_leaves (event ∷ events) w answers =
+    each_leaves events (handle_round w answers).world (handle_round w answers).left ∙ handle_leaves w w.round answers
+
+pub react_leaves : (w : World) (answers : List PollerAnswer) → but_broken (aside (react w None answers).world) ≡ but_broken (aside w)
+react_leaves w answers =
+    let begun = begin_round w None answers in
+    let waited = wait_round begun.world begun.left in
+    let hand = hand_of waited.world.round in
+    let handled = handle_each hand waited.world waited.left in
+    either (λ o. but_broken (aside o.world) ≡ but_broken (aside w)) (is_some w.round) _ _ refl
+    (ap but_broken (finish_leaves handled.world handled.world.round handled.left) ∙ each_leaves hand waited.world waited.left
+    ∙ ap but_broken (wait_leaves begun.world begun.world.round begun.left) ∙ ap but_broken (begin_leaves w None answers))

@@ -1,0 +1,230 @@
+-- What the steps of the machine leave alone: the clock, the rounds, the sources, the listeners but for their wakers, the timers and the past.
+use Rattle.std.proofs.Common.{◌≡◌, ℕ, Bool, true, false, cond, ◌&&◌, ◌||◌, ◌==◌, List, [], ◌∷◌, length, map, Option, None, Some, is_some, refl, ap, ◌∙◌, sym}
+use Rattle.std.specs.Prelude.{nat_le, option_to_list, unwrap_or}
+use Rattle.std.specs.List.{list_any}
+use Rattle.aio_base.specs.declared.names.Key.{Key}
+use Rattle.aio_base.specs.declared.names.Waker.{Waker}
+use Rattle.aio_base.specs.declared.names.Dir.{Dir}
+use Rattle.aio_base.specs.declared.names.Event.{Event}
+use Rattle.aio_base.specs.World.{PollerAnswer, Succeeds, Gives, IsInterrupted, Fails, LiveSource, ListenerEntry, TimerEntry, RoundState, HandledDirection, World, directions_of, is_of, serial_of, key_of, poll_waiter, mark_of, is_empty_list, is_idle, is_broken, wanted}
+use Rattle.aio_base.specs.Machine.{Outcome, fails, next_answer, later_answers, broken_world, armed_world, after_arm, pending, source_limit, add, del_source, is_fresh_since, is_waker, with_waiter, poll_source, new_listener, with_listening, step_listener, drop_listener, unregistered, next_deadline, fired, tick_deadline, tick_timer, set_deadline, set_timer, end_timer, begin_round, wait_answered, wait_in, without_waiters, world_taken, rearmed, handle_source, handle_first, handle_in, handle_round, finish_in, handle_each}
+use Rattle.aio_laws.specs.RoundCounts.{RoundName, name_of}
+
+-- a listener but for its waker
+abbrev pub bare : ListenerEntry → ListenerEntry
+bare l = record l { waker = None }
+
+pub record Frame : Type 0 where
+  pub now : ℕ
+  pub rounds : ℕ
+  pub begun : List ℕ
+  pub name : Option RoundName
+  pub live : List LiveSource
+  pub listeners : List ListenerEntry
+  pub timers : List TimerEntry
+  pub handled : List HandledDirection
+
+abbrev pub frame : World → Frame
+frame w = record {
+  now = w.now;
+  rounds = w.rounds;
+  begun = w.begun;
+  name = name_of w.round;
+  live = w.live;
+  listeners = map bare w.listeners;
+  timers = w.timers;
+  handled = w.handled;
+}
+
+-- the same but for what the steps of sources, of listeners, of timers, and the handling of events change
+abbrev pub but_live : Frame → Frame
+but_live f = record f { live = [] }
+
+abbrev pub but_listeners : Frame → Frame
+but_listeners f = record f { listeners = [] }
+
+abbrev pub but_timers : Frame → Frame
+but_timers f = record f { timers = [] }
+
+abbrev pub but_handled : Frame → Frame
+but_handled f = record f { handled = [] }
+
+-- but for the round that runs, and for what a round counts as it begins
+abbrev pub but_name : Frame → Frame
+but_name f = record f { name = None }
+
+abbrev pub but_rounds : Frame → Frame
+but_rounds f = record f { rounds = 0; begun = []; name = None }
+
+pub either : (P : Outcome → Type 0) (test : Bool) (x y : Outcome) → P x → P y → P (cond test x y)
+either P true x y first second = first
+either P false x y first second = second
+
+pub either_world : (P : World → Type 0) (test : Bool) (x y : World) → P x → P y → P (cond test x y)
+either_world P true x y first second = first
+either_world P false x y first second = second
+
+-- ## Sources and listeners
+
+pub arm_keeps : (w : World) (key serial : ℕ) (told : PollerAnswer) → frame (after_arm w key serial told) ≡ frame w
+arm_keeps w key serial told = either_world (λ v. frame v ≡ frame w) (fails told) (broken_world w serial) (armed_world w key serial) refl refl
+
+pub pending_keeps : (arms : Bool) (w : World) (key serial : ℕ) (wakes : List Waker) (answers : List PollerAnswer)
+    → frame (pending arms w key serial wakes answers).world ≡ frame w
+pending_keeps false w key serial wakes answers = refl
+pending_keeps true w key serial wakes answers = arm_keeps w key serial (next_answer answers)
+
+pub add_keeps : (w : World) (answers : List PollerAnswer) → but_live (frame (add w answers).world) ≡ but_live (frame w)
+add_keeps w answers =
+    either (λ o. but_live (frame o.world) ≡ but_live (frame w)) (nat_le source_limit (length w.live)) _ _ refl
+    (either_world (λ v. but_live (frame v) ≡ but_live (frame w)) (fails (next_answer answers)) w _ refl refl)
+
+pub del_keeps : (w : World) (key : ℕ) (serial : Option ℕ) (answers : List PollerAnswer)
+    → but_live (frame (del_source w key serial answers).world) ≡ but_live (frame w)
+del_keeps w key None answers = refl
+del_keeps w key (Some serial) answers =
+    either (λ o. but_live (frame o.world) ≡ but_live (frame w)) (list_any (λ (l : ListenerEntry). l.serial == serial) w.listeners) _ _ refl refl
+
+pub poll_keeps : (w : World) (key : ℕ) (dir : Dir) (waker : Waker) (serial : Option ℕ) (answers : List PollerAnswer)
+    → frame (poll_source w key dir waker serial answers).world ≡ frame w
+poll_keeps w key dir waker None answers = refl
+poll_keeps w key dir waker (Some serial) answers =
+    let waiter = poll_waiter w.poll_waiters serial dir in
+    either (λ o. frame o.world ≡ frame w) (is_fresh_since w serial dir (mark_of w.marks serial dir)) _ _ refl
+    (either (λ o. frame o.world ≡ frame w) (is_waker waker waiter) _ _ (pending_keeps (is_broken w serial) w key serial [] answers)
+    (pending_keeps (is_idle w serial dir || is_broken w serial) (with_waiter w serial dir waker) key serial (option_to_list waiter) answers))
+
+pub new_keeps : (w : World) (dir : Dir) (serial : Option ℕ) (answers : List PollerAnswer)
+    → but_listeners (frame (new_listener w dir serial answers).world) ≡ but_listeners (frame w)
+new_keeps w dir None answers = refl
+new_keeps w dir (Some serial) answers = refl
+
+pub step_keeps : (w : World) (waker : Waker) (entry : Option ListenerEntry) (answers : List PollerAnswer)
+    → but_listeners (frame (step_listener w waker entry answers).world) ≡ but_listeners (frame w)
+step_keeps w waker None answers = refl
+step_keeps w waker (Some entry) answers =
+    let listening : World = record w { listeners = with_listening w entry waker } in
+    either (λ o. but_listeners (frame o.world) ≡ but_listeners (frame w)) (is_fresh_since w entry.serial entry.dir entry.position) _ _ refl
+    (ap but_listeners (pending_keeps (is_idle w entry.serial entry.dir || is_broken w entry.serial) listening
+    (unwrap_or (key_of w entry.serial) 0) entry.serial [] answers))
+
+pub drop_keeps : (w : World) (number : ℕ) (entry : Option ListenerEntry) (answers : List PollerAnswer)
+    → but_listeners (frame (drop_listener w number entry answers).world) ≡ but_listeners (frame w)
+drop_keeps w number None answers = refl
+drop_keeps w number (Some entry) answers = refl
+
+-- ## Timers
+
+pub gone_keeps : (w : World) (id : Option ℕ) → frame (unregistered w id) ≡ frame w
+gone_keeps w None = refl
+gone_keeps w (Some id) = refl
+
+fired_keeps : (w : World) (entry : TimerEntry) (waker : Waker) (next : Option ℕ) → but_timers (frame (fired w entry waker next)) ≡ but_timers (frame w)
+fired_keeps w entry waker None = refl
+fired_keeps w entry waker (Some deadline) = refl
+
+tick_keeps_at : (w : World) (entry : TimerEntry) (waker : Waker) (deadline : Option ℕ) (answers : List PollerAnswer)
+    → but_timers (frame (tick_deadline w entry waker deadline answers).world) ≡ but_timers (frame w)
+tick_keeps_at w entry waker None answers = refl
+tick_keeps_at w entry waker (Some deadline) answers =
+    let gone = ap but_timers (gone_keeps w entry.id) in
+    either (λ o. but_timers (frame o.world) ≡ but_timers (frame w)) (nat_le deadline w.now) _ _
+    (fired_keeps (unregistered w entry.id) entry waker (next_deadline deadline entry.period) ∙ gone)
+    (either_world (λ v. but_timers (frame v) ≡ but_timers (frame w)) (is_some entry.id && is_waker waker entry.kept) w _ refl gone)
+
+pub tick_keeps : (w : World) (waker : Waker) (entry : Option TimerEntry) (answers : List PollerAnswer)
+    → but_timers (frame (tick_timer w waker entry answers).world) ≡ but_timers (frame w)
+tick_keeps w waker None answers = refl
+tick_keeps w waker (Some entry) answers = tick_keeps_at w entry waker entry.deadline answers
+
+set_keeps_at : (w : World) (entry : TimerEntry) (deadline : ℕ) (kept : Option Waker) → but_timers (frame (set_deadline w entry deadline kept)) ≡ but_timers (frame w)
+set_keeps_at w entry deadline None = refl
+set_keeps_at w entry deadline (Some waker) = refl
+
+pub set_keeps : (w : World) (deadline : ℕ) (period : Option ℕ) (entry : Option TimerEntry) (answers : List PollerAnswer)
+    → but_timers (frame (set_timer w deadline period entry answers).world) ≡ but_timers (frame w)
+set_keeps w deadline period None answers = refl
+set_keeps w deadline period (Some entry) answers =
+    set_keeps_at (unregistered w entry.id) (cond (is_some period) (record entry { period = period }) entry) deadline entry.kept
+    ∙ ap but_timers (gone_keeps w entry.id)
+
+pub end_keeps : (w : World) (entry : Option TimerEntry) (answers : List PollerAnswer) → but_timers (frame (end_timer w entry answers).world) ≡ but_timers (frame w)
+end_keeps w None answers = refl
+end_keeps w (Some entry) answers = ap but_timers (gone_keeps w entry.id)
+
+-- ## Rounds
+
+-- the frame of a world in which this round runs
+abbrev pub while : World → Option RoundState → Frame
+while w round = record (frame w) { name = name_of round }
+
+pub runs_in : (w : World) (round : Option RoundState) → w.round ≡ round → frame w ≡ while w round
+runs_in w round is = ap (while w) is
+
+answered_keeps : (w : World) (round : RoundState) (told : PollerAnswer) (rest : List PollerAnswer) → frame (wait_answered w round told rest).world ≡ while w (Some round)
+answered_keeps w round Succeeds rest = refl
+answered_keeps w round (Gives events) rest = refl
+answered_keeps w round IsInterrupted rest = refl
+answered_keeps w round Fails rest = refl
+
+pub wait_keeps : (w : World) (round : Option RoundState) (answers : List PollerAnswer) → w.round ≡ round → frame (wait_in w round answers).world ≡ frame w
+wait_keeps w None answers is = refl
+wait_keeps w (Some round) answers is =
+    either (λ o. frame o.world ≡ frame w) (is_empty_list round.in_hand) _ _
+    (answered_keeps w round (next_answer answers) (later_answers answers) ∙ sym (runs_in w (Some round) is)) refl
+
+cleared : (here : Bool) (l : ListenerEntry) → bare (cond here (record l { waker = None }) l) ≡ bare l
+cleared true l = refl
+cleared false l = refl
+
+still_bare : (serial : ℕ) (dir : Dir) (listeners : List ListenerEntry)
+    → map bare (map (λ (l : ListenerEntry). cond (is_of serial dir l.serial l.dir) (record l { waker = None }) l) listeners) ≡ map bare listeners
+still_bare serial dir [] = refl
+still_bare serial dir (l ∷ listeners) =
+    ap (λ first. first ∷ map bare (map (λ (l : ListenerEntry). cond (is_of serial dir l.serial l.dir) (record l { waker = None }) l) listeners)) (cleared (is_of serial dir l.serial l.dir) l)
+    ∙ ap (λ rest. bare l ∷ rest) (still_bare serial dir listeners)
+
+taken_keeps : (w : World) (serial begin : ℕ) (dirs : List Dir) → but_handled (frame (world_taken w serial begin dirs)) ≡ but_handled (frame w)
+taken_keeps w serial begin [] = refl
+taken_keeps w serial begin (dir ∷ dirs) =
+    taken_keeps (without_waiters w serial begin dir) serial begin dirs
+    ∙ ap (λ (listeners : List ListenerEntry). record (but_handled (frame w)) { listeners = listeners }) (still_bare serial dir w.listeners)
+
+pub rearmed_keeps : (w : World) (round : RoundState) (key : Key) (serial : ℕ) (answers : List PollerAnswer) → w.round ≡ Some round
+    → frame (rearmed w round key serial answers).world ≡ frame w
+rearmed_keeps w round key serial answers is =
+    let told = next_answer answers in
+    let arm = arm_keeps w key.0 serial told in
+    either (λ o. frame o.world ≡ frame w) (is_empty_list (wanted w serial)) _ _ refl
+    (either_world (λ v. frame v ≡ frame w) (fails told) _ _
+    (ap (λ (f : Frame). record f { name = name_of (Some round) }) arm ∙ sym (runs_in w (Some round) is)) arm)
+
+source_keeps : (w : World) (round : RoundState) (event : Event) (serial : Option ℕ) (answers : List PollerAnswer) → name_of w.round ≡ name_of (Some round)
+    → but_handled (frame (handle_source w round event serial answers).world) ≡ but_handled (frame w)
+source_keeps w round event None answers is = ap (λ (name : Option RoundName). record (but_handled (frame w)) { name = name }) (sym is)
+source_keeps w round event (Some serial) answers is =
+    ap but_handled (rearmed_keeps _ _ event.key serial answers refl)
+    ∙ ap (λ (f : Frame). record f { name = name_of (Some round) }) (taken_keeps w serial round.begin (directions_of event.on))
+    ∙ ap (λ (name : Option RoundName). record (but_handled (frame w)) { name = name }) (sym is)
+
+first_keeps : (w : World) (round : RoundState) (events : List Event) (answers : List PollerAnswer) → w.round ≡ Some round
+    → but_handled (frame (handle_first w round events answers).world) ≡ but_handled (frame w)
+first_keeps w round [] answers is = refl
+first_keeps w round (event ∷ events) answers is = source_keeps w (record round { in_hand = events }) event (serial_of w event.key.0) answers (ap name_of is)
+
+pub handle_keeps : (w : World) (round : Option RoundState) (answers : List PollerAnswer) → w.round ≡ round
+    → but_handled (frame (handle_in w round answers).world) ≡ but_handled (frame w)
+handle_keeps w None answers is = refl
+handle_keeps w (Some round) answers is = first_keeps w round round.in_hand answers is
+
+pub each_keeps : (events : List Event) (w : World) (answers : List PollerAnswer) → but_handled (frame (handle_each events w answers).world) ≡ but_handled (frame w)
+each_keeps [] w answers = refl
+each_keeps (event ∷ events) w answers =
+    each_keeps events (handle_round w answers).world (handle_round w answers).left ∙ handle_keeps w w.round answers refl
+
+pub finish_keeps : (w : World) (round : Option RoundState) (answers : List PollerAnswer) → but_name (frame (finish_in w round answers).world) ≡ but_name (frame w)
+finish_keeps w None answers = refl
+finish_keeps w (Some round) answers = either (λ o. but_name (frame o.world) ≡ but_name (frame w)) (is_empty_list round.in_hand) _ _ refl refl
+
+pub begin_keeps : (w : World) (given : Option ℕ) (answers : List PollerAnswer) → but_rounds (frame (begin_round w given answers).world) ≡ but_rounds (frame w)
+begin_keeps w given answers = either (λ o. but_rounds (frame o.world) ≡ but_rounds (frame w)) (is_some w.round) _ _ refl refl

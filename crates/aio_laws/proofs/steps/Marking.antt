@@ -1,0 +1,180 @@
+-- What a step does with marks: those of others stand, and its own follow its answer.
+use Rattle.std.proofs.Common.{◌≡◌, ℕ, Bool, true, false, not, cond, ◌||◌, ◌==◌, List, [], ◌∷◌, find, Option, None, Some, option_to_list, refl, ap, ◌∙◌, sym, append-nil}
+use Rattle.std.specs.Prelude.{nat_lt, flat_map}
+use Rattle.std.specs.List.{filter, list_any}
+use Rattle.std.specs.Option.{option_map_or}
+use Rattle.std.proofs.lemmas.Bool.{cond-true, cond-false, cond_both, not-true}
+use Rattle.aio_base.specs.declared.names.Key.{Key}
+use Rattle.aio_base.specs.declared.names.Waker.{Waker}
+use Rattle.aio_base.specs.declared.names.Dir.{Dir}
+use Rattle.aio_base.specs.declared.steps.Step.{Step}
+use Rattle.aio_base.specs.declared.steps.Step.TheVariants as step
+use Rattle.aio_base.specs.declared.steps.Answer.{Answer}
+use Rattle.aio_base.specs.declared.steps.Answer.TheVariants as answer
+use Rattle.aio_base.specs.World.{PollerAnswer, Mark, ListenerEntry, World, is_of, serial_of, poll_waiter, mark_of, without_mark, is_idle, is_broken}
+use Rattle.aio_base.specs.Machine.{Outcome, fails, next_answer, pending, del_source, is_fresh_since, is_waker, with_waiter, poll_source, is_listener, is_timer, case_of, step_result}
+use Rattle.aio_laws.specs.Others.{is_own_mark, other_marks}
+use Rattle.aio_laws.specs.Marks.{own_marks, waiting_mark, own_marks_after, MarksFollow}
+use Rattle.aio_base.proofs.Searching.{refiltered, unseen_push, filtered_empty, kept_push, none_kept}
+use Rattle.aio_base.proofs.WaiterLemmas.{is_of-from}
+use Rattle.aio_laws.proofs.steps.Frames.{either}
+use Rattle.aio_laws.proofs.steps.Asides.{Aside, aside, add_leaves, new_leaves, pending_leaves, step_leaves, drop_leaves, tick_leaves, set_leaves, end_leaves, begin_leaves, wait_leaves, handle_leaves, finish_leaves, react_leaves}
+
+-- the marks of a direction, and those of a source, where there is one
+abbrev of_direction : Option ℕ → Dir → Mark → Bool
+of_direction found dir m = option_map_or (λ n. is_of n dir m.serial m.dir) found false
+
+abbrev of_source : Option ℕ → Mark → Bool
+of_source found m = option_map_or (λ n. m.serial == n) found false
+
+-- the mark that a poll leaves
+abbrev new_mark : World → ℕ → Dir → Mark
+new_mark w serial dir = record { serial = serial; dir = dir; position = w.pos }
+
+-- ## The marks of others
+
+poll_others : (w : World) (key : ℕ) (dir : Dir) (waker : Waker) (found : Option ℕ) (answers : List PollerAnswer)
+    → filter (λ (m : Mark). not (of_direction found dir m)) (poll_source w key dir waker found answers).world.marks
+    ≡ filter (λ (m : Mark). not (of_direction found dir m)) w.marks
+poll_others w key dir waker None answers = refl
+poll_others w key dir waker (Some serial) answers =
+    let q : Mark → Bool = λ m. not (is_of serial dir m.serial m.dir) in
+    let waiter = poll_waiter w.poll_waiters serial dir in
+    let twice = refiltered q q (λ m out. out) w.marks in
+    either (λ o. filter q o.world.marks ≡ filter q w.marks) (is_fresh_since w serial dir (mark_of w.marks serial dir)) _ _ twice
+    (either (λ o. filter q o.world.marks ≡ filter q w.marks) (is_waker waker waiter) _ _
+    (ap (λ (a : Aside). filter q a.marks) (pending_leaves (is_broken w serial) w key serial [] answers))
+    (ap (λ (a : Aside). filter q a.marks)
+    (pending_leaves (is_idle w serial dir || is_broken w serial) (with_waiter w serial dir waker) key serial (option_to_list waiter) answers)
+    ∙ unseen_push q (without_mark w.marks serial dir) (new_mark w serial dir) (ap not (is_of-from serial dir serial dir refl refl)) ∙ twice))
+
+del_others : (w : World) (key : ℕ) (found : Option ℕ) (answers : List PollerAnswer)
+    → filter (λ (m : Mark). not (of_source found m)) (del_source w key found answers).world.marks ≡ filter (λ (m : Mark). not (of_source found m)) w.marks
+del_others w key None answers = refl
+del_others w key (Some serial) answers =
+    let q : Mark → Bool = λ m. not (m.serial == serial) in
+    either (λ o. filter q o.world.marks ≡ filter q w.marks) (list_any (λ (l : ListenerEntry). l.serial == serial) w.listeners) _ _ refl
+    (refiltered q q (λ m out. out) w.marks)
+
+-- all marks are of others
+abbrev every : Aside → List Mark
+every a = filter (λ (m : Mark). not false) a.marks
+
+pub marks_stand : (w : World) (s : Step) (answers : List PollerAnswer) → other_marks w s (case_of w s answers).world ≡ other_marks w s w
+marks_stand w step.Add answers = ap every (add_leaves w answers)
+marks_stand w (step.Del key) answers = del_others w key.0 (serial_of w key.0) answers
+marks_stand w (step.Poll key dir waker) answers = poll_others w key.0 dir waker (serial_of w key.0) answers
+marks_stand w (step.New key dir) answers = ap every (new_leaves w dir (serial_of w key.0) answers)
+marks_stand w (step.StepEar number waker) answers = ap every (step_leaves w waker (find (is_listener number) w.listeners) answers)
+marks_stand w (step.DropEar number) answers = ap every (drop_leaves w number (find (is_listener number) w.listeners) answers)
+marks_stand w (step.TimerAt deadline) answers = refl
+marks_stand w (step.TimerEvery deadline period) answers = refl
+marks_stand w step.TimerNever answers = refl
+marks_stand w (step.Tick number waker) answers = ap every (tick_leaves w waker (find (is_timer number) w.timers) answers)
+marks_stand w (step.SetAt number deadline) answers = ap every (set_leaves w deadline None (find (is_timer number) w.timers) answers)
+marks_stand w (step.SetEvery number deadline period) answers = ap every (set_leaves w deadline (Some period) (find (is_timer number) w.timers) answers)
+marks_stand w (step.End number) answers = ap every (end_leaves w (find (is_timer number) w.timers) answers)
+marks_stand w (step.Now moment) answers =
+    either (λ o. every (aside o.world) ≡ every (aside w)) (nat_lt moment w.now) _ _ refl refl
+marks_stand w (step.Note event) answers = refl
+marks_stand w (step.Fault kind) answers = refl
+marks_stand w step.Interrupt answers = refl
+marks_stand w (step.Begin limit) answers = ap every (begin_leaves w limit answers)
+marks_stand w step.Wait answers = ap every (wait_leaves w w.round answers)
+marks_stand w step.Handle answers = ap every (handle_leaves w w.round answers)
+marks_stand w step.Finish answers = ap every (finish_leaves w w.round answers)
+marks_stand w step.React answers = ap every (react_leaves w answers)
+
+-- ## A step's own marks
+
+-- a pending poll is told so, or that the arm failed
+pending_told : (P : Answer → Type 0) (arms : Bool) (w : World) (key serial : ℕ) (wakes : List Waker) (answers : List PollerAnswer)
+    → P answer.Pending → P answer.FaultArm → P (pending arms w key serial wakes answers).answer
+pending_told P false w key serial wakes answers waits failed = waits
+pending_told P true w key serial wakes answers waits failed =
+    cond_both (fails (next_answer answers)) answer.FaultArm answer.Pending P (λ fails. failed) (λ arms. waits)
+
+-- of one of two outcomes, by what the test is
+by_test : (P : Outcome → Type 0) (test : Bool) (x y : Outcome) → (test ≡ true → P x) → (test ≡ false → P y) → P (cond test x y)
+by_test P true x y first second = first refl
+by_test P false x y first second = second refl
+
+-- what a poll that has to wait leaves of its own mark
+abbrev left_waiting : World → Key → Dir → Waker → Option ℕ → List Mark
+left_waiting w key dir waker found = flat_map (waiting_mark w dir waker (own_marks w (step.Poll key dir waker) w)) (option_to_list found)
+
+poll_own : (w : World) (key : Key) (dir : Dir) (waker : Waker) (found : Option ℕ) (answers : List PollerAnswer) → serial_of w key.0 ≡ found
+    → let o = poll_source w key.0 dir waker found answers in
+    own_marks w (step.Poll key dir waker) o.world ≡ own_marks_after w (step.Poll key dir waker) o.answer
+poll_own w key dir waker None answers is =
+    ap (λ (f : Option ℕ). filter (of_direction f dir) w.marks) is ∙ none_kept w.marks ∙ sym (ap (left_waiting w key dir waker) is)
+poll_own w key dir waker (Some serial) answers is =
+    let s = step.Poll key dir waker in
+    let P : Outcome → Type 0 = λ o. own_marks w s o.world ≡ own_marks_after w s o.answer in
+    let waiter = poll_waiter w.poll_waiters serial dir in
+    let own : Mark → Bool = λ m. is_of serial dir m.serial m.dir in
+    let stood = own_marks w s w in
+    let sees : (marks : List Mark) → filter (is_own_mark w s) marks ≡ filter own marks = λ marks. ap (λ (f : Option ℕ). filter (of_direction f dir) marks) is in
+    let used : filter own (without_mark w.marks serial dir) ≡ [] = filtered_empty own (λ m. not (own m)) (λ m stays. not-true (own m) stays) w.marks in
+    let left : left_waiting w key dir waker (serial_of w key.0) ≡ waiting_mark w dir waker stood serial =
+    ap (left_waiting w key dir waker) is ∙ append-nil (waiting_mark w dir waker stood serial) in
+    either P (is_fresh_since w serial dir (mark_of w.marks serial dir)) _ _ (sees (without_mark w.marks serial dir) ∙ used)
+    (by_test P (is_waker waker waiter) _ _
+    (λ same.
+    let arms = is_broken w serial in
+    let there = ap (λ (a : Aside). filter (is_own_mark w s) a.marks) (pending_leaves arms w key.0 serial [] answers)
+    ∙ sym (left ∙ cond-true (is_waker waker waiter) stood (new_mark w serial dir ∷ []) same) in
+    pending_told (λ told. own_marks w s (pending arms w key.0 serial [] answers).world ≡ own_marks_after w s told) arms w key.0 serial [] answers there there)
+    (λ other.
+    let arms = is_idle w serial dir || is_broken w serial in
+    let u = with_waiter w serial dir waker in
+    let wakes = option_to_list waiter in
+    let here = ap (λ (a : Aside). filter (is_own_mark w s) a.marks) (pending_leaves arms u key.0 serial wakes answers) ∙ sees u.marks
+    ∙ kept_push own (without_mark w.marks serial dir) (new_mark w serial dir) used (is_of-from serial dir serial dir refl refl)
+    ∙ sym (left ∙ cond-false (is_waker waker waiter) stood (new_mark w serial dir ∷ []) other) in
+    pending_told (λ told. own_marks w s (pending arms u key.0 serial wakes answers).world ≡ own_marks_after w s told) arms u key.0 serial wakes answers here here))
+
+del_own : (w : World) (key : Key) (found : Option ℕ) (answers : List PollerAnswer) → serial_of w key.0 ≡ found
+    → let o = del_source w key.0 found answers in own_marks w (step.Del key) o.world ≡ own_marks_after w (step.Del key) o.answer
+del_own w key None answers is = refl
+del_own w key (Some serial) answers is =
+    let s = step.Del key in
+    let left = filter (λ (m : Mark). not (m.serial == serial)) w.marks in
+    let none : filter (is_own_mark w s) left ≡ [] =
+    ap (λ (f : Option ℕ). filter (of_source f) left) is
+    ∙ filtered_empty (λ (m : Mark). m.serial == serial) (λ (m : Mark). not (m.serial == serial)) (λ m stays. not-true (m.serial == serial) stays) w.marks in
+    either (λ o. own_marks w s o.world ≡ own_marks_after w s o.answer) (list_any (λ (l : ListenerEntry). l.serial == serial) w.listeners) _ _ refl
+    (cond_both (fails (next_answer answers)) answer.FaultRemove answer.Gone (λ told. filter (is_own_mark w s) left ≡ own_marks_after w s told)
+    (λ failed. none) (λ done. none))
+
+-- no mark is the step's own
+abbrev no_own : Aside → List Mark
+no_own a = filter (λ (m : Mark). false) a.marks
+
+own_follow : (w : World) (s : Step) (answers : List PollerAnswer) → own_marks w s (case_of w s answers).world ≡ own_marks_after w s (case_of w s answers).answer
+own_follow w step.Add answers = ap no_own (add_leaves w answers)
+own_follow w (step.Del key) answers = del_own w key (serial_of w key.0) answers refl
+own_follow w (step.Poll key dir waker) answers = poll_own w key dir waker (serial_of w key.0) answers refl
+own_follow w (step.New key dir) answers = ap no_own (new_leaves w dir (serial_of w key.0) answers)
+own_follow w (step.StepEar number waker) answers = ap no_own (step_leaves w waker (find (is_listener number) w.listeners) answers)
+own_follow w (step.DropEar number) answers = ap no_own (drop_leaves w number (find (is_listener number) w.listeners) answers)
+own_follow w (step.TimerAt deadline) answers = refl
+own_follow w (step.TimerEvery deadline period) answers = refl
+own_follow w step.TimerNever answers = refl
+own_follow w (step.Tick number waker) answers = ap no_own (tick_leaves w waker (find (is_timer number) w.timers) answers)
+own_follow w (step.SetAt number deadline) answers = ap no_own (set_leaves w deadline None (find (is_timer number) w.timers) answers)
+own_follow w (step.SetEvery number deadline period) answers = ap no_own (set_leaves w deadline (Some period) (find (is_timer number) w.timers) answers)
+own_follow w (step.End number) answers = ap no_own (end_leaves w (find (is_timer number) w.timers) answers)
+own_follow w (step.Now moment) answers = either (λ o. no_own (aside o.world) ≡ no_own (aside w)) (nat_lt moment w.now) _ _ refl refl
+own_follow w (step.Note event) answers = refl
+own_follow w (step.Fault kind) answers = refl
+own_follow w step.Interrupt answers = refl
+own_follow w (step.Begin limit) answers = ap no_own (begin_leaves w limit answers)
+own_follow w step.Wait answers = ap no_own (wait_leaves w w.round answers)
+own_follow w step.Handle answers = ap no_own (handle_leaves w w.round answers)
+own_follow w step.Finish answers = ap no_own (finish_leaves w w.round answers)
+own_follow w step.React answers = ap no_own (react_leaves w answers)
+
+pub marks_follow : (w : World) (s : Step) (answers : List PollerAnswer) → MarksFollow w s (step_result w s answers).answer (step_result w s answers).world
+unfolding step_result
+marks_follow w s answers = record { own = own_follow w s answers }

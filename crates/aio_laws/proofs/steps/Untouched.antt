@@ -1,0 +1,388 @@
+-- A step leaves each source, listener and timer alone but its own.
+use Rattle.std.proofs.Common.{◌≡◌, ℕ, ◌+◌, Bool, true, false, not, cond, ◌&&◌, ◌||◌, ◌==◌, List, [], ◌∷◌, ◌++◌, length, map, find, Option, None, Some, is_some, refl, ap, ◌∙◌, sym, subst}
+use Rattle.std.specs.Prelude.{nat_lt, nat_le, unwrap_or}
+use Rattle.std.specs.List.{filter, list_any}
+use Rattle.std.specs.Option.{option_map_or}
+use Rattle.std.proofs.lemmas.Bool.{cond_both, eq-eqb, eqb-true}
+use Rattle.aio_base.specs.declared.names.Waker.{Waker}
+use Rattle.aio_base.specs.declared.names.Dir.{Dir}
+use Rattle.aio_base.specs.declared.steps.Step.{Step}
+use Rattle.aio_base.specs.declared.steps.Step.TheVariants as step
+use Rattle.aio_base.specs.World.{PollerAnswer, LiveSource, ListenerEntry, TimerEntry, World, serial_of, key_of, is_idle, is_broken}
+use Rattle.aio_base.specs.Machine.{Outcome, fails, next_answer, source_limit, free_key, add, del_source, is_fresh_since, is_waker, pending, is_listener, with_listening, step_listener, drop_listener, new_listener, is_timer, with_timer, unregistered, registered, next_deadline, fired, tick_deadline, tick_timer, set_deadline, set_timer, end_timer, hand_of, begin_round, wait_round, handle_each, react, case_of, step_result}
+use Rattle.aio_laws.specs.Others.{is_own_source, but_waker, other_sources, other_listeners, other_timers, OthersStand}
+use Rattle.aio_laws.proofs.steps.Breaking.{broken_stand}
+use Rattle.aio_laws.proofs.steps.Marking.{marks_stand}
+use Rattle.aio_base.proofs.Membership.{found_is_in}
+use Rattle.aio_base.proofs.Searching.{refiltered, unseen_push}
+use Rattle.aio_laws.proofs.rounds.RoundLemmas.{unseen_change}
+use Rattle.aio_laws.proofs.steps.Frames.{Frame, frame, either, either_world, add_keeps, del_keeps, poll_keeps, new_keeps, step_keeps, drop_keeps, tick_keeps, set_keeps, end_keeps, begin_keeps, wait_keeps, handle_keeps, each_keeps, finish_keeps, gone_keeps}
+
+-- ## Filtered lists
+
+-- a filter that drops nothing
+all_kept : {X : Type 0} (xs : List X) → filter (λ (x : X). not false) xs ≡ xs
+all_kept [] = refl
+all_kept (x ∷ xs) = ap (λ rest. x ∷ rest) (all_kept xs)
+
+changed_step : {X : Type 0} (here there : Bool) (x y : X) (ys zs : List X) → (here ≡ true → (there ≡ true) × (y ≡ x)) → (here ≡ false → there ≡ false)
+    → ys ≡ zs → cond there (y ∷ ys) ys ≡ cond here (x ∷ zs) zs
+changed_step true true x y ys zs stays out rest = let same = (stays refl).1 in cc
+changed_step true false x y ys zs stays out rest = absurd (let wrong = (stays refl).0 in cc)
+changed_step false true x y ys zs stays out rest = absurd (let wrong = out refl in cc)
+changed_step false false x y ys zs stays out rest = rest
+
+-- nor what is changed of those that do not pass
+unseen_in_place : {X : Type 0} (q : X → Bool) (f : X → X) → ((x : X) → q x ≡ true → f x ≡ x) → ((x : X) → q x ≡ false → q (f x) ≡ false) → (xs : List X)
+    → filter q (map f xs) ≡ filter q xs
+unseen_in_place q f stays out [] = refl
+unseen_in_place q f stays out (x ∷ xs) =
+    changed_step (q x) (q (f x)) x (f x) (filter q (map f xs)) (filter q xs) (λ here. (ap q (stays x here) ∙ here, stays x here)) (out x)
+    (unseen_in_place q f stays out xs)
+
+not_itself : (n : ℕ) → not (n == n) ≡ false
+not_itself n = ap not (eq-eqb n n refl)
+
+-- ## What is left where a step is of no source, no listener or no timer
+
+listeners_stand : (u v : World) → map but_waker v.listeners ≡ map but_waker u.listeners
+    → map but_waker (filter (λ (l : ListenerEntry). not false) v.listeners) ≡ map but_waker (filter (λ (l : ListenerEntry). not false) u.listeners)
+listeners_stand u v same = ap (map but_waker) (all_kept v.listeners) ∙ same ∙ sym (ap (map but_waker) (all_kept u.listeners))
+
+-- ## Sources
+
+add_sources : (w : World) (answers : List PollerAnswer) → other_sources w step.Add (add w answers).world ≡ other_sources w step.Add w
+add_sources w answers =
+    let q : LiveSource → Bool = λ x. not (x.serial == w.serials + 1) in
+    either (λ o. filter q o.world.live ≡ filter q w.live) (nat_le source_limit (length w.live)) _ _ refl
+    (either_world (λ v. filter q v.live ≡ filter q w.live) (fails (next_answer answers)) w _ refl
+    (unseen_push q w.live (record { key = free_key w.live; serial = w.serials + 1 }) (not_itself (w.serials + 1))))
+
+abbrev own_serial : Option ℕ → LiveSource → Bool
+own_serial None x = false
+own_serial (Some n) x = x.serial == n
+
+del_sources : (w : World) (key : ℕ) (found : Option ℕ) (answers : List PollerAnswer)
+    → filter (λ (x : LiveSource). not (own_serial found x)) (del_source w key found answers).world.live ≡ filter (λ (x : LiveSource). not (own_serial found x)) w.live
+del_sources w key None answers = refl
+del_sources w key (Some n) answers =
+    let q : LiveSource → Bool = λ x. not (x.serial == n) in
+    either (λ o. filter q o.world.live ≡ filter q w.live) (list_any (λ (l : ListenerEntry). l.serial == n) w.listeners) _ _ refl
+    (refiltered q q (λ x out. out) w.live)
+
+own_is : (found : Option ℕ) (x : LiveSource) → option_map_or (λ n. x.serial == n) found false ≡ own_serial found x
+own_is None x = refl
+own_is (Some n) x = refl
+
+same_filter : {X : Type 0} (p q : X → Bool) → ((x : X) → p x ≡ q x) → (xs : List X) → filter p xs ≡ filter q xs
+same_filter p q same [] = refl
+same_filter {X} p q same (x ∷ xs) =
+    ap (λ (t : Bool). cond t (x ∷ filter p xs) (filter p xs)) (same x) ∙ ap (λ (rest : List X). cond (q x) (x ∷ rest) rest) (same_filter p q same xs)
+
+-- ## Listeners
+
+abbrev bare_others : ℕ → World → List ListenerEntry
+bare_others number v = map but_waker (filter (λ (l : ListenerEntry). not (l.number == number)) v.listeners)
+
+waker_seen : (number : ℕ) (waker : Option Waker) (here : Bool) (l : ListenerEntry)
+    → not ((cond here (record l { waker = waker }) l).number == number) ≡ not (l.number == number)
+waker_seen number waker true l = refl
+waker_seen number waker false l = refl
+
+waker_unseen : (waker : Option Waker) (here : Bool) (l : ListenerEntry) → but_waker (cond here (record l { waker = waker }) l) ≡ but_waker l
+waker_unseen waker true l = refl
+waker_unseen waker false l = refl
+
+either_list : {X : Type 0} (P : List X → Type 0) (test : Bool) (xs ys : List X) → P xs → P ys → P (cond test xs ys)
+either_list P true xs ys first second = first
+either_list P false xs ys first second = second
+
+listening_others : (w : World) (entry : ListenerEntry) (waker : Waker)
+    → bare_others entry.number (record w { listeners = with_listening w entry waker }) ≡ bare_others entry.number w
+listening_others w entry waker =
+    let q : ListenerEntry → Bool = λ l. not (l.number == entry.number) in
+    either_list (λ ls. map but_waker (filter q ls) ≡ map but_waker (filter q w.listeners)) (is_some entry.position) _ _
+    (unseen_change q (λ l. cond (is_listener entry.number l) (record l { waker = Some waker }) l) but_waker
+    (λ l. waker_seen entry.number (Some waker) (is_listener entry.number l) l) (λ l. waker_unseen (Some waker) (is_listener entry.number l) l) w.listeners)
+    (ap (map but_waker)
+    (unseen_push q (filter q w.listeners) (record entry { position = Some w.pos; waker = Some waker }) (not_itself entry.number)
+    ∙ refiltered q q (λ l out. out) w.listeners))
+
+-- the entries that a pending poll leaves
+pub pending_entries : (arms : Bool) (w : World) (key serial : ℕ) (wakes : List Waker) (answers : List PollerAnswer) → (pending arms w key serial wakes answers).world.listeners ≡ w.listeners
+pending_entries false w key serial wakes answers = refl
+pending_entries true w key serial wakes answers = either_world (λ v. v.listeners ≡ w.listeners) (fails (next_answer answers)) _ _ refl refl
+
+step_others_at : (w : World) (waker : Waker) (entry : ListenerEntry) (answers : List PollerAnswer)
+    → bare_others entry.number (step_listener w waker (Some entry) answers).world ≡ bare_others entry.number w
+step_others_at w waker entry answers =
+    let listening : World = record w { listeners = with_listening w entry waker } in
+    let pends = pending_entries (is_idle w entry.serial entry.dir || is_broken w entry.serial) listening (unwrap_or (key_of w entry.serial) 0) entry.serial [] answers in
+    either (λ o. bare_others entry.number o.world ≡ bare_others entry.number w) (is_fresh_since w entry.serial entry.dir entry.position) _ _ refl
+    (ap (λ (ls : List ListenerEntry). map but_waker (filter (λ (l : ListenerEntry). not (l.number == entry.number)) ls)) pends ∙ listening_others w entry waker)
+
+step_others : (w : World) (number : ℕ) (waker : Waker) (found : Option ListenerEntry) (answers : List PollerAnswer) → find (is_listener number) w.listeners ≡ found
+    → bare_others number (step_listener w waker found answers).world ≡ bare_others number w
+step_others w number waker None answers is = refl
+step_others w number waker (Some entry) answers is =
+    let same : entry.number ≡ number = eqb-true entry.number number (found_is_in (is_listener number) w.listeners entry is).1 in
+    subst (λ n. bare_others n (step_listener w waker (Some entry) answers).world ≡ bare_others n w) same (step_others_at w waker entry answers)
+
+drop_others : (w : World) (number : ℕ) (found : Option ListenerEntry) (answers : List PollerAnswer)
+    → bare_others number (drop_listener w number found answers).world ≡ bare_others number w
+drop_others w number None answers = refl
+drop_others w number (Some entry) answers =
+    let q : ListenerEntry → Bool = λ l. not (l.number == number) in
+    ap (map but_waker) (refiltered q q (λ l out. out) w.listeners)
+
+new_others : (w : World) (dir : Dir) (found : Option ℕ) (answers : List PollerAnswer)
+    → bare_others (w.listeners_drawn + 1) (new_listener w dir found answers).world ≡ bare_others (w.listeners_drawn + 1) w
+new_others w dir None answers = refl
+new_others w dir (Some serial) answers =
+    ap (map but_waker) (unseen_push (λ (l : ListenerEntry). not (l.number == w.listeners_drawn + 1)) w.listeners
+    (record { number = w.listeners_drawn + 1; serial = serial; dir = dir; position = None; waker = None }) (not_itself (w.listeners_drawn + 1)))
+
+-- ## Timers
+
+abbrev but_timer : ℕ → World → List TimerEntry
+but_timer number v = filter (λ (t : TimerEntry). not (t.number == number)) v.timers
+
+placed_here : (entry t : TimerEntry) (here : Bool) → (t.number == entry.number) ≡ here → not (t.number == entry.number) ≡ true → cond here entry t ≡ t
+placed_here entry t true is other = absurd cc
+placed_here entry t false is other = refl
+
+placed_out : (entry t : TimerEntry) (here : Bool) → not (t.number == entry.number) ≡ false → not ((cond here entry t).number == entry.number) ≡ false
+placed_out entry t true out = not_itself entry.number
+placed_out entry t false out = out
+
+placed_others : (w : World) (entry : TimerEntry) → but_timer entry.number (with_timer w entry) ≡ but_timer entry.number w
+placed_others w entry =
+    unseen_in_place (λ (t : TimerEntry). not (t.number == entry.number)) (λ t. cond (is_timer entry.number t) entry t)
+    (λ t other. placed_here entry t (t.number == entry.number) refl other) (λ t out. placed_out entry t (t.number == entry.number) out) w.timers
+
+gone_timers : (w : World) (id : Option ℕ) (number : ℕ) → but_timer number (unregistered w id) ≡ but_timer number w
+gone_timers w id number = ap (λ (f : Frame). filter (λ (t : TimerEntry). not (t.number == number)) f.timers) (gone_keeps w id)
+
+registered_others : (w : World) (entry : TimerEntry) (deadline : ℕ) (waker : Waker) → but_timer entry.number (registered w entry deadline waker) ≡ but_timer entry.number w
+registered_others w entry deadline waker = placed_others w (record entry { deadline = Some deadline; id = Some (w.ids_drawn + 1); kept = Some waker })
+
+fired_others : (w : World) (entry : TimerEntry) (waker : Waker) (next : Option ℕ) → but_timer entry.number (fired w entry waker next) ≡ but_timer entry.number w
+fired_others w entry waker None = placed_others w (record entry { deadline = None; id = None; kept = None })
+fired_others w entry waker (Some deadline) = registered_others w entry deadline waker
+
+tick_others_at : (w : World) (entry : TimerEntry) (waker : Waker) (deadline : Option ℕ) (answers : List PollerAnswer)
+    → but_timer entry.number (tick_deadline w entry waker deadline answers).world ≡ but_timer entry.number w
+tick_others_at w entry waker None answers = refl
+tick_others_at w entry waker (Some deadline) answers =
+    let gone = gone_timers w entry.id entry.number in
+    either (λ o. but_timer entry.number o.world ≡ but_timer entry.number w) (nat_le deadline w.now) _ _
+    (fired_others (unregistered w entry.id) entry waker (next_deadline deadline entry.period) ∙ gone)
+    (either_world (λ v. but_timer entry.number v ≡ but_timer entry.number w) (is_some entry.id && is_waker waker entry.kept) w _ refl
+    (registered_others (unregistered w entry.id) entry deadline waker ∙ gone))
+
+found_number : (number : ℕ) (w : World) (entry : TimerEntry) → find (is_timer number) w.timers ≡ Some entry → entry.number ≡ number
+found_number number w entry is = eqb-true entry.number number (found_is_in (is_timer number) w.timers entry is).1
+
+tick_others : (w : World) (number : ℕ) (waker : Waker) (found : Option TimerEntry) (answers : List PollerAnswer) → find (is_timer number) w.timers ≡ found
+    → but_timer number (tick_timer w waker found answers).world ≡ but_timer number w
+tick_others w number waker None answers is = refl
+tick_others w number waker (Some entry) answers is =
+    subst (λ n. but_timer n (tick_timer w waker (Some entry) answers).world ≡ but_timer n w) (found_number number w entry is)
+    (tick_others_at w entry waker entry.deadline answers)
+
+set_others_at : (w : World) (entry : TimerEntry) (deadline : ℕ) (kept : Option Waker) → but_timer entry.number (set_deadline w entry deadline kept) ≡ but_timer entry.number w
+set_others_at w entry deadline None = placed_others w (record entry { deadline = Some deadline; id = None })
+set_others_at w entry deadline (Some waker) = registered_others w entry deadline waker
+
+period_number : (test : Bool) (entry : TimerEntry) (period : Option ℕ) → (cond test (record entry { period = period }) entry).number ≡ entry.number
+period_number true entry period = refl
+period_number false entry period = refl
+
+set_others : (w : World) (number deadline : ℕ) (period : Option ℕ) (found : Option TimerEntry) (answers : List PollerAnswer) → find (is_timer number) w.timers ≡ found
+    → but_timer number (set_timer w deadline period found answers).world ≡ but_timer number w
+set_others w number deadline period None answers is = refl
+set_others w number deadline period (Some entry) answers is =
+    let set : TimerEntry = cond (is_some period) (record entry { period = period }) entry in
+    let same : set.number ≡ number = period_number (is_some period) entry period ∙ found_number number w entry is in
+    subst (λ n. but_timer n (set_timer w deadline period (Some entry) answers).world ≡ but_timer n w) same
+    (set_others_at (unregistered w entry.id) set deadline entry.kept ∙ gone_timers w entry.id set.number)
+
+end_others : (w : World) (number : ℕ) (found : Option TimerEntry) (answers : List PollerAnswer) → find (is_timer number) w.timers ≡ found
+    → but_timer number (end_timer w found answers).world ≡ but_timer number w
+end_others w number None answers is = refl
+end_others w number (Some entry) answers is =
+    let q : TimerEntry → Bool = λ t. not (t.number == entry.number) in
+    subst (λ n. but_timer n (end_timer w (Some entry) answers).world ≡ but_timer n w) (found_number number w entry is)
+    (refiltered q q (λ t out. out) (unregistered w entry.id).timers ∙ gone_timers w entry.id entry.number)
+
+made_others : (w : World) (deadline period : Option ℕ)
+    → filter (λ (t : TimerEntry). not (t.number == w.timers_made + 1))
+    (w.timers ++ record { number = w.timers_made + 1; deadline = deadline; period = period; id = None; kept = None } ∷ [])
+    ≡ but_timer (w.timers_made + 1) w
+made_others w deadline period =
+    unseen_push (λ (t : TimerEntry). not (t.number == w.timers_made + 1)) w.timers
+    (record { number = w.timers_made + 1; deadline = deadline; period = period; id = None; kept = None }) (not_itself (w.timers_made + 1))
+
+-- ## A step
+
+-- what every step of a round leaves of a frame
+abbrev core : Frame → Frame
+core f = record f { rounds = 0; begun = []; name = None; handled = [] }
+
+pub react_keeps : (w : World) (answers : List PollerAnswer) → core (frame (react w None answers).world) ≡ core (frame w)
+react_keeps w answers =
+    let begun = begin_round w None answers in
+    let waited = wait_round begun.world begun.left in
+    let hand = hand_of waited.world.round in
+    let handled = handle_each hand waited.world waited.left in
+    either (λ o. core (frame o.world) ≡ core (frame w)) (is_some w.round) _ _ refl
+    (ap core (finish_keeps handled.world handled.world.round handled.left) ∙ ap core (each_keeps hand waited.world waited.left)
+    ∙ ap core (wait_keeps begun.world begun.world.round begun.left refl) ∙ ap core (begin_keeps w None answers))
+
+-- a step of no source, of no listener, of no timer
+abbrev all_sources : Frame → List LiveSource
+all_sources f = filter (λ (x : LiveSource). not false) f.live
+
+abbrev all_timers : Frame → List TimerEntry
+all_timers f = filter (λ (t : TimerEntry). not false) f.timers
+
+abbrev pub entries : Frame → List ListenerEntry
+entries f = f.listeners
+
+record Standing (w : World) (s : Step) (v : World) : Type 0 where
+  sources : other_sources w s v ≡ other_sources w s w
+  listeners : other_listeners w s v ≡ other_listeners w s w
+  timers : other_timers w s v ≡ other_timers w s w
+
+case_stands : (w : World) (s : Step) (answers : List PollerAnswer) → Standing w s (case_of w s answers).world
+case_stands w step.Add answers =
+    record {
+      sources = add_sources w answers;
+      listeners = listeners_stand w (case_of w step.Add answers).world (ap entries (add_keeps w answers));
+      timers = ap all_timers (add_keeps w answers);
+    }
+case_stands w (step.Del key) answers =
+    record {
+      sources =
+          same_filter (λ (x : LiveSource). not (is_own_source w (step.Del key) x)) (λ (x : LiveSource). not (own_serial (serial_of w key.0) x))
+          (λ x. ap not (own_is (serial_of w key.0) x)) (del_source w key.0 (serial_of w key.0) answers).world.live
+          ∙ del_sources w key.0 (serial_of w key.0) answers
+          ∙ sym (same_filter (λ (x : LiveSource). not (is_own_source w (step.Del key) x)) (λ (x : LiveSource). not (own_serial (serial_of w key.0) x))
+          (λ x. ap not (own_is (serial_of w key.0) x)) w.live);
+      listeners = listeners_stand w (case_of w (step.Del key) answers).world (ap entries (del_keeps w key.0 (serial_of w key.0) answers));
+      timers = ap all_timers (del_keeps w key.0 (serial_of w key.0) answers);
+    }
+case_stands w (step.Poll key dir waker) answers =
+    record {
+      sources = ap all_sources (poll_keeps w key.0 dir waker (serial_of w key.0) answers);
+      listeners = listeners_stand w (case_of w (step.Poll key dir waker) answers).world (ap entries (poll_keeps w key.0 dir waker (serial_of w key.0) answers));
+      timers = ap all_timers (poll_keeps w key.0 dir waker (serial_of w key.0) answers);
+    }
+case_stands w (step.New key dir) answers =
+    record {
+      sources = ap all_sources (new_keeps w dir (serial_of w key.0) answers);
+      listeners = new_others w dir (serial_of w key.0) answers;
+      timers = ap all_timers (new_keeps w dir (serial_of w key.0) answers);
+    }
+case_stands w (step.StepEar number waker) answers =
+    record {
+      sources = ap all_sources (step_keeps w waker (find (is_listener number) w.listeners) answers);
+      listeners = step_others w number waker (find (is_listener number) w.listeners) answers refl;
+      timers = ap all_timers (step_keeps w waker (find (is_listener number) w.listeners) answers);
+    }
+case_stands w (step.DropEar number) answers =
+    record {
+      sources = ap all_sources (drop_keeps w number (find (is_listener number) w.listeners) answers);
+      listeners = drop_others w number (find (is_listener number) w.listeners) answers;
+      timers = ap all_timers (drop_keeps w number (find (is_listener number) w.listeners) answers);
+    }
+case_stands w (step.TimerAt deadline) answers =
+    record {
+      sources = refl;
+      listeners = refl;
+      timers = made_others w (Some deadline) None;
+    }
+case_stands w (step.TimerEvery deadline period) answers =
+    record {
+      sources = refl;
+      listeners = refl;
+      timers = made_others w (Some deadline) (Some period);
+    }
+case_stands w step.TimerNever answers =
+    record {
+      sources = refl;
+      listeners = refl;
+      timers = made_others w None None;
+    }
+case_stands w (step.Tick number waker) answers =
+    record {
+      sources = ap all_sources (tick_keeps w waker (find (is_timer number) w.timers) answers);
+      listeners = listeners_stand w (case_of w (step.Tick number waker) answers).world (ap entries (tick_keeps w waker (find (is_timer number) w.timers) answers));
+      timers = tick_others w number waker (find (is_timer number) w.timers) answers refl;
+    }
+case_stands w (step.SetAt number deadline) answers =
+    record {
+      sources = ap all_sources (set_keeps w deadline None (find (is_timer number) w.timers) answers);
+      listeners = listeners_stand w (case_of w (step.SetAt number deadline) answers).world (ap entries (set_keeps w deadline None (find (is_timer number) w.timers) answers));
+      timers = set_others w number deadline None (find (is_timer number) w.timers) answers refl;
+    }
+case_stands w (step.SetEvery number deadline period) answers =
+    record {
+      sources = ap all_sources (set_keeps w deadline (Some period) (find (is_timer number) w.timers) answers);
+      listeners = listeners_stand w (case_of w (step.SetEvery number deadline period) answers).world (ap entries (set_keeps w deadline (Some period) (find (is_timer number) w.timers) answers));
+      timers = set_others w number deadline (Some period) (find (is_timer number) w.timers) answers refl;
+    }
+case_stands w (step.End number) answers =
+    record {
+      sources = ap all_sources (end_keeps w (find (is_timer number) w.timers) answers);
+      listeners = listeners_stand w (case_of w (step.End number) answers).world (ap entries (end_keeps w (find (is_timer number) w.timers) answers));
+      timers = end_others w number (find (is_timer number) w.timers) answers refl;
+    }
+case_stands w (step.Now moment) answers =
+    cond_both (nat_lt moment w.now) _ _ (λ (o : Outcome). Standing w (step.Now moment) o.world)
+    (λ back. record { sources = refl; listeners = refl; timers = refl }) (λ on. record { sources = refl; listeners = refl; timers = refl })
+case_stands w (step.Note event) answers = record { sources = refl; listeners = refl; timers = refl }
+case_stands w (step.Fault kind) answers = record { sources = refl; listeners = refl; timers = refl }
+case_stands w step.Interrupt answers = record { sources = refl; listeners = refl; timers = refl }
+case_stands w (step.Begin limit) answers =
+    record {
+      sources = ap all_sources (begin_keeps w limit answers);
+      listeners = listeners_stand w (case_of w (step.Begin limit) answers).world (ap entries (begin_keeps w limit answers));
+      timers = ap all_timers (begin_keeps w limit answers);
+    }
+case_stands w step.Wait answers =
+    record {
+      sources = ap all_sources (wait_keeps w w.round answers refl);
+      listeners = listeners_stand w (case_of w step.Wait answers).world (ap entries (wait_keeps w w.round answers refl));
+      timers = ap all_timers (wait_keeps w w.round answers refl);
+    }
+case_stands w step.Handle answers =
+    record {
+      sources = ap all_sources (handle_keeps w w.round answers refl);
+      listeners = listeners_stand w (case_of w step.Handle answers).world (ap entries (handle_keeps w w.round answers refl));
+      timers = ap all_timers (handle_keeps w w.round answers refl);
+    }
+case_stands w step.Finish answers =
+    record {
+      sources = ap all_sources (finish_keeps w w.round answers);
+      listeners = listeners_stand w (case_of w step.Finish answers).world (ap entries (finish_keeps w w.round answers));
+      timers = ap all_timers (finish_keeps w w.round answers);
+    }
+case_stands w step.React answers =
+    record {
+      sources = ap all_sources (react_keeps w answers);
+      listeners = listeners_stand w (case_of w step.React answers).world (ap entries (react_keeps w answers));
+      timers = ap all_timers (react_keeps w answers);
+    }
+
+pub others_stand : (w : World) (s : Step) (answers : List PollerAnswer) → OthersStand w s answers (step_result w s answers).world
+unfolding step_result
+others_stand w s answers =
+    let c = case_stands w s answers in
+    record {
+      sources = c.sources;
+      marks = marks_stand w s answers;
+      broken = broken_stand w s answers;
+      listeners = c.listeners;
+      timers = c.timers;
+    }

@@ -1,0 +1,119 @@
+-- A step draws no id of a registration, or the next one, under which it registers a timer.
+use Rattle.std.proofs.Common.{◌≡◌, ℕ, ◌+◌, cond, ◌&&◌, List, find, Option, None, Some, is_some, refl, ap, ◌∙◌, inl, inr}
+use Rattle.std.specs.Prelude.{nat_le, nat_lt}
+use Rattle.std.proofs.lemmas.List.Elements.{Contains-push}
+use Rattle.aio_base.specs.declared.names.Waker.{Waker}
+use Rattle.aio_base.specs.declared.steps.Step.{Step}
+use Rattle.aio_base.specs.declared.steps.Step.TheVariants as step
+use Rattle.aio_base.specs.World.{PollerAnswer, Registration, TimerEntry, RoundState, World, serial_of, is_empty_list}
+use Rattle.aio_base.specs.Machine.{Outcome, is_listener, is_timer, is_waker, unregistered, registered, next_deadline, fired, tick_deadline, tick_timer, set_deadline, set_timer, end_timer, begin_round, wait_round, handle_each, hand_of, finish_in, case_of}
+use Rattle.aio_laws.specs.Drawn.{IdsFollow}
+use Rattle.aio_laws.proofs.steps.Frames.{either, either_world}
+use Rattle.aio_laws.proofs.timers.PassLemmas.{Timed, timed, Keeps, wait_keeps, handle_keeps, handle_each_keeps}
+use Rattle.aio_laws.proofs.timers.Registering.{add_keeps, del_keeps, poll_keeps, new_keeps, step_keeps, drop_keeps}
+
+-- an outcome draws an id as a step may
+abbrev Draws : World → Outcome → Type 0
+Draws w o = IdsFollow w o.world
+
+-- it draws none
+ids_kept : (w : World) (o : Outcome) → Keeps (timed w) o → o.world.ids_drawn ≡ w.ids_drawn
+ids_kept w o keeps = ap (λ (t : Timed). t.ids) keeps
+
+-- ## Timers
+
+-- a registration that goes draws none
+gone_before : (w : World) (id : Option ℕ) (v : World) → IdsFollow (unregistered w id) v → IdsFollow w v
+gone_before w None v follows = follows
+gone_before w (Some id) v follows = follows
+
+one_draws : (w : World) (set : TimerEntry) (deadline : ℕ) (waker : Waker) → IdsFollow w (registered w set deadline waker)
+one_draws w set deadline waker =
+    let new : Registration = record { id = w.ids_drawn + 1; deadline = deadline; waker = waker } in
+    inr (refl, (new, Contains-push w.registrations new, refl))
+
+fired_draws : (w : World) (entry : TimerEntry) (waker : Waker) (next : Option ℕ) → IdsFollow w (fired w entry waker next)
+fired_draws w entry waker None = inl refl
+fired_draws w entry waker (Some deadline) = one_draws w entry deadline waker
+
+tick_draws_at : (w : World) (entry : TimerEntry) (waker : Waker) (deadline : Option ℕ) (answers : List PollerAnswer)
+    → Draws w (tick_deadline w entry waker deadline answers)
+tick_draws_at w entry waker None answers = inl refl
+tick_draws_at w entry waker (Some deadline) answers =
+    let gone = unregistered w entry.id in
+    let next = next_deadline deadline entry.period in
+    let new = registered gone entry deadline waker in
+    either (Draws w) (nat_le deadline w.now) _ _ (gone_before w entry.id (fired gone entry waker next) (fired_draws gone entry waker next))
+    (either_world (IdsFollow w) (is_some entry.id && is_waker waker entry.kept) w new (inl refl) (gone_before w entry.id new (one_draws gone entry deadline waker)))
+
+tick_draws : (w : World) (waker : Waker) (found : Option TimerEntry) (answers : List PollerAnswer) → Draws w (tick_timer w waker found answers)
+tick_draws w waker None answers = inl refl
+tick_draws w waker (Some entry) answers = tick_draws_at w entry waker entry.deadline answers
+
+set_draws_at : (w : World) (entry : TimerEntry) (deadline : ℕ) (kept : Option Waker) → IdsFollow w (set_deadline w entry deadline kept)
+set_draws_at w entry deadline None = inl refl
+set_draws_at w entry deadline (Some waker) = one_draws w entry deadline waker
+
+set_draws : (w : World) (deadline : ℕ) (period : Option ℕ) (found : Option TimerEntry) (answers : List PollerAnswer) → Draws w (set_timer w deadline period found answers)
+set_draws w deadline period None answers = inl refl
+set_draws w deadline period (Some entry) answers =
+    let gone = unregistered w entry.id in
+    let set = cond (is_some period) (record entry { period = period }) entry in
+    gone_before w entry.id (set_deadline gone set deadline entry.kept) (set_draws_at gone set deadline entry.kept)
+
+gone_draws : (w : World) (id : Option ℕ) → (unregistered w id).ids_drawn ≡ w.ids_drawn
+gone_draws w None = refl
+gone_draws w (Some id) = refl
+
+end_draws : (w : World) (found : Option TimerEntry) (answers : List PollerAnswer) → Draws w (end_timer w found answers)
+end_draws w None answers = inl refl
+end_draws w (Some entry) answers = inl (gone_draws w entry.id)
+
+-- ## Rounds
+
+-- an outcome draws no id
+abbrev DrawsNone : World → Outcome → Type 0
+DrawsNone w o = o.world.ids_drawn ≡ w.ids_drawn
+
+begin_draws : (w : World) (given : Option ℕ) (answers : List PollerAnswer) → DrawsNone w (begin_round w given answers)
+begin_draws w given answers = either (DrawsNone w) (is_some w.round) _ _ refl refl
+
+finish_draws : (w : World) (round : Option RoundState) (answers : List PollerAnswer) → DrawsNone w (finish_in w round answers)
+finish_draws w None answers = refl
+finish_draws w (Some round) answers = either (DrawsNone w) (is_empty_list round.in_hand) _ _ refl refl
+
+react_draws : (w : World) (answers : List PollerAnswer) → DrawsNone w (case_of w step.React answers)
+react_draws w answers =
+    let begun = begin_round w None answers in
+    let waited = wait_round begun.world begun.left in
+    let hand = hand_of waited.world.round in
+    let handled = handle_each hand waited.world waited.left in
+    either (DrawsNone w) (is_some w.round) _ _ refl
+    (finish_draws handled.world handled.world.round handled.left ∙ ids_kept waited.world handled (handle_each_keeps hand waited.world waited.left)
+    ∙ ids_kept begun.world waited (wait_keeps begun.world begun.world.round begun.left) ∙ begin_draws w None answers)
+
+-- ## A step
+
+pub case_ids : (w : World) (s : Step) (answers : List PollerAnswer) → Draws w (case_of w s answers)
+case_ids w step.Add answers = inl (ids_kept w (case_of w step.Add answers) (add_keeps w answers))
+case_ids w (step.Del key) answers = inl (ids_kept w (case_of w (step.Del key) answers) (del_keeps w key.0 (serial_of w key.0) answers))
+case_ids w (step.Poll key dir waker) answers = inl (ids_kept w (case_of w (step.Poll key dir waker) answers) (poll_keeps w key.0 dir waker (serial_of w key.0) answers))
+case_ids w (step.New key dir) answers = inl (ids_kept w (case_of w (step.New key dir) answers) (new_keeps w dir (serial_of w key.0) answers))
+case_ids w (step.StepEar number waker) answers = inl (ids_kept w (case_of w (step.StepEar number waker) answers) (step_keeps w waker (find (is_listener number) w.listeners) answers))
+case_ids w (step.DropEar number) answers = inl (ids_kept w (case_of w (step.DropEar number) answers) (drop_keeps w number (find (is_listener number) w.listeners) answers))
+case_ids w (step.TimerAt deadline) answers = inl refl
+case_ids w (step.TimerEvery deadline period) answers = inl refl
+case_ids w step.TimerNever answers = inl refl
+case_ids w (step.Tick number waker) answers = tick_draws w waker (find (is_timer number) w.timers) answers
+case_ids w (step.SetAt number deadline) answers = set_draws w deadline None (find (is_timer number) w.timers) answers
+case_ids w (step.SetEvery number deadline period) answers = set_draws w deadline (Some period) (find (is_timer number) w.timers) answers
+case_ids w (step.End number) answers = end_draws w (find (is_timer number) w.timers) answers
+case_ids w (step.Now moment) answers = either (Draws w) (nat_lt moment w.now) _ _ (inl refl) (inl refl)
+case_ids w (step.Note event) answers = inl refl
+case_ids w (step.Fault kind) answers = inl refl
+case_ids w step.Interrupt answers = inl refl
+case_ids w (step.Begin limit) answers = inl (begin_draws w limit answers)
+case_ids w step.Wait answers = inl (ids_kept w (case_of w step.Wait answers) (wait_keeps w w.round answers))
+case_ids w step.Handle answers = inl (ids_kept w (case_of w step.Handle answers) (handle_keeps w w.round answers))
+case_ids w step.Finish answers = inl (finish_draws w w.round answers)
+case_ids w step.React answers = inl (react_draws w answers)

@@ -1,0 +1,5 @@
+-- Lines and their steps, and worked traces that are computed from the definitions.
+mod Rows
+mod RunRows
+pub mod Shapes
+mod TimerRows

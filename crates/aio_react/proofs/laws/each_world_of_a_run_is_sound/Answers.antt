@@ -1,5 +1,0 @@
-use Rattle.aio_react.proofs.SoundRuns.{run_is_sound}
-use Rattle.aio_react.proofs.laws.each_world_of_a_run_is_sound.Goals as goal
-
-pub returns : goal.returns
-returns c = run_is_sound

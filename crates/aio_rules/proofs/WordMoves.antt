@@ -1,0 +1,89 @@
+-- The rule of the shared words holds at the start, and the moves of a seat keep it.
+use Rattle.std.proofs.Common.{◌≡◌, ℕ, zero, suc, ◌≤◌, List, [], ◌∷◌, ◌++◌, length-append, set, get_or, replicate, sym, refl, ap, ◌∙◌, subst, inl, inr, ⊎_elim, arith}
+use Rattle.std.proofs.lemmas.List.{length-replicate}
+use mathlib.Core.Option.{some, some-injective, some-ne-none}
+use lib.ListN.{get_elem?}
+use Rattle.aio_rules.specs.declared.seats.Role.TheVariants as role
+use Rattle.aio_rules.specs.declared.seats.Mode.TheVariants as mode
+use Rattle.aio_rules.specs.declared.seats.SeatView.{SeatView}
+use Rattle.aio_rules.specs.SharedWords.{ticker, blocked_place, word_count, first_view, new_view, with_one_more, spent_view, joined_seat, held, Each, IsTold, AgreesWithWords, WordRule}
+use Rattle.aio_rules.specs.WordLaws.{StartMeetsWordRule, SplitKeepsRule, JoinKeepsWordRule}
+use Rattle.aio_rules.proofs.SeatLists.{beside_set, before_end, at_end_or_before}
+use Rattle.aio_rules.proofs.WordFrames.{not_both, idle_holds_none, idle_pass, still, by_seat}
+use Rattle.aio_rules.proofs.WordSteps.{tells_beside, owed_none}
+
+zeros : (k at : ℕ) → get_or (replicate k zero) at zero ≡ zero
+zeros zero at = refl
+zeros (suc k) zero = refl
+zeros (suc k) (suc at) = zeros k at
+
+alone : (Holds : ℕ → SeatView → Type 0) (v : SeatView) → Holds 0 v → Each (v ∷ []) Holds
+alone Holds v here zero u e = subst (Holds 0) (some-injective v u e) here
+alone Holds v here (suc at) u e = absurd (some-ne-none u (sym e))
+
+pub start_meets_rule : StartMeetsWordRule
+start_meets_rule n = let words : List ℕ = replicate (word_count n) 0 in let zero_at : (at : ℕ) → get_or words at 0 ≡ 0 = zeros (word_count n) in
+    record {
+      sized = length-replicate (word_count n) 0;
+      one_round = (0, omega arith, alone _ first_view ((λ _. refl), (λ _. refl)));
+      notified_bit = let z = zero_at 1 in omega arith;
+      blocked_bit = λ i. subst (λ (b : ℕ). b ≤ 1) (sym (zero_at (blocked_place i))) (omega arith);
+      each = alone _ first_view (record {
+        seen = omega arith;
+        exact = λ _. sym (zero_at 0);
+        idle = λ _. refl;
+        flag = λ i holds. idle_holds_none mode.Idle i refl holds;
+        alone = λ _ i set. absurd (set (zero_at (blocked_place i)));
+        told = λ i waits. idle_holds_none mode.Idle i refl (ap held waits);
+      });
+    }
+
+-- a new pass beside the seats that there are
+one_beside : (n : ℕ) (words : List ℕ) (views : List SeatView) (from : SeatView) → from.seen ≤ ticker words → WordRule n words views → WordRule n words (views ++ new_view from ∷ [])
+one_beside n words views from below rule = let new : SeatView = new_view from in let all : List SeatView = views ++ new ∷ [] in let round = rule.one_round in
+    let tells : (i : ℕ) → IsTold words views i → IsTold words all i =
+    λ i told woken. ⊎_elim inl (λ mid. inr (mid.0, mid.1, before_end views new mid.0 mid.1 mid.2, mid.3)) (told woken) in
+    record {
+      sized = rule.sized;
+      one_round = (
+        round.0,
+        (let long = length-append views (new ∷ []) in let b = round.1 in omega arith),
+        (λ at u e. ⊎_elim (λ was. round.2 at u was)
+            (λ last. ((λ r. not_both u.role r (ap (λ (x : SeatView). x.role) (sym last.1))), (λ is. absurd (let b = round.1 in let here = last.0 in omega arith)))) (at_end_or_before views new at u e)),
+      );
+      notified_bit = rule.notified_bit;
+      blocked_bit = rule.blocked_bit;
+      each = λ at u e. ⊎_elim
+          (λ was. still words words all views u refl (λ _. refl) (λ i _ told. tells i told) (rule.each at u was))
+          (λ last. subst (AgreesWithWords words all) last.1 (idle_pass words words all new refl refl below)) (at_end_or_before views new at u e);
+    }
+
+-- a seat that counts one more seat split off it
+counts_one : (n : ℕ) (words : List ℕ) (views : List SeatView) (seat : ℕ) (v : SeatView) → WordRule n words views → get_elem? views seat ≡ some v
+    → WordRule n words (set views seat (with_one_more v))
+counts_one n words views seat v rule stands = let all : List SeatView = set views seat (with_one_more v) in let was = rule.each seat v stands in
+    let tells : (i : ℕ) → IsTold words views i → IsTold words all i = λ i told. tells_beside n words views seat v rule stands words (with_one_more v) i refl refl (λ o. o) told in
+    by_seat n words views seat v rule stands words (with_one_more v) rule.sized refl rule.notified_bit rule.blocked_bit
+    (record { seen = was.seen; exact = was.exact; idle = was.idle; flag = was.flag; alone = was.alone; told = λ i waits. tells i (was.told i waits) })
+    (λ other u _ _ agreed. still words words all views u refl (λ _. refl) (λ i _ told. tells i told) agreed)
+
+pub split_keeps_rule : SplitKeepsRule
+split_keeps_rule n words views seat v rule stands = let was = rule.each seat v stands in
+    one_beside n words (set views seat (with_one_more v)) v was.seen (counts_one n words views seat v rule stands)
+
+-- a pass gets another view that has seen no more than the ticker, and keeps its debts
+pass_becomes : (n : ℕ) (words : List ℕ) (views : List SeatView) (seat : ℕ) (v w : SeatView) (rule : WordRule n words views) (stands : get_elem? views seat ≡ some v)
+    → v.role ≡ role.Pass → w.role ≡ role.Pass → w.mode ≡ mode.Idle → w.seen ≤ ticker words
+    → ((i : ℕ) → IsTold words views i → IsTold words (set views seat w) i) → WordRule n words (set views seat w)
+pass_becomes n words views seat v w rule stands pass pass' idle seen tells = by_seat n words views seat v rule stands words w rule.sized (pass' ∙ sym pass) rule.notified_bit rule.blocked_bit
+    (idle_pass words words (set views seat w) w pass' idle seen)
+    (λ other u _ _ was. still words words (set views seat w) views u refl (λ _. refl) (λ i _ told. tells i told) was)
+
+pub join_keeps_rule : JoinKeepsWordRule
+join_keeps_rule n words views seat other v w rule stands pass apart there free = let both : SeatView = joined_seat v w in let mid : List SeatView = set views seat both in
+    let here = rule.each seat v stands in let seen_here = here.seen in let seen_there = (rule.each other w there).seen in
+    let taken_in : WordRule n words mid = pass_becomes n words views seat v both rule stands pass pass (here.idle pass) (omega arith)
+    (λ i told. tells_beside n words views seat v rule stands words both i refl refl (λ o. o) told) in
+    let still_there : get_elem? mid other ≡ some w = beside_set views seat other both apart ∙ there in
+    pass_becomes n words mid other w spent_view taken_in still_there free.0 refl refl (omega arith)
+    (λ i told. tells_beside n words mid other w taken_in still_there words spent_view i refl refl (owed_none n words mid other w taken_in still_there i free.1) told)

@@ -1,0 +1,62 @@
+-- What is true of the rule of the shared words: it holds at the start, and each step and each move of a seat keeps it.
+use Rattle.std.specs.Prelude.{◌≡◌, ◌≢◌, ◌⊎◌, ℕ, ◌≤◌, ◌==◌, Bool, false, List, [], ◌∷◌, ◌++◌, replicate, slice_index, slice_set}
+use Rattle.std.specs.Int.{bit_at}
+use mathlib.Core.Option.{some}
+use lib.ListN.{get_elem?}
+use Rattle.aio_rules.specs.declared.seats.Role.TheVariants as role
+use Rattle.aio_rules.specs.declared.seats.Mode.TheVariants as mode
+use Rattle.aio_rules.specs.declared.seats.WordStep.{WordStep}
+use Rattle.aio_rules.specs.declared.seats.WordStep.TheVariants as word_step
+use Rattle.aio_rules.specs.declared.seats.SeatView.{SeatView}
+use Rattle.aio_rules.specs.SharedWords.{word_count, mask, notified, first_view, new_view, with_one_more, spent_view, joined_seat, place_of, found_by, left_by, after, IsFree, May, IsInMidCall, WordRule}
+
+-- A seat stands at the words and may make a step, which found what its word was.
+pub record CanStep (parkers : ℕ) (words : List ℕ) (views : List SeatView) (seat : ℕ) (v : SeatView) (s : WordStep) : Type 0 where
+  pub rule : WordRule parkers words views
+  pub stands : get_elem? views seat ≡ some v
+  pub found : slice_index words (place_of s) ≡ found_by s
+  pub may : May parkers v s
+
+-- at the start all words are 0, and the round seat is the one seat
+abbrev pub StartMeetsWordRule : Type 0
+StartMeetsWordRule = (parkers : ℕ) → WordRule parkers (replicate (word_count parkers) 0) (first_view ∷ [])
+
+-- each step keeps the rule
+abbrev pub StepKeepsRule : Type 0
+StepKeepsRule = (parkers : ℕ) (words : List ℕ) (views : List SeatView) (seat : ℕ) (v : SeatView) (s : WordStep)
+    → CanStep parkers words views seat v s → WordRule parkers (slice_set words (place_of s) (left_by s)) (slice_set views seat (after s v))
+
+-- a seat off which a new seat is split counts it and keeps the rest of its view, and the words stay
+abbrev pub SplitKeepsRule : Type 0
+SplitKeepsRule = (parkers : ℕ) (words : List ℕ) (views : List SeatView) (seat : ℕ) (v : SeatView)
+    → WordRule parkers words views → get_elem? views seat ≡ some v
+    → WordRule parkers words (slice_set views seat (with_one_more v) ++ new_view v ∷ [])
+
+-- a pass that takes in another, which owes nothing, has the greater ticker; the other leaves a spent view, and the words stay
+abbrev pub JoinKeepsWordRule : Type 0
+JoinKeepsWordRule = (parkers : ℕ) (words : List ℕ) (views : List SeatView) (seat other : ℕ) (v w : SeatView)
+    → WordRule parkers words views → get_elem? views seat ≡ some v → v.role ≡ role.Pass
+    → other ≢ seat → get_elem? views other ≡ some w → IsFree w
+    → WordRule parkers words (slice_set (slice_set views seat (joined_seat v w)) other spent_view)
+
+-- a step leaves its seat's role, its name and its count of seats as they are, lets what the seat has seen not fall, and stands at the end of the seat's steps
+abbrev pub StepKeepsSeat : Type 0
+StepKeepsSeat = (parkers : ℕ) (words : List ℕ) (views : List SeatView) (seat : ℕ) (v : SeatView) (s : WordStep)
+    → CanStep parkers words views seat v s → ((after s v).role ≡ v.role) × ((after s v).line ≡ v.line) × ((after s v).made ≡ v.made) × (v.seen ≤ (after s v).seen) × ((after s v).did ≡ v.did ++ s ∷ [])
+
+-- whether a step is a swap of this parker's mask
+abbrev pub is_swap_of : ℕ → WordStep → Bool
+is_swap_of i (word_step.SwapMask j found) = i == j
+is_swap_of i s = false
+
+-- a step other than a swap of the parker's mask takes no bit out of that mask
+abbrev pub OnlySwapTakesBits : Type 0
+OnlySwapTakesBits = (parkers : ℕ) (words : List ℕ) (views : List SeatView) (seat : ℕ) (v : SeatView) (s : WordStep) (i bit : ℕ)
+    → CanStep parkers words views seat v s → is_swap_of i s ≡ false
+    → bit_at (mask words i) bit ≤ bit_at (mask (slice_set words (place_of s) (left_by s)) i) bit
+
+-- while the round seat waits for a parker one of whose slots is woken, notified is set or a wake is in mid-call
+abbrev pub WokenWaitIsTold : Type 0
+WokenWaitIsTold = (parkers : ℕ) (words : List ℕ) (views : List SeatView) (seat : ℕ) (v : SeatView) (i slot : ℕ)
+    → WordRule parkers words views → get_elem? views seat ≡ some v → v.mode ≡ mode.Wait i
+    → bit_at (mask words i) slot ≡ 1 → (notified words ≡ 1) ⊎ IsInMidCall views i

@@ -1,0 +1,18 @@
+//! The rules of what threads share: of the words, of a lock whose tokens know what it holds, and of the
+//! lock of a shared reactor.
+//!
+//! It stands on `aio_base`. A rule says what holds between any two steps of any threads; the laws, as
+//! contracts of functions with no work to do, say that it holds at the start, that each kind of step
+//! keeps it, and what follows from it. The crates that make such steps cite the rules.
+#![tactic(auto)]
+
+pub mod claim_laws;
+pub mod claims;
+pub mod lock_laws;
+pub mod lock_views;
+pub mod seats;
+pub mod word_laws;
+
+pub use claims::{ClaimView, RoundItem};
+pub use lock_views::{LockSeat, LockView};
+pub use seats::{Mode, Owed, Role, SeatView, WordStep};

@@ -1,0 +1,17 @@
+use Rattle.std.proofs.Common.{rules, ◌≡◌, false, None, IfSome, ℕ, ◌≤◌, Bool, true, refl}
+use Rattle.aio_shared.specs.Polling.{VisitsOnce}
+use Rattle.aio_shared.proofs.inside.Inside.enter_and_leave.Goals as goal
+
+-- src/polling.rt:69:5
+pub returns-clause-visits : goal.returns-clause-visits
+returns-clause-visits g c = record {
+  ticker = c.ticker-ticker.result;
+  loaded = c.ticker-ticker.ensures.loaded;
+  least = c.ticker-ticker.ensures.least;
+  found = c.take-cell.result;
+  key_is = c.take-cell.ensures.key;
+  rest_is = c.take-cell.ensures.rest;
+  put = c.visit-tried.new.cell;
+  visited = c.visit-tried.ensures.visits;
+  token_is = search rules;
+}

@@ -1,0 +1,313 @@
+//! What a thread does inside a source: it enters the source, works on it once with the number of rounds
+//! begun, and leaves it; then it wakes whom a poll replaced.
+
+ghost use Rattle.std.specs.Prelude.{◌≡◌, ◌≢◌, ℕ, false, List, length, None, Some, IfOk, IfErr, IfSome};
+ghost use Rattle.aio_react.specs.Hosts.{NotifierTells, wake_fault};
+ghost use Rattle.aio_source.specs.Rules.{direction_of, is_ready};
+ghost use Rattle.aio_shared.specs.Inside.{IsLaterInside, with_seat};
+ghost use Rattle.aio_shared.specs.Polling.{IsUnsureArm, PollsCell, TriesCell, TriesOnce, VisitsOnce, WakesReplaced, WorksOn, answer_of, arm_fault_in, arm_fault_of, notify_fault_in};
+ghost use Rattle.aio_shared.specs.Sources.{Adds, HandsBack, outside, refusal_of};
+
+use crate::inside::Inside;
+use crate::sources::{InsertFault, SourceRef};
+use aio_base::{Arm, ArmFault, CountFault, Dir, EventWait, Notify, Poll, Waker};
+use aio_react::Host;
+use aio_source::SourceCell;
+use std::sync::Wait;
+
+/// Why what a thread waits for at a source did not come. Its waker waits all the same.
+#[derive(Clone, Copy, Debug, PartialEq, Eq)]
+pub enum PollFault {
+    /// The poller could not be armed, so maybe no event of the source comes until it is polled again.
+    Arm(ArmFault),
+    /// The notifier failed when the waker that this one replaced was woken, so that one's thread may not
+    /// know of it.
+    Notify(CountFault),
+}
+
+/// What work inside a source came to.
+#[derive(Clone, Copy, Debug, Drop, PartialEq, Eq)]
+pub struct Tried<O> {
+    /// What it came to, or the fault of an arm. Pending where a waker waits.
+    pub answer: Poll<Result<O, ArmFault>>,
+    /// The poll waiter that another one took the place of, to be woken.
+    pub replaced: Option<Waker>,
+}
+
+/// What a thread does inside a source, once.
+pub trait Visit<A: Arm> {
+    ghost use Rattle.std.specs.Prelude.{ℕ, IfSome};
+    ghost use Rattle.aio_source.specs.declared.source.SourceCell.{SourceCell};
+    ghost use Rattle.aio_shared.specs.declared.polling.Tried.{Tried};
+    ghost use Rattle.aio_shared.specs.Polling.{IsUnsureArm, arm_fault_of};
+
+    /// What it gives.
+    type Output;
+
+    /// The visit, the source before it, the number of rounds begun, what it came to, and the source after
+    /// it.
+    ghost visits: { Self → SourceCell A → ℕ → Tried Self.Output → SourceCell A → Type 0 };
+
+    /// Works on a source that was taken out of its lock, after `ticker` rounds have begun. It keeps the
+    /// source's key.
+    fn visit(self, cell: &mut SourceCell<A>, ticker: u64) -> Tried<Self::Output>
+        ensures visits { visits self cell.old ticker result cell.new }
+        ensures arm { IfSome (arm_fault_of result.answer)
+            (IsUnsureArm A.all_sure cell.old.state.key.0) }
+        ensures key { cell.new.state.key ≡ cell.old.state.key };
+}
+
+/// What a thread attempts on the connection of a source.
+pub trait Attempt<A: Arm> {
+    ghost use Rattle.std.specs.Prelude.{Option};
+
+    /// What it gives.
+    type Output;
+
+    /// The attempt, the connection before it, what it gave, the attempt after it, and the connection after
+    /// it.
+    ghost attempts: { Self → A → Option Self.Output → Self → A → Type 0 };
+
+    /// Makes the attempt. `None` where it would block.
+    fn attempt(&mut self, io: &mut A) -> Option<Self::Output>
+        ensures { attempts self.old io.old result self.new io.new };
+}
+
+/// One poll of a direction of a source with a waker.
+#[derive(Clone, Copy, Debug, PartialEq, Eq)]
+pub struct PollDir {
+    /// The direction.
+    pub dir: Dir,
+    /// The waker that waits for it.
+    pub waker: Waker,
+}
+
+impl<A: Arm> Visit<A> for PollDir {
+    ghost use Rattle.aio_shared.specs.Polling.{PollsCell};
+
+    type Output = ();
+
+    ghost visits = { PollsCell A.arm_step A.interests A.rest A.fault_count A.is_sure };
+
+    fn visit(self, cell: &mut SourceCell<A>, ticker: u64) -> Tried<()> {
+        let polled = cell
+            .state
+            .poll_dir(&mut cell.io, self.dir, self.waker, ticker);
+        Tried {
+            answer: polled.answer,
+            replaced: polled.replaced,
+        }
+    }
+}
+
+/// An attempt on the connection of a source, and a poll of a direction where it would block.
+#[derive(Drop)]
+pub struct TryDir<T> {
+    /// The attempt.
+    pub attempt: T,
+    /// The poll.
+    pub poll: PollDir,
+}
+
+/// Makes one attempt, and one poll where it would block. `None` where the direction was ready then.
+fn try_once<A: Arm, T: Attempt<A>>(
+    attempt: &mut T,
+    poll: PollDir,
+    cell: &mut SourceCell<A>,
+    ticker: u64,
+) -> Option<Tried<T::Output>>
+    ensures tries { TriesOnce A.arm_step A.interests A.rest A.fault_count A.is_sure T.attempts
+        poll attempt.old cell.old ticker result attempt.new cell.new }
+    ensures arm { IfSome result (λ tried.
+        IfSome (arm_fault_of tried.answer) (IsUnsureArm A.all_sure cell.old.state.key.0)) }
+    ensures key { cell.new.state.key ≡ cell.old.state.key }
+    ensures seen { result ≡ None
+        → is_ready (direction_of cell.new.state.directions poll.dir) ≡ false }
+    ensures unready { is_ready (direction_of cell.old.state.directions poll.dir) ≡ false
+        → result ≢ None }
+{
+    if let Some(output) = attempt.attempt(&mut cell.io) {
+        return Some(Tried {
+            answer: Poll::Ready(Ok(output)),
+            replaced: None,
+        });
+    }
+    let polled = poll.visit(cell, ticker);
+    let answer = match polled.answer {
+        Poll::Ready(Ok(())) => return None,
+        Poll::Ready(Err(fault)) => Poll::Ready(Err(fault)),
+        Poll::Pending => Poll::Pending,
+    };
+    Some(Tried {
+        answer,
+        replaced: polled.replaced,
+    })
+}
+
+impl<A: Arm, T: Attempt<A> + Drop> Visit<A> for TryDir<T> {
+    ghost use Rattle.aio_shared.specs.Polling.{TriesCell};
+
+    type Output = T::Output;
+
+    ghost visits = { TriesCell A.arm_step A.interests A.rest A.fault_count A.is_sure T.attempts };
+
+    fn visit(self, cell: &mut SourceCell<A>, ticker: u64) -> Tried<T::Output> {
+        let TryDir { mut attempt, poll } = self;
+        if let Some(tried) = try_once(&mut attempt, poll, cell, ticker) {
+            return tried;
+        }
+        match try_once(&mut attempt, poll, cell, ticker) {
+            Some(tried) => tried,
+            None => unreachable!(),
+        }
+    }
+}
+
+impl<R: Wait, N: Notify, A: Arm, W: EventWait> Inside<R, N, A, W> {
+    /// Loads the number of rounds begun, takes a source out of its lock, as soon as no round visits it,
+    /// makes one visit with that number, and puts the source back.
+    fn enter_and_leave<V: Visit<A>>(&mut self, s: &mut SourceRef<A>, visit: V) -> Tried<V::Output>
+        requires outside { s.old.inside ≡ false }
+        ensures visits { VisitsOnce A.rest V.visits visit s.old s.new
+            self.old.member.pass.view self.new.member.pass.view result }
+        ensures arm { IfSome (arm_fault_of result.answer) (IsUnsureArm A.all_sure s.old.key) }
+        ensures kept { self.new
+            ≡ with_seat self.old self.new.member.pass self.old.member.notifier }
+        ensures later { IsLaterInside N.fault_count N.is_sure self.old self.new }
+    {
+        let ticker = self.ticker();
+        let mut cell = s.take(&self.rt);
+        let tried = visit.visit(&mut cell, ticker);
+        s.give(cell);
+        tried
+    }
+
+    /// Wakes the waker that a poll replaced, where it replaced one.
+    fn wake_replaced(&mut self, replaced: Option<Waker>) -> Result<(), CountFault>
+        ensures woke { WakesReplaced N.call_count N.notify_step self.old.shared.words.parkers
+            replaced self.old.member.pass.view self.new.member.pass.view
+            self.old.member.notifier self.new.member.notifier result }
+        ensures kept { self.new
+            ≡ with_seat self.old self.new.member.pass self.new.member.notifier }
+        ensures notifier { NotifierTells (N.is_sure self.old.member.notifier)
+            (N.fault_count self.old.member.notifier) (N.fault_count self.new.member.notifier)
+            (wake_fault result) }
+        ensures later { IsLaterInside N.fault_count N.is_sure self.old self.new }
+    {
+        match replaced {
+            None => Ok(()),
+            Some(waker) => self.wake(waker),
+        }
+    }
+
+    /// Makes a visit of a source: loads the number of rounds begun, enters the source, works on it, leaves
+    /// it, and wakes the waker that this work replaced.
+    pub fn visit_source<V: Visit<A>>(
+        &mut self,
+        s: &mut SourceRef<A>,
+        visit: V,
+    ) -> Poll<Result<V::Output, PollFault>>
+        requires outside { s.old.inside ≡ false }
+        ensures works { WorksOn N.call_count N.notify_step A.rest V.visits
+            visit s.old s.new self.old self.new result }
+        ensures arm { IfSome (arm_fault_in result) (IsUnsureArm A.all_sure s.old.key) }
+        ensures notifier { NotifierTells (N.is_sure self.old.member.notifier)
+            (N.fault_count self.old.member.notifier) (N.fault_count self.new.member.notifier)
+            (notify_fault_in result) }
+        ensures kept { self.new
+            ≡ with_seat self.old self.new.member.pass self.new.member.notifier }
+        ensures later { IsLaterInside N.fault_count N.is_sure self.old self.new }
+    {
+        let tried = self.enter_and_leave(s, visit);
+        let woken = self.wake_replaced(tried.replaced);
+        told(tried.answer, woken)
+    }
+
+    /// Polls a direction of a source of this reactor with a waker, and wakes the waker that this one
+    /// replaced (`async-io` 2, `reactor.rs`, `Source::poll_ready`). Ready where a round that began after
+    /// the poll waiter was stored has handled an event of the direction.
+    pub fn poll_source(
+        &mut self,
+        s: &mut SourceRef<A>,
+        dir: Dir,
+        w: Waker,
+    ) -> Poll<Result<(), PollFault>>
+        requires outside { s.old.inside ≡ false }
+        ensures polls { WorksOn N.call_count N.notify_step A.rest
+            (PollsCell A.arm_step A.interests A.rest A.fault_count A.is_sure)
+            (record { dir = dir; waker = w }) s.old s.new self.old self.new result }
+        ensures token { s.new ≡ s.old }
+        ensures arm { IfSome (arm_fault_in result) (IsUnsureArm A.all_sure s.old.key) }
+        ensures notifier { NotifierTells (N.is_sure self.old.member.notifier)
+            (N.fault_count self.old.member.notifier) (N.fault_count self.new.member.notifier)
+            (notify_fault_in result) }
+        ensures kept { self.new
+            ≡ with_seat self.old self.new.member.pass self.new.member.notifier }
+        ensures later { IsLaterInside N.fault_count N.is_sure self.old self.new }
+    {
+        self.visit_source(s, PollDir { dir, waker: w })
+    }
+
+    /// Makes an attempt on the connection of a source of this reactor; where it would block, polls a
+    /// direction with a waker, and wakes the waker that this one replaced (`async-io` 2, `lib.rs`,
+    /// `Async::read_with` and `write_with`). Where the direction is ready both are done once more, and the
+    /// second poll is never ready. So it is pending only where the last attempt would block.
+    pub fn try_source<T: Attempt<A> + Drop>(
+        &mut self,
+        s: &mut SourceRef<A>,
+        dir: Dir,
+        w: Waker,
+        attempt: T,
+    ) -> Poll<Result<T::Output, PollFault>>
+        requires outside { s.old.inside ≡ false }
+        ensures tries { WorksOn N.call_count N.notify_step A.rest
+            (TriesCell A.arm_step A.interests A.rest A.fault_count A.is_sure T.attempts)
+            (record { attempt = attempt; poll = record { dir = dir; waker = w } })
+            s.old s.new self.old self.new result }
+        ensures token { s.new ≡ record s.old { rest = s.new.rest } }
+        ensures arm { IfSome (arm_fault_in result) (IsUnsureArm A.all_sure s.old.key) }
+        ensures notifier { NotifierTells (N.is_sure self.old.member.notifier)
+            (N.fault_count self.old.member.notifier) (N.fault_count self.new.member.notifier)
+            (notify_fault_in result) }
+        ensures kept { self.new
+            ≡ with_seat self.old self.new.member.pass self.new.member.notifier }
+        ensures later { IsLaterInside N.fault_count N.is_sure self.old self.new }
+    {
+        let poll = PollDir { dir, waker: w };
+        self.visit_source(s, TryDir { attempt, poll })
+    }
+}
+
+impl<R: Wait, N: Notify, A: Arm + Drop, W: EventWait> Inside<R, N, A, W> {
+    /// A source over this connection joins the reactor, as soon as nobody else has the table of its
+    /// sources: `Sources::insert`, with its refusals, each of which hands the connection back.
+    pub fn insert_source(&self, io: A) -> Result<SourceRef<A>, (A, InsertFault)>
+        ensures token { IfOk result (λ s.
+            s ≡ outside self.now.shared.words.identity s.key (A.rest io)) }
+        ensures added { IfOk result (λ s. Adds A.arm_step s.key io) }
+        ensures back { IfErr result (λ back. (keys : List ℕ)
+            × HandsBack A.arm_step A.rest A.fault_count A.is_sure keys io back
+            × (refusal_of result ≡ Some InsertFault.Full → length keys ≡ 4096)) }
+    {
+        let mut sources = self.shared.sources(&self.rt);
+        sources.insert(io)
+    }
+}
+
+/// What work inside a source answers, by what it came to and by the answer of the wake.
+fn told<O>(
+    answer: Poll<Result<O, ArmFault>>,
+    woken: Result<(), CountFault>,
+) -> Poll<Result<O, PollFault>>
+    ensures answer { result ≡ answer_of answer woken }
+    ensures arm { arm_fault_in result ≡ arm_fault_of answer }
+{
+    match answer {
+        Poll::Ready(Ok(output)) => Poll::Ready(Ok(output)),
+        Poll::Ready(Err(fault)) => Poll::Ready(Err(PollFault::Arm(fault))),
+        Poll::Pending => match woken {
+            Ok(()) => Poll::Pending,
+            Err(fault) => Poll::Ready(Err(PollFault::Notify(fault))),
+        },
+    }
+}

@@ -1,0 +1,248 @@
+//! What no clause says of sources that are closed beside other threads: that a key goes to the next source only
+//! once its `remove` was made, and that nobody waits for ever.
+
+ghost use Rattle.std.specs.Prelude.{◌≡◌, false, IfOk};
+ghost use Rattle.aio_shared.specs.Sources.{outside};
+
+use crate::asserts::{moment, same};
+use crate::callers::{Caller, another, enter};
+use crate::owners::insert_io;
+use crate::seats::Reaction;
+use aio_base::{Arm, Dir, EventWait, Failed, Faults, Interest, Key, Waker};
+use aio_devices::{MemClock, MemNotify, MemWait, SureArm, clock_at};
+use aio_shared::{InsertFault, Shared, SourceRef};
+use aio_source::SourceCell;
+use std::alloc::{AllocError, Global};
+use std::sync::{Mutex, Wait};
+use std::test::Fail;
+use std::thread::{Threads, join, yield_now};
+
+/// What a poller is asked for, at the place of each key.
+#[derive(Drop)]
+struct Interests {
+    of_keys: Mutex<Vec<Interest>>,
+}
+
+impl Interests {
+    /// Nothing is asked for any key of so many.
+    fn none(alloc: Global, keys: usize) -> Result<Interests, AllocError> {
+        let of_keys = vec![in alloc; Interest::NONE; keys]?;
+        Ok(Interests {
+            of_keys: Mutex::new(of_keys),
+        })
+    }
+
+    fn set<R: Wait>(&self, rt: &R, key: Key, on: Interest) {
+        let mut guard = self.of_keys.lock(rt);
+        let all = &mut *guard;
+        let at = key.0 as usize;
+        if at < all.len() {
+            all[at] = on;
+        }
+    }
+
+    /// For how many keys something is asked.
+    fn count<R: Wait>(&self, rt: &R) -> usize {
+        let guard = self.of_keys.lock(rt);
+        let all = &*guard;
+        all.iter().filter(|on| **on != Interest::NONE).count()
+    }
+}
+
+/// An arm that goes by the key alone: all arms of a poller share its interests. Its `remove` takes a while.
+#[derive(Drop)]
+struct KeyedArm<'a, R: Wait> {
+    rt: &'a R,
+    interests: &'a Interests,
+}
+
+impl<R: Wait> Faults for KeyedArm<'_, R> {
+    ghost use Rattle.std.specs.Prelude.{true};
+    ghost use Rattle.std.proofs.Common.{arith};
+
+    ghost fault_count = { λ a. 0 };
+
+    ghost is_sure = { λ a. true };
+
+    ghost all_sure = { true };
+
+    ghost sure_below_top = { λ a sure. Prim.omega arith };
+
+    ghost each_sure = { λ a sure. sure };
+
+    fn faults(&self) -> u64 {
+        0
+    }
+}
+
+impl<R: Wait> Arm for KeyedArm<'_, R> {
+    ghost use Rattle.std.specs.Prelude.{◌≡◌, [], None, Ok};
+
+    ghost interests = { λ a. None };
+
+    ghost rest = { λ a. [] };
+
+    ghost arm_step = { λ old call answer new. answer ≡ Ok tt };
+
+    fn add(&mut self, key: Key) -> Result<(), Failed> {
+        self.interests.set(self.rt, key, Interest::NONE);
+        Ok(())
+    }
+
+    fn arm(&mut self, key: Key, on: Interest) -> Result<(), Failed> {
+        self.interests.set(self.rt, key, on);
+        Ok(())
+    }
+
+    fn remove(&mut self, key: Key) -> Result<(), Failed> {
+        for _ in 0..20 {
+            yield_now();
+        }
+        self.interests.set(self.rt, key, Interest::NONE);
+        Ok(())
+    }
+}
+
+/// A reactor whose connections are such arms.
+type Keyed<'a, R> = Shared<KeyedArm<'a, R>, MemWait>;
+
+/// Polls the read direction of a source with waker 3: its connection is armed for it.
+fn poll_reads<A: Arm>(cell: &mut SourceCell<A>)
+    ensures { cell.new.state.key ≡ cell.old.state.key }
+{
+    cell.state.poll_dir(&mut cell.io, Dir::Read, Waker(3), 0);
+}
+
+/// A connection joins, and its read direction is polled.
+fn join_and_arm<'a, R: Wait>(
+    rt: &R,
+    shared: &Keyed<'a, R>,
+    io: KeyedArm<'a, R>,
+) -> Result<SourceRef<KeyedArm<'a, R>>, InsertFault>
+    ensures belongs { IfOk result (λ s. s.words ≡ shared.now.words.identity) }
+    ensures outside { IfOk result (λ s. s.inside ≡ false) }
+{
+    let mut token = insert_io(rt, shared, io)?;
+    let mut cell = shared.enter(rt, &mut token);
+    poll_reads(&mut cell);
+    shared.leave(&mut token, cell);
+    Ok(token)
+}
+
+/// So many sources come, are armed and go, one after the other. How many they were.
+fn come_and_go<'a, R: Wait>(
+    rt: &'a R,
+    shared: &Keyed<'a, R>,
+    interests: &'a Interests,
+    times: u32,
+) -> u32 {
+    let mut done: u32 = 0;
+    for _ in 0..times {
+        let Ok(token) = join_and_arm(rt, shared, KeyedArm { rt, interests }) else {
+            return done;
+        };
+        if shared.close_source(rt, token).is_ok() {
+            done = done.saturating_add(1);
+        }
+    }
+    done
+}
+
+/// So many sources come, are armed and stay. How many they are.
+fn come_and_stay<'a, R: Wait>(
+    rt: &'a R,
+    shared: &Keyed<'a, R>,
+    interests: &'a Interests,
+    times: u32,
+) -> u32 {
+    let mut done: u32 = 0;
+    for _ in 0..times {
+        if join_and_arm(rt, shared, KeyedArm { rt, interests }).is_ok() {
+            done = done.saturating_add(1);
+        }
+    }
+    done
+}
+
+/// One thread's sources come and go, while those of another stay.
+fn go_beside_those_that_stay<'a, R: Threads + Wait + Sync>(
+    rt: &'a R,
+    shared: &Keyed<'a, R>,
+    interests: &'a Interests,
+) -> (u32, u32) {
+    join(
+        rt,
+        move || come_and_go(rt, shared, interests, 300),
+        move || come_and_stay(rt, shared, interests, 3000),
+    )
+}
+
+#[test]
+fn a_source_that_stays_is_armed_though_others_go(rt: HostRuntime) -> Result<(), Fail> {
+    let interests = Interests::none(rt.alloc(), 4096)?;
+    let Ok((shared, _member)) = Shared::new(rt.alloc(), 1, MemWait::new(1), MemNotify::new()) else {
+        return Err(Fail::from("no reactor"));
+    };
+    let came = go_beside_those_that_stay(&rt, &shared, &interests);
+    same(&rt, came, (300, 3000));
+    same(&rt, interests.count(&rt), 3000);
+    Ok(())
+}
+
+/// A caller over a wait that gives an event of the first key in each round.
+type Beside<R> = Caller<R, MemNotify, SureArm, MemWait>;
+
+/// So many sources come and go. How many they were.
+fn close_times<R: Wait>(caller: &Beside<R>, times: u32) -> u32 {
+    let host = &caller.host;
+    let mut done: u32 = 0;
+    for _ in 0..times {
+        let Ok(token) = insert_io(&host.rt, &host.shared, SureArm::new(0)) else {
+            return done;
+        };
+        if host.shared.close_source(&host.rt, token).is_ok() {
+            done = done.saturating_add(1);
+        }
+    }
+    done
+}
+
+/// How many events a reaction handled.
+fn events_in(reaction: Reaction) -> u32 {
+    match reaction {
+        Some(Ok(reacted)) => reacted.events,
+        _ => 0,
+    }
+}
+
+/// Makes so many rounds. How many events they handled.
+fn react_times<R: Wait + Copy>(mut caller: Beside<R>, mut clock: MemClock, times: u32) -> u32 {
+    let mut events: u32 = 0;
+    for _ in 0..times {
+        events = events.saturating_add(events_in(caller.react(&mut clock)));
+    }
+    events
+}
+
+/// The sources of one thread come and go, while another makes rounds that name their key.
+fn close_beside_rounds<R: Threads + Wait + Sync>(
+    rt: &R,
+    one: Beside<&R>,
+    other: Beside<&R>,
+    clock: MemClock,
+) -> (u32, u32) {
+    join(
+        rt,
+        move || close_times(&one, 500),
+        move || react_times(other, clock, 500),
+    )
+}
+
+#[test]
+fn sources_are_closed_beside_rounds_that_visit_them(rt: HostRuntime) -> Result<(), Fail> {
+    let mut one = enter(&rt, rt.alloc(), MemWait::new(1), MemNotify::new())?;
+    let other = another(&mut one)?;
+    let clock = clock_at(rt.alloc(), moment(&rt, 5))?;
+    same(&rt, close_beside_rounds(&rt, one, other, clock), (500, 500));
+    Ok(())
+}

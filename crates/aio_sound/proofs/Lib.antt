@@ -1,0 +1,2 @@
+mod PastKept
+mod SoundRuns

@@ -1,0 +1,10 @@
+use Rattle.std.proofs.Common.{◌-◌, ◌≡◌, ◌≤◌, replicate}
+use Rattle.aio_rules.specs.SharedLock.{first_owner}
+use Rattle.aio_lock.specs.Tokens.{owner_of}
+use Rattle.aio_word_tests.proofs.locks.count_first.Given as goal
+
+abbrev pub invariant-loop-done : goal.invariant-loop-done
+invariant-loop-done g l = (l.done ≤ l.times) × (l.owner ≡ owner_of l.lock (first_owner (replicate l.done 1)))
+
+abbrev pub decreases-loop-done : goal.decreases-loop-done
+decreases-loop-done g l = l.times - l.done

@@ -1,6 +1,0 @@
-use Rattle.std.proofs.Common.{◌≡◌}
-use Rattle.aio_words.proofs.tests.notify_times.Given as goal
-
--- the pass stays one of these words
-abbrev pub invariant-loop : goal.invariant-loop
-invariant-loop l = l.p.words ≡ l.initial.p.words

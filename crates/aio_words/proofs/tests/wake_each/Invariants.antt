@@ -1,6 +1,0 @@
-use Rattle.std.proofs.Common.{◌≡◌}
-use Rattle.aio_words.proofs.tests.wake_each.Given as goal
-
--- the pass stays one of these words
-abbrev pub invariant-loop-slot : goal.invariant-loop-slot
-invariant-loop-slot l = l.p.words ≡ l.initial.p.words
