@@ -1,0 +1,2 @@
+pub mod KeptTimers
+pub mod Pairs
