@@ -4,6 +4,7 @@ pub mod BrokenSources
 pub mod ConnectionRests
 pub mod FreshnessLemmas
 pub mod InterestLemmas
+mod JobEnds
 pub mod Membership
 pub mod Searching
 pub mod WaiterLemmas

@@ -9,7 +9,7 @@ use Rattle.aio_base.specs.declared.outcomes.Poll.{Poll}
 use Rattle.aio_base.specs.declared.outcomes.Poll.TheVariants.{Ready, Pending}
 use Rattle.aio_listen.specs.Listening.{Holds}
 use Rattle.aio_source.specs.Answers.{armed_first, armed_in, listened_in, poll_answer, ticket_in}
-use Rattle.aio_source.specs.Lent.{UsesArm, arm_of, fault_of, settled, told}
+use Rattle.aio_source.specs.Lent.{UsesArm, arm_of, fault_of, settled, arm_answer}
 use Rattle.aio_source.specs.Rules.{direction_of, listening_first, polling_again, unlistened}
 use Rattle.aio_source.specs.Values.{SourceValue}
 use Rattle.aio_source.specs.declared.answers.Listened.{Listened}
@@ -23,16 +23,16 @@ pub record Listens {C : Type 0} (step : C → ArmCall → Result (Unit {0}) Fail
   pub serial : IfSome (ticket_in first) (λ t. t.serial ≡ (direction_of old.directions dir).listeners.drawn + 1)
   pub fresh : IfSome (ticket_in first) (λ t. ¬ Holds (direction_of old.directions dir).listeners.entries t)
   pub spent : IsErrOf first refusal.TicketsSpent ↔ ((direction_of old.directions dir).listeners.drawn ≡ 2 ^ 64 - 1)
-  pub fault : armed_first first ≡ fault_of old.key (count io_old) (count io_new) (told (armed_first first))
-  pub after : let p = listening_first old dir w (ticket_in first) in new ≡ settled p.arms (told (armed_first first)) p.source
-  pub lent : let p = listening_first old dir w (ticket_in first) in UsesArm step tells rest count is_sure p.arms (arm_of p.source) (told (armed_first first)) io_old io_new
+  pub fault : armed_first first ≡ fault_of old.key (count io_old) (count io_new) (arm_answer (armed_first first))
+  pub after : let p = listening_first old dir w (ticket_in first) in new ≡ settled p.arms (arm_answer (armed_first first)) p.source
+  pub lent : let p = listening_first old dir w (ticket_in first) in UsesArm step tells rest count is_sure p.arms (arm_of p.source) (arm_answer (armed_first first)) io_old io_new
 
 -- A listener's later poll: ready where the last round of its direction is above both numbers, and so at every poll after that.
 pub record ListensAgain {C : Type 0} (step : C → ArmCall → Result (Unit {0}) Failed → C → Type 0) (tells : C → Option Interests) (rest : C → List ℕ) (count : C → ℕ)
     (is_sure : C → Bool) (dir : Dir) (w : Waker) (l : Listened) (old : SourceValue) (io_old : C) (later : Poll (Result (Unit {0}) ArmFault)) (new : SourceValue) (io_new : C) : Type 0 where
-  pub answer : let p = polling_again old dir l w in later ≡ poll_answer p.ready (fault_of old.key (count io_old) (count io_new) (told (armed_in later)))
-  pub after : let p = polling_again old dir l w in new ≡ settled p.arms (told (armed_in later)) p.source
-  pub lent : let p = polling_again old dir l w in UsesArm step tells rest count is_sure p.arms (arm_of p.source) (told (armed_in later)) io_old io_new
+  pub answer : let p = polling_again old dir l w in later ≡ poll_answer p.ready (fault_of old.key (count io_old) (count io_new) (arm_answer (armed_in later)))
+  pub after : let p = polling_again old dir l w in new ≡ settled p.arms (arm_answer (armed_in later)) p.source
+  pub lent : let p = polling_again old dir l w in UsesArm step tells rest count is_sure p.arms (arm_of p.source) (arm_answer (armed_in later)) io_old io_new
 
 -- what a first poll that comes to this answers: pending, or why there is no waiting
 abbrev pub first_answer : Result Listened ListenRefusal → Poll (Result (Unit {0}) ListenRefusal)

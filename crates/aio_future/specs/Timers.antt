@@ -119,9 +119,9 @@ lacks_id work drawn = is_some work.inserts && not (has_id_left drawn)
 -- ## What a call did
 
 -- the host once a registration left it; where there is none to leave, the host is as it was
-abbrev pub Removes : {H : Type 0} → HostRules H → Option (ℕ × TimerId) → H → H → Type 0
-Removes rules None old new = new ≡ old
-Removes rules (Some registration) old new = rules.removed old registration.0 registration.1 new
+abbrev pub RemovesOwn : {H : Type 0} → HostRules H → Option (ℕ × TimerId) → H → H → Type 0
+RemovesOwn rules None old new = new ≡ old
+RemovesOwn rules (Some registration) old new = rules.removed old registration.0 registration.1 new
 
 -- the host once a deadline and a waker were registered under an id; where there are none, the host is as it was
 abbrev pub Inserts : {H : Type 0} → HostRules H → Option (ℕ × Waker) → TimerId → H → H → Type 0
@@ -141,7 +141,7 @@ RefusesInsert rules (Some registration) old new = rules.insert_refused old regis
 -- All the work was done: the old registration left, then the new one joined under the pass's next id, and the timer is the one that is left.
 pub record Done {H : Type 0} (rules : HostRules H) (work : Work) (next : TimerId) (old new : H) (after : TimerValue) : Type 0 where
   pub mid : H
-  pub removal : Removes rules work.removes old mid
+  pub removal : RemovesOwn rules work.removes old mid
   pub insertion : Inserts rules work.inserts next mid new
   pub timer : after ≡ timer_left work next
 
@@ -162,7 +162,7 @@ pub record RemovalRefused {H : Type 0} (rules : HostRules H) (work : Work) (old 
 -- the host refused the insert, after the removal: the timer is as it was, but that it is not registered
 pub record InsertRefused {H : Type 0} (rules : HostRules H) (work : Work) (old new : H) (before after : TimerValue) : Type 0 where
   pub mid : H
-  pub removal : Removes rules work.removes old mid
+  pub removal : RemovesOwn rules work.removes old mid
   pub refusal : RefusesInsert rules work.inserts mid new
   pub timer : after ≡ record before { id = None }
 

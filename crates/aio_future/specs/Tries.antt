@@ -12,7 +12,7 @@ use Rattle.aio_base.specs.declared.outcomes.Failed.{Failed}
 use Rattle.aio_base.specs.declared.outcomes.Poll.{Poll}
 use Rattle.aio_base.specs.declared.outcomes.Poll.TheVariants.{Ready, Pending}
 use Rattle.aio_source.specs.Answers.{poll_answer, armed_in}
-use Rattle.aio_source.specs.Lent.{UsesArm, arm_of, fault_of, settled, told}
+use Rattle.aio_source.specs.Lent.{UsesArm, arm_of, fault_of, settled, arm_answer}
 use Rattle.aio_source.specs.Rules.{polling}
 use Rattle.aio_source.specs.Values.{SourceValue}
 use Rattle.aio_source.specs.declared.answers.Polled.{Polled}
@@ -28,9 +28,9 @@ use Rattle.aio_future.specs.declared.tried.TryFault.TheVariants as fault
 pub record Polls {C : Type 0} (step : C → ArmCall → Result (Unit {0}) Failed → C → Type 0) (tells : C → Option Interests) (rest : C → List ℕ)
     (count : C → ℕ) (is_sure : C → Bool) (dir : Dir) (w : Waker) (ticker : ℕ) (old : SourceValue) (io_old : C) (polled : Polled) (new : SourceValue) (io_new : C) : Type 0 where
   pub answer : let p = polling old dir w ticker in
-      polled ≡ record { answer = poll_answer p.ready (fault_of old.key (count io_old) (count io_new) (told (armed_in polled.answer))); replaced = p.replaced }
-  pub after : let p = polling old dir w ticker in new ≡ settled p.arms (told (armed_in polled.answer)) p.source
-  pub lent : let p = polling old dir w ticker in UsesArm step tells rest count is_sure p.arms (arm_of p.source) (told (armed_in polled.answer)) io_old io_new
+      polled ≡ record { answer = poll_answer p.ready (fault_of old.key (count io_old) (count io_new) (arm_answer (armed_in polled.answer))); replaced = p.replaced }
+  pub after : let p = polling old dir w ticker in new ≡ settled p.arms (arm_answer (armed_in polled.answer)) p.source
+  pub lent : let p = polling old dir w ticker in UsesArm step tells rest count is_sure p.arms (arm_of p.source) (arm_answer (armed_in polled.answer)) io_old io_new
 
 -- ## A try
 

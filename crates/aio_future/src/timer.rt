@@ -4,7 +4,7 @@ ghost use Rattle.std.specs.Prelude.{◌≡◌, ◌&&◌, ◌<◌, Some, None, If
 ghost use Rattle.aio_base.specs.Devices.{HasCause};
 ghost use Rattle.aio_base.specs.Machine.{is_waker, next_deadline};
 ghost use Rattle.aio_base.specs.Trace.{IsPeriod};
-ghost use Rattle.aio_future.specs.Timers.{IsTimer, new_timer, registration_of, poll_work, firing, waiting, set_work, change_work, Removes, RefusesRemoval, Worked, poll_fault, poll_answer, set_fault};
+ghost use Rattle.aio_future.specs.Timers.{IsTimer, new_timer, registration_of, poll_work, firing, waiting, set_work, change_work, RemovesOwn, RefusesRemoval, Worked, poll_fault, poll_answer, set_fault};
 
 use crate::answers::TimerFault;
 use crate::drawn_id::DrawnId;
@@ -161,7 +161,7 @@ impl Timer {
     /// is registered meets, it hands the timer back as it was.
     pub fn close<H: TimerHost>(mut self, host: &mut H) -> Result<(), Timer>
         ensures closed { MatchResult result
-            (λ done. Removes H.rules (registration_of self) host.old host.new)
+            (λ done. RemovesOwn H.rules (registration_of self) host.old host.new)
             (λ timer. (timer ≡ self)
             × RefusesRemoval H.rules (registration_of self) host.old host.new) }
         ensures sound { IsTimer self }
@@ -261,7 +261,7 @@ impl Timer {
     /// Takes the registration out, where there is one. On a refusal the timer is as it was.
     fn unregister<H: TimerHost>(&mut self, host: &mut H) -> Result<(), OutOfMemory>
         ensures removed { OnOk result
-            (Removes H.rules (registration_of self.old) host.old host.new) }
+            (RemovesOwn H.rules (registration_of self.old) host.old host.new) }
         ensures cleared { OnOk result (self.new ≡ record self.old { id = None }) }
         ensures refused { OnErr result ((self.new ≡ self.old)
             × RefusesRemoval H.rules (registration_of self.old) host.old host.new) }

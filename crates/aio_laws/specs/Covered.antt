@@ -35,7 +35,7 @@ pub data Cover (w : World) (answered : List Answer) (key serial : ℕ) (dir : Di
   -- an event of its key is in the hand of the running round
   InHand : list_any (λ (e : Event). e.key.0 == key) (hand_of w.round) ≡ true → Cover w answered key serial dir
   -- its source is broken, and the answer of the step at the noted position told that
-  IsTold : (position : ℕ) → Contains w.broken (record { serial = serial; position = position }) → tells_at answered position ≡ true
+  FaultIsTold : (position : ℕ) → Contains w.broken (record { serial = serial; position = position }) → tells_at answered position ≡ true
       → Cover w answered key serial dir
 
 -- each waiter of each live source is covered

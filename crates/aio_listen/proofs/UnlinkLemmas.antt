@@ -6,7 +6,7 @@ use Rattle.slab.specs.Slab.{Slab, get, slab_len}
 use Rattle.aio_listen.specs.declared.node.Node.{Node}
 use Rattle.aio_listen.specs.declared.ticket.Ticket.{Ticket}
 use Rattle.aio_listen.specs.Links.{kept_if}
-use Rattle.aio_listen.specs.Nodes.{node_in, node_at, with_next, with_previous, released, unlinked}
+use Rattle.aio_listen.specs.Nodes.{node_in, node_at, with_next, with_previous, slot_emptied, unlinked}
 use Rattle.aio_listen.specs.Listening.{Holds, has_ticket, IsSound, SerialsRise, without}
 use Rattle.aio_listen.specs.Order.{one_if_same, times, first_of, last_of, Stands, Chain, IsOrder, IsListed, IsLinked, entry_at, entries_at, entries_along}
 use Rattle.aio_listen.proofs.EntryLemmas.{SerialsRise-lower}
@@ -30,7 +30,7 @@ module _ {W : Type 0} where
     pub entries : entries_at z (front ++ back) ≡ entries_at s (front ++ back)
 
   parting : (s z : Slab (Node W)) (first last : Option ℕ) (front : List ℕ) (k : ℕ) (back : List ℕ) → IsOrder s first last (front ++ k ∷ back)
-      → z ≡ with_previous (with_next (released s k) (last_of None front) (first_of back None)) (first_of back None) (last_of None front) → Parting s z first last front k back
+      → z ≡ with_previous (with_next (slot_emptied s k) (last_of None front) (first_of back None)) (first_of back None) (last_of None front) → Parting s z first last front k back
   parting s z first last front k back h is =
       let P : Option ℕ = last_of None front in
       let N : Option ℕ = first_of back None in
@@ -39,26 +39,26 @@ module _ {W : Type 0} where
       let once : (j : ℕ) → times j front + (one_if_same j k + times j back) ≤ 1 = λ j. omega (arith, h.once j, times-append j front (k ∷ back)) in
       let in_front : (j : ℕ) → last_of None front ≡ Some j → 0 < times j front = λ j e. last_of-in front j e in
       let in_back : (j : ℕ) → first_of back None ≡ Some j → 0 < times j back = λ j e. first_of-in back j e in
-      let read : (j : ℕ) → get z j ≡ get (with_previous (with_next (released s k) (last_of None front) (first_of back None)) (first_of back None) (last_of None front)) j = λ j. ap (λ (t : Slab (Node W)). get t j) is in
-      let past_back : (j : ℕ) → first_of back None ≢ Some j → get z j ≡ get (with_next (released s k) (last_of None front) (first_of back None)) j =
-      λ j ne. read j ∙ changed-other (with_next (released s k) (last_of None front) (first_of back None)) (first_of back None) (λ (n : Node W). record n { previous = last_of None front }) j ne in
-      let past_front : (j : ℕ) → last_of None front ≢ Some j → get (with_next (released s k) (last_of None front) (first_of back None)) j ≡ get (released s k) j =
-      λ j ne. changed-other (released s k) (last_of None front) (λ (n : Node W). record n { next = first_of back None }) j ne in
-      let kept : (j : ℕ) → 0 < times j front + times j back → get (released s k) j ≡ get s j = λ j c. released-other s k j (zero-other j k (omega (arith, once j, c))) in
-      let there : (j : ℕ) → 0 < times j front + times j back → IsSome (get (released s k) j) =
+      let read : (j : ℕ) → get z j ≡ get (with_previous (with_next (slot_emptied s k) (last_of None front) (first_of back None)) (first_of back None) (last_of None front)) j = λ j. ap (λ (t : Slab (Node W)). get t j) is in
+      let past_back : (j : ℕ) → first_of back None ≢ Some j → get z j ≡ get (with_next (slot_emptied s k) (last_of None front) (first_of back None)) j =
+      λ j ne. read j ∙ changed-other (with_next (slot_emptied s k) (last_of None front) (first_of back None)) (first_of back None) (λ (n : Node W). record n { previous = last_of None front }) j ne in
+      let past_front : (j : ℕ) → last_of None front ≢ Some j → get (with_next (slot_emptied s k) (last_of None front) (first_of back None)) j ≡ get (slot_emptied s k) j =
+      λ j ne. changed-other (slot_emptied s k) (last_of None front) (λ (n : Node W). record n { next = first_of back None }) j ne in
+      let kept : (j : ℕ) → 0 < times j front + times j back → get (slot_emptied s k) j ≡ get s j = λ j c. released-other s k j (zero-other j k (omega (arith, once j, c))) in
+      let there : (j : ℕ) → 0 < times j front + times j back → IsSome (get (slot_emptied s k) j) =
       λ j c. rw (kept j c) (Chain-present s None (front ++ k ∷ back) None j h.chain (omega (arith, c, times-append j front (k ∷ back)))) in
       let front_same : (j : ℕ) → 0 < times j front → last_of None front ≢ Some j → get z j ≡ get s j =
       λ j c ne. past_back j (λ e. omega (arith, in_back j e, once j, c)) ∙ past_front j ne ∙ kept j (omega (arith, c)) in
       let front_here : (j : ℕ) → 0 < times j front → last_of None front ≡ Some j → get z j ≡ Some (record (node_at s j) { next = first_of back None }) =
-      λ j c e. past_back j (λ e. omega (arith, in_back j e, once j, c)) ∙ changed-here (released s k) (last_of None front) (λ (n : Node W). record n { next = first_of back None }) j (there j (omega (arith, c))) e
+      λ j c e. past_back j (λ e. omega (arith, in_back j e, once j, c)) ∙ changed-here (slot_emptied s k) (last_of None front) (λ (n : Node W). record n { next = first_of back None }) j (there j (omega (arith, c))) e
       ∙ ap (λ (o : Option (Node W)). Some (record (node_in o) { next = first_of back None })) (kept j (omega (arith, c))) in
-      let back_read : (j : ℕ) → 0 < times j back → get (with_next (released s k) (last_of None front) (first_of back None)) j ≡ get s j =
+      let back_read : (j : ℕ) → 0 < times j back → get (with_next (slot_emptied s k) (last_of None front) (first_of back None)) j ≡ get s j =
       λ j c. past_front j (λ e. omega (arith, in_front j e, once j, c)) ∙ kept j (omega (arith, c)) in
-      let back_there : (j : ℕ) → 0 < times j back → IsSome (get (with_next (released s k) (last_of None front) (first_of back None)) j) =
+      let back_there : (j : ℕ) → 0 < times j back → IsSome (get (with_next (slot_emptied s k) (last_of None front) (first_of back None)) j) =
       λ j c. rw (past_front j (λ e. omega (arith, in_front j e, once j, c))) (there j (omega (arith, c))) in
       let back_same : (j : ℕ) → 0 < times j back → first_of back None ≢ Some j → get z j ≡ get s j = λ j c ne. past_back j ne ∙ back_read j c in
       let back_here : (j : ℕ) → 0 < times j back → first_of back None ≡ Some j → get z j ≡ Some (record (node_at s j) { previous = last_of None front }) =
-      λ j c e. read j ∙ changed-here (with_next (released s k) (last_of None front) (first_of back None)) (first_of back None) (λ (n : Node W). record n { previous = last_of None front }) j (back_there j c) e
+      λ j c e. read j ∙ changed-here (with_next (slot_emptied s k) (last_of None front) (first_of back None)) (first_of back None) (λ (n : Node W). record n { previous = last_of None front }) j (back_there j c) e
       ∙ ap (λ (o : Option (Node W)). Some (record (node_in o) { previous = last_of None front })) (back_read j c) in
       let new_front : Chain z None front (first_of back None) = Chain-led_on s z None front (Some k) (first_of back None) (λ j. omega (arith, once j)) front_same front_here parts.0 in
       let new_back : Chain z (last_of None front) back None = Chain-led_back s z (Some k) (last_of None front) back (λ j. omega (arith, once j)) back_same back_here parts.1.1 in
@@ -73,11 +73,11 @@ module _ {W : Type 0} where
             | inr nb ↦ elim (leads_or_not (last_of None front) j) as (λ _. 0 < times j (front ++ back)) [
               | inl e ↦ omega (arith, in_front j e, times-append j front back)
               | inr nf ↦
-                  let left : IsSome (get (released s k) j) = subst (λ (o : Option (Node W)). IsSome o) (past_back j nb ∙ past_front j nf) held in
+                  let left : IsSome (get (slot_emptied s k) j) = subst (λ (o : Option (Node W)). IsSome o) (past_back j nb ∙ past_front j nf) held in
                   elim (same_or_other j k) as (λ _. 0 < times j (front ++ back)) [
                     | inl e ↦
-                        let gone : get (released s k) k ≡ None = released-here s k own.here in
-                        let still : IsSome (get (released s k) k) = subst (λ (i : ℕ). IsSome (get (released s k) i)) e left in
+                        let gone : get (slot_emptied s k) k ≡ None = released-here s k own.here in
+                        let still : IsSome (get (slot_emptied s k) k) = subst (λ (i : ℕ). IsSome (get (slot_emptied s k) i)) e left in
                         absurd cc
                     | inr ne ↦
                         let held_before : IsSome (get s j) = subst (λ (o : Option (Node W)). IsSome o) (released-other s k j (zero-other j k ne)) left in
@@ -88,8 +88,8 @@ module _ {W : Type 0} where
           size = omega (
             arith,
             ap slab_len is,
-            changed-len (with_next (released s k) (last_of None front) (first_of back None)) (first_of back None) (λ (n : Node W). record n { previous = last_of None front }) (λ j e. back_there j (in_back j e)),
-            changed-len (released s k) (last_of None front) (λ (n : Node W). record n { next = first_of back None }) (λ j e. there j (omega (arith, in_front j e))),
+            changed-len (with_next (slot_emptied s k) (last_of None front) (first_of back None)) (first_of back None) (λ (n : Node W). record n { previous = last_of None front }) (λ j e. back_there j (in_back j e)),
+            changed-len (slot_emptied s k) (last_of None front) (λ (n : Node W). record n { next = first_of back None }) (λ j e. there j (omega (arith, in_front j e))),
             released-len s k own.here,
             h.size,
             length-append front (k ∷ back),
@@ -114,7 +114,7 @@ module _ {W : Type 0} where
   pub linked-parted : (s : Slab (Node W)) (first last : Option ℕ) (front : List ℕ) (k : ℕ) (back : List ℕ) → IsOrder s first last (front ++ k ∷ back) → IsLinked s k
   linked-parted s first last front k back h =
       let own : Stands s k (last_of None front) (first_of back None) = (Chain-parts s None front (k ∷ back) None h.chain).1.0 in
-      let there : (j : ℕ) → 0 < times j front + times j back → IsSome (get (released s k) j) =
+      let there : (j : ℕ) → 0 < times j front + times j back → IsSome (get (slot_emptied s k) j) =
       λ j c. rw (released-other s k j (zero-other j k (omega (arith, h.once j, times-append j front (k ∷ back), c)))) (Chain-present s None (front ++ k ∷ back) None j h.chain (omega (arith, c, times-append j front (k ∷ back)))) in
       record {
         here = own.here;
@@ -148,12 +148,12 @@ module _ {W : Type 0} where
 
   shrunk-parted : (s z : Slab (Node W)) (first last : Option ℕ) (front back : List ℕ) (drawn waiting : ℕ) (t : Ticket) (P N : Option ℕ) → P ≡ last_of None front → N ≡ first_of back None
       → IsOrder s first last (front ++ t.place ∷ back) → IsSound (entries_at s (front ++ t.place ∷ back)) drawn waiting → ((j : ℕ) → 0 < times j (front ++ t.place ∷ back) → j < 2 ^ 32 - 1)
-      → (node_at s t.place).serial ≡ t.serial → z ≡ with_previous (with_next (released s t.place) P N) N P
+      → (node_at s t.place).serial ≡ t.serial → z ≡ with_previous (with_next (slot_emptied s t.place) P N) N P
       → (length (option_to_list (node_at s t.place).waker) ≤ waiting)
       × ((left : ℕ) → left + length (option_to_list (node_at s t.place).waker) ≡ waiting → IsListed z (kept_if P first N) (kept_if N last P) drawn left)
       × (entries_along z (kept_if P first N) ≡ without (entries_along s first) t)
   shrunk-parted s z first last front back drawn waiting t P N pe ne order sound fits serial is =
-      let p = parting s z first last front t.place back order (is ∙ (λ i. with_previous (with_next (released s t.place) (pe i) (ne i)) (ne i) (pe i))) in
+      let p = parting s z first last front t.place back order (is ∙ (λ i. with_previous (with_next (slot_emptied s t.place) (pe i) (ne i)) (ne i) (pe i))) in
       let order_z : IsOrder z (kept_if P first N) (kept_if N last P) (front ++ back) = rw (pe, ne) p.order in
       let count = length-parted s front t.place back in (
         omega (arith, sound.counted, count),

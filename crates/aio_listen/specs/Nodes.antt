@@ -17,22 +17,22 @@ module _ {W : Type 0} where
   with_node s key node = record s { slots = slice_set s.slots key (Some node) }
 
   -- the slab once the node at the end of a link, if there is one, was changed so
-  abbrev pub changed : Slab (Node W) → Option ℕ → (Node W → Node W) → Slab (Node W)
-  changed s None change = s
-  changed s (Some key) change = with_node s key (change (node_at s key))
+  abbrev pub with_change : Slab (Node W) → Option ℕ → (Node W → Node W) → Slab (Node W)
+  with_change s None change = s
+  with_change s (Some key) change = with_node s key (change (node_at s key))
 
   -- it leads on to another
   abbrev pub with_next : Slab (Node W) → Option ℕ → Option ℕ → Slab (Node W)
-  with_next s at next = changed s at (λ (n : Node W). record n { next = next })
+  with_next s at next = with_change s at (λ (n : Node W). record n { next = next })
 
   -- it leads back to another
   abbrev pub with_previous : Slab (Node W) → Option ℕ → Option ℕ → Slab (Node W)
-  with_previous s at previous = changed s at (λ (n : Node W). record n { previous = previous })
+  with_previous s at previous = with_change s at (λ (n : Node W). record n { previous = previous })
 
   -- the slab without the node at a key, which the next node gets
-  abbrev pub released : Slab (Node W) → ℕ → Slab (Node W)
-  released s key = record s { slots = slice_set s.slots key None; vacant_key = key }
+  abbrev pub slot_emptied : Slab (Node W) → ℕ → Slab (Node W)
+  slot_emptied s key = record s { slots = slice_set s.slots key None; vacant_key = key }
 
   -- the slab without a node, whose neighbours lead to each other
   abbrev pub unlinked : Slab (Node W) → ℕ → Slab (Node W)
-  unlinked s key = with_previous (with_next (released s key) (node_at s key).previous (node_at s key).next) (node_at s key).next (node_at s key).previous
+  unlinked s key = with_previous (with_next (slot_emptied s key) (node_at s key).previous (node_at s key).next) (node_at s key).next (node_at s key).previous

@@ -3,7 +3,7 @@ use Rattle.std.specs.Prelude.{ℕ, zero, suc, ◌≡◌, ◌+◌, ◌-◌, ◌^�
 use Rattle.slab.specs.Slab.{Slab, get, slab_len, Updates}
 use Rattle.aio_listen.specs.declared.node.Node.{Node}
 use Rattle.aio_listen.specs.declared.ticket.Ticket.{Ticket}
-use Rattle.aio_listen.specs.Nodes.{node_at, with_next, released}
+use Rattle.aio_listen.specs.Nodes.{node_at, with_next, slot_emptied}
 use Rattle.aio_listen.specs.Listening.{IsSound, wakers_of}
 
 abbrev pub one_if_same : ℕ → ℕ → ℕ
@@ -80,8 +80,8 @@ module _ {W : Type 0} where
   -- there is a node at this key, and its links lead to nodes that the slab holds without it
   pub record IsLinked (s : Slab (Node W)) (k : ℕ) : Type 0 where
     pub here : IsSome (get s k)
-    pub previous : (j : ℕ) → (node_at s k).previous ≡ Some j → IsSome (get (released s k) j)
-    pub next : (j : ℕ) → (node_at s k).next ≡ Some j → IsSome (get (released s k) j)
+    pub previous : (j : ℕ) → (node_at s k).previous ≡ Some j → IsSome (get (slot_emptied s k) j)
+    pub next : (j : ℕ) → (node_at s k).next ≡ Some j → IsSome (get (slot_emptied s k) j)
 
   -- the keys in two parts: at the link back ends the first one, with so many wakers, and at the link on begins the second one, of this size
   pub record Seen (s : Slab (Node W)) (keys : List ℕ) (at start : Option ℕ) (left steps : ℕ) : Type 0 where

@@ -2,7 +2,7 @@
 
 ghost use Rattle.std.specs.Prelude.{◌≡◌, ◌<◌, ◌-◌, ◌^◌, IfSome, IfNone};
 ghost use Rattle.slab.specs.Slab.{ContainsKey};
-ghost use Rattle.aio_listen.specs.Nodes.{node_at, released, unlinked};
+ghost use Rattle.aio_listen.specs.Nodes.{node_at, slot_emptied, unlinked};
 ghost use Rattle.aio_listen.specs.Order.{Appended, IsLinked};
 
 use crate::link::Link;
@@ -42,7 +42,7 @@ pub(crate) fn append<W: Copy>(nodes: &mut Slab<Node<W>>, last: Link, serial: u64
 fn release<W: Copy>(nodes: &mut Slab<Node<W>>, key: usize) -> Node<W>
     requires { ContainsKey nodes.old key }
     ensures node { result ≡ node_at nodes.old key }
-    ensures nodes { nodes.new ≡ released nodes.old key }
+    ensures nodes { nodes.new ≡ slot_emptied nodes.old key }
 {
     nodes.remove(key)
 }

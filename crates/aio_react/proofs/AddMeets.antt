@@ -23,7 +23,7 @@ use Rattle.aio_react.specs.Cores.{CoreValue, entry_at}
 use Rattle.aio_react.specs.Facts.{Facts, facts_in, no_facts}
 use Rattle.aio_react.specs.Meeting.{Meets}
 use Rattle.aio_react.specs.Sources.{free_key, placed, new_entry, with_sources}
-use Rattle.aio_react.specs.Standing.{count_entries, AreAsked, DirectionStands, SourceStands, PlaceStands, ListenerStands, Tells, Stands, StandsWithin, is_in_hand, serial_in}
+use Rattle.aio_react.specs.Standing.{count_entries, AreAsked, DirectionStands, SourceStands, PlaceStands, ListenerStands, AgreesWithArmed, Stands, StandsWithin, is_in_hand, serial_in}
 use Rattle.aio_react.proofs.Arrivals.{distinct_push, not_given, serial_of_next, serial_of_other, serial_stays}
 use Rattle.aio_react.proofs.Clearing.{unset_is, unset_tells}
 use Rattle.aio_react.proofs.Later.{stands_later, quiet_comes}
@@ -125,7 +125,7 @@ added_place told core w key stands within none k =
     (cases_eq k key.0)
 
 added_stands : (told told' : Option Interests) (core : CoreValue) (w : World) (key : Key) → Stands told core w → key.0 ≤ length core.sources
-    → entry_at core.sources key.0 ≡ None → Tells told' (set_armed w.armed key.0 [])
+    → entry_at core.sources key.0 ≡ None → AgreesWithArmed told' (set_armed w.armed key.0 [])
     → StandsWithin w.pos told' (with_sources core (placed core.sources key.0 (new_entry key))) (world_added w key.0)
 added_stands told told' core w key stands within free tells =
     let next = next_live w key.0 in
@@ -171,20 +171,20 @@ added_stands told told' core w key stands within free tells =
 
 -- ## What the poller tells
 
-tells_added : (old new : Option Interests) (armed : List ArmedDirection) (key : Key) → Tells old armed → Arms old (AddOf key) (Ok tt) new → Tells new (set_armed armed key.0 [])
+tells_added : (old new : Option Interests) (armed : List ArmedDirection) (key : Key) → AgreesWithArmed old armed → Arms old (AddOf key) (Ok tt) new → AgreesWithArmed new (set_armed armed key.0 [])
 tells_added None None armed key tells arms = tt
 tells_added None (Some new) armed key tells arms = absurd arms
 tells_added (Some old) None armed key tells arms = absurd arms
 tells_added (Some old) (Some new) armed key tells arms = λ k. arms k ∙ unset_tells old armed key.0 tells k
 
 -- a call that failed left what it tells
-pub tells_still : (old new : Option Interests) (armed : List ArmedDirection) → Tells old armed → Becomes old new (λ interests. interests) → Tells new armed
+pub tells_still : (old new : Option Interests) (armed : List ArmedDirection) → AgreesWithArmed old armed → Becomes old new (λ interests. interests) → AgreesWithArmed new armed
 tells_still None None armed tells same = tt
 tells_still None (Some new) armed tells same = absurd same
 tells_still (Some old) None armed tells same = absurd same
 tells_still (Some old) (Some new) armed tells same = λ k. same k ∙ tells k
 
-pub stands_telling : (told told' : Option Interests) (core : CoreValue) (w : World) → Stands told core w → Tells told' w.armed → Stands told' core w
+pub stands_telling : (told told' : Option Interests) (core : CoreValue) (w : World) → Stands told core w → AgreesWithArmed told' w.armed → Stands told' core w
 stands_telling told told' core w stands tells = record {
   sources = stands.sources;
   count = stands.count;

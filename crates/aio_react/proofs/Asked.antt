@@ -8,7 +8,7 @@ use Rattle.aio_base.specs.declared.outcomes.Poll.{Poll}
 use Rattle.aio_base.specs.Devices.{ArmCall, Interests}
 use Rattle.aio_listen.specs.declared.ticket.Ticket.{Ticket}
 use Rattle.aio_source.specs.Answers.{armed_first, armed_in, poll_answer, ticket_in as drawn_in}
-use Rattle.aio_source.specs.Lent.{UsesArm, arm_of, told, fault_of}
+use Rattle.aio_source.specs.Lent.{UsesArm, arm_of, arm_answer, fault_of}
 use Rattle.aio_source.specs.Rules.{Prepared, polling_again, listening_first}
 use Rattle.aio_source.specs.declared.answers.Listened.{Listened}
 use Rattle.aio_source.specs.declared.answers.ListenRefusal.{ListenRefusal}
@@ -43,7 +43,7 @@ pub first_asked : {S : Type 0} (step : S → ArmCall → Result (Unit {0}) Faile
     → value_of listeners number ≡ Some l → entry_at sources l.key.0 ≡ Some e → l.first ≡ None → listeners' ≡ with_value listeners number (Some (polled_listener l first))
     → Drew listened answer first
     → UsesArm step tells rest count is_sure (listening_first e.source l.dir w (drawn_in listened)).arms (arm_of (listening_first e.source l.dir w (drawn_in listened)).source)
-    (told (armed_first listened)) old new
+    (arm_answer (armed_first listened)) old new
     → UsesPoller step tells rest count is_sure (step_part_of sources w (ticket_in (value_of listeners' number)) (value_of listeners number)) (armed_in answer) old new
 first_asked step tells rest count is_sure sources listeners listeners' number l first e w listened answer old new is there unpolled set drew uses =
     subst (λ (part : Option Prepared). UsesPoller step tells rest count is_sure part (armed_in answer) old new)
@@ -55,7 +55,7 @@ pub again_asked : {S : Type 0} (step : S → ArmCall → Result (Unit {0}) Faile
     (sources : List (Option SourceEntry)) (listeners : List (Option Listener)) (number : ℕ) (l : Listener) (first : Listened) (e : SourceEntry) (w : Waker) (drawn : Option Ticket)
     (answer : Poll (Result (Unit {0}) ArmFault)) (old new : S)
     → value_of listeners number ≡ Some l → entry_at sources l.key.0 ≡ Some e → l.first ≡ Some first
-    → (let p = polling_again e.source l.dir first w in UsesArm step tells rest count is_sure p.arms (arm_of p.source) (told (armed_in answer)) old new)
+    → (let p = polling_again e.source l.dir first w in UsesArm step tells rest count is_sure p.arms (arm_of p.source) (arm_answer (armed_in answer)) old new)
     → UsesPoller step tells rest count is_sure (step_part_of sources w drawn (value_of listeners number)) (armed_in answer) old new
 again_asked step tells rest count is_sure sources listeners number l first e w drawn answer old new is there has uses =
     subst (λ (part : Option Prepared). UsesPoller step tells rest count is_sure part (armed_in answer) old new)
@@ -69,9 +69,9 @@ fault_is own key before after (Ok done) same = tt
 fault_is own key before after (Err failed) same = λ i. record { key = sym same i; before = before; after = after }
 
 pub first_fault : (value : Option Listener) (l : Listener) (key : Key) (before after : ℕ) (listened : Result Listened ListenRefusal) (answer : Poll (Result (Unit {0}) ArmFault)) → value ≡ Some l → l.key ≡ key
-    → answer ≡ poll_answer false (armed_first listened) → armed_first listened ≡ fault_of key before after (told (armed_first listened))
+    → answer ≡ poll_answer false (armed_first listened) → armed_first listened ≡ fault_of key before after (arm_answer (armed_first listened))
     → IfErr (armed_in answer) (λ fault. IfSome value (λ l. fault ≡ record { key = l.key; before = before; after = after }))
 first_fault value l key before after listened answer is own answer_is fault =
     subst (λ (v : Option Listener). IfErr (armed_in answer) (λ fault. IfSome v (λ l. fault ≡ record { key = l.key; before = before; after = after }))) (sym is)
     (subst (λ (a : Result (Unit {0}) ArmFault). IfErr a (λ fault. fault ≡ record { key = l.key; before = before; after = after }))
-    (sym (ap armed_in answer_is ∙ armed_back (armed_first listened) ∙ fault)) (fault_is l.key key before after (told (armed_first listened)) own))
+    (sym (ap armed_in answer_is ∙ armed_back (armed_first listened) ∙ fault)) (fault_is l.key key before after (arm_answer (armed_first listened)) own))

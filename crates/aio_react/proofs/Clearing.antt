@@ -13,7 +13,7 @@ use Rattle.aio_base.specs.Moves.{interests_of}
 use Rattle.aio_base.specs.World.{ArmedDirection, same_dir, has_dir, is_armed, set_armed, clear_armed}
 use Rattle.aio_react.specs.declared.entries.SourceEntry.{SourceEntry}
 use Rattle.aio_react.specs.Cores.{entry_at}
-use Rattle.aio_react.specs.Standing.{Tells, AreAsked, is_in_hand}
+use Rattle.aio_react.specs.Standing.{AgreesWithArmed, AreAsked, is_in_hand}
 
 or_nothing : (b : Bool) → b || false ≡ b
 or_nothing true = refl
@@ -48,8 +48,8 @@ cleared_tells (event ∷ events) interests armed tells k =
     cleared_tells events (with_interest event.key.0 NONE interests) (set_armed armed event.key.0 []) (unset_tells interests armed event.key.0 tells) k
 
 -- what a poller tells after it gave events is armed
-pub tells_cleared : (old new : Option Interests) (armed : List ArmedDirection) (events : List Event) → Tells old armed → Becomes old new (clear_interests events)
-    → Tells new (clear_armed armed events)
+pub tells_cleared : (old new : Option Interests) (armed : List ArmedDirection) (events : List Event) → AgreesWithArmed old armed → Becomes old new (clear_interests events)
+    → AgreesWithArmed new (clear_armed armed events)
 tells_cleared None None armed events tells becomes = tt
 tells_cleared None (Some new) armed events tells becomes = absurd becomes
 tells_cleared (Some old) None armed events tells becomes = absurd becomes

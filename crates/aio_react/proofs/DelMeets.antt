@@ -22,7 +22,7 @@ use Rattle.aio_react.specs.Cores.{CoreValue, AreListed, entry_at, count_of}
 use Rattle.aio_react.specs.Facts.{Facts, facts_in}
 use Rattle.aio_react.specs.Meeting.{Comes, Meets}
 use Rattle.aio_react.specs.Sources.{without_source}
-use Rattle.aio_react.specs.Standing.{AreAsked, PlaceStands, ListenerStands, Tells, Stands, StandsWithin, is_in_hand, serial_in}
+use Rattle.aio_react.specs.Standing.{AreAsked, PlaceStands, ListenerStands, AgreesWithArmed, Stands, StandsWithin, is_in_hand, serial_in}
 use Rattle.aio_react.proofs.AddMeets.{no_serial, other_asked, tells_still}
 use Rattle.aio_react.proofs.Clearing.{unset_tells}
 use Rattle.aio_react.proofs.Departures.{one_key, one_less, key_is_free, others_stay, was_given, distinct_filter, waiter_stays, mark_stays, broken_stays}
@@ -95,7 +95,7 @@ listener_stays live live' begun key (Some l) None same other stands = stands
 listener_stays live live' begun key (Some l) (Some entry) same other stands = (same l.key.0 other ∙ stands.0, stands.1, stands.2)
 
 left_stands : (told told' : Option Interests) (core : CoreValue) (w : World) (key serial : ℕ) (e : SourceEntry) (armed : List ArmedDirection) → Stands told core w
-    → entry_at core.sources key ≡ Some e → serial_in w.live key ≡ Some serial → AreOfOthers key core.listeners → Tells told' armed
+    → entry_at core.sources key ≡ Some e → serial_in w.live key ≡ Some serial → AreOfOthers key core.listeners → AgreesWithArmed told' armed
     → AreAsked (set core.sources key None) armed (hand_of w.round)
     → StandsWithin w.pos told' (without_source core key) (world_left w serial armed)
 left_stands told told' core w key serial e armed stands is known others tells asked =
@@ -151,7 +151,7 @@ asked_unset core w key asked k dir =
     each_left core.sources key (λ k e. IsTrue (has_dir e.source.asked dir) → IsTrue (is_armed (set_armed w.armed key []) k dir || is_in_hand (hand_of w.round) k))
     (λ k apart. other_asked (entry_at core.sources k) w.armed key k dir (is_in_hand (hand_of w.round) k) apart (asked k dir)) k
 
-tells_removed : (old new : Option Interests) (armed : List ArmedDirection) (key : Key) → Tells old armed → Arms old (RemoveOf key) (Ok tt) new → Tells new (set_armed armed key.0 [])
+tells_removed : (old new : Option Interests) (armed : List ArmedDirection) (key : Key) → AgreesWithArmed old armed → Arms old (RemoveOf key) (Ok tt) new → AgreesWithArmed new (set_armed armed key.0 [])
 tells_removed None None armed key tells arms = tt
 tells_removed None (Some new) armed key tells arms = absurd arms
 tells_removed (Some old) None armed key tells arms = absurd arms

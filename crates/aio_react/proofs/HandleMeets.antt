@@ -20,7 +20,7 @@ use Rattle.aio_base.specs.Machine.{Outcome, quiet, fails, next_answer, later_ans
 use Rattle.aio_base.specs.Moves.{answer_of}
 use Rattle.aio_base.specs.World.{PollerAnswer, World, RoundState, LiveSource, directions, directions_of, has_dir, is_empty_list, serial_of, is_broken}
 use Rattle.aio_base.specs.World as machine
-use Rattle.aio_source.specs.Lent.{ArmsOnce, TellsArmed, arm_of, settled, told}
+use Rattle.aio_source.specs.Lent.{ArmsOnce, TellsArmed, arm_of, settled, arm_answer}
 use Rattle.aio_source.specs.Rules.{Prepared, has_any, wanted, handled_along}
 use Rattle.aio_source.specs.Rules as source
 use Rattle.aio_source.specs.Values.{SourceValue}
@@ -152,10 +152,10 @@ with_fault r fault = record r { fault = option_or r.fault (option_map Arm fault)
 -- the core once the poller was armed again
 abbrev core_armed : CoreValue → SourceEntry → Bool → Option ArmFault → CoreValue
 core_armed core e arms fault =
-    with_round (with_source core e.source.key.0 (with_state e (settled arms (told (arm_told fault)) e.source))) (with_fault core.round fault)
+    with_round (with_source core e.source.key.0 (with_state e (settled arms (arm_answer (arm_told fault)) e.source))) (with_fault core.round fault)
 
 arms_either : (arms : Bool) (fault : Option ArmFault) (bound : ℕ) (old new : Option Interests) (core : CoreValue) (u : World) (s : RoundState) (serial : ℕ) (e : SourceEntry)
-    (later : List PollerAnswer) → (let w : World = record u { round = Some s } in let answer = told (arm_told fault) in
+    (later : List PollerAnswer) → (let w : World = record u { round = Some s } in let answer = arm_answer (arm_told fault) in
     StandsWithin bound old core w → entry_at core.sources e.source.key.0 ≡ Some e → serial_in u.live e.source.key.0 ≡ Some serial
     → Runs core.round s → (arms ≡ false → IsOk answer) → TellsArmed arms (arm_of e.source) old answer new
     → (let answers = map answer_of (arm_moves arms (arm_of e.source) answer) ++ later in
@@ -227,7 +227,7 @@ arms_either true (Some fault) bound old new core u s serial e later stands is fo
     }
 
 rearm_comes : (fault : Option ArmFault) (bound : ℕ) (old new : Option Interests) (core : CoreValue) (u : World) (s : RoundState) (serial : ℕ) (e : SourceEntry)
-    (later : List PollerAnswer) → (let w : World = record u { round = Some s } in let answer = told (arm_told fault) in let arms = has_any (wanted e.source.directions) in
+    (later : List PollerAnswer) → (let w : World = record u { round = Some s } in let answer = arm_answer (arm_told fault) in let arms = has_any (wanted e.source.directions) in
     StandsWithin bound old core w → entry_at core.sources e.source.key.0 ≡ Some e → serial_in u.live e.source.key.0 ≡ Some serial
     → Runs core.round s → (arms ≡ false → IsOk answer) → TellsArmed arms (arm_of e.source) old answer new
     → ComesWithin bound w (rearmed w s e.source.key serial (map answer_of (arm_moves arms (arm_of e.source) answer) ++ later))
@@ -235,7 +235,7 @@ rearm_comes : (fault : Option ArmFault) (bound : ℕ) (old new : Option Interest
 rearm_comes fault bound old new core u s serial e later stands is found runs none tells =
     let w : World = record u { round = Some s } in
     let arms = has_any (wanted e.source.directions) in
-    let answer = told (arm_told fault) in
+    let answer = arm_answer (arm_told fault) in
     let answers = map answer_of (arm_moves arms (arm_of e.source) answer) ++ later in
     subst (λ (empty : Bool). ComesWithin bound w (if empty then quiet (replies.Handled e.source.key false) w answers else armed_again w s e.source.key serial answers)
     (replies.Handled e.source.key (is_some fault)) [] (arm_moves arms (arm_of e.source) answer) later new (core_armed core e arms fault))
@@ -252,7 +252,7 @@ round_taken r s = record (skipped r) { taken = r.taken ++ taken_first r s }
 abbrev core_handled : CoreValue → SourceEntry → Option ArmFault → CoreValue
 core_handled core e fault =
     let p = handling_first core.round e.source in
-    with_round (with_source core e.source.key.0 (with_state e (settled p.arms (told (arm_told fault)) p.source))) (handled core.round (taken_first core.round e.source) fault)
+    with_round (with_source core e.source.key.0 (with_state e (settled p.arms (arm_answer (arm_told fault)) p.source))) (handled core.round (taken_first core.round e.source) fault)
 
 unasked_stands : (bound : ℕ) (old : Option Interests) (core : CoreValue) (w : World) (key serial : ℕ) (e : SourceEntry) → StandsWithin bound old core w → entry_at core.sources key ≡ Some e
     → serial_in w.live key ≡ Some serial → StandsWithin bound old (with_source core key (with_state e (record e.source { asked = NONE }))) w
@@ -270,7 +270,7 @@ unasked_stands bound old core w key serial e stands is found =
     })
 
 handle_found : (bound : ℕ) (old new : Option Interests) (core : CoreValue) (w : World) (e : SourceEntry) (on : Interest) (fault : Option ArmFault) (later : List PollerAnswer)
-    → (let p = handling_first core.round e.source in let answer = told (arm_told fault) in let first : Event = record { key = e.source.key; on = on } in
+    → (let p = handling_first core.round e.source in let answer = arm_answer (arm_told fault) in let first : Event = record { key = e.source.key; on = on } in
     StandsWithin bound old core w → core.round.running ≡ true → core.round.hand ≡ first ∷ drop 1 core.round.hand → entry_at core.sources e.source.key.0 ≡ Some e
     → (p.arms ≡ false → IsOk answer) → TellsArmed p.arms (arm_of p.source) old answer new
     → ComesWithin bound w (handle_round w (map answer_of (arm_moves p.arms (arm_of p.source) answer) ++ later)) (replies.Handled e.source.key (is_some fault)) []
@@ -280,7 +280,7 @@ handle_found bound old new core w e on fault later stands running hand is none t
     let first : Event = record { key = e.source.key; on = on } in
     let i = first_interest core.round.hand in
     let key = e.source.key.0 in
-    let answer = told (arm_told fault) in
+    let answer = arm_answer (arm_told fault) in
     let answers = map answer_of (arm_moves p.arms (arm_of p.source) answer) ++ later in
     let one = one_runs core.round w.round stands.round running in
     let s : RoundState = one.0 in
@@ -329,13 +329,13 @@ handle_found bound old new core w e on fault later stands running hand is none t
 
 handle_meets : {P : Type 0} (arm_step : P → ArmCall → Result (Unit {0}) Failed → P → Type 0) (wait_step : P → WaitCall → Result Waited Failed → List Event → P → Type 0)
     (tells : P → Option Interests) (old new : P) (core : CoreValue) (e : SourceEntry) (on : Interest) (fault : Option ArmFault) (limit : Option ℕ)
-    → (let p = handling_first core.round e.source in let answer = told (arm_told fault) in let first : Event = record { key = e.source.key; on = on } in
+    → (let p = handling_first core.round e.source in let answer = arm_answer (arm_told fault) in let first : Event = record { key = e.source.key; on = on } in
     core.round.running ≡ true → core.round.hand ≡ first ∷ drop 1 core.round.hand → entry_at core.sources e.source.key.0 ≡ Some e
     → ArmsOnce arm_step p.arms (arm_of p.source) old answer new → TellsArmed p.arms (arm_of p.source) (tells old) answer (tells new)
     → MeetsPart (PollerStep arm_step wait_step) tells handle_round None (replies.Handled e.source.key (is_some fault)) [] limit (old, core) (new, core_handled core e fault))
 handle_meets {P = P} arm_step wait_step tells old new core e on fault limit running hand is did arms =
     let p : Prepared = handling_first core.round e.source in
-    let answer = told (arm_told fault) in
+    let answer = arm_answer (arm_told fault) in
     record {
       moves = arm_moves p.arms (arm_of p.source) answer;
       run = arm_runs arm_step wait_step p.arms (arm_of p.source) old new answer did;
@@ -347,7 +347,7 @@ handle_meets {P = P} arm_step wait_step tells old new core e on fault limit runn
 -- by what the call left and answered
 pub handle_answered : {P : Type 0} (arm_step : P → ArmCall → Result (Unit {0}) Failed → P → Type 0) (wait_step : P → WaitCall → Result Waited Failed → List Event → P → Type 0)
     (tells : P → Option Interests) (old new : P) (core : CoreValue) (event : Event) (e : SourceEntry) (s : SourceValue) (r : RoundValue) (fault : Option ArmFault) (limit : Option ℕ) (result : Result Handled CoreRefusal)
-    → (let p = handling_first core.round e.source in let answer = told (arm_told fault) in
+    → (let p = handling_first core.round e.source in let answer = arm_answer (arm_told fault) in
     core.round.running ≡ true → core.round.hand ≡ event ∷ drop 1 core.round.hand → event.key ≡ e.source.key → entry_at core.sources event.key.0 ≡ Some e
     → result ≡ Ok (record { key = event.key; fault = fault })
     → s ≡ settled p.arms answer p.source → r ≡ handled core.round (taken_first core.round e.source) fault
@@ -362,7 +362,7 @@ handle_answered {P = P} arm_step wait_step tells old new core event e s r fault 
     rw said
     (subst (λ (k : Key). met k s r) (sym own)
     (subst (λ (s : SourceValue). met e.source.key s r) (sym left)
-    (subst (λ (r : RoundValue). met e.source.key (settled p.arms (told (arm_told fault)) p.source) r) (sym rounds)
+    (subst (λ (r : RoundValue). met e.source.key (settled p.arms (arm_answer (arm_told fault)) p.source) r) (sym rounds)
     (handle_meets arm_step wait_step tells old new core e event.on fault limit running
     (hand ∙ ap (λ (k : Key). record { key = k; on = event.on } ∷ drop 1 core.round.hand) own) (ap (λ (k : Key). entry_at core.sources k.0) (sym own) ∙ is) did arms))))
 

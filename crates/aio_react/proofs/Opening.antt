@@ -5,7 +5,7 @@ use Rattle.std.proofs.lemmas.List.Elements.{All-nil}
 use Rattle.aio_base.specs.Devices.{Interests}
 use Rattle.aio_base.specs.World.{ArmedDirection, opening}
 use Rattle.aio_react.specs.Cores.{new_core}
-use Rattle.aio_react.specs.Standing.{ListenerStands, Tells, Stands}
+use Rattle.aio_react.specs.Standing.{ListenerStands, AgreesWithArmed, Stands}
 use Rattle.aio_react.specs.Numbers.{value_of}
 
 none_twice : IsDistinct nat_eq []
@@ -17,7 +17,7 @@ none_stand zero = tt
 none_stand (suc number) = tt
 
 -- whatever its poller tells
-pub opening_stands : (told : Option Interests) (armed : List ArmedDirection) → Tells told armed → Stands told new_core (record opening { armed = armed })
+pub opening_stands : (told : Option Interests) (armed : List ArmedDirection) → AgreesWithArmed told armed → Stands told new_core (record opening { armed = armed })
 opening_stands told armed tells = record {
   sources = λ key. tt;
   count = refl;

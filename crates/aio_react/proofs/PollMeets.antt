@@ -196,13 +196,13 @@ no_serial_by listeners (Some old) serial broken facts is stands = absurd (cc)
 pub poll_meets : {P : Type 0} (arm_step : P → ArmCall → Result (Unit {0}) Failed → P → Type 0) (wait_step : P → WaitCall → Result Waited Failed → List Event → P → Type 0)
     (tells : P → Option Interests) (old new : P) (core : CoreValue) (key : Key) (dir : Dir) (waker : Waker) (e : SourceEntry) (s' : SourceValue) (polled : Polled) (before after : ℕ)
     → key ≡ e.source.key → entry_at core.sources key.0 ≡ Some e
-    → (let p = polling e.source dir waker core.ticker in let r = lent.told (armed_in polled.answer) in
+    → (let p = polling e.source dir waker core.ticker in let r = lent.arm_answer (armed_in polled.answer) in
     polled ≡ record { answer = poll_answer p.ready (fault_of e.source.key before after r); replaced = p.replaced } → s' ≡ settled p.arms r p.source
     → ArmsOnce arm_step p.arms (arm_of p.source) old r new → TellsArmed p.arms (arm_of p.source) (tells old) r (tells new)
     → Meets (PollerStep arm_step wait_step) tells (step.Poll key dir waker) None (waiting_reply polled.answer) (option_to_list polled.replaced) None (old, core) (new, with_source core key.0 (with_state e s')))
 poll_meets {P = P} arm_step wait_step tells old new core key dir waker e s' polled before after own is answered left did told =
     let p = polling e.source dir waker core.ticker in
-    let r = lent.told (armed_in polled.answer) in
+    let r = lent.arm_answer (armed_in polled.answer) in
     record {
       moves = arm_moves p.arms (arm_of p.source) r;
       run = arm_runs arm_step wait_step p.arms (arm_of p.source) old new r did;

@@ -11,7 +11,7 @@ use Rattle.aio_base.specs.declared.names.Key.{Key}
 use Rattle.aio_base.specs.Devices.{Interests, ArmCall, ArmOf, Arms, with_interest}
 use Rattle.aio_base.specs.Moves.{interests_of}
 use Rattle.aio_base.specs.World.{ArmedDirection, same_dir, has_dir, is_armed, set_armed}
-use Rattle.aio_react.specs.Standing.{Tells}
+use Rattle.aio_react.specs.Standing.{AgreesWithArmed}
 
 both_and : (b x y : Bool) → (b && x) || (b && y) ≡ b && (x || y)
 both_and true x y = refl
@@ -73,7 +73,7 @@ interests_are armed key dirs on wants k =
 
 -- what a poller tells once it was armed
 pub tells_armed : (old new : Option Interests) (armed : List ArmedDirection) (key : Key) (on : Interest) (dirs : List Dir)
-    → ((dir : Dir) → list_any (λ d. same_dir d dir) dirs ≡ has_dir on dir) → Tells old armed → Arms old (ArmOf key on) (Ok tt) new → Tells new (set_armed armed key.0 dirs)
+    → ((dir : Dir) → list_any (λ d. same_dir d dir) dirs ≡ has_dir on dir) → AgreesWithArmed old armed → Arms old (ArmOf key on) (Ok tt) new → AgreesWithArmed new (set_armed armed key.0 dirs)
 tells_armed None None armed key on dirs wants tells arms = tt
 tells_armed None (Some new) armed key on dirs wants tells arms = absurd arms
 tells_armed (Some old) None armed key on dirs wants tells arms = absurd arms
@@ -81,7 +81,7 @@ tells_armed (Some old) (Some new) armed key on dirs wants tells arms =
     λ k. arms k ∙ ap (λ (i : Interest). if k == key.0 then on else i) (tells k) ∙ interests_are armed key.0 dirs on wants k
 
 -- and once it failed
-pub tells_unarmed : (old new : Option Interests) (armed : List ArmedDirection) (call : ArmCall) → Tells old armed → Arms old call (Err (record {})) new → Tells new armed
+pub tells_unarmed : (old new : Option Interests) (armed : List ArmedDirection) (call : ArmCall) → AgreesWithArmed old armed → Arms old call (Err (record {})) new → AgreesWithArmed new armed
 tells_unarmed None None armed call tells arms = tt
 tells_unarmed None (Some new) armed call tells arms = absurd arms
 tells_unarmed (Some old) None armed call tells arms = absurd arms

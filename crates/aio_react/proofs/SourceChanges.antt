@@ -16,7 +16,7 @@ use Rattle.aio_react.specs.declared.entries.Listener.{Listener}
 use Rattle.aio_react.specs.declared.entries.SourceEntry.{SourceEntry}
 use Rattle.aio_react.specs.Cores.{CoreValue, entry_at}
 use Rattle.aio_react.specs.Facts.{Facts, facts_in}
-use Rattle.aio_react.specs.Standing.{DirectionStands, SourceStands, PlaceStands, SourcesStand, serial_in, count_entries, AreFewTickets, Tells, is_in_hand, LiveSound, StandsWithin}
+use Rattle.aio_react.specs.Standing.{DirectionStands, SourceStands, PlaceStands, SourcesStand, serial_in, count_entries, AreFewTickets, AgreesWithArmed, is_in_hand, LiveSound, StandsWithin}
 
 -- ## Places
 
@@ -157,7 +157,7 @@ pub record Changes (bound : ℕ) (told' : Option Interests) (core : CoreValue) (
   pub aside : (other : ℕ) → other ≢ serial → IsAside (is_broken w) (is_broken w') (facts_in w) (facts_in w') other
   pub armed_aside : (k : ℕ) (dir : Dir) → k ≢ key → is_armed w'.armed k dir ≡ is_armed w.armed k dir
   pub marks_before : All (λ (m : Mark). m.position < bound) w'.marks
-  pub tells : Tells told' w'.armed
+  pub tells : AgreesWithArmed told' w'.armed
   pub asked : IsAsked new key w'
 
 pub few_at : (bound : ℕ) (place : Option SourceEntry) (e : SourceEntry) (dir : Dir) → place ≡ Some e

@@ -160,13 +160,13 @@ pub again_meets : {P : Type 0} (arm_step : P → ArmCall → Result (Unit {0}) F
     (tells : P → Option Interests) (old new : P) (core : CoreValue) (number : ℕ) (l : Listener) (first : Listened) (waker : Waker) (e : SourceEntry) (s' : SourceValue)
     (polled : Poll (Result (Unit {0}) ArmFault)) (before after : ℕ)
     → l.key ≡ e.source.key → entry_at core.sources l.key.0 ≡ Some e → value_of core.listeners number ≡ Some l → l.first ≡ Some first → AreListed core.sources core.listeners
-    → (let p = polling_again e.source l.dir first waker in let r = lent.told (armed_in polled) in
+    → (let p = polling_again e.source l.dir first waker in let r = lent.arm_answer (armed_in polled) in
     polled ≡ poll_answer p.ready (fault_of e.source.key before after r) → s' ≡ settled p.arms r p.source
     → ArmsOnce arm_step p.arms (arm_of p.source) old r new → TellsArmed p.arms (arm_of p.source) (tells old) r (tells new)
     → Meets (PollerStep arm_step wait_step) tells (step.StepEar number waker) None (waiting_reply polled) [] None (old, core) (new, with_source core l.key.0 (with_state e s')))
 again_meets {P = P} arm_step wait_step tells old new core number l first waker e s' polled before after own is there has listed answered left did told =
     let p = polling_again e.source l.dir first waker in
-    let r = lent.told (armed_in polled) in
+    let r = lent.arm_answer (armed_in polled) in
     let moves = arm_moves p.arms (arm_of p.source) r in
     record {
       moves = moves;
@@ -228,14 +228,14 @@ first_meets_with : {P : Type 0} (arm_step : P → ArmCall → Result (Unit {0}) 
     (armed : Result (Unit {0}) ArmFault) (before after : ℕ)
     → l.key ≡ e.source.key → entry_at core.sources l.key.0 ≡ Some e → value_of core.listeners number ≡ Some l → l.first ≡ None
     → first.a ≡ core.ticker → first.b ≡ (direction_of e.source.directions l.dir).tick
-    → (let p = listening_first e.source l.dir waker (Some first.ticket) in let r = lent.told armed in
+    → (let p = listening_first e.source l.dir waker (Some first.ticket) in let r = lent.arm_answer armed in
     armed ≡ fault_of e.source.key before after r → s' ≡ settled p.arms r p.source
     → ArmsOnce arm_step p.arms (arm_of p.source) old r new → TellsArmed p.arms (arm_of p.source) (tells old) r (tells new)
     → Meets (PollerStep arm_step wait_step) tells (step.StepEar number waker) None (waiting_reply (poll_answer false armed)) [] None (old, core)
     (new, with_heard core l.key.0 (with_state e s') (with_value core.listeners number (Some (polled_listener l first)))))
 first_meets_with {P = P} arm_step wait_step tells old new core number l first waker e s' armed before after own is there never ticker tick answered left did told =
     let p = listening_first e.source l.dir waker (Some first.ticket) in
-    let r = lent.told armed in
+    let r = lent.arm_answer armed in
     let moves = arm_moves p.arms (arm_of p.source) r in
     let listeners' = with_value core.listeners number (Some (polled_listener l first)) in
     record {
@@ -268,13 +268,13 @@ pub first_meets : {P : Type 0} (arm_step : P → ArmCall → Result (Unit {0}) F
     (armed : Result (Unit {0}) ArmFault) (ticket : Option Ticket) (before after : ℕ)
     → l.key ≡ e.source.key → entry_at core.sources l.key.0 ≡ Some e → value_of core.listeners number ≡ Some l → l.first ≡ None
     → first.a ≡ core.ticker → first.b ≡ (direction_of e.source.directions l.dir).tick → ticket ≡ Some first.ticket
-    → (let p = listening_first e.source l.dir waker ticket in let r = lent.told armed in
+    → (let p = listening_first e.source l.dir waker ticket in let r = lent.arm_answer armed in
     armed ≡ fault_of e.source.key before after r → s' ≡ settled p.arms r p.source
     → ArmsOnce arm_step p.arms (arm_of p.source) old r new → TellsArmed p.arms (arm_of p.source) (tells old) r (tells new)
     → Meets (PollerStep arm_step wait_step) tells (step.StepEar number waker) None (waiting_reply (poll_answer false armed)) [] None (old, core)
     (new, with_heard core l.key.0 (with_state e s') (with_value core.listeners number (Some (polled_listener l first)))))
 first_meets {P = P} arm_step wait_step tells old new core number l first waker e s' armed ticket before after own is there never ticker tick drew =
-    subst (λ (ticket : Option Ticket). let p = listening_first e.source l.dir waker ticket in let r = lent.told armed in
+    subst (λ (ticket : Option Ticket). let p = listening_first e.source l.dir waker ticket in let r = lent.arm_answer armed in
     armed ≡ fault_of e.source.key before after r → s' ≡ settled p.arms r p.source
     → ArmsOnce arm_step p.arms (arm_of p.source) old r new → TellsArmed p.arms (arm_of p.source) (tells old) r (tells new)
     → Meets (PollerStep arm_step wait_step) tells (step.StepEar number waker) None (waiting_reply (poll_answer false armed)) [] None (old, core)

@@ -7,7 +7,7 @@ use Rattle.aio_base.specs.declared.outcomes.ArmFault.{ArmFault}
 use Rattle.aio_base.specs.declared.outcomes.Failed.{Failed}
 use Rattle.aio_base.specs.Devices.{ArmCall, Interests}
 use Rattle.aio_listen.specs.declared.ticket.Ticket.{Ticket}
-use Rattle.aio_source.specs.Lent.{UsesArm, arm_of, told}
+use Rattle.aio_source.specs.Lent.{UsesArm, arm_of, arm_answer}
 use Rattle.aio_source.specs.Rules.{Prepared, Polling, polling, polling_again, listening_first}
 use Rattle.aio_source.specs.Values.{SourceValue}
 use Rattle.aio_source.specs.declared.answers.Listened.{Listened}
@@ -23,7 +23,7 @@ use Rattle.aio_react.specs.Standing.{ticket_in}
 abbrev pub UsesPoller : {S : Type 0} → (S → ArmCall → Result (Unit {0}) Failed → S → Type 0) → (S → Option Interests) → (S → List ℕ) → (S → ℕ)
     → (S → Bool) → Option Prepared → Result (Unit {0}) ArmFault → S → S → Type 0
 UsesPoller step tells rest count is_sure None armed old new = new ≡ old
-UsesPoller step tells rest count is_sure (Some p) armed old new = UsesArm step tells rest count is_sure p.arms (arm_of p.source) (told armed) old new
+UsesPoller step tells rest count is_sure (Some p) armed old new = UsesArm step tells rest count is_sure p.arms (arm_of p.source) (arm_answer armed) old new
 
 -- a source's part of a poll before the poller is armed
 abbrev pub part_of : Polling → Prepared

@@ -7,8 +7,8 @@ use Rattle.aio_react.specs.Cores.{CoreValue}
 use Rattle.aio_react.specs.Hosts.{HostRules}
 
 -- one id was drawn, under which the timer is registered
-abbrev pub registered : CoreValue → ℕ → Waker → TimerId → CoreValue
-registered core deadline waker id = record core {
+abbrev pub with_registered : CoreValue → ℕ → Waker → TimerId → CoreValue
+with_registered core deadline waker id = record core {
   book = fold_changes core.book (Registers (record { id = id.0; deadline = deadline; waker = waker }) ∷ []);
   ids_drawn = core.ids_drawn + 1;
 }
@@ -20,7 +20,7 @@ unregistered core deadline id = record core { book = fold_changes core.book (Unr
 -- what a core tells as a host of timers: it is pass 0, has nobody to notify, and a removal is never refused
 abbrev pub core_rules : {P : Type 0} → HostRules (P × CoreValue)
 core_rules = record {
-  inserted = λ old at waker id new. new ≡ (old.0, registered old.1 at waker id);
+  inserted = λ old at waker id new. new ≡ (old.0, with_registered old.1 at waker id);
   removed = λ old at id new. new ≡ (old.0, unregistered old.1 at id);
   insert_refused = λ old at waker new. new ≡ old;
   removal_refused = λ old at id new. ⊥;

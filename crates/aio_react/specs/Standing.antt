@@ -96,9 +96,9 @@ pub record ListenersStand (listeners : List (Option Listener)) (entries : List L
 -- ## The poller
 
 -- what a poller tells are the armed directions
-abbrev pub Tells : Option Interests → List ArmedDirection → Type 0
-Tells None armed = ⊤
-Tells (Some interests) armed = (key : ℕ) → interests key ≡ interests_of armed key
+abbrev pub AgreesWithArmed : Option Interests → List ArmedDirection → Type 0
+AgreesWithArmed None armed = ⊤
+AgreesWithArmed (Some interests) armed = (key : ℕ) → interests key ≡ interests_of armed key
 
 abbrev pub is_in_hand : List Event → ℕ → Bool
 is_in_hand hand key = list_any (λ (event : Event). event.key.0 == key) hand
@@ -195,7 +195,7 @@ pub record StandsWithin (bound : ℕ) (told : Option Interests) (core : CoreValu
   pub listeners : ListenersStand core.listeners w.listeners w.listeners_drawn w.live w.begun
   pub ticker_is : w.rounds ≡ core.ticker
   pub book : BookStands core.book core.ids_drawn w.registrations w.ids_drawn
-  pub tells : Tells told w.armed
+  pub tells : AgreesWithArmed told w.armed
   pub asked : AreAsked core.sources w.armed (hand_of w.round)
   pub round : RoundStands core.round w.round
   pub sound : Sound bound w

@@ -6,7 +6,7 @@ ghost use Rattle.aio_base.specs.Machine.{is_live};
 ghost use Rattle.aio_base.specs.World.{World, ArmedDirection, opening};
 ghost use Rattle.aio_react.specs.Cores.{new_core, entry_at};
 ghost use Rattle.aio_react.specs.Replies.{empty_hand_refusal};
-ghost use Rattle.aio_react.specs.Standing.{Tells, Stands};
+ghost use Rattle.aio_react.specs.Standing.{AgreesWithArmed, Stands};
 
 mod listeners;
 mod polls;
@@ -91,7 +91,7 @@ impl<P: Poller> Core<P> {
     #[tactic(auto, using(crate::proofs::Opening::opening_stands))]
     pub fn new(alloc: Global, poller: P) -> Result<Core<P>, P>
         ensures core { IfOk result (λ core. core ≡ (poller, new_core)) }
-        ensures stands { (armed : List ArmedDirection) → Tells (P.interests poller) armed
+        ensures stands { (armed : List ArmedDirection) → AgreesWithArmed (P.interests poller) armed
             → IfOk result (λ core. Stands (P.interests core.0) core.1
             (record opening { armed = armed })) }
         ensures refused { IfErr result (λ back. back ≡ poller) }

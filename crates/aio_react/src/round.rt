@@ -8,7 +8,7 @@ ghost use Rattle.aio_base.specs.Timers.{due_wakers, after_pass, limit_of, lesser
 ghost use Rattle.aio_base.specs.Waits.{IsCountOf};
 ghost use Rattle.aio_base.specs.World.{Registration, directions};
 ghost use Rattle.aio_base.specs.declared.names.Event.{Event};
-ghost use Rattle.aio_source.specs.Lent.{told, fault_of, UsesArm, arm_of, settled};
+ghost use Rattle.aio_source.specs.Lent.{arm_answer, fault_of, UsesArm, arm_of, settled};
 ghost use Rattle.aio_source.specs.Rules.{waiters_in};
 ghost use Rattle.aio_react.specs.Rounds.{new_round, begun, HasRisen, wait_of, poller_told, wait_told, waited, given_by, handling_first, taken_first, arm_told, skipped, handled, has_second_pass, second_wakers, second_book, finished};
 
@@ -201,12 +201,12 @@ impl Round {
         ensures round { IfOk result (λ fault.
             self.new ≡ handled self.old (taken_first self.old s.old) fault) }
         ensures source { let p = handling_first self.old s.old in
-            IfOk result (λ fault. s.new ≡ settled p.arms (told (arm_told fault)) p.source) }
+            IfOk result (λ fault. s.new ≡ settled p.arms (arm_answer (arm_told fault)) p.source) }
         ensures lent { let p = handling_first self.old s.old in
             IfOk result (λ fault. UsesArm A.arm_step A.interests A.rest A.fault_count A.is_sure
-            p.arms (arm_of p.source) (told (arm_told fault)) arm.old arm.new) }
+            p.arms (arm_of p.source) (arm_answer (arm_told fault)) arm.old arm.new) }
         ensures fault { IfOk result (λ fault. arm_told fault ≡ fault_of s.old.key
-            (A.fault_count arm.old) (A.fault_count arm.new) (told (arm_told fault))) }
+            (A.fault_count arm.old) (A.fault_count arm.new) (arm_answer (arm_told fault))) }
         ensures key { s.new.key ≡ s.old.key }
         ensures refused { OnErr result
             ((self.new ≡ self.old) × (s.new ≡ s.old) × (arm.new ≡ arm.old)) }

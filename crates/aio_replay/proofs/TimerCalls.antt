@@ -12,7 +12,7 @@ use Rattle.aio_base.specs.Timers.{Registers, fold_changes}
 use Rattle.aio_base.specs.World.{Registration, TimerEntry, World}
 use Rattle.aio_future.specs.declared.answers.TimerFault.{TimerFault}
 use Rattle.aio_future.specs.declared.answers.TimerFault.TheVariants.{IdsSpent, OutOfMemory, Notify}
-use Rattle.aio_future.specs.Timers.{TimerValue, Work, registration_of, timer_left, Removes, Inserts, Done, Worked}
+use Rattle.aio_future.specs.Timers.{TimerValue, Work, registration_of, timer_left, RemovesOwn, Inserts, Done, Worked}
 use Rattle.aio_react.specs.Cores.{CoreValue}
 use Rattle.aio_react.specs.Hosting.{core_rules}
 use Rattle.aio_react.specs.Hosts.{has_id_left, next_id}
@@ -115,7 +115,7 @@ the_id n = record { 0 = n }
 first_pass : (drawn : ℕ) → next_id 0 drawn ≡ the_id (drawn + 1)
 first_pass drawn = let counted : (next_id 0 drawn).0 ≡ drawn + 1 = omega arith in ap the_id counted
 
-pub removed : (removes : Option (ℕ × TimerId)) (old mid : Script × CoreValue) → Removes core_rules removes old mid
+pub removed : (removes : Option (ℕ × TimerId)) (old mid : Script × CoreValue) → RemovesOwn core_rules removes old mid
     → mid ≡ (old.0, record old.1 { book = book_without removes old.1.book })
 removed None old mid is = is
 removed (Some registration) old mid is = is

@@ -13,7 +13,7 @@ use Rattle.aio_base.specs.Machine as machine
 use Rattle.aio_base.specs.Script.{script_answers}
 use Rattle.aio_base.specs.World.{TimerEntry, World}
 use Rattle.aio_future.specs.declared.answers.TimerFault.{TimerFault}
-use Rattle.aio_future.specs.Timers.{TimerValue, Work, registration_of, no_work, firing, poll_work, period_set, set_work, timer_left, Removes, Done, Worked, poll_fault, poll_answer, set_fault}
+use Rattle.aio_future.specs.Timers.{TimerValue, Work, registration_of, no_work, firing, poll_work, period_set, set_work, timer_left, RemovesOwn, Done, Worked, poll_fault, poll_answer, set_fault}
 use Rattle.aio_future.specs.Timers as work
 use Rattle.aio_react.specs.Hosting.{core_rules}
 use Rattle.aio_react.specs.Hosts.{next_id}
@@ -266,7 +266,7 @@ ends_at r w number t e has =
     (subst (λ (v : World). StandsFor left (record v { timers = filter (λ u. not (is_timer number u)) v.timers; pos = v.pos + 1 })) (gone_is w id) stands)))
 
 pub ended : (r : Replayer) (number : ℕ) (t : TimerValue) (new : Script × CoreValue) (timers : List (Option TimerValue)) → value_of r.timers number ≡ Some t
-    → Removes core_rules (registration_of t) r.core new → timers ≡ with_value r.timers number None
+    → RemovesOwn core_rules (registration_of t) r.core new → timers ≡ with_value r.timers number None
     → Replays (step.End number) answer.Ended [] r (record r { core = new; timers = timers })
 ended r number t new timers is removes left = λ w stands.
     let found = has_entry r w number t stands is in

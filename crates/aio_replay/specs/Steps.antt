@@ -67,9 +67,9 @@ pub record LineTaken (l : Language) (input : List ℕ) (told out_old out_new : O
   pub held_few : LeavesAllBut (257 * line) told input
 
 -- where the replay goes on, what stands before the next line; else what its end says
-abbrev pub GoesOn : Language → Option End → List ℕ → Option (List ℕ) → Option (List ℕ) → Option (List ℕ) → ℕ → List ℕ → List ℕ → Replayer → Type 0
-GoesOn l None input told out_old out_new line ahead text r = Standing l input told out_old out_new line ahead text r
-GoesOn l (Some e) input told out_old out_new line ahead text r = EndsSo l e input told out_old out_new r
+abbrev pub StandsOrEnds : Language → Option End → List ℕ → Option (List ℕ) → Option (List ℕ) → Option (List ℕ) → ℕ → List ℕ → List ℕ → Replayer → Type 0
+StandsOrEnds l None input told out_old out_new line ahead text r = Standing l input told out_old out_new line ahead text r
+StandsOrEnds l (Some e) input told out_old out_new line ahead text r = EndsSo l e input told out_old out_new r
 
 -- the text was written and the end is the wanted one; or the sink stopped that, and took a part
 abbrev pub Closes : End → End → Option (List ℕ) → Option (List ℕ) → List ℕ → Type 0

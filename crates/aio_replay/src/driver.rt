@@ -40,7 +40,7 @@ impl Driver {
     ghost use Rattle.aio_replay.specs.Driving.{BlockWent, StopsBy, IfStopped, EndsSo};
     ghost use Rattle.aio_replay.specs.Language.{SaysByLines};
     ghost use Rattle.aio_replay.specs.Replaying.{IsWithin};
-    ghost use Rattle.aio_replay.specs.Steps.{Answers, Standing, LineTaken, GoesOn};
+    ghost use Rattle.aio_replay.specs.Steps.{Answers, Standing, LineTaken, StandsOrEnds};
     ghost use Rattle.aio_replay.specs.Steps.{IfEnded, Opens};
 
     /// A replay that has read nothing. `AllocError` where there is no memory for its parts.
@@ -131,7 +131,7 @@ impl Driver {
         requires says { SaysByLines V.language }
         requires opens { Opens self.old.reader.ahead self.old.text.items self.old.replayer }
         ensures goes_on { (all : List ℕ) → S.remaining input.old ≡ Some all
-            → GoesOn V.language result all (S.remaining input.new)
+            → StandsOrEnds V.language result all (S.remaining input.new)
             (K.contents out.old) (K.contents out.new)
             2 self.new.reader.ahead self.new.text.items self.new.replayer }
         ensures bound { length self.new.reader.ahead ≤ 257 }
@@ -176,7 +176,7 @@ impl Driver {
         ensures goes_on { (all : List ℕ) (first : Option (List ℕ))
             → Standing V.language all (S.remaining input.old) first (K.contents out.old)
             line self.old.reader.ahead self.old.text.items self.old.replayer
-            → GoesOn V.language result all (S.remaining input.new) first (K.contents out.new)
+            → StandsOrEnds V.language result all (S.remaining input.new) first (K.contents out.new)
             (line + 1) self.new.reader.ahead self.new.text.items self.new.replayer }
         ensures bound { length self.new.reader.ahead ≤ 257 }
         ensures within { result ≡ None → IsWithin (line + 1) self.new.replayer }
@@ -248,7 +248,7 @@ impl Driver {
         ensures goes_on { (input : List ℕ) (told first : Option (List ℕ))
             → LineTaken V.language input told first (K.contents out.old) line
             self.old.reader.line self.old.reader.ahead self.old.text.items self.old.replayer
-            → GoesOn V.language result input told first (K.contents out.new)
+            → StandsOrEnds V.language result input told first (K.contents out.new)
             (line + 1) self.new.reader.ahead self.new.text.items self.new.replayer }
         ensures within { result ≡ None → IsWithin (line + 1) self.new.replayer }
         ensures none { result ≡ None → self.new.wakes.items ≡ [] }

@@ -9,7 +9,7 @@ ghost use Rattle.aio_react.specs.Sections.{begin_reply, handle_reply, finish_rep
 ghost use Rattle.aio_react.specs.Reacting.{react_reply};
 ghost use Rattle.aio_react.specs.Standing.{end_word};
 ghost use Rattle.aio_react.specs.Sources.{add_reply, del_reply};
-ghost use Rattle.aio_replay.specs.Replies.{IsTold, IsHosted, reply_answer, tick_reply};
+ghost use Rattle.aio_replay.specs.Replies.{HasReply, IsHosted, reply_answer, tick_reply};
 
 use aio_base::{Answer, ArmFault, EndWord, Key, Moment, Poll, Waited, Waker};
 use aio_future::TimerFault;
@@ -104,7 +104,7 @@ fn add_replaced(replaced: Option<Waker>, wakes: &mut Vec<Waker>) -> Result<(), A
 
 /// Of a new listener. `AllocError` where memory ran out.
 pub(crate) fn told_listen(listened: Result<u64, CoreRefusal>) -> Result<Answer, AllocError>
-    requires { IsTold listen_reply listened }
+    requires { HasReply listen_reply listened }
     ensures { IfOk result (λ answer. listen_reply listened ≡ Some answer) }
 {
     match listened {
@@ -117,7 +117,7 @@ pub(crate) fn told_listen(listened: Result<u64, CoreRefusal>) -> Result<Answer, 
 
 /// Of a poll of a listener. `OutOfMemory` where memory ran out.
 pub(crate) fn told_step(stepped: Result<Poll<Result<(), ArmFault>>, CoreRefusal>) -> PollReply
-    requires { IsTold step_reply stepped }
+    requires { HasReply step_reply stepped }
     ensures { IfSome (reply_answer result) (λ answer. step_reply stepped ≡ Some answer) }
 {
     match stepped {
@@ -144,7 +144,7 @@ pub(crate) fn told_drop(dropped: Result<(), CoreRefusal>) -> Answer
 pub(crate) fn told_begin(
     begun: Result<(u64, Option<u64>), CoreRefusal>,
 ) -> Result<Answer, AllocError>
-    requires { IsTold begin_reply begun }
+    requires { HasReply begin_reply begun }
     ensures { IfOk result (λ answer. begin_reply begun ≡ Some answer) }
 {
     match begun {
@@ -170,7 +170,7 @@ pub(crate) fn told_wait(waited: Result<Waited, CoreRefusal>) -> Answer
 
 /// Of an event that was handled. `AllocError` where memory ran out.
 pub(crate) fn told_handle(handled: Result<Handled, CoreRefusal>) -> Result<Answer, AllocError>
-    requires { IsTold handle_reply handled }
+    requires { HasReply handle_reply handled }
     ensures { IfOk result (λ answer. handle_reply handled ≡ Some answer) }
 {
     match handled {
@@ -189,7 +189,7 @@ pub(crate) fn told_handle(handled: Result<Handled, CoreRefusal>) -> Result<Answe
 pub(crate) fn told_finish(
     finished: Result<Option<RoundFault>, CoreRefusal>,
 ) -> Result<Answer, AllocError>
-    requires { IsTold finish_reply finished }
+    requires { HasReply finish_reply finished }
     ensures { IfOk result (λ answer. finish_reply finished ≡ Some answer) }
 {
     match finished {
@@ -203,7 +203,7 @@ pub(crate) fn told_finish(
 
 /// Of a whole round. `AllocError` where memory ran out.
 pub(crate) fn told_react(reacted: Result<Reacted, CoreRefusal>) -> Result<Answer, AllocError>
-    requires { IsTold react_reply reacted }
+    requires { HasReply react_reply reacted }
     ensures { IfOk result (λ answer. react_reply reacted ≡ Some answer) }
 {
     match reacted {

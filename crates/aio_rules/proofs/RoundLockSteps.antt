@@ -4,7 +4,7 @@ use mathlib.Core.Option.{some, some-injective, some-ne-none}
 use lib.ListN.{get_elem?}
 use Rattle.aio_rules.specs.declared.claims.ClaimView.{ClaimView}
 use Rattle.aio_rules.specs.SharedLock.{one_if}
-use Rattle.aio_rules.specs.RoundLock.{About, RoundMember, about_of, opening_claim, knowing, holding, released, with_one_more, next_claim, holders, EachClaim, OpensAlone, RoundLockRule, opened, popped, found_none, pushed, makes_one, new_member}
+use Rattle.aio_rules.specs.RoundLock.{About, RoundMember, about_of, opening_claim, knowing, holding, released, split_claim, next_claim, holders, EachClaim, OpensAlone, RoundLockRule, opened, popped, found_none, pushed, split_member, new_member}
 use Rattle.aio_rules.specs.RoundLockLaws.{MayBePushed, StartMeetsRoundLockRule, FirstPushKeepsRule, PopKeepsRule, EmptyPopKeepsRule, PushKeepsRule, NewMemberKeepsRule, HolderFindsNone, OneHolds}
 use Rattle.aio_rules.proofs.SeatLists.{set_or_before, at_end_or_before, set_to_itself}
 
@@ -135,9 +135,9 @@ module _ {X I : Type 0} (says : X → About I → Type 0) (is_idle : X → Type 
       }
 
   pub claim_makes : (items : List X) (claims : List (ClaimView I)) (i : ℕ) (t : ClaimView I) → RoundLockRule says is_idle items claims → get_elem? claims i ≡ some t → t.opening ≡ false
-      → RoundLockRule says is_idle items (set claims i (with_one_more t) ++ next_claim t ∷ [])
+      → RoundLockRule says is_idle items (set claims i (split_claim t) ++ next_claim t ∷ [])
   claim_makes items claims i t r at begun =
-      let v = with_one_more t in
+      let v = split_claim t in
       let w = next_claim t in
       let mid = set claims i v in
       let same : holders mid + one_if t.holds ≡ holders claims + one_if t.holds = holders_set claims i t v at in
@@ -192,7 +192,7 @@ module _ {X I : Type 0} (says : X → About I → Type 0) (is_idle : X → Type 
 
   pub new_member_keeps_rule : NewMemberKeepsRule says is_idle
   new_member_keeps_rule items members i m s begun =
-      subst (λ l. RoundLockRule says is_idle items l) (ap (λ l. l ++ next_claim m.claim ∷ []) (claims_set members i (makes_one m)) ∙ claims_end (set members i (makes_one m)) (new_member m)) (claim_makes items _ i m.claim s.rule (claim_at members i m s.stands) begun)
+      subst (λ l. RoundLockRule says is_idle items l) (ap (λ l. l ++ next_claim m.claim ∷ []) (claims_set members i (split_member m)) ∙ claims_end (set members i (split_member m)) (new_member m)) (claim_makes items _ i m.claim s.rule (claim_at members i m s.stands) begun)
 
   pub holder_finds_none : HolderFindsNone says is_idle
   holder_finds_none items members i m s held = claim_finds_none items _ i m.claim s.rule (claim_at members i m s.stands) held

@@ -6,7 +6,7 @@ use Rattle.std.specs.Int.{bit_at}
 use mathlib.Core.Logic.{dite}
 use native.Mathlib.Decide.{ℕ_discrete}
 use Rattle.aio_rules.specs.declared.seats.WordStep.TheVariants as word_step
-use Rattle.aio_rules.specs.SharedWords.{mask, mask_place, blocked_place, ticker_place, notified_place, left_by}
+use Rattle.aio_rules.specs.SharedWords.{mask, mask_place, blocked_place, ticker_place, notified_place, value_after}
 use Rattle.aio_rules.specs.WordLaws.{OnlySwapTakesBits}
 
 module _ (words : List ℕ) (i bit : ℕ) where
@@ -35,7 +35,7 @@ only_swap_takes_bits n words views seat v (word_step.SetBit j slot found) i bit 
     (adds_bit words i bit slot found (sym (ap (mask words) same) ∙ can.found) (let s = can.rule.sized in let below = can.may.0 in omega arith)))
     (λ apart. elsewhere words i bit (mask_place j) (bit_or found (2 ^ slot)) (λ z. apart (let e : 3 + 2 * i ≡ 3 + 2 * j = z in omega arith)))
 only_swap_takes_bits n words views seat v (word_step.LoadBlocked j found) i bit can other = as_found words i bit (blocked_place j) found can.found
-only_swap_takes_bits n words views seat v (word_step.ExchangeNotified found) i bit can other = elsewhere words i bit notified_place (left_by (word_step.ExchangeNotified found)) (λ z. omega arith)
+only_swap_takes_bits n words views seat v (word_step.ExchangeNotified found) i bit can other = elsewhere words i bit notified_place (value_after (word_step.ExchangeNotified found)) (λ z. omega arith)
 only_swap_takes_bits n words views seat v (word_step.StoreBlocked j value found) i bit can other = elsewhere words i bit (blocked_place j) value (λ z. let e : 3 + 2 * i ≡ 2 + 2 * j = z in omega arith)
 only_swap_takes_bits n words views seat v (word_step.SwapMask j found) i bit can other = elsewhere words i bit (mask_place j) 0
     (λ z. let same : i ≡ j = (let e : 3 + 2 * i ≡ 3 + 2 * j = z in omega arith) in true≢false (sym (eq-eqb i j same) ∙ other))

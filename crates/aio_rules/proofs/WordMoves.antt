@@ -6,7 +6,7 @@ use lib.ListN.{get_elem?}
 use Rattle.aio_rules.specs.declared.seats.Role.TheVariants as role
 use Rattle.aio_rules.specs.declared.seats.Mode.TheVariants as mode
 use Rattle.aio_rules.specs.declared.seats.SeatView.{SeatView}
-use Rattle.aio_rules.specs.SharedWords.{ticker, blocked_place, word_count, first_view, new_view, with_one_more, spent_view, joined_seat, held, Each, IsTold, AgreesWithWords, WordRule}
+use Rattle.aio_rules.specs.SharedWords.{ticker, blocked_place, word_count, first_view, split_view, after_split, spent_view, joined_seat, held, Each, IsTold, AgreesWithWords, WordRule}
 use Rattle.aio_rules.specs.WordLaws.{StartMeetsWordRule, SplitKeepsRule, JoinKeepsWordRule}
 use Rattle.aio_rules.proofs.SeatLists.{beside_set, before_end, at_end_or_before}
 use Rattle.aio_rules.proofs.WordFrames.{not_both, idle_holds_none, idle_pass, still, by_seat}
@@ -38,9 +38,9 @@ start_meets_rule n = let words : List ℕ = replicate (word_count n) 0 in let ze
       });
     }
 
--- a new pass beside the seats that there are
-one_beside : (n : ℕ) (words : List ℕ) (views : List SeatView) (from : SeatView) → from.seen ≤ ticker words → WordRule n words views → WordRule n words (views ++ new_view from ∷ [])
-one_beside n words views from below rule = let new : SeatView = new_view from in let all : List SeatView = views ++ new ∷ [] in let round = rule.one_round in
+-- the rule with one pass more at the end of the seats, whose ticker has come by then
+with_pass_at_end : (n : ℕ) (words : List ℕ) (views : List SeatView) (from : SeatView) → from.seen ≤ ticker words → WordRule n words views → WordRule n words (views ++ split_view from ∷ [])
+with_pass_at_end n words views from below rule = let new : SeatView = split_view from in let all : List SeatView = views ++ new ∷ [] in let round = rule.one_round in
     let tells : (i : ℕ) → IsTold words views i → IsTold words all i =
     λ i told woken. ⊎_elim inl (λ mid. inr (mid.0, mid.1, before_end views new mid.0 mid.1 mid.2, mid.3)) (told woken) in
     record {
@@ -58,18 +58,20 @@ one_beside n words views from below rule = let new : SeatView = new_view from in
           (λ last. subst (AgreesWithWords words all) last.1 (idle_pass words words all new refl refl below)) (at_end_or_before views new at u e);
     }
 
--- a seat that counts one more seat split off it
-counts_one : (n : ℕ) (words : List ℕ) (views : List SeatView) (seat : ℕ) (v : SeatView) → WordRule n words views → get_elem? views seat ≡ some v
-    → WordRule n words (set views seat (with_one_more v))
-counts_one n words views seat v rule stands = let all : List SeatView = set views seat (with_one_more v) in let was = rule.each seat v stands in
-    let tells : (i : ℕ) → IsTold words views i → IsTold words all i = λ i told. tells_beside n words views seat v rule stands words (with_one_more v) i refl refl (λ o. o) told in
-    by_seat n words views seat v rule stands words (with_one_more v) rule.sized refl rule.notified_bit rule.blocked_bit
-    (record { seen = was.seen; exact = was.exact; idle = was.idle; flag = was.flag; alone = was.alone; told = λ i waits. tells i (was.told i waits) })
-    (λ other u _ _ agreed. still words words all views u refl (λ _. refl) (λ i _ told. tells i told) agreed)
+-- the rule does not read the number of splits
+with_split_counted : (n : ℕ) (words : List ℕ) (views : List SeatView) (seat : ℕ) (v : SeatView) → WordRule n words views → get_elem? views seat ≡ some v
+    → WordRule n words (set views seat (after_split v))
+with_split_counted n words views seat v rule stands = let w : SeatView = after_split v in let after_it : List SeatView = set views seat w in
+    let still_told : (i : ℕ) → IsTold words views i → IsTold words after_it i = λ i told. tells_beside n words views seat v rule stands words w i refl refl (λ owes. owes) told in
+    let own = rule.each seat v stands in
+    by_seat n words views seat v rule stands words w rule.sized refl rule.notified_bit rule.blocked_bit
+    (record { seen = own.seen; exact = own.exact; idle = own.idle; flag = own.flag; alone = own.alone; told = λ i waits. still_told i (own.told i waits) })
+    (λ other u _ _ agrees. still words words after_it views u refl (λ _. refl) (λ i _ told. still_told i told) agrees)
 
 pub split_keeps_rule : SplitKeepsRule
-split_keeps_rule n words views seat v rule stands = let was = rule.each seat v stands in
-    one_beside n words (set views seat (with_one_more v)) v was.seen (counts_one n words views seat v rule stands)
+split_keeps_rule n words views seat v rule stands =
+    let counted : WordRule n words (set views seat (after_split v)) = with_split_counted n words views seat v rule stands in
+    with_pass_at_end n words (set views seat (after_split v)) v (rule.each seat v stands).seen counted
 
 -- a pass gets another view that has seen no more than the ticker, and keeps its debts
 pass_becomes : (n : ℕ) (words : List ℕ) (views : List SeatView) (seat : ℕ) (v w : SeatView) (rule : WordRule n words views) (stands : get_elem? views seat ≡ some v)

@@ -10,7 +10,7 @@ use Rattle.aio_rules.specs.declared.seats.Mode.{Mode}
 use Rattle.aio_rules.specs.declared.seats.Mode.TheVariants as mode
 use Rattle.aio_rules.specs.declared.seats.WordStep.TheVariants as word_step
 use Rattle.aio_rules.specs.declared.seats.SeatView.{SeatView}
-use Rattle.aio_rules.specs.SharedWords.{first_view, new_view, held, owed_to, after, May, IsInMidCall, WordRule}
+use Rattle.aio_rules.specs.SharedWords.{first_view, split_view, held, owed_to, after, May, IsInMidCall, WordRule}
 use Rattle.aio_rules.specs.WordCalls.{Found, wake_steps, all_wake_steps, wins}
 use Rattle.aio_rules.proofs.WordFrames.{not_both}
 
@@ -75,20 +75,20 @@ an_untold_wait_is_refused other nothing rule = ⊎_elim (λ z. absurd (zero_not_
 a_wait_without_its_flag_is_refused : ¬ WordRule 1 (0 ∷ 0 ∷ 0 ∷ 0 ∷ []) (waits ∷ [])
 a_wait_without_its_flag_is_refused rule = zero_not_one ((rule.each 0 waits refl).flag 0 refl)
 
--- a pass that has seen a round that has not begun
-abbrev ahead : SeatView
-ahead = new_view (after (word_step.AddTicker 0) first_view)
+-- a pass split off a round seat that began one round more than the words tell
+abbrev early_pass : SeatView
+early_pass = split_view (after (word_step.AddTicker 0) first_view)
 
 -- a pass has seen a round that has not begun
-a_round_not_begun_is_refused : ¬ WordRule 1 (0 ∷ 0 ∷ 0 ∷ 0 ∷ []) (first_view ∷ ahead ∷ [])
-a_round_not_begun_is_refused rule = let e = (rule.each 1 ahead refl).seen in absurd (omega arith)
+a_round_not_begun_is_refused : ¬ WordRule 1 (0 ∷ 0 ∷ 0 ∷ 0 ∷ []) (first_view ∷ early_pass ∷ [])
+a_round_not_begun_is_refused rule = let e = (rule.each 1 early_pass refl).seen in absurd (omega arith)
 
 -- two seats begin rounds
 two_round_seats_are_refused : ¬ WordRule 1 (0 ∷ 0 ∷ 0 ∷ 0 ∷ []) (first_view ∷ first_view ∷ [])
 two_round_seats_are_refused rule = let one = rule.one_round.2 in zero_not_one ((one 0 first_view refl).0 refl ∙ sym ((one 1 first_view refl).0 refl))
 
 -- a pass looks at a flag before it has set a bit
-a_look_before_the_bit_is_refused : ¬ May 1 (new_view first_view) (word_step.LoadBlocked 0 1)
+a_look_before_the_bit_is_refused : ¬ May 1 (split_view first_view) (word_step.LoadBlocked 0 1)
 a_look_before_the_bit_is_refused may = none-some 0 (ap owed_to may.2)
 
 -- notified is cleared before the wait of a seat that blocks
@@ -101,5 +101,5 @@ a_clearing_before_the_wait_is_refused may = ⊎_elim (λ idle. none-some 0 (sym 
     is_wait (mode.Wait i) = true
 
 -- a pass begins a round
-a_round_of_a_pass_is_refused : ¬ May 1 (new_view first_view) (word_step.AddTicker 0)
+a_round_of_a_pass_is_refused : ¬ May 1 (split_view first_view) (word_step.AddTicker 0)
 a_round_of_a_pass_is_refused may = not_both role.Pass may.0 refl

@@ -12,7 +12,7 @@ use Rattle.aio_rules.specs.declared.seats.Mode.{Mode}
 use Rattle.aio_rules.specs.declared.seats.Mode.TheVariants as mode
 use Rattle.aio_rules.specs.declared.seats.WordStep.TheVariants as word_step
 use Rattle.aio_rules.specs.declared.seats.SeatView.{SeatView}
-use Rattle.aio_rules.specs.SharedWords.{ticker, ticker_place, notified, notified_place, blocked, blocked_place, mask, mask_place, word_count, held, owed_to, blocking, left_by, after, IsFree, IsTold, AgreesWithWords, WordRule}
+use Rattle.aio_rules.specs.SharedWords.{ticker, ticker_place, notified, notified_place, blocked, blocked_place, mask, mask_place, word_count, held, owed_to, blocking, value_after, after, IsFree, IsTold, AgreesWithWords, WordRule}
 use Rattle.aio_rules.specs.WordLaws.{StepKeepsRule}
 use Rattle.aio_rules.proofs.SeatLists.{in_range, where_set}
 use Rattle.aio_rules.proofs.WordFrames.{not_both, idle_holds_none, idle_pass, still, mid_call_after, by_seat, others_idle}
@@ -147,7 +147,7 @@ module _ (n : ℕ) (words : List ℕ) (views : List SeatView) (seat : ℕ) (v : 
       told)
 
   exchanges : (found : ℕ) → notified words ≡ found → v.role ≡ role.Pass
-      → WordRule n (set words notified_place (left_by (word_step.ExchangeNotified found))) (set views seat (after (word_step.ExchangeNotified found) v))
+      → WordRule n (set words notified_place (value_after (word_step.ExchangeNotified found))) (set views seat (after (word_step.ExchangeNotified found) v))
   exchanges found e pass = let w : SeatView = after (word_step.ExchangeNotified found) v in let left : ℕ = if eqb found 0 then 1 else found in let now : List ℕ = set words notified_place left in
       let one : left ≡ 1 = dite (ℕ_discrete found 0) (λ z. if_is found 0 1 found z) (λ nz. if_is_not found 0 1 found nz ∙ (let b = rule.notified_bit in omega arith)) in
       let here : notified now ≡ 1 = get_or-set_same words 1 left 0 (let s = rule.sized in omega arith) ∙ one in

@@ -27,11 +27,11 @@ module _ {I : Type 0} where
 
   -- the first member, for which the cell is still to be made; what it knows of the cell is of no account
   abbrev pub opening_claim : I → ClaimView I
-  opening_claim words = record { holds = true; opening = true; words = words; sure_of_wait = false; sure_of_arms = false; made = 0; line = [] }
+  opening_claim words = record { holds = true; opening = true; words = words; sure_of_wait = false; sure_of_arms = false; splits = 0; lineage = [] }
 
   -- the first member, which holds no cell, and knows this
   abbrev pub knowing : About I → ClaimView I
-  knowing all = record { holds = false; opening = false; words = all.words; sure_of_wait = all.sure_of_wait; sure_of_arms = all.sure_of_arms; made = 0; line = [] }
+  knowing all = record { holds = false; opening = false; words = all.words; sure_of_wait = all.sure_of_wait; sure_of_arms = all.sure_of_arms; splits = 0; lineage = [] }
 
   abbrev pub holding : ClaimView I → ClaimView I
   holding t = record t { holds = true }
@@ -39,13 +39,13 @@ module _ {I : Type 0} where
   abbrev pub released : ClaimView I → ClaimView I
   released t = record t { holds = false }
 
-  -- a member beside which one more was made
-  abbrev pub with_one_more : ClaimView I → ClaimView I
-  with_one_more t = record t { made = t.made + 1 }
+  -- the claim of a member after another was split off it
+  abbrev pub split_claim : ClaimView I → ClaimView I
+  split_claim t = record t { splits = t.splits + 1 }
 
-  -- the next member that is made beside one: it holds no cell, has made none, and is named as the next of that one
+  -- the claim of the member that is split off: without the cell, without splits of its own, its lineage one number longer
   abbrev pub next_claim : ClaimView I → ClaimView I
-  next_claim t = record t { holds = false; made = 0; line = t.line ++ t.made ∷ [] }
+  next_claim t = record t { holds = false; splits = 0; lineage = t.lineage ++ t.splits ∷ [] }
 
   -- ## The kinds of step
 
@@ -65,9 +65,9 @@ module _ {I : Type 0} where
   abbrev pub pushed : RoundMember I → RoundMember I
   pushed m = record m { claim = released m.claim }
 
-  -- a member beside which one was made for another thread, which it counts; and that one
-  abbrev pub makes_one : RoundMember I → RoundMember I
-  makes_one m = record m { claim = with_one_more m.claim }
+  -- what a split leaves of a member, and the new member that another thread gets
+  abbrev pub split_member : RoundMember I → RoundMember I
+  split_member m = record m { claim = split_claim m.claim }
 
   abbrev pub new_member : RoundMember I → RoundMember I
   new_member m = record { claim = next_claim m.claim; empties = 0 }

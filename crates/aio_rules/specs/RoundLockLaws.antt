@@ -2,7 +2,7 @@
 use Rattle.std.specs.Prelude.{◌≡◌, ℕ, true, false, List, [], ◌∷◌, ◌++◌, map, slice_set}
 use mathlib.Core.Option.{some}
 use lib.ListN.{get_elem?}
-use Rattle.aio_rules.specs.RoundLock.{About, RoundMember, about_of, opening_claim, opened, popped, found_none, pushed, makes_one, new_member, RoundLockRule}
+use Rattle.aio_rules.specs.RoundLock.{About, RoundMember, about_of, opening_claim, opened, popped, found_none, pushed, split_member, new_member, RoundLockRule}
 
 module _ {X I : Type 0} (says : X → About I → Type 0) (is_idle : X → Type 0) where
   abbrev pub MembersRule : List X → List (RoundMember I) → Type 0
@@ -42,10 +42,10 @@ module _ {X I : Type 0} (says : X → About I → Type 0) (is_idle : X → Type 
       → StandsAt items members member m → m.claim.holds ≡ true → m.claim.opening ≡ false → MayBePushed x (about_of m.claim)
       → MembersRule (items ++ x ∷ []) (slice_set members member (pushed m))
 
-  -- making a member beside one, which counts it
+  -- a member that is split off another
   abbrev pub NewMemberKeepsRule : Type 0
   NewMemberKeepsRule = (items : List X) (members : List (RoundMember I)) (member : ℕ) (m : RoundMember I)
-      → StandsAt items members member m → m.claim.opening ≡ false → MembersRule items (slice_set members member (makes_one m) ++ new_member m ∷ [])
+      → StandsAt items members member m → m.claim.opening ≡ false → MembersRule items (slice_set members member (split_member m) ++ new_member m ∷ [])
 
   -- a member that holds the cell finds the queue empty, so a push of its own cannot find it full
   abbrev pub HolderFindsNone : Type 0

@@ -44,22 +44,22 @@ mask words parker = slice_index words (mask_place parker)
 
 -- the view of the first seat, which is the round seat
 abbrev pub first_view : SeatView
-first_view = record { role = role.Round; seen = 0; owes = owed.Nothing; mode = mode.Idle; did = []; made = 0; line = [] }
+first_view = record { role = role.Round; seen = 0; owes = owed.Nothing; mode = mode.Idle; did = []; splits = 0; lineage = [] }
 
--- the view of a seat that is split off this one: a pass that has seen as much, owes nothing, is idle and has done nothing, and is named as the next
--- seat that this one makes
-abbrev pub new_view : SeatView → SeatView
-new_view v = record { role = role.Pass; seen = v.seen; owes = owed.Nothing; mode = mode.Idle; did = []; made = 0; line = v.line ++ v.made ∷ [] }
+-- what a seat split off this one begins with: it is a pass, idle, without steps or debts, it starts from the ticker that this one has seen, and its
+-- lineage goes on from this one's by the number of splits so far
+abbrev pub split_view : SeatView → SeatView
+split_view v = record { role = role.Pass; seen = v.seen; owes = owed.Nothing; mode = mode.Idle; did = []; splits = 0; lineage = v.lineage ++ v.splits ∷ [] }
 
--- the view of a seat off which one more seat was split
-abbrev pub with_one_more : SeatView → SeatView
-with_one_more v = record v { made = v.made + 1 }
+-- what the split leaves of the seat itself: its number of splits is one higher, nothing else moves
+abbrev pub after_split : SeatView → SeatView
+after_split v = record v { splits = v.splits + 1 }
 
 -- the view that a joined seat leaves
 abbrev pub spent_view : SeatView
-spent_view = record (new_view first_view) { line = [] }
+spent_view = record (split_view first_view) { lineage = [] }
 
--- the view of a pass that takes in another: the greater ticker of the two, and its own steps and count of seats
+-- a pass that joined another: its ticker is the later of both, and steps, splits and lineage stay its own
 abbrev pub joined_seat : SeatView → SeatView → SeatView
 joined_seat v other = record v { seen = max v.seen other.seen }
 
@@ -102,16 +102,16 @@ found_by (word_step.LoadMask i found) = found
 found_by (word_step.SwapNotified found) = found
 
 -- the value that a step leaves in its word
-abbrev pub left_by : WordStep → ℕ
-left_by (word_step.LoadTicker found) = found
-left_by (word_step.AddTicker found) = found + 1
-left_by (word_step.SetBit i bit found) = bit_or found (2 ^ bit)
-left_by (word_step.LoadBlocked i found) = found
-left_by (word_step.ExchangeNotified found) = if found == 0 then 1 else found
-left_by (word_step.StoreBlocked i value found) = value
-left_by (word_step.SwapMask i found) = 0
-left_by (word_step.LoadMask i found) = found
-left_by (word_step.SwapNotified found) = 0
+abbrev pub value_after : WordStep → ℕ
+value_after (word_step.LoadTicker found) = found
+value_after (word_step.AddTicker found) = found + 1
+value_after (word_step.SetBit i bit found) = bit_or found (2 ^ bit)
+value_after (word_step.LoadBlocked i found) = found
+value_after (word_step.ExchangeNotified found) = if found == 0 then 1 else found
+value_after (word_step.StoreBlocked i value found) = value
+value_after (word_step.SwapMask i found) = 0
+value_after (word_step.LoadMask i found) = found
+value_after (word_step.SwapNotified found) = 0
 
 -- a seat that waits blocks again
 abbrev pub blocking : Mode → Mode

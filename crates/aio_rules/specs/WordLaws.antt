@@ -8,7 +8,7 @@ use Rattle.aio_rules.specs.declared.seats.Mode.TheVariants as mode
 use Rattle.aio_rules.specs.declared.seats.WordStep.{WordStep}
 use Rattle.aio_rules.specs.declared.seats.WordStep.TheVariants as word_step
 use Rattle.aio_rules.specs.declared.seats.SeatView.{SeatView}
-use Rattle.aio_rules.specs.SharedWords.{word_count, mask, notified, first_view, new_view, with_one_more, spent_view, joined_seat, place_of, found_by, left_by, after, IsFree, May, IsInMidCall, WordRule}
+use Rattle.aio_rules.specs.SharedWords.{word_count, mask, notified, first_view, split_view, after_split, spent_view, joined_seat, place_of, found_by, value_after, after, IsFree, May, IsInMidCall, WordRule}
 
 -- A seat stands at the words and may make a step, which found what its word was.
 pub record CanStep (parkers : ℕ) (words : List ℕ) (views : List SeatView) (seat : ℕ) (v : SeatView) (s : WordStep) : Type 0 where
@@ -24,13 +24,13 @@ StartMeetsWordRule = (parkers : ℕ) → WordRule parkers (replicate (word_count
 -- each step keeps the rule
 abbrev pub StepKeepsRule : Type 0
 StepKeepsRule = (parkers : ℕ) (words : List ℕ) (views : List SeatView) (seat : ℕ) (v : SeatView) (s : WordStep)
-    → CanStep parkers words views seat v s → WordRule parkers (slice_set words (place_of s) (left_by s)) (slice_set views seat (after s v))
+    → CanStep parkers words views seat v s → WordRule parkers (slice_set words (place_of s) (value_after s)) (slice_set views seat (after s v))
 
--- a seat off which a new seat is split counts it and keeps the rest of its view, and the words stay
+-- a split changes no word, of the seat the number of splits alone, and adds one pass at the end
 abbrev pub SplitKeepsRule : Type 0
 SplitKeepsRule = (parkers : ℕ) (words : List ℕ) (views : List SeatView) (seat : ℕ) (v : SeatView)
     → WordRule parkers words views → get_elem? views seat ≡ some v
-    → WordRule parkers words (slice_set views seat (with_one_more v) ++ new_view v ∷ [])
+    → WordRule parkers words (slice_set views seat (after_split v) ++ split_view v ∷ [])
 
 -- a pass that takes in another, which owes nothing, has the greater ticker; the other leaves a spent view, and the words stay
 abbrev pub JoinKeepsWordRule : Type 0
@@ -39,10 +39,10 @@ JoinKeepsWordRule = (parkers : ℕ) (words : List ℕ) (views : List SeatView) (
     → other ≢ seat → get_elem? views other ≡ some w → IsFree w
     → WordRule parkers words (slice_set (slice_set views seat (joined_seat v w)) other spent_view)
 
--- a step leaves its seat's role, its name and its count of seats as they are, lets what the seat has seen not fall, and stands at the end of the seat's steps
+-- role, lineage and splits of a seat stay over a step, the ticker that it has seen does not fall, and the step comes last among its own
 abbrev pub StepKeepsSeat : Type 0
 StepKeepsSeat = (parkers : ℕ) (words : List ℕ) (views : List SeatView) (seat : ℕ) (v : SeatView) (s : WordStep)
-    → CanStep parkers words views seat v s → ((after s v).role ≡ v.role) × ((after s v).line ≡ v.line) × ((after s v).made ≡ v.made) × (v.seen ≤ (after s v).seen) × ((after s v).did ≡ v.did ++ s ∷ [])
+    → CanStep parkers words views seat v s → ((after s v).role ≡ v.role) × ((after s v).lineage ≡ v.lineage) × ((after s v).splits ≡ v.splits) × (v.seen ≤ (after s v).seen) × ((after s v).did ≡ v.did ++ s ∷ [])
 
 -- whether a step is a swap of this parker's mask
 abbrev pub is_swap_of : ℕ → WordStep → Bool
@@ -53,7 +53,7 @@ is_swap_of i s = false
 abbrev pub OnlySwapTakesBits : Type 0
 OnlySwapTakesBits = (parkers : ℕ) (words : List ℕ) (views : List SeatView) (seat : ℕ) (v : SeatView) (s : WordStep) (i bit : ℕ)
     → CanStep parkers words views seat v s → is_swap_of i s ≡ false
-    → bit_at (mask words i) bit ≤ bit_at (mask (slice_set words (place_of s) (left_by s)) i) bit
+    → bit_at (mask words i) bit ≤ bit_at (mask (slice_set words (place_of s) (value_after s)) i) bit
 
 -- while the round seat waits for a parker one of whose slots is woken, notified is set or a wake is in mid-call
 abbrev pub WokenWaitIsTold : Type 0

@@ -14,11 +14,11 @@ pub struct ClaimView<I> {
     pub sure_of_wait: bool,
     /// Whether the reactor is sure of its arms.
     pub sure_of_arms: bool,
-    /// How many members were made beside it.
-    pub made: u64,
-    /// Which member it is: the way to it from the first one, of which each number says how many members
-    /// were made beside the one before until this one was.
-    pub line: LinkedList<u64>,
+    /// How many members were split off it.
+    pub splits: u64,
+    /// Its place among all members: for it and each member that it descends from, the first one left out,
+    /// the number of splits that came before its own.
+    pub lineage: LinkedList<u64>,
 }
 
 /// What a reactor lock holds: a round, the seat that begins rounds at the words of the reactor, and the

@@ -73,8 +73,8 @@ pub struct SeatView {
     /// Its own steps, in order.
     pub did: LinkedList<WordStep>,
     /// How many seats were split off it.
-    pub made: u64,
-    /// Which seat it is: the way to it from the first seat, of which each number says how many seats
-    /// were split off the one before until this one was.
-    pub line: LinkedList<u64>,
+    pub splits: u64,
+    /// Its place among all seats: for it and each seat that it descends from, the first one left out, the
+    /// number of splits that came before its own.
+    pub lineage: LinkedList<u64>,
 }

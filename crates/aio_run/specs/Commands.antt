@@ -149,7 +149,7 @@ why_written (Err refused.OutOfMemory) fault = why.OutOfMemory
 -- ## What the user is told
 
 -- The text for the user was written to a sink: whole, or a front part of it where a call of the sink was answered by a refusal; being sure stays.
-pub record IsTold {S : Type 0} (contents : S → Option (List ℕ)) (write_step : S → List ℕ → Result ℕ SinkRefusal → S → Type 0)
+pub record WritesCause {S : Type 0} (contents : S → Option (List ℕ)) (write_step : S → List ℕ → Result ℕ SinkRefusal → S → Type 0)
     (count : S → ℕ) (is_sure : S → Bool) (old new : S) (text : List ℕ) : Type 0 where
   pub answer : Result (Unit {0}) SinkRefusal
   pub written : Writes answer (contents old) (contents new) text

@@ -7,7 +7,7 @@ ghost use Rattle.aio_base.specs.Trace.{trace_of};
 ghost use Rattle.aio_base.specs.Devices.{TellsFaults};
 ghost use Rattle.aio_bytes.specs.Sinks.{HasFailed, RefusedBy, Writes};
 ghost use Rattle.aio_replay.specs.Driving.{Causes, LeavesAllBut};
-ghost use Rattle.aio_run.specs.Commands.{IsGen, IsReplay, IsSum, IsTold, Names, exit_of};
+ghost use Rattle.aio_run.specs.Commands.{IsGen, IsReplay, IsSum, WritesCause, Names, exit_of};
 ghost use Rattle.aio_run.specs.Commands.{text_of, refusal_text, summary_text, trace_text};
 ghost use Rattle.aio_run.specs.Commands.{Replays, TellsCounts, WritesText, bytes_taken, why_of};
 ghost use Rattle.aio_run.specs.Commands.{why_written};
@@ -107,7 +107,7 @@ pub fn run<R: Wait + Threads + Sync + Send + Copy, S: Source, K: Sink, E: Sink>(
     ensures write_cause { Causes K.fault_count K.is_sure out.old out.new (is_write_fault result.why) }
 
     // The user is told why, as far as `err` takes it; a refusal of `err` changes nothing else.
-    ensures told { IsTold E.contents E.write_step E.fault_count E.is_sure err.old err.new
+    ensures told { WritesCause E.contents E.write_step E.fault_count E.is_sure err.old err.new
         (text_of result.why) }
 {
     let why = match command_of(words) {

@@ -10,9 +10,9 @@ use Rattle.aio_source.specs.Values.{SourceValue}
 use Rattle.aio_source.specs.Rules.{wanted}
 
 -- what the arm answered, by the answer of the call to which it was lent; where it was not asked, that it is done
-abbrev pub told : Result (Unit {0}) ArmFault → Result (Unit {0}) Failed
-told (Ok done) = Ok done
-told (Err fault) = Err (record {})
+abbrev pub arm_answer : Result (Unit {0}) ArmFault → Result (Unit {0}) Failed
+arm_answer (Ok done) = Ok done
+arm_answer (Err fault) = Err (record {})
 
 -- the answer that tells a failed arm, by the two counts of faults
 abbrev pub fault_of : Key → ℕ → ℕ → Result (Unit {0}) Failed → Result (Unit {0}) ArmFault

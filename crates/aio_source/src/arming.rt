@@ -3,7 +3,7 @@
 ghost use Rattle.std.specs.Prelude.{◌≡◌, ◌<◌};
 ghost use Rattle.aio_base.specs.Devices.{ArmOf};
 ghost use Rattle.aio_source.specs.Rules.{wanted};
-ghost use Rattle.aio_source.specs.Lent.{told, fault_of, UsesArm, asked_after, broken_after};
+ghost use Rattle.aio_source.specs.Lent.{arm_answer, fault_of, UsesArm, asked_after, broken_after};
 
 use crate::directions::Directions;
 use aio_base::{Arm, ArmFault, Interest, Key};
@@ -26,12 +26,12 @@ impl Arming {
     ) -> Result<(), ArmFault>
         requires { key.0 < 4096 }
         ensures fault { result
-            ≡ fault_of key (A.fault_count arm.old) (A.fault_count arm.new) (told result) }
+            ≡ fault_of key (A.fault_count arm.old) (A.fault_count arm.new) (arm_answer result) }
         ensures asked { self.new.asked
-            ≡ asked_after arms (wanted directions.now) (told result) self.old.asked }
-        ensures broken { self.new.broken ≡ broken_after arms (told result) self.old.broken }
+            ≡ asked_after arms (wanted directions.now) (arm_answer result) self.old.asked }
+        ensures broken { self.new.broken ≡ broken_after arms (arm_answer result) self.old.broken }
         ensures lent { UsesArm A.arm_step A.interests A.rest A.fault_count A.is_sure
-            arms (ArmOf key (wanted directions.now)) (told result) arm.old arm.new }
+            arms (ArmOf key (wanted directions.now)) (arm_answer result) arm.old arm.new }
     {
         if !arms {
             return Ok(());

@@ -4,7 +4,7 @@ ghost use Rattle.std.specs.Prelude.{◌≡◌, ◌+◌, ◌-◌, ◌^◌, ◌<�
 ghost use Rattle.aio_base.specs.World.{directions};
 ghost use Rattle.aio_listen.specs.Listening.{Holds, has_ticket};
 ghost use Rattle.aio_source.specs.Rules.{new_source, is_above, waiters_of, waiters_in, direction_of, taken_along, polling, listening_first, listening_on, polling_again, unlistened, handling, Covered};
-ghost use Rattle.aio_source.specs.Lent.{told, fault_of, UsesArm, arm_of, settled};
+ghost use Rattle.aio_source.specs.Lent.{arm_answer, fault_of, UsesArm, arm_of, settled};
 ghost use Rattle.aio_source.specs.Answers.{poll_answer, armed_in, armed_first, listened_in, ticket_in};
 
 use crate::answers::{ListenRefusal, Listened, Polled};
@@ -140,15 +140,15 @@ impl SourceState {
         ensures answer { let p = polling self.old dir w ticker in
             result ≡ record {
               answer = poll_answer p.ready (fault_of self.old.key (A.fault_count arm.old)
-                  (A.fault_count arm.new) (told (armed_in result.answer)));
+                  (A.fault_count arm.new) (arm_answer (armed_in result.answer)));
               replaced = p.replaced;
             } }
         ensures after { let p = polling self.old dir w ticker in
-            self.new ≡ settled p.arms (told (armed_in result.answer)) p.source }
+            self.new ≡ settled p.arms (arm_answer (armed_in result.answer)) p.source }
         ensures key { self.new.key ≡ self.old.key }
         ensures lent { let p = polling self.old dir w ticker in
             UsesArm A.arm_step A.interests A.rest A.fault_count A.is_sure
-            p.arms (arm_of p.source) (told (armed_in result.answer)) arm.old arm.new }
+            p.arms (arm_of p.source) (arm_answer (armed_in result.answer)) arm.old arm.new }
     {
         let direction = self.directions.get_mut(dir);
         if direction.is_ready() {
@@ -189,13 +189,13 @@ impl SourceState {
         ensures spent { IsErrOf result ListenRefusal.TicketsSpent
             ↔ ((direction_of self.old.directions dir).listeners.drawn ≡ 2 ^ 64 - 1) }
         ensures fault { armed_first result ≡ fault_of self.old.key (A.fault_count arm.old)
-            (A.fault_count arm.new) (told (armed_first result)) }
+            (A.fault_count arm.new) (arm_answer (armed_first result)) }
         ensures after { let p = listening_first self.old dir w (ticket_in result) in
-            self.new ≡ settled p.arms (told (armed_first result)) p.source }
+            self.new ≡ settled p.arms (arm_answer (armed_first result)) p.source }
         ensures key { self.new.key ≡ self.old.key }
         ensures lent { let p = listening_first self.old dir w (ticket_in result) in
             UsesArm A.arm_step A.interests A.rest A.fault_count A.is_sure
-            p.arms (arm_of p.source) (told (armed_first result)) arm.old arm.new }
+            p.arms (arm_of p.source) (arm_answer (armed_first result)) arm.old arm.new }
     {
         let direction = self.directions.get_mut(dir);
         let arms = direction.is_idle() || self.arming.broken;
@@ -230,13 +230,13 @@ impl SourceState {
         requires { Holds (direction_of self.old.directions dir).listeners.entries l.ticket }
         ensures answer { let p = polling_again self.old dir l w in
             result ≡ poll_answer p.ready (fault_of self.old.key (A.fault_count arm.old)
-            (A.fault_count arm.new) (told (armed_in result))) }
+            (A.fault_count arm.new) (arm_answer (armed_in result))) }
         ensures after { let p = polling_again self.old dir l w in
-            self.new ≡ settled p.arms (told (armed_in result)) p.source }
+            self.new ≡ settled p.arms (arm_answer (armed_in result)) p.source }
         ensures key { self.new.key ≡ self.old.key }
         ensures lent { let p = polling_again self.old dir l w in
             UsesArm A.arm_step A.interests A.rest A.fault_count A.is_sure
-            p.arms (arm_of p.source) (told (armed_in result)) arm.old arm.new }
+            p.arms (arm_of p.source) (arm_answer (armed_in result)) arm.old arm.new }
     {
         if self.ready_since(dir, l.a, l.b) {
             return Poll::Ready(Ok(()));
@@ -257,13 +257,13 @@ impl SourceState {
     ) -> Poll<Result<(), ArmFault>>
         requires { Holds (direction_of self.old.directions dir).listeners.entries t }
         ensures answer { result ≡ poll_answer false (fault_of self.old.key (A.fault_count arm.old)
-            (A.fault_count arm.new) (told (armed_in result))) }
+            (A.fault_count arm.new) (arm_answer (armed_in result))) }
         ensures after { let p = listening_on self.old dir t w in
-            self.new ≡ settled p.arms (told (armed_in result)) p.source }
+            self.new ≡ settled p.arms (arm_answer (armed_in result)) p.source }
         ensures key { self.new.key ≡ self.old.key }
         ensures lent { let p = listening_on self.old dir t w in
             UsesArm A.arm_step A.interests A.rest A.fault_count A.is_sure
-            p.arms (arm_of p.source) (told (armed_in result)) arm.old arm.new }
+            p.arms (arm_of p.source) (arm_answer (armed_in result)) arm.old arm.new }
     {
         let direction = self.directions.get_mut(dir);
         let arms = direction.is_idle() || self.arming.broken;
@@ -298,15 +298,15 @@ impl SourceState {
         requires room { vec_len taken.old + length (waiters_in directions self.old.directions)
             ≤ vec_capacity taken.old }
         ensures answer { result ≡ fault_of self.old.key (A.fault_count arm.old)
-            (A.fault_count arm.new) (told result) }
+            (A.fault_count arm.new) (arm_answer result) }
         ensures taken { taken.new.items
             ≡ taken.old.items ++ taken_along e.on round directions self.old.directions }
         ensures capacity { vec_capacity taken.new ≡ vec_capacity taken.old }
         ensures after { let p = handling self.old e.on round in
-            self.new ≡ settled p.arms (told result) p.source }
+            self.new ≡ settled p.arms (arm_answer result) p.source }
         ensures lent { let p = handling self.old e.on round in
             UsesArm A.arm_step A.interests A.rest A.fault_count A.is_sure
-            p.arms (arm_of p.source) (told result) arm.old arm.new }
+            p.arms (arm_of p.source) (arm_answer result) arm.old arm.new }
     {
         self.directions.take_waiters(e.on, round, taken);
         self.arming.asked = Interest::NONE;

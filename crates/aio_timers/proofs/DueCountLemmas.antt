@@ -7,7 +7,7 @@ use Rattle.aio_base.specs.declared.names.Waker.{Waker}
 use Rattle.aio_base.specs.World.{Registration}
 use Rattle.aio_base.specs.Timers.{fires_before, placed, in_order, due_wakers}
 use Rattle.aio_timers.specs.declared.node.Node.{Node}
-use Rattle.aio_timers.specs.Held.{Held, IsUsed, held_at, helds, vacant, live_of, registered}
+use Rattle.aio_timers.specs.Held.{Held, IsUsed, held_at, helds, vacant, live_of, registration_in}
 use Rattle.aio_timers.specs.Rows.{one_if, times_in}
 use Rattle.aio_timers.specs.Due.{is_due, due_in}
 use Rattle.aio_timers.specs.Sound.{registrations}
@@ -161,7 +161,7 @@ late-registrations now [] = refl
 late-registrations now (h ∷ hs) = go h.waker (late-registrations now hs)
   where
     go : (w : Option Waker) → late_in now (registrations hs) ≡ due_in now hs
-        → late_in now (in_order (cons_option (registered h.deadline h.id w) (filter_map live_of hs))) ≡ cond (is_some w && nat_le h.deadline now) 1 0 + due_in now hs
+        → late_in now (in_order (cons_option (registration_in h.deadline h.id w) (filter_map live_of hs))) ≡ cond (is_some w && nat_le h.deadline now) 1 0 + due_in now hs
     go None e = omega (arith, e)
     go (Some w) e = omega (arith, e, late-placed now (record { id = h.id; deadline = h.deadline; waker = w }) (registrations hs))
 

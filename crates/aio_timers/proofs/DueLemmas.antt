@@ -11,7 +11,7 @@ use Rattle.aio_timers.specs.Rows.{one_if, times_in, IsRun, IsRow, IsRunOnce, ste
 use Rattle.aio_timers.specs.Writes.{leads_to}
 use Rattle.aio_timers.specs.Family.{Family, IsFamily, IsParent, IsTop}
 use Rattle.aio_timers.specs.Heap.{IsHeap, IsRoot}
-use Rattle.aio_timers.specs.Due.{is_due, due_in, led_by, NoneDue, IsLastDueAt, IsLastDue, Down, Trail, IsOnTrail, ahead, GoesTo, GoesOn, GoesPast}
+use Rattle.aio_timers.specs.Due.{is_due, due_in, led_by, NoneDue, IsLastDueAt, IsLastDue, Down, Trail, IsOnTrail, ahead, GoesTo, WalksOn, GoesPast}
 use Rattle.aio_timers.proofs.CountLemmas.{one_if-same, one_if-other, one_if-le, some_or_none}
 use Rattle.aio_timers.proofs.RunLemmas.{used-within, times-append, once-le, run-within, row-run, steps-of-run, by-order}
 use Rattle.aio_timers.proofs.WriteLemmas.{leads-same, leads-other}
@@ -190,7 +190,7 @@ pub record Climbs (ns : List Node) (f : Family) (t : Trail) (p : ℕ) : Type 0 w
 
 -- the three ways back
 pub record Back (ns : List Node) (f : Family) (t : Trail) (i : ℕ) : Type 0 where
-  pub none : (node_at ns i).prev ≡ None → GoesOn ns f [] t None
+  pub none : (node_at ns i).prev ≡ None → WalksOn ns f [] t None
   pub climbs : (p : ℕ) → (node_at ns i).prev ≡ Some p → leads_to (node_at ns p).child i ≡ true → Climbs ns f t p
   pub goes : (p : ℕ) → (node_at ns i).prev ≡ Some p → leads_to (node_at ns p).child i ≡ false → GoesTo ns f [] t p
   pub within : (p : ℕ) → (node_at ns i).prev ≡ Some p → p < length ns
@@ -299,7 +299,7 @@ pub children : (ns : List Node) (f : Family) (i : ℕ) → IsFamily ns f → IsU
 children ns f i h u = record { run = row-run ns i (node_at ns i).child (f.below i) (h.linked i u); once = λ j. once-below ns f i j h u }
 
 -- no child is due
-pub goes-by : (ns : List Node) (f : Family) (now i : ℕ) (t : Trail) (to : Option ℕ) → IsFamily ns f → IsUsed (held_at ns i) → NoneDue (held_at ns) now (f.below i) → GoesOn ns f [] t to → GoesPast ns f now (f.below i) t to
+pub goes-by : (ns : List Node) (f : Family) (now i : ℕ) (t : Trail) (to : Option ℕ) → IsFamily ns f → IsUsed (held_at ns i) → NoneDue (held_at ns) now (f.below i) → WalksOn ns f [] t to → GoesPast ns f now (f.below i) t to
 goes-by ns f now i t to h u none g = record {
   kept = [];
   others = f.below i;
@@ -310,7 +310,7 @@ goes-by ns f now i t to h u none g = record {
 }
 
 -- there are no children to go to
-pub goes-back : (ns : List Node) (f : Family) (now : ℕ) (t : Trail) (to : Option ℕ) → GoesOn ns f [] t to → GoesPast ns f now [] t to
+pub goes-back : (ns : List Node) (f : Family) (now : ℕ) (t : Trail) (to : Option ℕ) → WalksOn ns f [] t to → GoesPast ns f now [] t to
 goes-back ns f now t to g = record { kept = []; others = []; parts = λ j. refl; used = λ j more. absurd (omega (arith, more)); idle = λ j more. absurd (omega (arith, more)); goes = g }
 
 -- ## What was passed
@@ -474,7 +474,7 @@ climb-start ns f t i h on = record { trail = t; is = on; same = λ j. refl; shor
 
 -- the end of the way back, and each step of it
 pub record Steps (ns : List Node) (f : Family) (t : Trail) (i n : ℕ) : Type 0 where
-  pub none : (node_at ns i).prev ≡ None → GoesOn ns f [] t None
+  pub none : (node_at ns i).prev ≡ None → WalksOn ns f [] t None
   pub climbs : (p : ℕ) → (node_at ns i).prev ≡ Some p → leads_to (node_at ns p).child i ≡ true → Climbed ns f t p (n + 1)
   pub goes : (p : ℕ) → (node_at ns i).prev ≡ Some p → leads_to (node_at ns p).child i ≡ false → GoesTo ns f [] t p
   pub within : (p : ℕ) → (node_at ns i).prev ≡ Some p → p < length ns

@@ -6,7 +6,7 @@ use Rattle.aio_timers.specs.declared.node.Node.{Node}
 use Rattle.aio_timers.specs.Held.{Held, IsUsed, held_at, node_at, gone}
 use Rattle.aio_timers.specs.Precedes.{precedes}
 use Rattle.aio_timers.specs.Rows.{one_if, times_in, IsRow, IsInside}
-use Rattle.aio_timers.specs.Writes.{leads_to, under, without, released}
+use Rattle.aio_timers.specs.Writes.{leads_to, under, without, put_on_free}
 use Rattle.aio_timers.specs.Family.{Family, one_below, IsParent, IsFamily, IsTop, AreTops, KeepsHeld}
 use Rattle.aio_timers.proofs.CountLemmas.{one_if-same, one_if-other}
 use Rattle.aio_timers.proofs.RunLemmas.{used-within, times-append, run-frame, row-run, row-frame}
@@ -287,8 +287,8 @@ module _ (old new : List Node) (f : Family) (i : ℕ) (free : Option ℕ) (h : I
         once = λ j. once-below old f i j h top.used;
       }
 
-pub orphans : (ns : List Node) (f : Family) (i : ℕ) (free : Option ℕ) → IsFamily ns f → IsTop ns f i → AreTops (released ns i free) (orphaned f i) (node_at ns i).child (f.below i)
-orphans ns f i free h top = orphans-freed ns (released ns i free) f i free h top (frees ns i free (used-within ns i top.used))
+pub orphans : (ns : List Node) (f : Family) (i : ℕ) (free : Option ℕ) → IsFamily ns f → IsTop ns f i → AreTops (put_on_free ns i free) (orphaned f i) (node_at ns i).child (f.below i)
+orphans ns f i free h top = orphans-freed ns (put_on_free ns i free) f i free h top (frees ns i free (used-within ns i top.used))
 
 -- ## A child leaves its row
 

@@ -6,7 +6,7 @@ use Rattle.aio_timers.specs.declared.node.Node.{Node}
 use Rattle.aio_timers.specs.Held.{Held, IsUsed, held_of, held_at, helds, node_at, lone_node, vacant, gone}
 use Rattle.aio_timers.specs.Precedes.{precedes}
 use Rattle.aio_timers.specs.Rows.{one_if, times_in, IsRun, IsRow, IsInside}
-use Rattle.aio_timers.specs.Writes.{under, upper, joined, without, released}
+use Rattle.aio_timers.specs.Writes.{under, upper, joined, without, put_on_free}
 use Rattle.aio_timers.specs.Family.{Family, one_below, IsFamily, IsParent, IsTop, AreTops, KeepsHeld, MergesTo, Merges}
 use Rattle.aio_timers.specs.Heap.{IsRoot, IsHeap, Holds, IsNewPair, one_free}
 use Rattle.aio_timers.proofs.CountLemmas.{one_if-same, one_if-other, some_or_none}
@@ -70,15 +70,15 @@ spares-keep old new f free h k still s = record {
 }
 
 -- a node in use becomes the first free one
-spares-released : (ns : List Node) (at : ℕ) (free : Option ℕ) → IsUsed (held_at ns at) → Spares ns free → Spares (released ns at free) (Some at)
+spares-released : (ns : List Node) (at : ℕ) (free : Option ℕ) → IsUsed (held_at ns at) → Spares ns free → Spares (put_on_free ns at free) (Some at)
 spares-released ns at free used s =
     let lt : at < length ns = used-within ns at used in
-    let w : Frees ns (released ns at free) at free = frees ns at free lt in
+    let w : Frees ns (put_on_free ns at free) at free = frees ns at free lt in
     let ne : (j : ℕ) → 0 < times_in j s.spare → j ≢ at = λ j c e. spare-unused ns free s j c (used-as (held_at ns j) (held_at ns at) (ap (held_at ns) e) used) in
     record {
       spare = at ∷ s.spare;
-      run = (refl, omega (arith, lt, w.len), rw w.next_here (run-frame ns (released ns at free) free s.spare w.len (λ j c. w.next j (ne j c)) s.run));
-      idle = λ j within. elim (cases_eq j at) as (λ _. one_if j at + times_in j s.spare ≡ one_free (held_at (released ns at free) j)) [
+      run = (refl, omega (arith, lt, w.len), rw w.next_here (run-frame ns (put_on_free ns at free) free s.spare w.len (λ j c. w.next j (ne j c)) s.run));
+      idle = λ j within. elim (cases_eq j at) as (λ _. one_if j at + times_in j s.spare ≡ one_free (held_at (put_on_free ns at free) j)) [
         | inl e ↦ rw e (omega (arith, one_if-same at, s.idle at lt, free-used (held_at ns at) used, ap one_free w.held_here))
         | inr other ↦ omega (arith, one_if-other j at other, s.idle j (omega (arith, within, w.len)), ap one_free (w.held j other))
       ];
@@ -279,20 +279,20 @@ pub record Opens (ns mid : List Node) (at : ℕ) (root : Option ℕ) (first : Op
   pub helds_are : helds mid ≡ set (helds ns) at (gone (held_at ns at))
 
 -- the roots after a node was freed are its children and those before
-opened-others : (ns : List Node) (f : Family) (at : ℕ) (free : Option ℕ) → IsFamily ns f → IsTop ns f at → (j : ℕ) → IsTop (released ns at free) (orphaned f at) j → times_in j (f.below at) ≡ 0 → IsTop ns f j × (j ≢ at)
+opened-others : (ns : List Node) (f : Family) (at : ℕ) (free : Option ℕ) → IsFamily ns f → IsTop ns f at → (j : ℕ) → IsTop (put_on_free ns at free) (orphaned f at) j → times_in j (f.below at) ≡ 0 → IsTop ns f j × (j ≢ at)
 opened-others ns f at free h top j t none =
-    let w : Frees ns (released ns at free) at free = frees ns at free (used-within ns at top.used) in
-    let ne : j ≢ at = λ e. absurd (gone-used (used-as (gone (held_at ns at)) (held_at (released ns at free) j) (sym (ap (held_at (released ns at free)) e ∙ w.held_here)) t.used)) in
+    let w : Frees ns (put_on_free ns at free) at free = frees ns at free (used-within ns at top.used) in
+    let ne : j ≢ at = λ e. absurd (gone-used (used-as (gone (held_at ns at)) (held_at (put_on_free ns at free) j) (sym (ap (held_at (put_on_free ns at free)) e ∙ w.held_here)) t.used)) in
     let not_below : f.above j ≢ Some at = λ e. omega (arith, none, has-below ns f at j h e) in
-    (record { used = used-as (held_at ns j) (held_at (released ns at free) j) (sym (w.held j ne)) t.used; free = sym (orphaned-other f at j not_below) ∙ t.free }, ne)
+    (record { used = used-as (held_at ns j) (held_at (put_on_free ns at free) j) (sym (w.held j ne)) t.used; free = sym (orphaned-other f at j not_below) ∙ t.free }, ne)
   where
     gone-used : IsUsed (gone (held_at ns at)) → ⊥
     gone-used u = cc
 
-released-helds : (ns : List Node) (at : ℕ) (free : Option ℕ) → at < length ns → helds (released ns at free) ≡ set (helds ns) at (gone (held_at ns at))
-released-helds ns at free lt = let w : Frees ns (released ns at free) at free = frees ns at free lt in helds-one ns (released ns at free) at (gone (held_at ns at)) lt w.len w.held_here w.held
+released-helds : (ns : List Node) (at : ℕ) (free : Option ℕ) → at < length ns → helds (put_on_free ns at free) ≡ set (helds ns) at (gone (held_at ns at))
+released-helds ns at free lt = let w : Frees ns (put_on_free ns at free) at free = frees ns at free lt in helds-one ns (put_on_free ns at free) at (gone (held_at ns at)) lt w.len w.held_here w.held
 
-pub opens-root : (ns mid : List Node) (r : ℕ) (first free : Option ℕ) → first ≡ (node_at ns r).child → mid ≡ released ns r free → IsHeap ns (Some r) free → Opens ns mid r None first
+pub opens-root : (ns mid : List Node) (r : ℕ) (first free : Option ℕ) → first ≡ (node_at ns r).child → mid ≡ put_on_free ns r free → IsHeap ns (Some r) free → Opens ns mid r None first
 opens-root ns mid r first free child is h =
     let top : IsTop ns h.family r = h.root_is.top in
     rw (child, is) (record {
@@ -342,7 +342,7 @@ links-inside ns root at free h used ne =
     before q [] i back lt within = lt
     before q (x ∷ xs) i back lt within = within (last_or x xs) (omega (arith, last-inside x xs, times-append (last_or x xs) (x ∷ xs) (i ∷ back)))
 
-pub opens-inner : (ns us mid : List Node) (root at : ℕ) (first free : Option ℕ) → us ≡ without ns at → first ≡ (node_at us at).child → mid ≡ released us at free → IsHeap ns (Some root) free → IsUsed (held_at ns at) → at ≢ root
+pub opens-inner : (ns us mid : List Node) (root at : ℕ) (first free : Option ℕ) → us ≡ without ns at → first ≡ (node_at us at).child → mid ≡ put_on_free us at free → IsHeap ns (Some root) free → IsUsed (held_at ns at) → at ≢ root
     → Opens ns mid at (Some root) first
 opens-inner ns us mid root at first free left child is h used ne =
     let c : Child ns h.family at = its-parent ns root at free h used ne in
@@ -356,12 +356,12 @@ opens-inner ns us mid root at first free left child is h used ne =
     alone : (q : ℕ) → root ≡ q → (node_at ns q).next ≡ None
     alone q e = ap (λ (x : ℕ). (node_at ns x).next) (sym e) ∙ h.root_is.next
 
-    opened : (c : Child ns h.family at) → IsFamily (without ns at) (parted h.family at c.parent c.front c.back) → Stands ns (without ns at) h.family at → Opens ns (released (without ns at) at free) at (Some root) (node_at (without ns at) at).child
+    opened : (c : Child ns h.family at) → IsFamily (without ns at) (parted h.family at c.parent c.front c.back) → Stands ns (without ns at) h.family at → Opens ns (put_on_free (without ns at) at free) at (Some root) (node_at (without ns at) at).child
     opened c fam st =
         let us : List Node = without ns at in
         let f : Family = parted h.family at c.parent c.front c.back in
         let top : IsTop (without ns at) (parted h.family at c.parent c.front c.back) at = record { used = used-as (held_at us at) (held_at ns at) (st.kept.held at) used; free = parted-here h.family at c.parent c.front c.back } in
-        let w : Frees (without ns at) (released (without ns at) at free) at free = frees us at free (used-within us at top.used) in
+        let w : Frees (without ns at) (put_on_free (without ns at) at free) at free = frees us at free (used-within us at top.used) in
         let rne : root ≢ at = λ e. ne (sym e) in
         let rfree : (parted h.family at c.parent c.front c.back).above root ≡ None = parted-other h.family at c.parent root c.front c.back rne ∙ h.root_is.top.free in
         let links : ((node_at (without ns at) root).next ≡ (node_at ns root).next) × ((node_at (without ns at) root).prev ≡ (node_at ns root).prev) = st.still root h.root_is.top.free in
@@ -371,7 +371,7 @@ opens-inner ns us mid root at first free left child is h used ne =
           tops = orphans us f at free fam top;
           root_is = (
             record {
-              top = record { used = used-as (held_at (released us at free) root) (held_at ns root) (w.held root rne ∙ st.kept.held root) h.root_is.top.used; free = orphaned-other f at root (λ e. none_some at (sym rfree ∙ e)) ∙ rfree };
+              top = record { used = used-as (held_at (put_on_free us at free) root) (held_at ns root) (w.held root rne ∙ st.kept.held root) h.root_is.top.used; free = orphaned-other f at root (λ e. none_some at (sym rfree ∙ e)) ∙ rfree };
               next = w.next root rne ∙ links.0 ∙ h.root_is.next;
               prev = w.prev root ∙ links.1 ∙ h.root_is.prev;
             },

@@ -11,7 +11,7 @@ use Rattle.aio_base.specs.Timers.{placed, is_pair, without_pair, due_wakers, IsB
 use Rattle.aio_timers.specs.declared.node.Node.{Node}
 use Rattle.aio_timers.specs.Held.{held_at, held_of, helds, vacant, gone, live_of}
 use Rattle.aio_timers.specs.Book.{first_pair, IsBehind}
-use Rattle.aio_timers.specs.Room.{left_by}
+use Rattle.aio_timers.specs.Room.{entries_without}
 use Rattle.aio_timers.specs.Sound.{IsSound, IsPairAt, registrations}
 use Rattle.aio_timers.proofs.AlikeLemmas.{held-read}
 use Rattle.aio_timers.proofs.BookLemmas.{IsBook-filter}
@@ -87,20 +87,20 @@ due-behind now entries d i h =
 
 -- ## The book without it
 
-pub left-length : (late : Option (ℕ × TimerId)) (pair : ℕ × TimerId) (entries : List Registration) → late ≡ Some pair → IfSome late (λ p. IsBehind entries p.0 p.1.0) → length entries ≡ length (left_by late entries) + 1
+pub left-length : (late : Option (ℕ × TimerId)) (pair : ℕ × TimerId) (entries : List Registration) → late ≡ Some pair → IfSome late (λ p. IsBehind entries p.0 p.1.0) → length entries ≡ length (entries_without late entries) + 1
 left-length None pair entries is h = absurd cc
 left-length (Some own) pair entries is h = length-behind entries own.0 own.1.0 h
 
-pub left-book : (late : Option (ℕ × TimerId)) (entries : List Registration) → IsBook entries → IsBook (left_by late entries)
+pub left-book : (late : Option (ℕ × TimerId)) (entries : List Registration) → IsBook entries → IsBook (entries_without late entries)
 left-book None entries h = h
 left-book (Some own) entries h = IsBook-filter (λ (r : Registration). not (is_pair own.0 own.1.0 r)) entries h
 
-pub left-first : (late : Option (ℕ × TimerId)) (entries : List Registration) → IfSome late (λ p. IsBehind entries p.0 p.1.0) → first_pair (left_by late entries) ≡ first_pair entries
+pub left-first : (late : Option (ℕ × TimerId)) (entries : List Registration) → IfSome late (λ p. IsBehind entries p.0 p.1.0) → first_pair (entries_without late entries) ≡ first_pair entries
 left-first None entries h = refl
 left-first (Some own) entries h = first-behind entries own.0 own.1.0 h
 
 pub left-due : (now : ℕ) (late : Option (ℕ × TimerId)) (pair : ℕ × TimerId) (entries : List Registration) → late ≡ Some pair → IfSome late (λ p. IsBehind entries p.0 p.1.0)
-    → length (due_wakers now entries) ≡ cond (nat_le pair.0 now) 1 0 + length (due_wakers now (left_by late entries))
+    → length (due_wakers now entries) ≡ cond (nat_le pair.0 now) 1 0 + length (due_wakers now (entries_without late entries))
 left-due now None pair entries is h = absurd cc
 left-due now (Some own) pair entries is h =
     let same : own ≡ pair = cc in

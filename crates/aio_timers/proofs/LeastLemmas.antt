@@ -9,7 +9,7 @@ use Rattle.aio_base.specs.declared.names.Waker.{Waker}
 use Rattle.aio_base.specs.World.{Registration}
 use Rattle.aio_base.specs.Timers.{fires_before, in_order, is_pair, IsBook}
 use Rattle.aio_timers.specs.declared.node.Node.{Node}
-use Rattle.aio_timers.specs.Held.{Held, IsUsed, held_at, held_of, helds, vacant, gone, live_of, registered}
+use Rattle.aio_timers.specs.Held.{Held, IsUsed, held_at, held_of, helds, vacant, gone, live_of, registration_in}
 use Rattle.aio_timers.specs.Precedes.{precedes}
 use Rattle.aio_timers.specs.Family.{Family, IsFamily, IsParent, IsTop}
 use Rattle.aio_timers.specs.Heap.{IsHeap}
@@ -29,7 +29,7 @@ pub record OfNode (h : Held) (r : Registration) : Type 0 where
 pub of-node : (h : Held) (r : Registration) → live_of h ≡ Some r → OfNode h r
 of-node h r e = go h.waker refl e
   where
-    go : (o : Option Waker) → h.waker ≡ o → registered h.deadline h.id o ≡ Some r → OfNode h r
+    go : (o : Option Waker) → h.waker ≡ o → registration_in h.deadline h.id o ≡ Some r → OfNode h r
     go None is k = cc
     go (Some w) is k =
         let its : ◌≡◌ {A = Registration} (record { id = h.id; deadline = h.deadline; waker = w }) r = cc in
@@ -44,7 +44,7 @@ live h u = go h.waker refl u
   where
     go : (o : Option Waker) → h.waker ≡ o → is_some o ≡ true → Live h
     go None is k = cc
-    go (Some w) is k = record { registration = record { id = h.id; deadline = h.deadline; waker = w }; is = ap (registered h.deadline h.id) is }
+    go (Some w) is k = record { registration = record { id = h.id; deadline = h.deadline; waker = w }; is = ap (registration_in h.deadline h.id) is }
 
 -- what holds of the registration of each node holds of all, and back
 pub all-of-each : (P : Registration → Type 0) (hs : List Held) → ((j : ℕ) (r : Registration) → live_of (get_or hs j vacant) ≡ Some r → P r) → All P (registrations hs)

@@ -10,7 +10,7 @@ use Rattle.aio_base.specs.declared.names.Waker.{Waker}
 use Rattle.aio_base.specs.World.{Registration}
 use Rattle.aio_base.specs.Timers.{fires_before, placed, in_order, is_pair, without_pair}
 use Rattle.aio_timers.specs.declared.node.Node.{Node}
-use Rattle.aio_timers.specs.Held.{Held, IsUsed, held_at, held_of, helds, node_at, blank_node, vacant, gone, live_of, registered, is_pair_of}
+use Rattle.aio_timers.specs.Held.{Held, IsUsed, held_at, held_of, helds, node_at, blank_node, vacant, gone, live_of, registration_in, is_pair_of}
 use Rattle.aio_timers.specs.Rows.{one_if, times_in, IsRun}
 use Rattle.aio_timers.specs.Heap.{Holds, one_free}
 use Rattle.aio_timers.specs.Chains.{IsTable, IsBucket, IsWithout, IsFound, ChainsChange, used_of, bucket_in}
@@ -77,7 +77,7 @@ added ns ms bs root top free head at k used d i w s is kt first absent c =
     let lt : at < length ns = first_free.within in
     let old : length (helds ns) ≡ length ns = length-map ns held_of in
     let read : Reads ns ms at (record { deadline = d; id = i; waker = Some w; chain = head }) = reads ns ms at (record { deadline = d; id = i; waker = Some w; chain = head }) lt c.helds_are in
-    let empty : live_of (get_or (helds ns) at vacant) ≡ None = ap live_of (held-read ns at) ∙ ap (registered (held_at ns at).deadline (held_at ns at).id) is_free in
+    let empty : live_of (get_or (helds ns) at vacant) ≡ None = ap live_of (held-read ns at) ∙ ap (registration_in (held_at ns at).deadline (held_at ns at).id) is_free in
     let entries : registrations (helds ms) ≡ placed (record { id = i; deadline = d; waker = w }) (registrations (helds ns)) =
     rw c.helds_are (comes live_of (helds ns) at vacant (record { deadline = d; id = i; waker = Some w; chain = head }) (record { id = i; deadline = d; waker = w }) (omega (arith, lt, old)) empty refl s.book absent) in
     let its_id : (held_at ms at).id ≡ i = ap Held.id read.here in
@@ -266,7 +266,7 @@ all-live : (hs : List Held) → ((i : ℕ) → i < length hs → is_some (get_or
 all-live [] h = refl
 all-live (x ∷ hs) h = go x.waker (h 0 (omega arith)) (all-live hs (λ i lt. h (suc i) (omega (arith, lt))))
   where
-    go : (o : Option Waker) → is_some o ≡ true → length (filter_map live_of hs) ≡ length hs → length (cons_option (registered x.deadline x.id o) (filter_map live_of hs)) ≡ suc (length hs)
+    go : (o : Option Waker) → is_some o ≡ true → length (filter_map live_of hs) ≡ length hs → length (cons_option (registration_in x.deadline x.id o) (filter_map live_of hs)) ≡ suc (length hs)
     go None k more = cc
     go (Some w) k more = omega (arith, more)
 

@@ -4,7 +4,7 @@ use Rattle.std.proofs.lemmas.List.{get_or-set_same, get_or-set_other}
 use Rattle.std.proofs.lemmas.Bool.Decides.{nat_tests}
 use Rattle.aio_timers.specs.declared.node.Node.{Node}
 use Rattle.aio_timers.specs.Held.{held_of, held_at, node_at, blank_node, gone}
-use Rattle.aio_timers.specs.Writes.{with_child, with_next, with_prev, with_back, under, leads_or, leads_to, without, released}
+use Rattle.aio_timers.specs.Writes.{with_child, with_next, with_prev, with_back, under, leads_or, leads_to, without, put_on_free}
 
 pub leads-same : (i : ℕ) → leads_to (Some i) i ≡ true
 leads-same i = grind (arith, nat_tests)
@@ -181,7 +181,7 @@ pub record Frees (old new : List Node) (i : ℕ) (free : Option ℕ) : Type 0 wh
 abbrev emptied : List Node → ℕ → List Node
 emptied ns i = set ns i (record (node_at ns i) { waker = None })
 
-pub frees : (ns : List Node) (i : ℕ) (free : Option ℕ) → i < length ns → Frees ns (released ns i free) i free
+pub frees : (ns : List Node) (i : ℕ) (free : Option ℕ) → i < length ns → Frees ns (put_on_free ns i free) i free
 frees ns i free lt =
     let a : List Node = emptied ns i in
     let a_len : length a ≡ length ns = length-set ns i _ in

@@ -61,9 +61,9 @@ pub record GoesTo (nodes : List Node) (f : Family) (more : List ℕ) (t : Trail)
   pub same : (j : ℕ)
       → times_in j more + times_in j (ahead t) ≡ one_if j i + times_in j (ahead trail)
 
-abbrev pub GoesOn : List Node → Family → List ℕ → Trail → Option ℕ → Type 0
-GoesOn nodes f more t None = (j : ℕ) → times_in j more + times_in j (ahead t) ≡ 0
-GoesOn nodes f more t (Some i) = GoesTo nodes f more t i
+abbrev pub WalksOn : List Node → Family → List ℕ → Trail → Option ℕ → Type 0
+WalksOn nodes f more t None = (j : ℕ) → times_in j more + times_in j (ahead t) ≡ 0
+WalksOn nodes f more t (Some i) = GoesTo nodes f more t i
 
 -- the walk goes on, and passes by some of the new ones, none of which is due
 pub record GoesPast (nodes : List Node) (f : Family) (now : ℕ) (more : List ℕ) (t : Trail)
@@ -73,4 +73,4 @@ pub record GoesPast (nodes : List Node) (f : Family) (now : ℕ) (more : List �
   pub parts : (j : ℕ) → times_in j more ≡ times_in j kept + times_in j others
   pub used : (j : ℕ) → 0 < times_in j others → IsUsed (held_at nodes j)
   pub idle : NoneDue (held_at nodes) now others
-  pub goes : GoesOn nodes f kept t to
+  pub goes : WalksOn nodes f kept t to

@@ -78,10 +78,10 @@ pair_of h = (h.deadline, record { 0 = h.id })
 abbrev pub is_pair_of : ℕ → ℕ → Held → Bool
 is_pair_of deadline id h = (h.id == id) && (h.deadline == deadline)
 
-abbrev pub registered : ℕ → ℕ → Option Waker → Option Registration
-registered deadline id None = None
-registered deadline id (Some waker) = Some (record { id = id; deadline = deadline; waker = waker })
+abbrev pub registration_in : ℕ → ℕ → Option Waker → Option Registration
+registration_in deadline id None = None
+registration_in deadline id (Some waker) = Some (record { id = id; deadline = deadline; waker = waker })
 
 -- the registration of a node in use
 abbrev pub live_of : Held → Option Registration
-live_of h = registered h.deadline h.id h.waker
+live_of h = registration_in h.deadline h.id h.waker

@@ -11,6 +11,6 @@ pub record Book : Type 0 where
   pub spare : ℕ
 
 -- the registrations without the one of this deadline and this id, where there is such
-abbrev pub left_by : Option (ℕ × TimerId) → List Registration → List Registration
-left_by None entries = entries
-left_by (Some pair) entries = without_pair pair.0 pair.1.0 entries
+abbrev pub entries_without : Option (ℕ × TimerId) → List Registration → List Registration
+entries_without None entries = entries
+entries_without (Some pair) entries = without_pair pair.0 pair.1.0 entries

@@ -6,27 +6,27 @@ use Rattle.aio_timers.specs.Precedes.{precedes}
 use Rattle.aio_timers.specs.Held.{held_at, node_at}
 
 -- one node is changed
-abbrev pub changed : List Node → ℕ → (Node → Node) → List Node
-changed nodes i change = slice_set nodes i (change (node_at nodes i))
+abbrev pub with_write : List Node → ℕ → (Node → Node) → List Node
+with_write nodes i change = slice_set nodes i (change (node_at nodes i))
 
 abbrev pub with_child : List Node → ℕ → Option ℕ → List Node
-with_child nodes i link = changed nodes i (λ n. record n { child = link })
+with_child nodes i link = with_write nodes i (λ n. record n { child = link })
 
 abbrev pub with_next : List Node → ℕ → Option ℕ → List Node
-with_next nodes i link = changed nodes i (λ n. record n { next = link })
+with_next nodes i link = with_write nodes i (λ n. record n { next = link })
 
 abbrev pub with_prev : List Node → ℕ → Option ℕ → List Node
-with_prev nodes i link = changed nodes i (λ n. record n { prev = link })
+with_prev nodes i link = with_write nodes i (λ n. record n { prev = link })
 
 abbrev pub with_chain : List Node → ℕ → Option ℕ → List Node
-with_chain nodes i link = changed nodes i (λ n. record n { chain = link })
+with_chain nodes i link = with_write nodes i (λ n. record n { chain = link })
 
 abbrev pub with_waker : List Node → ℕ → Waker → List Node
-with_waker nodes i w = changed nodes i (λ n. record n { waker = Some w })
+with_waker nodes i w = with_write nodes i (λ n. record n { waker = Some w })
 
 -- the timer of a node gets another id and another waker
 abbrev pub renamed : List Node → ℕ → ℕ → Waker → List Node
-renamed nodes i id w = changed nodes i (λ n. record n { id = record { 0 = id }; waker = Some w })
+renamed nodes i id w = with_write nodes i (λ n. record n { id = record { 0 = id }; waker = Some w })
 
 -- the node that comes behind, if one does, leads back to this one
 abbrev pub with_back : List Node → Option ℕ → Option ℕ → List Node
@@ -93,5 +93,5 @@ without nodes i =
     with_back (skips nodes i (node_at nodes i).prev) (node_at nodes i).next (node_at nodes i).prev
 
 -- a node without its timer, at the head of the free list
-abbrev pub released : List Node → ℕ → Option ℕ → List Node
-released nodes at free = with_next (changed nodes at (λ n. record n { waker = None })) at free
+abbrev pub put_on_free : List Node → ℕ → Option ℕ → List Node
+put_on_free nodes at free = with_next (with_write nodes at (λ n. record n { waker = None })) at free

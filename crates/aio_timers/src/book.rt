@@ -6,7 +6,7 @@ ghost use Rattle.aio_base.specs.declared.names.TimerId.{TimerId};
 ghost use Rattle.aio_base.specs.World.{Registration};
 ghost use Rattle.aio_base.specs.Timers.{IsBook, fold_changes, due_wakers, after_pass, first_deadline};
 ghost use Rattle.aio_timers.specs.Book.{change_of, entries_needed, first_pair};
-ghost use Rattle.aio_timers.specs.Room.{left_by};
+ghost use Rattle.aio_timers.specs.Room.{entries_without};
 
 use crate::op::TimerOp;
 use crate::timer_heap::TimerHeap;
@@ -35,12 +35,12 @@ pub struct TimerBook {
 impl Model for TimerBook {
     ghost use Rattle.std.specs.Prelude.{IfSome};
     ghost use Rattle.aio_timers.specs.Book.{IsBehind};
-    ghost use Rattle.aio_timers.specs.Room.{Book, left_by};
+    ghost use Rattle.aio_timers.specs.Room.{Book, entries_without};
 
     ghost Value = { Book };
 
     ghost view = { λ b. record {
-      entries = left_by b.late b.heap.entries;
+      entries = entries_without b.late b.heap.entries;
       spare = b.heap.spare;
     } };
 
@@ -192,7 +192,7 @@ impl TimerBook {
 
 /// Takes the timer out of the heap that was unregistered before, if there is one.
 fn settle(heap: &mut TimerHeap, late: Option<(Moment, TimerId)>)
-    ensures entries { heap.new.entries ≡ left_by late heap.old.entries }
+    ensures entries { heap.new.entries ≡ entries_without late heap.old.entries }
     ensures spare { heap.old.spare ≤ heap.new.spare }
 {
     if let Some((deadline, id)) = late {

@@ -5,7 +5,7 @@ ghost use Rattle.std.specs.Prelude.{◌≡◌, ◌<◌, ℕ, List, [], length, O
 ghost use Rattle.aio_timers.specs.Held.{IsUsed, held_at, helds};
 ghost use Rattle.aio_timers.specs.Rows.{IsRunOnce};
 ghost use Rattle.aio_timers.specs.Heap.{IsHeap};
-ghost use Rattle.aio_timers.specs.Due.{due_in, is_due, IsLastDue, NoneDue, Trail, IsOnTrail, GoesOn, GoesPast};
+ghost use Rattle.aio_timers.specs.Due.{due_in, is_due, IsLastDue, NoneDue, Trail, IsOnTrail, WalksOn, GoesPast};
 
 use crate::link::Link;
 use crate::nodes::Nodes;
@@ -48,7 +48,7 @@ fn retreat(nodes: &Nodes, from: usize) -> Option<usize>
     requires { (root : Option ℕ) × (free : Option ℕ) × (h : IsHeap nodes.now root free)
         × (t : Trail) × IsOnTrail nodes.now h.family from t }
     ensures { (root free : Option ℕ) (h : IsHeap nodes.now root free) (t : Trail)
-        → IsOnTrail nodes.now h.family from t → GoesOn nodes.now h.family [] t result }
+        → IsOnTrail nodes.now h.family from t → WalksOn nodes.now h.family [] t result }
 {
     let mut at = from;
     for _ in 0..nodes.len() {

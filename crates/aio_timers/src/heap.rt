@@ -2,7 +2,7 @@
 
 ghost use Rattle.std.specs.Prelude.{◌≡◌, ◌<◌, ◌≢◌, ◌^◌, Some, length};
 ghost use Rattle.aio_timers.specs.Held.{node_at, held_of, held_at, lone_node, gone, IsUsed};
-ghost use Rattle.aio_timers.specs.Writes.{released};
+ghost use Rattle.aio_timers.specs.Writes.{put_on_free};
 ghost use Rattle.aio_timers.specs.Heap.{IsHeap, Holds, IsNewPair};
 
 use crate::link::Link;
@@ -33,7 +33,7 @@ pub(crate) fn place(nodes: &mut Nodes, root: Option<usize>, at: usize, node: Nod
 /// Takes the timer from a node, which is the head of the free list then.
 fn release(nodes: &mut Nodes, at: usize, free: Link)
     requires { at < length nodes.old }
-    ensures { nodes.new ≡ released nodes.old at free }
+    ensures { nodes.new ≡ put_on_free nodes.old at free }
 {
     nodes.set_waker(at, None);
     nodes.set_next(at, free);

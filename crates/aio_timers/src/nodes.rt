@@ -4,7 +4,7 @@ ghost use Rattle.std.specs.Prelude.{◌≡◌, ◌<◌, ◌^◌, ◌≤◌, Opti
 ghost use Rattle.aio_base.specs.declared.names.Waker.{Waker};
 ghost use Rattle.aio_timers.specs.declared.node.Node.{Node};
 ghost use Rattle.aio_timers.specs.Held.{node_at};
-ghost use Rattle.aio_timers.specs.Writes.{changed, with_child, with_next, with_prev, with_chain, renamed, under, leads_or};
+ghost use Rattle.aio_timers.specs.Writes.{with_write, with_child, with_next, with_prev, with_chain, renamed, under, leads_or};
 ghost use Rattle.aio_timers.specs.Columns.{nodes_of, entry_of, siblings_of};
 ghost use Rattle.aio_timers.specs.Growth.{Extends};
 
@@ -150,7 +150,7 @@ impl Nodes {
     #[tactic(auto, using(crate::proofs::ColumnLemmas::entries_within))]
     pub(crate) fn set_waker(&mut self, at: usize, waker: Option<Waker>)
         requires { at < length self.old }
-        ensures { self.new ≡ changed self.old at (λ n. record n { waker = waker }) }
+        ensures { self.new ≡ with_write self.old at (λ n. record n { waker = waker }) }
     {
         let entries = self.entries.as_mut_slice();
         entries[at].waker = waker;

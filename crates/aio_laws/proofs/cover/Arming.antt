@@ -11,7 +11,7 @@ use Rattle.aio_base.specs.declared.steps.Answer.TheVariants as answer
 use Rattle.aio_base.specs.World.{PollerAnswer, ListenerEntry, BrokenSource, World, serial_of, key_of, poll_waiter, waiters_of, mark_of, is_idle, is_broken}
 use Rattle.aio_base.specs.Machine.{Outcome, fails, next_answer, broken_world, armed_world, pending, is_fresh_since, is_waker, with_waiter, poll_source, is_listener, with_listening, step_listener, step_result}
 use Rattle.aio_laws.specs.Arming.{polled_source, IsArmedOrInHand}
-use Rattle.aio_laws.specs.Covered.{Cover, IsArmed, InHand, IsTold, Covered}
+use Rattle.aio_laws.specs.Covered.{Cover, IsArmed, InHand, FaultIsTold, Covered}
 use Rattle.aio_base.proofs.Membership.{none_passes}
 use Rattle.aio_base.proofs.BrokenSources.{without_unbroken}
 
@@ -95,7 +95,7 @@ unbroken_holds : (w : World) (answered : List Answer) (key serial : ℕ) (dir : 
     → IsArmedOrInHand w key dir
 unbroken_holds w answered key serial dir whole (IsArmed arms) = inl arms
 unbroken_holds w answered key serial dir whole (InHand hands) = inr hands
-unbroken_holds w answered key serial dir whole (IsTold position among tells) =
+unbroken_holds w answered key serial dir whole (FaultIsTold position among tells) =
     absurd (none_passes (λ (b : BrokenSource). b.serial == serial) w.broken (record { serial = serial; position = position }) whole among (eq-eqb serial serial refl))
 
 pub unbroken_covers : (w : World) (answered : List Answer) → Covered w answered → (key serial : ℕ) (dir : Dir) (waiter : Waker)

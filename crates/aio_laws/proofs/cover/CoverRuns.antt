@@ -8,7 +8,7 @@ use Rattle.aio_base.specs.declared.steps.Answer.{Answer}
 use Rattle.aio_base.specs.World.{PollWaiter, ListenerEntry, ArmedDirection, BrokenSource, World, same_dir, is_armed, opening}
 use Rattle.aio_base.specs.Machine.{hand_of}
 use Rattle.aio_base.specs.Runs.{PolledStep, outcome_of, answers_of, world_of}
-use Rattle.aio_laws.specs.Covered.{tells_at, Cover, IsArmed, InHand, IsTold, Covered, HasSource, WaitsForLive}
+use Rattle.aio_laws.specs.Covered.{tells_at, Cover, IsArmed, InHand, FaultIsTold, Covered, HasSource, WaitsForLive}
 use Rattle.aio_base.proofs.Membership.{none_is_in, each_in, any_from}
 use Rattle.aio_base.proofs.WaiterLemmas.{same_dir-from, serial_of-live, waiter_wants}
 use Rattle.aio_laws.proofs.cover.Standing.{parts_of, Holds, Armed, Handed, Broken, BrokenTold, Standing}
@@ -31,7 +31,7 @@ cover_of w told key serial dir broken (Handed e among same) =
     InHand (any_from (λ (e : Event). e.key.0 == key) (hand_of w.round) e among (eq-eqb e.key.0 key same))
 cover_of w told key serial dir broken (Broken b among same) =
     ⊎_elim
-    (λ (tells : tells_at told b.position ≡ true). IsTold b.position (at_serial w b serial same among) tells)
+    (λ (tells : tells_at told b.position ≡ true). FaultIsTold b.position (at_serial w b serial same among) tells)
     (λ (never : (b.position ≡ w.pos) × ⊥). absurd never.1)
     (broken b among)
 

@@ -15,7 +15,7 @@ use Rattle.aio_base.specs.Machine.{hand_of}
 use Rattle.aio_laws.specs.Registered.{IsRegistered, TimersAreRegistered}
 use Rattle.aio_base.specs.Timers.{AllAbove}
 use Rattle.aio_laws.specs.Arming.{UnbrokenAsTold}
-use Rattle.aio_laws.specs.Covered.{tells_at, Cover, IsArmed, InHand, IsTold, Covered, HasSource, WaitsForLive}
+use Rattle.aio_laws.specs.Covered.{tells_at, Cover, IsArmed, InHand, FaultIsTold, Covered, HasSource, WaitsForLive}
 use Rattle.aio_laws.specs.Counts.{NoneAgain, CountsRise}
 use Rattle.aio_laws.specs.Distinct.{IsOfTimer, NoDoubles}
 use Rattle.aio_laws.specs.FirstPolls.{InPollOrder}
@@ -36,14 +36,14 @@ waiting dir = record opening {
 uncovered : (w : World) (told : List Answer) (dir : Dir) → is_armed w.armed 0 dir ≡ false → hand_of w.round ≡ [] → w.broken ≡ [] → Cover w told 0 1 dir → ⊥
 uncovered w told dir unarmed empty whole (IsArmed arms) = cc
 uncovered w told dir unarmed empty whole (InHand hands) = let none = ap (λ (hand : List Event). list_any (λ (e : Event). e.key.0 == 0) hand) empty in cc
-uncovered w told dir unarmed empty whole (IsTold position among tells) =
+uncovered w told dir unarmed empty whole (FaultIsTold position among tells) =
     none_is_in (record { serial = 1; position = position }) (subst (λ (broken : List BrokenSource). Contains broken (record { serial = 1; position = position })) whole among)
 
 -- nor is a reader whose broken source has not told it
 untold : Cover (record (waiting Read) { broken = record { serial = 1; position = 1 } ∷ [] }) (answer.KeyIs (record { 0 = 0 }) ∷ answer.Pending ∷ []) 0 1 Read → ⊥
 untold (IsArmed arms) = cc
 untold (InHand hands) = cc
-untold (IsTold position among tells) =
+untold (FaultIsTold position among tells) =
     ⊎_elim
     (λ (same : record { serial = 1; position = 1 } ≡ record { serial = 1; position = position }).
     let at : 1 ≡ position = ap (λ (b : BrokenSource). b.position) same in

@@ -6,7 +6,7 @@ ghost use Rattle.aio_base.specs.declared.steps.Step.TheVariants as step;
 ghost use Rattle.aio_react.specs.declared.refusals.CoreRefusal.TheVariants.{NoListener, OutOfMemory};
 ghost use Rattle.aio_listen.specs.Listening.{Holds};
 ghost use Rattle.aio_source.specs.Answers.{poll_answer, armed_in};
-ghost use Rattle.aio_source.specs.Lent.{told, fault_of, UsesArm, arm_of, settled};
+ghost use Rattle.aio_source.specs.Lent.{arm_answer, fault_of, UsesArm, arm_of, settled};
 ghost use Rattle.aio_source.specs.Rules.{direction_of, polling_again};
 ghost use Rattle.aio_react.specs.Asking.{UsesPoller, step_part};
 ghost use Rattle.aio_react.specs.Cores.{IsListenedTo};
@@ -177,13 +177,13 @@ fn poll_again<A: Arm>(
         Holds (direction_of source.old.directions dir).listeners.entries first.ticket }
     ensures answer { let p = polling_again source.old dir (listened_in place first_poll.now) w in
         result ≡ poll_answer p.ready (fault_of source.old.key (A.fault_count arm.old)
-        (A.fault_count arm.new) (told (armed_in result))) }
+        (A.fault_count arm.new) (arm_answer (armed_in result))) }
     ensures after { let p = polling_again source.old dir (listened_in place first_poll.now) w in
-        source.new ≡ settled p.arms (told (armed_in result)) p.source }
+        source.new ≡ settled p.arms (arm_answer (armed_in result)) p.source }
     ensures key { source.new.key ≡ source.old.key }
     ensures lent { let p = polling_again source.old dir (listened_in place first_poll.now) w in
         UsesArm A.arm_step A.interests A.rest A.fault_count A.is_sure
-        p.arms (arm_of p.source) (told (armed_in result)) arm.old arm.new }
+        p.arms (arm_of p.source) (arm_answer (armed_in result)) arm.old arm.new }
 {
     if source.tick(dir) <= u64::from(early) {
         let t = listened_in(place, first_poll).ticket;

@@ -1,7 +1,7 @@
 use Rattle.std.proofs.Common.{◌∙◌, None, [], refl, sym, subst, arith}
 use Rattle.aio_base.specs.declared.steps.Step.TheVariants as step
 use Rattle.aio_base.specs.Devices.{PollerStep}
-use Rattle.aio_source.specs.Lent.{told}
+use Rattle.aio_source.specs.Lent.{arm_answer}
 use Rattle.aio_react.specs.Rounds.{first_interest, arm_told}
 use Rattle.aio_react.proofs.FirstEvent.{first_of}
 use Rattle.aio_react.proofs.HandleMeets.{handle_idle, handle_empty, handle_dropped, handle_answered, handle_unanswered}
@@ -49,7 +49,7 @@ invariant_of-self-in-Some-index_mut g c =
     let e = c.in-Some-index_mut.entry in
     let is = read_at i.sources.items key c.index_mut.result.now (omega arith) c.index_mut.ensures.value ∙ c.in-Some-index_mut.is in
     let on : HoldsOn e.source c.handle.new.s = elim c.match-handle.branch [
-      | in-Ok w ↦ handled_on e.source c.handle.new.s (first_interest i.round.hand) i.round.number (told (arm_told w.in-Ok.fault)) w.in-Ok.ensures.source
+      | in-Ok w ↦ handled_on e.source c.handle.new.s (first_interest i.round.hand) i.round.number (arm_answer (arm_told w.in-Ok.fault)) w.in-Ok.ensures.source
       | in-Err w ↦ subst (HoldsOn e.source) (sym w.in-Err.ensures.refused.1) (holds_itself e.source)
     ] in (
       omega arith,
