@@ -19,11 +19,11 @@ pub record PassView : Type 0 where
   pub pulled : List Entry
   pub fulls : ℕ
   pub empties : ℕ
-  pub made : ℕ
+  pub splits : ℕ
 
 -- a seat that has pushed and popped nothing
 abbrev pub new_pass : TableId → ℕ → ℕ → PassView
-new_pass queue number made = record { queue = queue; number = number; own = []; pulled = []; fulls = 0; empties = 0; made = made }
+new_pass queue number made = record { queue = queue; number = number; own = []; pulled = []; fulls = 0; empties = 0; splits = made }
 
 -- the most seats of a queue
 abbrev pub pass_limit : ℕ
@@ -68,6 +68,22 @@ pub record Drains (count : ℕ) (before after : PassView) (book_before book_afte
   pub takes : Takes count before after book_before book_after
   pub most : count ≤ 1000
   pub ends : Ended count before.empties after.empties
+
+-- The same of the seat alone: it took these entries, at most 1,000, and pushed nothing. It ended after 1,000 of them, or at a pop that found the
+-- queue empty.
+pub record Drained (before after : PassView) : Type 0 where
+  pub entries : List Entry
+  pub most : length entries ≤ 1000
+  pub pass : after ≡ record before { pulled = before.pulled ++ entries; empties = after.empties }
+  pub ends : Ended (length entries) before.empties after.empties
+  pub empties : before.empties ≤ after.empties
+
+-- A drain of a seat into a book, and then this operation, applied to the book that the drain left.
+pub record DrainsAndApplies (op : TimerOp) (before after : PassView) (book_before book_after : Book) : Type 0 where
+  pub count : ℕ
+  pub book : Book
+  pub drains : Drains count before after book_before book
+  pub applied : book_after.entries ≡ fold_changes book.entries (change_of op ∷ [])
 
 -- How one pop leaves a seat: it took this operation out of the queue, with its entry; or it found none, and counted that.
 abbrev pub Pops : Option TimerOp → PassView → PassView → Type 0

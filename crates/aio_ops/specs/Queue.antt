@@ -1,17 +1,17 @@
--- The queue as the kit's rule sees it: what a seat has pushed and popped, which seat it is, and how many seats it made.
+-- A seat at the queue: the entries that it pushed and popped, its number, and how often another was split off it.
 use Rattle.std.specs.Prelude.{ℕ, ◌+◌, [], ◌∷◌, ◌++◌, length}
 use Rattle.aio_ops.specs.declared.queue.Entry.{Entry}
 use Rattle.aio_ops.specs.declared.queue.QueueSeat.{QueueSeat}
 
--- a seat of this number that has pushed and popped nothing, with this count of seats
+-- a seat under this number before its first push and pop, with so many splits behind it
 abbrev pub new_seat : ℕ → ℕ → QueueSeat
-new_seat number made = record { own = []; pulled = []; number = number; made = made }
+new_seat number splits = record { number = number; own = []; pulled = []; splits = splits }
 
--- a seat off which one more seat was split
-abbrev pub with_one_more : QueueSeat → QueueSeat
-with_one_more h = record h { made = h.made + 1 }
+-- what a split leaves of the seat
+abbrev pub split_queue_seat : QueueSeat → QueueSeat
+split_queue_seat h = record h { splits = h.splits + 1 }
 
--- a seat after a push of its own: it keeps with the entry how many it had popped by then
+-- after a push the entry is among the seat's own, beside the number of its pops until then
 abbrev pub with_push : QueueSeat → Entry → QueueSeat
 with_push h entry = record h { own = h.own ++ record { entry = entry; pulled = length h.pulled } ∷ [] }
 

@@ -1,7 +1,7 @@
 //! The queue of operations and its seats.
 
 ghost use Rattle.std.specs.Prelude.{◌≡◌, ◌==◌, ◌↔◌, ℕ, ◌+◌, ◌<◌, ◌≤◌, ◌^◌, [], IfOk, IfErr, OnOk, OnErr, Err};
-ghost use Rattle.aio_ops.specs.Passes.{Drains, FindsFull, Pops, new_pass, pass_limit, pushed};
+ghost use Rattle.aio_ops.specs.Passes.{Drained, Drains, DrainsAndApplies, FindsFull, Pops, new_pass, pass_limit, pushed};
 
 use crate::queue::{Entry, NewPass, OpQueue, Pop, Push, QueueSeat};
 use aio_base::OutOfMemory;
@@ -49,7 +49,7 @@ pub struct OpPass {
     pushes: u64,
     fulls: u64,
     empties: u64,
-    made: u32,
+    splits: u32,
 }
 
 impl Model for OpPass {
@@ -65,13 +65,13 @@ impl Model for OpPass {
       pulled = p.pass.me.0.client.pulled;
       fulls = p.fulls;
       empties = p.empties;
-      made = p.made;
+      splits = p.splits;
     } };
 
     ghost invariant = { λ p. (p.pass.me.1 ≡ [])
         × (length p.pass.me.0.client.own ≡ p.pushes)
-        × (p.number < 2 ^ 24) × (p.made ≤ 2 ^ 24)
-        × (p.pass.me.0.client.number ≡ p.number) × (p.pass.me.0.client.made ≡ p.made) };
+        × (p.number < 2 ^ 24) × (p.splits ≤ 2 ^ 24)
+        × (p.pass.me.0.client.number ≡ p.number) × (p.pass.me.0.client.splits ≡ p.splits) };
 }
 
 /// Why no further seat was made.
@@ -99,7 +99,7 @@ impl Ops {
                     pushes: 0,
                     fulls: 0,
                     empties: 0,
-                    made: 1,
+                    splits: 1,
                 },
             )),
         }
@@ -114,23 +114,23 @@ impl Ops {
     pub fn pass<R: Wait>(&self, _rt: &R, from: &mut OpPass) -> Result<OpPass, PassRefusal>
         requires belongs { from.old.queue ≡ self.now }
         requires first { from.old.number ≡ 0 }
-        ensures made { IfOk result (λ p. p ≡ new_pass self.now from.old.made 0) }
-        ensures counted { OnOk result (from.new ≡ record from.old { made = from.old.made + 1 }) }
-        ensures spent { (result ≡ Err PassRefusal.PassesSpent) ↔ (from.old.made ≡ pass_limit) }
+        ensures made { IfOk result (λ p. p ≡ new_pass self.now from.old.splits 0) }
+        ensures counted { OnOk result (from.new ≡ record from.old { splits = from.old.splits + 1 }) }
+        ensures spent { (result ≡ Err PassRefusal.PassesSpent) ↔ (from.old.splits ≡ pass_limit) }
         ensures refused { OnErr result (from.new ≡ from.old) }
     {
-        if from.made == PASSES {
+        if from.splits == PASSES {
             return Err(PassRefusal::PassesSpent);
         }
-        let number = from.made;
-        from.made += 1;
+        let number = from.splits;
+        from.splits += 1;
         Ok(OpPass {
             pass: self.queue.another::<NewPass>(&mut from.pass),
             number,
             pushes: 0,
             fulls: 0,
             empties: 0,
-            made: 0,
+            splits: 0,
         })
     }
 
@@ -186,6 +186,46 @@ impl Ops {
         count
     }
 
+    /// Makes room for 1,000 timers in the book, and then drains the queue into it, as `drain_into` does.
+    /// `OutOfMemory` where there is no such room; then nothing was taken out of the queue.
+    pub fn drain<R: Wait>(
+        &self,
+        rt: &R,
+        p: &mut OpPass,
+        book: &mut TimerBook,
+    ) -> Result<u32, OutOfMemory>
+        requires belongs { p.old.queue ≡ self.now }
+        ensures drains { IfOk result (λ count. Drains count p.old p.new book.old book.new) }
+        ensures pass { OnOk result (Drained p.old p.new) }
+        ensures refused { OnErr result (p.new ≡ p.old) }
+        ensures kept { OnErr result (book.new.entries ≡ book.old.entries) }
+    {
+        book.reserve(DRAINED)?;
+        Ok(self.drain_into(rt, p, book))
+    }
+
+    /// Drains the queue into the book, and then applies an operation to the book: so it comes after all
+    /// that the drain took. `OutOfMemory` where the book has no room for both; then nothing was taken out
+    /// of the queue, and nothing was applied.
+    pub fn apply_after_drain<R: Wait>(
+        &self,
+        rt: &R,
+        p: &mut OpPass,
+        book: &mut TimerBook,
+        op: TimerOp,
+    ) -> Result<(), OutOfMemory>
+        requires belongs { p.old.queue ≡ self.now }
+        ensures applied { OnOk result (DrainsAndApplies op p.old p.new book.old book.new) }
+        ensures pass { OnOk result (Drained p.old p.new) }
+        ensures refused { OnErr result (p.new ≡ p.old) }
+        ensures kept { OnErr result (book.new.entries ≡ book.old.entries) }
+    {
+        book.reserve(DRAINED + 1)?;
+        self.drain_into(rt, p, book);
+        book.apply(op);
+        Ok(())
+    }
+
     /// Takes the first operation out of the queue; `None` only where the queue was empty at a step of
     /// this call, which the seat counts.
     fn pop<R: Wait>(&self, rt: &R, p: &mut OpPass) -> Option<TimerOp>
@@ -226,8 +266,8 @@ impl OpPass {
 
     /// Whether no further seat can be made, as far as this seat has counted them: it counts 2^24.
     pub fn is_spent(&self) -> bool
-        ensures { result ≡ (self.now.made == pass_limit) }
+        ensures { result ≡ (self.now.splits == pass_limit) }
     {
-        self.made == PASSES
+        self.splits == PASSES
     }
 }

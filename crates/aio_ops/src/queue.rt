@@ -28,7 +28,7 @@ pub struct QueueSeat {
     pub own: LinkedList<Pushed>,
     pub pulled: LinkedList<Entry>,
     pub number: u32,
-    pub made: u32,
+    pub splits: u32,
 }
 
 /// The rule of the queue, which asks nothing of what it holds.
@@ -53,11 +53,11 @@ impl Lesson<Entry, QueueSeat> for AnyOrder {
 pub struct NewPass;
 
 impl Split<QueueSeat> for NewPass {
-    ghost use Rattle.aio_ops.specs.Queue.{new_seat, with_one_more};
+    ghost use Rattle.aio_ops.specs.Queue.{new_seat, split_queue_seat};
 
-    ghost left = { with_one_more };
+    ghost left = { split_queue_seat };
 
-    ghost right = { λ h. new_seat h.made 0 };
+    ghost right = { λ h. new_seat h.splits 0 };
 }
 
 /// A push that succeeds.

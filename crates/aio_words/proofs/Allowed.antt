@@ -11,7 +11,7 @@ use Rattle.aio_rules.specs.declared.seats.WordStep.{WordStep}
 use Rattle.aio_rules.specs.declared.seats.WordStep.TheVariants as word_step
 use Rattle.aio_rules.specs.declared.seats.SeatView.{SeatView}
 use Rattle.aio_rules.specs.declared.seats.Role.TheVariants as role
-use Rattle.aio_rules.specs.SharedWords.{WordRule, IsFree, joined_seat, new_view, with_one_more, spent_view, after, place_of, found_by, left_by, May, mask_place, blocked_place, held}
+use Rattle.aio_rules.specs.SharedWords.{WordRule, IsFree, joined_seat, split_view, after_split, spent_view, after, place_of, found_by, value_after, May, mask_place, blocked_place, held}
 use Rattle.aio_rules.proofs.WordFrames.{idle_holds_none}
 use Rattle.aio_rules.proofs.WordSteps.{step_keeps_rule}
 use Rattle.aio_rules.proofs.WordMoves.{split_keeps_rule, join_keeps_rule}
@@ -45,7 +45,7 @@ module _ (n slots id : ℕ) (me : SeatState) where
   -- A kind of step, by the number that it finds, on one word: it is allowed where in each state the rule has it leave what the call leaves, the seat may make it, and it is told.
   by_step : (made : ℕ → WordStep) (at : ℕ) → ((x : ℕ) → place_of (made x) ≡ at) → ((x : ℕ) → found_by (made x) ≡ x) → (leaves : ℕ → ℕ) (Told : ℕ → SeatState → Type 0)
       → ((words : List ℕ) (views : List SeatView) → WordRule n words views → get_elem? views id ≡ some me.0
-      → let x : ℕ = get_or words at 0 in (left_by (made x) ≡ leaves x) × May n me.0 (made x) × Told x (after (made x) me.0, me.1))
+      → let x : ℕ = get_or words at 0 in (value_after (made x) ≡ leaves x) × May n me.0 (made x) × Told x (after (made x) me.0, me.1))
       → Allows (Ruled n) slots id me at leaves Told
   by_step made at places finds leaves Told shown s rule _ stands _ =
       let x : ℕ = get_or s.words at 0 in
@@ -117,7 +117,7 @@ module _ (n slots id : ℕ) (me : SeatState) where
   swaps_notified _ may = by_step word_step.SwapNotified 1 (λ _. refl) (λ _. refl) (λ _. 0) (SwapsNotified (step slots 1 0 0 none) me) (λ words views rule stands. (refl, may, refl))
 
 -- a new pass, and a pass that takes in another, as the table asks
-pub splits : (n id : ℕ) (v : SeatView) → Splits (Ruled n) id v (with_one_more v) (new_view v)
+pub splits : (n id : ℕ) (v : SeatView) → Splits (Ruled n) id v (after_split v) (split_view v)
 splits n id v s rule stands = split_keeps_rule n s.words s.views id v rule stands
 
 pub joins : (n id : ℕ) (v : SeatView) (other : ℕ) (w : SeatView) → v.role ≡ role.Pass → IsFree w → Joins (Ruled n) id v other w (joined_seat v w) spent_view

@@ -13,8 +13,8 @@ use Rattle.aio_words.specs.Steps.{stepped, did_all}
 use Rattle.aio_words.specs.Calls.{WakesSlot}
 
 -- a view of which only the debt and the list of steps changed, where the debt is nothing again
-settled : (v w : SeatView) (steps : List WordStep) → w.role ≡ v.role → w.seen ≡ v.seen → w.owes ≡ v.owes → w.mode ≡ v.mode → w.did ≡ v.did ++ steps → w.made ≡ v.made → w.line ≡ v.line → w ≡ and_did steps v
-settled v w steps role seen owes mode did made line = λ k. record { role = role k; seen = seen k; owes = owes k; mode = mode k; did = did k; made = made k; line = line k }
+settled : (v w : SeatView) (steps : List WordStep) → w.role ≡ v.role → w.seen ≡ v.seen → w.owes ≡ v.owes → w.mode ≡ v.mode → w.did ≡ v.did ++ steps → w.splits ≡ v.splits → w.lineage ≡ v.lineage → w ≡ and_did steps v
+settled v w steps role seen owes mode did splits lineage = λ k. record { role = role k; seen = seen k; owes = owes k; mode = mode k; did = did k; splits = splits k; lineage = lineage k }
 
 or_false : (b : Bool) → (b || false) ≡ b
 or_false true = refl
@@ -88,8 +88,8 @@ at_head : (s : WordStep) (k : ℕ) → replicate k s ++ s ∷ [] ≡ s ∷ repli
 at_head s zero = refl
 at_head s (suc k) = ap (λ (l : List WordStep). s ∷ l) (at_head s k)
 
--- a view after swaps of a mask that found no woken slot, so many, and after one more
-pub looked_again : (parker found idle : ℕ) (before mid new : SeatView) → mid ≡ and_did (replicate idle (word_step.SwapMask parker 0)) before
-    → new ≡ after (word_step.SwapMask parker found) mid → found ≡ 0 → new ≡ and_did (replicate (suc idle) (word_step.SwapMask parker 0)) before
-looked_again parker found idle before mid new so_far made none = let s = word_step.SwapMask parker 0 in
-    made ∙ (λ k. after (word_step.SwapMask parker (none k)) (so_far k)) ∙ ap (λ steps. record before { did = steps }) (append_assoc before.did (replicate idle s) (s ∷ []) ∙ ap (λ l. before.did ++ l) (at_head s idle))
+-- a view after swaps of a mask that found no woken slot, so many, and after one more, whichever way its parker is named
+pub looked_again : (parker named idle : ℕ) (before mid new : SeatView) → mid ≡ and_did (replicate idle (word_step.SwapMask parker 0)) before
+    → new ≡ after (word_step.SwapMask named 0) mid → named ≡ parker → new ≡ and_did (replicate (suc idle) (word_step.SwapMask parker 0)) before
+looked_again parker named idle before mid new so_far made same = let s = word_step.SwapMask parker 0 in
+    made ∙ (λ k. after (word_step.SwapMask (same k) 0) (so_far k)) ∙ ap (λ steps. record before { did = steps }) (append_assoc before.did (replicate idle s) (s ∷ []) ∙ ap (λ l. before.did ++ l) (at_head s idle))

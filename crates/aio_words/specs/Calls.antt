@@ -11,13 +11,13 @@ use Rattle.aio_words.specs.Seats.{SeatValue}
 use Rattle.aio_words.specs.Steps.{did_all}
 
 -- the answer of a notifier, which a fault tells by its two counts
-abbrev pub told : Result (Unit {0}) CountFault → Result (Unit {0}) Failed
-told (Ok done) = Ok done
-told (Err fault) = Err (record {})
+abbrev pub uncounted : Result (Unit {0}) CountFault → Result (Unit {0}) Failed
+uncounted (Ok done) = Ok done
+uncounted (Err fault) = Err (record {})
 
 -- the notifier was called once, and the answer is its own, where this is true; else it is as it was, and the answer is Ok
 abbrev pub Called : {N : Type 0} → (N → ℕ) → (N → Result (Unit {0}) Failed → N → Type 0) → Bool → N → N → Result (Unit {0}) CountFault → Type 0
-Called calls step true old new answer = step old (told answer) new × (calls new ≡ raised (calls old))
+Called calls step true old new answer = step old (uncounted answer) new × (calls new ≡ raised (calls old))
 Called calls step false old new answer = (new ≡ old) × IsOk answer
 
 -- A call made these steps, by what they found, and called the notifier exactly where they won notified.

@@ -19,35 +19,35 @@ abbrev pub Makes : WordStep → SeatState → SeatState → Type 0
 Makes s old new = new ≡ (after s old.0, old.1)
 
 -- what a step tells: of its word and operands, the seat before, the number found and the seat after
-abbrev pub Tells : Type 1
-Tells = Step (Unit {0}) → SeatState → ℕ → SeatState → Type 0
+abbrev pub StepFacts : Type 1
+StepFacts = Step (Unit {0}) → SeatState → ℕ → SeatState → Type 0
 
 -- by the rule a load gives no less than the seat has seen, and to the round seat exactly that
-abbrev pub LoadsTicker : Tells
+abbrev pub LoadsTicker : StepFacts
 LoadsTicker at old found new = Makes (word_step.LoadTicker found) old new × (old.0.seen ≤ found) × (old.0.role ≡ role.Round → found ≡ old.0.seen)
 
-abbrev pub AddsTicker : Tells
+abbrev pub AddsTicker : StepFacts
 AddsTicker at old found new = Makes (word_step.AddTicker found) old new × (found ≡ old.0.seen)
 
 -- a step on the word of a parker is told for the parker whose word it is
-abbrev pub SetsBit : Tells
+abbrev pub SetsBit : StepFacts
 SetsBit at old found new = (i bit : ℕ) → at.word ≡ mask_place i → at.first ≡ 2 ^ bit → Makes (word_step.SetBit i bit found) old new
 
-abbrev pub LoadsBlocked : Tells
+abbrev pub LoadsBlocked : StepFacts
 LoadsBlocked at old found new = (i : ℕ) → at.word ≡ blocked_place i → Makes (word_step.LoadBlocked i found) old new
 
-abbrev pub ExchangesNotified : Tells
+abbrev pub ExchangesNotified : StepFacts
 ExchangesNotified at old found new = Makes (word_step.ExchangeNotified found) old new
 
 -- of a store the table tells the value stored; the value found is 0 where it stores 1, and 1 where it stores 0, by the rule
-abbrev pub StoresBlocked : Tells
+abbrev pub StoresBlocked : StepFacts
 StoresBlocked at old stored new = (i : ℕ) → at.word ≡ blocked_place i → Makes (word_step.StoreBlocked i at.first (1 - at.first)) old new
 
-abbrev pub SwapsMask : Tells
+abbrev pub SwapsMask : StepFacts
 SwapsMask at old found new = (i : ℕ) → at.word ≡ mask_place i → Makes (word_step.SwapMask i found) old new
 
-abbrev pub LoadsMask : Tells
+abbrev pub LoadsMask : StepFacts
 LoadsMask at old found new = (i : ℕ) → at.word ≡ mask_place i → Makes (word_step.LoadMask i found) old new
 
-abbrev pub SwapsNotified : Tells
+abbrev pub SwapsNotified : StepFacts
 SwapsNotified at old found new = Makes (word_step.SwapNotified found) old new

@@ -18,6 +18,11 @@ pub record SeatValue : Type 0 where
   pub words : TableId
   pub view : SeatView
 
+-- a parker's count of wakes, as it was read
+pub record CountRead : Type 0 where
+  pub parker : ℕ
+  pub found : ℕ
+
 -- the seat belongs to these words
 abbrev pub Belongs : WordsValue → SeatValue → Type 0
 Belongs words seat = seat.words ≡ words.identity

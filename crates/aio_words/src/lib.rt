@@ -8,6 +8,7 @@
 #![tactic(auto)]
 
 mod plays;
+mod sleepers;
 mod table;
 mod words;
 

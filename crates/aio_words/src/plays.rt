@@ -15,15 +15,15 @@ impl TableRule<(), SeatView, u32> for Rule {
     ghost first = { λ _. first_view };
 }
 
-/// A new pass beside a seat, which counts it.
+/// A pass that is split off a seat.
 pub struct NewPass;
 
 impl Split<SeatView> for NewPass {
-    ghost use Rattle.aio_rules.specs.SharedWords.{new_view, with_one_more};
+    ghost use Rattle.aio_rules.specs.SharedWords.{split_view, after_split};
 
-    ghost left = { with_one_more };
+    ghost left = { after_split };
 
-    ghost right = { new_view };
+    ghost right = { split_view };
 }
 
 /// A pass that takes in another.

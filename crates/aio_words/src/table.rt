@@ -3,7 +3,7 @@
 ghost use Rattle.std.specs.Prelude.{◌≡◌, ◌+◌, ◌-◌, ◌*◌, ◌<◌, ◌≤◌, IfOk, replicate};
 ghost use Rattle.aio_rules.specs.declared.seats.Role.TheVariants as role;
 ghost use Rattle.aio_rules.specs.declared.seats.WordStep.TheVariants as word_step;
-ghost use Rattle.aio_rules.specs.SharedWords.{IsFree, first_view, joined_seat, new_view, with_one_more, word_count};
+ghost use Rattle.aio_rules.specs.SharedWords.{IsFree, first_view, joined_seat, split_view, after_split, word_count};
 ghost use Rattle.aio_words.specs.Seats.{Belongs, seat_at};
 ghost use Rattle.aio_words.specs.Steps.{MayStep, stepped};
 
@@ -11,6 +11,7 @@ use crate::plays::{
     AddTicker, ExchangeNotified, LoadBlocked, LoadMask, LoadTicker, NewPass, Rule, SetBit,
     StoreBlocked, SwapMask, SwapNotified, TakeIn,
 };
+use crate::sleepers::Told;
 use aio_base::OutOfMemory;
 use aio_rules::SeatView;
 use atomic_table::{Seat, Table};
@@ -80,11 +81,11 @@ impl WordTable {
         }
     }
 
-    /// A new pass, beside a seat, which counts it.
+    /// Splits a new pass off a seat.
     pub fn split(&self, from: &mut WordSeat) -> WordSeat
         requires { Belongs self.now from.old }
-        ensures made { result ≡ seat_at self.now (new_view from.old.view) }
-        ensures from { from.new ≡ seat_at self.now (with_one_more from.old.view) }
+        ensures made { result ≡ seat_at self.now (split_view from.old.view) }
+        ensures from { from.new ≡ seat_at self.now (after_split from.old.view) }
     {
         let seat = self.table.shared.split_seat::<NewPass>(&mut from.seat);
         WordSeat { seat }
@@ -129,8 +130,10 @@ impl WordTable {
             .fetch_or::<SetBit>(&mut s.seat, at, 1 << bit)
     }
 
-    pub fn load_blocked(&self, s: &mut WordSeat, parker: u32) -> u64
-        requires { MayStep self.now s.old (word_step.LoadBlocked parker 0) }
+    /// The parker's thread was told before.
+    pub fn load_blocked(&self, s: &mut WordSeat, parker: u32, told: Told) -> u64
+        requires may { MayStep self.now s.old (word_step.LoadBlocked parker 0) }
+        requires told { told ≡ parker }
         ensures { s.new ≡ stepped (word_step.LoadBlocked parker result) s.old }
     {
         let at = 2 + 2 * parker as usize;

@@ -1,21 +1,21 @@
 //! The words, the seat of each thread, and the one seat that begins rounds and waits.
 
-ghost use Rattle.std.specs.Prelude.{◌≡◌, ◌≢◌, ◌↔◌, ℕ, ◌+◌, ◌-◌, ◌/◌, ◌^◌, ◌≤◌, ◌<◌, vec_len, unwrap_or, IfSome, IfNone, IfOk, IsOk, IsErr, IfErr, OnErr, OnOk};
+ghost use Rattle.std.specs.Prelude.{◌≡◌, ◌≢◌, ◌↔◌, ℕ, ◌+◌, ◌-◌, ◌/◌, ◌^◌, ◌≤◌, ◌<◌, unwrap_or, IfSome, IfNone, IfOk, IsOk, IsErr, IfErr, OnErr, OnOk};
 ghost use Rattle.aio_base.specs.Devices.{TellsFaults, raised};
-ghost use Rattle.aio_rules.specs.SharedWords.{after, first_view, joined_seat, new_view, with_one_more};
+ghost use Rattle.aio_rules.specs.SharedWords.{after, first_view, joined_seat, split_view, after_split};
 ghost use Rattle.aio_rules.specs.WordCalls.{wake_steps};
 ghost use Rattle.aio_rules.specs.declared.seats.Mode.TheVariants as mode;
 ghost use Rattle.aio_rules.specs.declared.seats.WordStep.TheVariants as word_step;
-ghost use Rattle.aio_words.specs.Calls.{Called, Offers, Parks, TellsCounts, WakesSlot, notify_steps, told};
+ghost use Rattle.aio_words.specs.Calls.{Called, Offers, Parks, TellsCounts, WakesSlot, notify_steps, uncounted};
 ghost use Rattle.aio_words.specs.Seats.{Belongs, Blocks, IsIdleOrWaits, is_waiting};
 ghost use Rattle.aio_words.specs.Steps.{MayStep};
 
+use crate::sleepers::Sleepers;
 use crate::table::{WordSeat, WordTable};
 use aio_base::{CountFault, Notify, OutOfMemory, Waker};
 use std::alloc::Global;
 use std::marker::Model;
 use std::sync::Wait;
-use std::sync::atomic::{AtomicU64, Ordering};
 
 /// The answer where the ticker stands at 2^64 - 1, so that no round can begin any more.
 #[derive(Clone, Copy, Debug, PartialEq, Eq)]
@@ -27,20 +27,17 @@ pub struct RoundsSpent;
 pub struct Words {
     table: WordTable,
     parkers: u32,
-    // One for each parker, on which a parked thread sleeps: how often its mask got its first bit. A
-    // sleep sees only the low 32 bits of its word, so a mask itself would hide the slots above.
-    wakes: Vec<AtomicU64>,
+    sleepers: Sleepers,
 }
 
 impl Model for Words {
-    ghost use Rattle.std.specs.Prelude.{vec_len};
     ghost use Rattle.aio_words.specs.Seats.{IsWords, WordsValue};
 
     ghost Value = { WordsValue };
 
     ghost view = { λ w. w.table };
 
-    ghost invariant = { λ w. IsWords w.table w.parkers (vec_len w.wakes) };
+    ghost invariant = { λ w. IsWords w.table w.parkers w.sleepers };
 }
 
 /// The seat of one thread. Between calls it owes nothing, so each wake that it made was told.
@@ -97,17 +94,17 @@ impl Words {
         requires { (1 ≤ parkers) × (parkers ≤ 16) }
         ensures words { IfOk result (λ made. made.0.parkers ≡ parkers) }
         ensures round { IfOk result (λ made. Belongs made.0 made.1
-            × (made.1.view ≡ with_one_more first_view)) }
-        ensures pass { IfOk result (λ made. Belongs made.0 made.2 × (made.2.view ≡ new_view first_view)) }
+            × (made.1.view ≡ after_split first_view)) }
+        ensures pass { IfOk result (λ made. Belongs made.0 made.2 × (made.2.view ≡ split_view first_view)) }
     {
-        let wakes = no_wakes(alloc, parkers)?;
+        let sleepers = Sleepers::new(alloc, parkers)?;
         let (table, mut seat) = WordTable::new(alloc, parkers)?;
         let pass = table.split(&mut seat);
         Ok((
             Words {
                 table,
                 parkers,
-                wakes,
+                sleepers,
             },
             RoundSeat {
                 seat,
@@ -119,11 +116,11 @@ impl Words {
         ))
     }
 
-    /// Another seat, for another thread, which has seen what `from` has seen. `from` counts it.
+    /// Splits a seat for another thread off `from`: it starts from the ticker that `from` has seen.
     pub fn pass(&self, from: &mut Pass) -> Pass
         requires { Belongs self.now from.old }
-        ensures made { Belongs self.now result × (result.view ≡ new_view from.old.view) }
-        ensures from { Belongs self.now from.new × (from.new.view ≡ with_one_more from.old.view) }
+        ensures made { Belongs self.now result × (result.view ≡ split_view from.old.view) }
+        ensures from { Belongs self.now from.new × (from.new.view ≡ after_split from.old.view) }
     {
         let seat = self.table.split(&mut from.seat);
         Pass { seat }
@@ -203,13 +200,9 @@ impl Words {
         ensures view { Parks parker result p.old.view p.new.view }
     {
         for _ in rt.forever() {
-            // Read before the look at the mask, so that no wake after that look is slept through.
-            let count = self.wakes[parker as usize].load(Ordering::SeqCst);
-            let slots = self.take(p, parker);
-            if slots == 0 {
-                self.wakes[parker as usize].park(rt, (count & 0xffff_ffff) as u32);
-            } else {
-                return slots;
+            match self.sleepers.of(parker).read().look(self, p) {
+                Ok(slots) => return slots,
+                Err(unwoken) => unwoken.sleep(rt),
             }
         }
         unreachable!()
@@ -305,28 +298,13 @@ impl Words {
         if others != 0 {
             return false;
         }
-        tell_parked(&self.wakes[parker as usize]);
-        let waits = self.table.load_blocked(s, parker);
+        let told = self.sleepers.of(parker).tell(s);
+        let waits = self.table.load_blocked(s, parker, told);
         if waits != 1 {
             return false;
         }
         self.table.exchange_notified(s) == 0
     }
-}
-
-// A count of wakes for each parker, all 0.
-fn no_wakes(alloc: Global, parkers: u32) -> Result<Vec<AtomicU64>, OutOfMemory>
-    ensures { IfOk result (λ wakes. vec_len wakes ≡ parkers) }
-{
-    let Ok(mut wakes) = Vec::with_capacity(alloc, parkers as usize) else {
-        return Err(OutOfMemory);
-    };
-    for _ in 0..parkers {
-        if wakes.push(AtomicU64::new(0)).is_err() {
-            return Err(OutOfMemory);
-        }
-    }
-    Ok(wakes)
 }
 
 // Calls the notifier where it is to be called, and tells its fault by the two counts.
@@ -344,10 +322,4 @@ fn call_where<N: Notify>(due: bool, n: &mut N) -> Result<(), CountFault>
     }
     let after = n.faults();
     Err(CountFault { before, after })
-}
-
-// Ends the sleep of each thread that is parked on this count, or is about to sleep.
-fn tell_parked(wakes: &AtomicU64) {
-    wakes.fetch_add(1, Ordering::SeqCst);
-    wakes.wake_all();
 }
