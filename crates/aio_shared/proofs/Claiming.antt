@@ -5,7 +5,7 @@ use lib.ListN.{get_elem?}
 use Rattle.atomic_table.specs.Seated.{TableId}
 use Rattle.crossbeam_queue.specs.Fifo.{Pushes, Pops, Forks, Learns}
 use Rattle.aio_rules.specs.declared.claims.ClaimView.{ClaimView}
-use Rattle.aio_rules.specs.RoundLock.{RoundLockRule, about_of, holding, knowing, next_claim, released, with_one_more}
+use Rattle.aio_rules.specs.RoundLock.{RoundLockRule, about_of, holding, knowing, next_claim, released, split_claim}
 use Rattle.aio_rules.specs.RoundLockLaws.{MayBePushed}
 use Rattle.aio_rules.proofs.RoundLockSteps.{claim_opens, claim_pops, claim_pushes, claim_makes, claim_finds_none}
 use Rattle.aio_shared.specs.Cells.{CellValue, CellSays, IsIdle, MayTell, said_by}
@@ -46,5 +46,5 @@ module _ {W : Type 0} where
   opens arms n id v x first idle none items claims room rule stands =
       (knowing (said_by arms x), claim_opens CellSays IsIdle items claims id v x (said_by arms x) rule stands first (idle, says_so arms x none), refl)
 
-  pub makes : (id : ℕ) (v : ClaimView TableId) → v.opening ≡ false → Forks Rule id v (with_one_more v) (next_claim v)
+  pub makes : (id : ℕ) (v : ClaimView TableId) → v.opening ≡ false → Forks Rule id v (split_claim v) (next_claim v)
   makes id v begun items claims rule stands = claim_makes CellSays IsIdle items claims id v rule stands begun

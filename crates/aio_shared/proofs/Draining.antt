@@ -1,8 +1,8 @@
 -- What drains leave of a seat, one after the other.
 use Rattle.std.proofs.Common.{◌≡◌, ℕ, List, [], ◌++◌, sym, ap, ◌∙◌, append-nil, append_assoc, le_refl, le_trans, arith}
-use Rattle.aio_ops.specs.Passes.{PassView}
+use Rattle.aio_ops.specs.Passes.{PassView, Drained}
 use Rattle.aio_ops.specs.declared.queue.Entry.{Entry}
-use Rattle.aio_shared.specs.TimerCalls.{Drained, PushedNothing}
+use Rattle.aio_shared.specs.TimerCalls.{PushedNothing}
 
 abbrev with_pulled : PassView → List Entry → ℕ → ℕ → PassView
 with_pulled p pulled fulls empties = record p { pulled = pulled; fulls = fulls; empties = empties }

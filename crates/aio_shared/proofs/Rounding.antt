@@ -9,7 +9,7 @@ use Rattle.aio_base.specs.ClockBounds.{ClockBounds, IsWithin}
 use Rattle.aio_base.specs.Devices.{HasCause, Rose, TellsFaults}
 use Rattle.aio_rules.specs.SharedWords.{after}
 use Rattle.aio_rules.specs.WordCalls.{all_wake_steps}
-use Rattle.aio_ops.specs.Passes.{PassView}
+use Rattle.aio_ops.specs.Passes.{PassView, Drained}
 use Rattle.aio_react.specs.declared.round.RoundFault.{RoundFault}
 use Rattle.aio_react.specs.declared.round.RoundFault.TheVariants as round_fault
 use Rattle.aio_react.specs.Rounds.{RoundValue, poller_told, wait_fault, wait_told, waited}
@@ -17,13 +17,13 @@ use Rattle.aio_words.specs.Seats.{SeatValue}
 use Rattle.aio_shared.specs.declared.reacting.ReactedIn.{ReactedIn}
 use Rattle.aio_shared.specs.declared.reacting.ReactFault.{ReactFault}
 use Rattle.aio_shared.specs.declared.reacting.ReactFault.TheVariants as react_fault
-use Rattle.aio_shared.specs.Cells.{CellValue, CellSays, Awaits, MayTell, WaitStep}
+use Rattle.aio_shared.specs.Cells.{CellValue, CellSays, Awaits, MayTell, WaitTells}
 use Rattle.aio_shared.specs.Members.{IsLaterMember, MemberValue}
 use Rattle.aio_shared.specs.OneCell.{ClaimValue, about, with_empties}
-use Rattle.aio_shared.specs.Sources.{KeepsFault}
-use Rattle.aio_shared.specs.TimerCalls.{Drained, PushedNothing}
+use Rattle.aio_sources.specs.Events.{KeepsFault, HandlesSome}
+use Rattle.aio_shared.specs.TimerCalls.{PushedNothing}
 use Rattle.aio_shared.proofs.Draining.{drained_pushed_nothing, pushed_nothing_itself, pushed_nothing_further}
-use Rattle.aio_shared.specs.Reacting.{Begins, BeginsAs, Ends, Enters, Finished, Finishes, HandlesSome, IsMoment, NotifierCounts, RaisesOnce, RanOut, Reacts, RunsOn, Start, Tells, WaitFailed, Wakes, WholeRound, rose, until}
+use Rattle.aio_shared.specs.Reacting.{Begins, BeginsAs, Ends, Enters, Finished, Finishes, IsMoment, NotifierCounts, RaisesOnce, RanOut, Reacts, RunsOn, Start, ReportsRound, WaitFailed, Wakes, WholeRound, rose, until}
 
 by_bool : {A : Type 0} (b : Bool) → (b ≡ true → A) → (b ≡ false → A) → A
 by_bool true t f = t refl
@@ -68,7 +68,7 @@ told_wait all_sure (Err told_fault) before after sure f g fault was keeps is cou
     error_of (Err x) = x
     error_of (Ok x) = told_fault
 
-module _ {W : Type 0} (step : WaitStep W) (wait wait_after : W) (number : ℕ) (bounds : ClockBounds) (earliest latest : ℕ) (given : Option ℕ) (ops ops_after : PassView) (begun new : RoundValue) (waits faults after_waits after_faults : ℕ) (sure : Bool)
+module _ {W : Type 0} (step : WaitTells W) (wait wait_after : W) (number : ℕ) (bounds : ClockBounds) (earliest latest : ℕ) (given : Option ℕ) (ops ops_after : PassView) (begun new : RoundValue) (waits faults after_waits after_faults : ℕ) (sure : Bool)
     (b : BeginsAs number bounds earliest latest given ops ops_after begun) (a : Awaits step begun new wait wait_after waits faults after_waits after_faults sure) where
   fault_is : new.fault ≡ wait_fault a.answer
   fault_is = ap (λ (r : RoundValue). r.fault) a.round ∙ ap (λ (r : RoundValue). (waited r a.answer new.hand).fault) b.round
@@ -249,7 +249,7 @@ module _ {N W : Type 0} (all_sure : Bool) (start : Start W) (old entered handled
       failed : (fault : CountFault) → new.round.fault ≡ Some (round_fault.Wait fault) → old.round.running ≡ false → WaitFailed old new fault
       failed fault is idle = wait_failed all_sure start old entered handled m.ops m1.ops e h hc new m2.ops bounds later one_clock on f fc none d fault is idle
 
-      answers : (notifier : NotifierCounts) (r : Result ReactedIn ReactFault) → Tells new.round old.round.running (length old.round.hand) notifier r → Reacts parkers all_sure start old new m m3 notifier r
+      answers : (notifier : NotifierCounts) (r : Result ReactedIn ReactFault) → ReportsRound new.round old.round.running (length old.round.hand) notifier r → Reacts parkers all_sure start old new m m3 notifier r
       answers notifier (Ok reacted) t = (finished_is, t)
       answers notifier (Err (react_fault.Wait fault)) t = (finished_is, (t, told_may (round_fault.Wait fault) t.0, failed fault t.0))
       answers notifier (Err (react_fault.Arm fault)) t = (finished_is, (t, told_may (round_fault.Arm fault) t.0))
@@ -258,6 +258,6 @@ module _ {N W : Type 0} (all_sure : Bool) (start : Start W) (old entered handled
       answers notifier (Err react_fault.OutOfMemory) t = absurd t
 
       pub reacts : (notifier told : NotifierCounts) (r : Result ReactedIn ReactFault) (resumed : Bool) (in_hand : ℕ) → told ≡ notifier → resumed ≡ old.round.running → in_hand ≡ length old.round.hand
-          → Tells new.round resumed in_hand told r → Reacts parkers all_sure start old new m m3 notifier r
+          → ReportsRound new.round resumed in_hand told r → Reacts parkers all_sure start old new m m3 notifier r
       reacts notifier told r resumed in_hand same was many t =
-          answers notifier r (subst (λ (x : NotifierCounts × Bool × ℕ). Tells new.round x.1 x.2 x.0 r) (λ i. (same i, was i, many i)) t)
+          answers notifier r (subst (λ (x : NotifierCounts × Bool × ℕ). ReportsRound new.round x.1 x.2 x.0 r) (λ i. (same i, was i, many i)) t)

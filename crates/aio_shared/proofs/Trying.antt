@@ -1,11 +1,11 @@
 -- Tries of a seat to push an operation, one after the other, and what they leave of it.
 use Rattle.std.proofs.Common.{◌≡◌, ℕ, zero, suc, ◌+◌, Bool, true, false, Result, Ok, Err, OnOk, OnErr, inr, [], ◌∷◌, length, refl, sym, ap, ◌∙◌, subst, append-nil, le_refl, le_trans, arith}
 use Rattle.aio_base.specs.declared.outcomes.OutOfMemory.{OutOfMemory}
-use Rattle.aio_ops.specs.Passes.{PassView, FindsFull, next_entry, pushed}
+use Rattle.aio_ops.specs.Passes.{PassView, FindsFull, next_entry, pushed, Drained}
 use Rattle.aio_timers.specs.declared.op.TimerOp.{TimerOp}
 use Rattle.aio_shared.proofs.Draining.{drained_pushed_nothing, pushed_nothing_further}
 use Rattle.aio_shared.specs.Later.{extends_itself, extends_further}
-use Rattle.aio_shared.specs.TimerCalls.{CarriesOut, Drained, FoundFull, IsLaterPass, PushedNothing, Tries, TriesAgain, TriesInVain}
+use Rattle.aio_shared.specs.TimerCalls.{CarriesOut, FoundFull, IsLaterPass, PushedNothing, Tries, TriesAgain, TriesInVain}
 
 pub tries_once_more : (n : ℕ) (a b c : PassView) → TriesAgain n a b → TriesInVain b c → TriesAgain (n + 1) a c
 tries_once_more n a b c many once = let next : suc n ≡ n + 1 = omega arith in subst (λ k. TriesAgain k a c) next (b, many, once)

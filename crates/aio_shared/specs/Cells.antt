@@ -52,19 +52,19 @@ module _ {W : Type 0} where
   abbrev pub said_by : Bool → CellValue W → About TableId
   said_by arms c = record { words = c.seat.words; sure_of_wait = c.sure; sure_of_arms = arms }
 
--- the last step of a seat raised the ticker
-abbrev pub HasJustRisen : SeatView → Type 0
-HasJustRisen v = (before : List WordStep) × (found : ℕ) × (v.did ≡ before ++ word_step.AddTicker found ∷ [])
+-- of all the steps that a seat made, the latest is one that raised the ticker
+abbrev pub EndsInRise : SeatView → Type 0
+EndsInRise v = (earlier : List WordStep) × (found : ℕ) × (v.did ≡ earlier ++ word_step.AddTicker found ∷ [])
 
--- what a half that waits tells of its waits: its state before, the wait, the answer, the events that it gave, and its state after
-abbrev pub WaitStep : Type 0 → Type 1
-WaitStep W = W → WaitCall → Result Waited Failed → List Event → W → Type 0
+-- how a poller's half that waits may go from one state to another by a wait: what it is asked, what it answers, and with which events
+abbrev pub WaitTells : Type 0 → Type 1
+WaitTells W = W → WaitCall → Result Waited Failed → List Event → W → Type 0
 
--- One wait of a round on the half of the poller that waits, with its counts of waits and of faults before and after. The events in hand are those that
--- the half gave, within the round's limit.
-pub record Awaits {W : Type 0} (step : WaitStep W) (old new : RoundValue) (wait wait_after : W) (waits faults after_waits after_faults : ℕ) (sure : Bool) : Type 0 where
+-- A round made one wait, within its limit, on the half of the poller that waits, of which these are the states and the counts of waits and of faults: the
+-- events that the half gave by it are those in hand.
+pub record Awaits {W : Type 0} (tells : WaitTells W) (old new : RoundValue) (half half_after : W) (waits faults after_waits after_faults : ℕ) (sure : Bool) : Type 0 where
   pub answer : Result Waited CountFault
-  pub gave : step wait (wait_of old.limit) (poller_told answer) new.hand wait_after
+  pub half_is : tells half (wait_of old.limit) (poller_told answer) new.hand half_after
   pub round : new ≡ waited old answer new.hand
   pub count : IsCountOf (poller_told answer) 1024 new.hand
   pub waits_are : after_waits ≡ raised waits

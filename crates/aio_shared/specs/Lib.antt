@@ -7,8 +7,7 @@ pub mod CellLending
 pub mod HandOver
 pub mod Inside
 pub mod Later
-pub mod Sources
 pub mod Starting
 pub mod Reacting
-pub mod CallsMade
+pub mod Notifying
 pub mod Polling

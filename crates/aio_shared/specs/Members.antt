@@ -1,7 +1,7 @@
 -- What contracts see of a reactor that threads share and of its members, and what a member's calls keep.
 use Rattle.std.specs.Prelude.{◌≡◌, ℕ, ◌+◌, ◌≤◌, Bool, List, ◌++◌}
 use Rattle.atomic_table.specs.Seated.{TableId}
-use Rattle.aio_rules.specs.SharedWords.{new_view, with_one_more}
+use Rattle.aio_rules.specs.SharedWords.{split_view, after_split}
 use Rattle.aio_words.specs.Seats.{WordsValue, SeatValue, Belongs}
 use Rattle.aio_ops.specs.Passes.{PassView, new_pass}
 use Rattle.aio_shared.specs.OneCell.{ClaimValue, makes_claim, new_claim, with_empties}
@@ -36,16 +36,16 @@ pub record IsMemberOf {N : Type 0} (shared : SharedValue) (m : MemberValue N) : 
 pub record IsNewMember {N : Type 0} (shared : SharedValue) (first m : MemberValue N) : Type 0 where
   pub member : IsMemberOf shared m
   pub claim : m.claim ≡ new_claim first.claim
-  pub pass : m.pass.view ≡ new_view first.pass.view
-  pub ops : m.ops ≡ new_pass shared.ops first.ops.made 0
+  pub pass : m.pass.view ≡ split_view first.pass.view
+  pub ops : m.ops ≡ new_pass shared.ops first.ops.splits 0
   pub ids : m.ids ≡ 0
 
 -- the first member, once it has made one more: its claim, and its seats count it
 abbrev pub with_one_more_made : {N : Type 0} → MemberValue N → MemberValue N
 with_one_more_made first = record first {
   claim = makes_claim first.claim;
-  pass = record first.pass { view = with_one_more first.pass.view };
-  ops = record first.ops { made = first.ops.made + 1 };
+  pass = record first.pass { view = after_split first.pass.view };
+  ops = record first.ops { splits = first.ops.splits + 1 };
 }
 
 -- the second list begins with the first one

@@ -7,8 +7,8 @@ use Rattle.aio_rules.specs.RoundLock.{About, about_of, holding}
 use Rattle.aio_rules.specs.RoundLockLaws.{MayBePushed}
 use Rattle.aio_shared.specs.Cells.{CellValue, CellSays, IsIdle}
 
--- A member at the reactor lock: which lock, whether it holds the round cell, what it knows of the cell, how many of its pops found none, how many
--- members were made beside it, and which member it is.
+-- A member at the reactor lock: which lock, whether it holds the round cell, and what it knows of the cell; then how many of its pops found none, how
+-- many members were split off it, and which of all members it is itself.
 pub record ClaimValue : Type 0 where
   pub lock : TableId
   pub holds : Bool
@@ -16,8 +16,8 @@ pub record ClaimValue : Type 0 where
   pub sure_of_wait : Bool
   pub sure_of_arms : Bool
   pub empties : ℕ
-  pub made : ℕ
-  pub line : List ℕ
+  pub splits : ℕ
+  pub lineage : List ℕ
 
 -- a member of this lock that knows this, with this count of pops that found none
 abbrev pub claim_of : TableId → ClaimView TableId → ℕ → ClaimValue
@@ -28,8 +28,8 @@ claim_of lock knows empties = record {
   sure_of_wait = knows.sure_of_wait;
   sure_of_arms = knows.sure_of_arms;
   empties = empties;
-  made = knows.made;
-  line = knows.line;
+  splits = knows.splits;
+  lineage = knows.lineage;
 }
 
 abbrev pub about : ClaimValue → About TableId
@@ -39,13 +39,13 @@ about claim = record { words = claim.words; sure_of_wait = claim.sure_of_wait; s
 abbrev pub with_empties : ℕ → ClaimValue → ClaimValue
 with_empties empties claim = record claim { empties = empties }
 
--- the next member that is made beside this one: it holds no cell, none of its pops has found none, and it has made no member
+-- the member that is split off this one next: it holds no cell, none of its pops has found none, and none was split off it
 abbrev pub new_claim : ClaimValue → ClaimValue
-new_claim claim = record claim { holds = false; empties = 0; made = 0; line = claim.line ++ claim.made ∷ [] }
+new_claim claim = record claim { holds = false; empties = 0; splits = 0; lineage = claim.lineage ++ claim.splits ∷ [] }
 
--- the same member once it has made one more
+-- what such a split leaves of the member
 abbrev pub makes_claim : ClaimValue → ClaimValue
-makes_claim claim = record claim { made = claim.made + 1 }
+makes_claim claim = record claim { splits = claim.splits + 1 }
 
 -- the first member of a lock, whose cell says this
 abbrev pub first_claim : TableId → About TableId → ClaimValue
@@ -56,8 +56,8 @@ first_claim lock all = record {
   sure_of_wait = all.sure_of_wait;
   sure_of_arms = all.sure_of_arms;
   empties = 0;
-  made = 0;
-  line = [];
+  splits = 0;
+  lineage = [];
 }
 
 -- the member of the first seat before there is a cell names no words

@@ -1,6 +1,5 @@
 -- What a whole round, or the rest of one, makes of the round cell and of the member that holds it.
 use Rattle.std.specs.Prelude.{◌≡◌, ◌≢◌, ◌⊎◌, ℕ, ◌+◌, ◌-◌, ◌^◌, ◌<◌, ◌≤◌, ⊤, Bool, true, false, if◌then◌else◌, List, [], ◌++◌, length, Option, None, Some, Result, Ok, Err}
-use Rattle.aio_base.specs.declared.names.Event.{Event}
 use Rattle.aio_base.specs.declared.names.Waker.{Waker}
 use Rattle.aio_base.specs.declared.outcomes.CountFault.{CountFault}
 use Rattle.aio_rules.specs.declared.seats.WordStep.{WordStep}
@@ -9,26 +8,31 @@ use Rattle.aio_rules.specs.declared.seats.SeatView.{SeatView}
 use Rattle.aio_base.specs.ClockBounds.{ClockBounds, IsWithin}
 use Rattle.aio_base.specs.Devices.{Rose, raised}
 use Rattle.aio_rules.specs.SharedWords.{after, blocking}
-use Rattle.aio_base.specs.Timers.{due_wakers, limit_of}
+use Rattle.aio_base.specs.Timers.{after_pass, due_wakers, limit_of}
 use Rattle.aio_rules.specs.WordCalls.{Found, and_did, all_wake_steps, count_of, is_raise}
-use Rattle.aio_ops.specs.Passes.{PassView, Drains}
+use Rattle.aio_ops.specs.Passes.{PassView, Drains, Drained}
 use Rattle.aio_react.specs.declared.round.RoundFault.TheVariants as round_fault
-use Rattle.aio_react.specs.Rounds.{RoundValue, begun, finished, given_by, second_wakers}
+use Rattle.aio_react.specs.Rounds.{RoundValue, begun, finished, given_by, second_book, second_wakers}
 use Rattle.aio_timers.specs.Room.{Book}
 use Rattle.aio_words.specs.Seats.{SeatValue, is_waiting}
 use Rattle.aio_shared.specs.declared.reacting.ReactedIn.{ReactedIn}
 use Rattle.aio_shared.specs.declared.reacting.ReactFault.{ReactFault}
 use Rattle.aio_shared.specs.declared.reacting.ReactFault.TheVariants as react_fault
-use Rattle.aio_shared.specs.Cells.{CellValue, Awaits, WaitStep}
+use Rattle.aio_shared.specs.Cells.{CellValue, Awaits, WaitTells}
 use Rattle.aio_shared.specs.Members.{MemberValue}
-use Rattle.aio_shared.specs.Sources.{HandlesEach, KeepsFault}
-use Rattle.aio_shared.specs.TimerCalls.{Drained, PushedNothing}
+use Rattle.aio_sources.specs.Events.{HandlesSome}
+use Rattle.aio_shared.specs.TimerCalls.{PushedNothing}
 
 -- ## The round
 
 -- A moment that a clock with these bounds answered, between these two of its latest moments.
 abbrev pub IsMoment : ClockBounds → ℕ → ℕ → ℕ → Type 0
 IsMoment bounds earliest latest now = (earliest ≤ now) × (now ≤ latest) × IsWithin bounds now
+
+-- A clock went on, or was not looked at: it has the same bounds, and its latest moment is no earlier one than it was.
+pub record ClockGoesOn {C : Type 0} (bounds_of : C → ClockBounds) (latest_of : C → ℕ) (old new : C) : Type 0 where
+  pub bounds : bounds_of new ≡ bounds_of old
+  pub latest : latest_of old ≤ latest_of new
 
 -- A round of this number began: the queue of operations was drained into a book of timers, and then a pass over the book that the drain left was made,
 -- at a moment of the clock.
@@ -41,20 +45,15 @@ pub record BeginsAs (number : ℕ) (bounds : ClockBounds) (earliest latest : ℕ
   pub moment : IsMoment bounds earliest latest now
   pub round : new ≡ begun number (limit_of now book.entries given) (due_wakers now book.entries)
 
--- Some events are in hand no longer, the first ones: each was handled by a source of its key, or skipped where the table had none. The wakers that their
--- sources gave joined those taken, at their end. The first fault stays.
-pub record HandlesSome (all_sure : Bool) (old new : RoundValue) : Type 0 where
-  pub keys : List ℕ
-  pub handled : List Event
-  pub each : HandlesEach all_sure keys handled old new
-  pub hand : old.hand ≡ handled ++ new.hand
-  pub more : List Waker
-  pub taken : new.taken ≡ old.taken ++ more
-  pub fault : KeepsFault all_sure old.fault new.fault
-  pub running : new.running ≡ old.running
-  pub number : new.number ≡ old.number
-  pub limit : new.limit ≡ old.limit
-  pub last : new.last ≡ old.last
+-- The same over this book, which the pass left so.
+pub record BeginsOver (number : ℕ) (bounds : ClockBounds) (earliest latest : ℕ) (given : Option ℕ) (ops ops_after : PassView) (found left : Book) (new : RoundValue) : Type 0 where
+  pub count : ℕ
+  pub book : Book
+  pub drains : Drains count ops ops_after found book
+  pub now : ℕ
+  pub moment : IsMoment bounds earliest latest now
+  pub round : new ≡ begun number (limit_of now book.entries given) (due_wakers now book.entries)
+  pub left_is : left.entries ≡ after_pass now book.entries
 
 -- A round ended: the queue of operations was drained into a book of timers, and then, where the round asks for it, a second pass over the book that the
 -- drain left was made, at a moment of the clock.
@@ -66,6 +65,20 @@ pub record Finishes (bounds : ClockBounds) (earliest latest : ℕ) (ops ops_afte
   pub now : ℕ
   pub moment : IsMoment bounds earliest latest now
   pub round : new ≡ finished old (second_wakers old now book.entries)
+
+-- The same over this book, which the pass, where one was made, left so.
+pub record FinishesOver (bounds : ClockBounds) (earliest latest : ℕ) (ops ops_after : PassView) (found left : Book) (old new : RoundValue) : Type 0 where
+  pub count : ℕ
+  pub book : Book
+  pub drains : Drains count ops ops_after found book
+  pub now : ℕ
+  pub moment : IsMoment bounds earliest latest now
+  pub round : new ≡ finished old (second_wakers old now book.entries)
+  pub left_is : left.entries ≡ second_book old now book.entries
+
+-- What want of memory leaves of a book: it is as it was, or the queue was drained into it, and nothing else was done to it.
+abbrev pub DrainsAtMost : PassView → PassView → Book → Book → Type 0
+DrainsAtMost ops ops_after found left = ((ops_after ≡ ops) × (left.entries ≡ found.entries)) ⊎ ((count : ℕ) × Drains count ops ops_after found left)
 
 -- ## The seat
 
@@ -108,7 +121,7 @@ pub record Start (W : Type 0) : Type 1 where
   pub bounds : ClockBounds
   pub earliest : ℕ
   pub latest : ℕ
-  pub step : WaitStep W
+  pub step : WaitTells W
 
 -- the same call, with a later moment as its latest
 abbrev pub until : {W : Type 0} → ℕ → Start W → Start W
@@ -127,7 +140,7 @@ module _ {W : Type 0} where
     pub drained : Drained ops ops_after
 
   -- A call goes on with the round that ran: it begins none and makes no wait.
-  pub record GoesOn (old new : CellValue W) (ops ops_after : PassView) : Type 0 where
+  pub record ResumesRound (old new : CellValue W) (ops ops_after : PassView) : Type 0 where
     pub cell : new ≡ record old { seat = new.seat }
     pub seat : Settles (is_waiting old.seat.view.mode) old.seat.view new.seat.view
     pub pass : ops_after ≡ ops
@@ -135,7 +148,7 @@ module _ {W : Type 0} where
   -- A round runs that has made its wait, in this call where none ran before.
   pub record Enters (start : Start W) (old new : CellValue W) (ops ops_after : PassView) : Type 0 where
     pub begins : old.round.running ≡ false → Begins start old new ops ops_after
-    pub goes_on : old.round.running ≡ true → GoesOn old new ops ops_after
+    pub goes_on : old.round.running ≡ true → ResumesRound old new ops ops_after
     pub running : new.round.running ≡ true
     pub words : new.seat.words ≡ old.seat.words
     pub mode : new.seat.view.mode ≡ blocking old.seat.view.mode
@@ -223,14 +236,14 @@ pub record NotifierCounts : Type 0 where
 
 -- What is answered for a round that ended: its first fault, of which the two counts tell that the count rose between them; or else that of its wakes;
 -- or else what was done, by whether the round had been running, with so many events in hand.
-abbrev pub Tells : RoundValue → Bool → ℕ → NotifierCounts → Result ReactedIn ReactFault → Type 0
-Tells round resumed in_hand notifier (Ok reacted) = (round.fault ≡ None) × (reacted.resumed ≡ resumed)
+abbrev pub ReportsRound : RoundValue → Bool → ℕ → NotifierCounts → Result ReactedIn ReactFault → Type 0
+ReportsRound round resumed in_hand notifier (Ok reacted) = (round.fault ≡ None) × (reacted.resumed ≡ resumed)
     × (reacted.events ≡ (if resumed then in_hand else given_by round.last)) × (reacted.events ≤ 1024) × (reacted.woken ≡ length round.taken)
-Tells round resumed in_hand notifier (Err (react_fault.Wait fault)) = (round.fault ≡ Some (round_fault.Wait fault)) × Rose fault.before fault.after
-Tells round resumed in_hand notifier (Err (react_fault.Arm fault)) = (round.fault ≡ Some (round_fault.Arm fault)) × Rose fault.before fault.after
-Tells round resumed in_hand notifier (Err (react_fault.Notify fault)) = (round.fault ≡ None) × IsFaultWithin notifier.before notifier.after fault
-Tells round resumed in_hand notifier (Err react_fault.RoundsSpent) = ⊥
-Tells round resumed in_hand notifier (Err react_fault.OutOfMemory) = ⊥
+ReportsRound round resumed in_hand notifier (Err (react_fault.Wait fault)) = (round.fault ≡ Some (round_fault.Wait fault)) × Rose fault.before fault.after
+ReportsRound round resumed in_hand notifier (Err (react_fault.Arm fault)) = (round.fault ≡ Some (round_fault.Arm fault)) × Rose fault.before fault.after
+ReportsRound round resumed in_hand notifier (Err (react_fault.Notify fault)) = (round.fault ≡ None) × IsFaultWithin notifier.before notifier.after fault
+ReportsRound round resumed in_hand notifier (Err react_fault.RoundsSpent) = ⊥
+ReportsRound round resumed in_hand notifier (Err react_fault.OutOfMemory) = ⊥
 
 -- the answer is that a call of the notifier failed
 abbrev pub NotifyFailed : Result ReactedIn ReactFault → Type 0
@@ -255,12 +268,12 @@ module _ {N W : Type 0} where
 
   -- what a call answers that ended its round, with the causes of a round's fault
   abbrev pub AnswersAs : CellValue W → CellValue W → MemberValue N → NotifierCounts → Result ReactedIn ReactFault → Type 0
-  AnswersAs old new m notifier (Ok reacted) = Tells new.round old.round.running (length old.round.hand) notifier (Ok reacted)
-  AnswersAs old new m notifier (Err (react_fault.Wait fault)) = Tells new.round old.round.running (length old.round.hand) notifier (Err (react_fault.Wait fault))
+  AnswersAs old new m notifier (Ok reacted) = ReportsRound new.round old.round.running (length old.round.hand) notifier (Ok reacted)
+  AnswersAs old new m notifier (Err (react_fault.Wait fault)) = ReportsRound new.round old.round.running (length old.round.hand) notifier (Err (react_fault.Wait fault))
       × (m.claim.sure_of_wait ≡ false) × (old.round.running ≡ false → WaitFailed old new fault)
-  AnswersAs old new m notifier (Err (react_fault.Arm fault)) = Tells new.round old.round.running (length old.round.hand) notifier (Err (react_fault.Arm fault))
+  AnswersAs old new m notifier (Err (react_fault.Arm fault)) = ReportsRound new.round old.round.running (length old.round.hand) notifier (Err (react_fault.Arm fault))
       × (m.claim.sure_of_arms ≡ false)
-  AnswersAs old new m notifier (Err (react_fault.Notify fault)) = Tells new.round old.round.running (length old.round.hand) notifier (Err (react_fault.Notify fault))
+  AnswersAs old new m notifier (Err (react_fault.Notify fault)) = ReportsRound new.round old.round.running (length old.round.hand) notifier (Err (react_fault.Notify fault))
   AnswersAs old new m notifier (Err react_fault.RoundsSpent) = ⊥
   AnswersAs old new m notifier (Err react_fault.OutOfMemory) = ⊥
 

@@ -1,6 +1,5 @@
 -- What a member's calls on timers make of its seat at the queue of operations, and of the member.
-use Rattle.std.specs.Prelude.{◌≡◌, ◌⊎◌, ℕ, zero, suc, ◌+◌, ◌<◌, ◌≤◌, Bool, true, false, List, ◌∷◌, [], ◌++◌, length, Result, Ok, Err}
-use Rattle.aio_base.specs.Timers.{fold_changes}
+use Rattle.std.specs.Prelude.{◌≡◌, ◌⊎◌, ℕ, zero, suc, ◌+◌, ◌<◌, ◌≤◌, Bool, true, false, List, ◌++◌, Result, Ok, Err}
 use Rattle.aio_base.specs.declared.names.TimerId.{TimerId}
 use Rattle.aio_base.specs.declared.names.Waker.{Waker}
 use Rattle.aio_base.specs.declared.outcomes.CountFault.{CountFault}
@@ -9,9 +8,8 @@ use Rattle.aio_base.specs.declared.outcomes.OutOfMemory.{OutOfMemory}
 use Rattle.aio_timers.specs.declared.op.TimerOp.{TimerOp}
 use Rattle.aio_timers.specs.declared.op.TimerOp.TheVariants as timer_op
 use Rattle.aio_ops.specs.declared.queue.Entry.{Entry}
-use Rattle.aio_timers.specs.Book.{change_of}
 use Rattle.aio_timers.specs.Room.{Book}
-use Rattle.aio_ops.specs.Passes.{PassView, Drains, Ended, FindsFull, RoseBy, pushed}
+use Rattle.aio_ops.specs.Passes.{PassView, Drained, Drains, FindsFull, RoseBy, pushed}
 use Rattle.aio_react.specs.declared.hosts.InsertRefusal.{InsertRefusal}
 use Rattle.aio_react.specs.declared.hosts.InsertRefusal.TheVariants as refusal
 use Rattle.aio_react.specs.Hosts.{next_id}
@@ -19,22 +17,6 @@ use Rattle.aio_words.specs.Calls.{Offers, notify_steps}
 use Rattle.aio_shared.specs.Members.{Extends, MemberValue}
 
 -- ## The seat of a member at the queue
-
--- One drain by a seat: it took these entries out of the queue, at most 1,000, and pushed nothing. It ended after 1,000 of them, or at a pop that
--- found the queue empty.
-pub record Drained (before after : PassView) : Type 0 where
-  pub entries : List Entry
-  pub most : length entries ≤ 1000
-  pub pass : after ≡ record before { pulled = before.pulled ++ entries; empties = after.empties }
-  pub ends : Ended (length entries) before.empties after.empties
-  pub empties : before.empties ≤ after.empties
-
--- A drain of a book by a seat, and then this operation, applied to the book that the drain left.
-pub record DrainsAndApplies (operation : TimerOp) (before after : PassView) (old new : Book) : Type 0 where
-  pub count : ℕ
-  pub book : Book
-  pub drains : Drains count before after old book
-  pub applied : new.entries ≡ fold_changes book.entries (change_of operation ∷ [])
 
 -- A seat that pushed nothing in between: it took these entries out of the queue, and may have found it full and empty.
 pub record PushedNothing (before after : PassView) : Type 0 where
@@ -101,6 +83,13 @@ Tries operation before after (Ok true) = (room : PassView) × Drained before roo
 Tries operation before after (Ok false) = TriesInVain before after
 Tries operation before after (Err refused) = after ≡ before
 
+-- The same over this book, which was left so: the drain, and nothing else, was done to it.
+abbrev pub TriesOver : TimerOp → PassView → PassView → Book → Book → Result Bool OutOfMemory → Type 0
+TriesOver operation before after found left (Ok true) =
+    (count : ℕ) × (room : PassView) × Drains count before room found left × (after ≡ pushed operation room)
+TriesOver operation before after found left (Ok false) = (count : ℕ) × (room : PassView) × Drains count before room found left × FindsFull room after
+TriesOver operation before after found left (Err refused) = (after ≡ before) × (left.entries ≡ found.entries)
+
 -- What carrying an operation out, or giving it up, leaves of a seat: its queue, its number and how many seats it made; what it pushed and popped still
 -- stands at the front, and no count has fallen.
 pub record IsLaterPass (old new : PassView) : Type 0 where
@@ -134,6 +123,6 @@ Inserts calls step at waker old new (Err (refusal.Notify id fault)) = Inserted c
 Inserts calls step at waker old new (Err refusal.OutOfMemory) = NotCarriedOut old new
 
 -- a removal by its answer: it was carried out, and nothing changed but the member's seat; where memory ran out it was not
-abbrev pub Removes : {N : Type 0} → ℕ → TimerId → MemberValue N → MemberValue N → Result (Unit {0}) OutOfMemory → Type 0
-Removes at id old new (Ok done) = (new ≡ record old { ops = new.ops }) × CarriesOut (timer_op.Remove at id) old.ops new.ops
-Removes at id old new (Err refused) = NotCarriedOut old new
+abbrev pub RemovesTimer : {N : Type 0} → ℕ → TimerId → MemberValue N → MemberValue N → Result (Unit {0}) OutOfMemory → Type 0
+RemovesTimer at id old new (Ok done) = (new ≡ record old { ops = new.ops }) × CarriesOut (timer_op.Remove at id) old.ops new.ops
+RemovesTimer at id old new (Err refused) = NotCarriedOut old new

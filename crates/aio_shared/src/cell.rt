@@ -5,7 +5,7 @@ ghost use Rattle.std.specs.Borrow.{sem};
 ghost use Rattle.aio_react.specs.Rounds.{new_round};
 ghost use Rattle.aio_shared.specs.CellLending.{LendsSeat};
 
-use crate::waiting::WaitHalf;
+use crate::waiting::CellWait;
 use aio_base::EventWait;
 use aio_react::Round;
 use aio_words::RoundSeat;
@@ -18,7 +18,7 @@ use std::marker::Model;
 pub struct RoundCell<W: EventWait> {
     pub(crate) seat: RoundSeat,
     pub(crate) round: Round,
-    pub(crate) wait: WaitHalf<W>,
+    pub(crate) wait: CellWait<W>,
 }
 
 impl<W: EventWait> Model for RoundCell<W> {
@@ -54,7 +54,7 @@ impl<W: EventWait> RoundCell<W> {
         RoundCell {
             seat,
             round,
-            wait: WaitHalf::new(wait),
+            wait: CellWait::new(wait),
         }
     }
 

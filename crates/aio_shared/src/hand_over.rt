@@ -3,7 +3,7 @@
 ghost use Rattle.std.specs.Prelude.{◌≡◌, IfErr, IfSome, IsErr, IsSome};
 ghost use Rattle.aio_base.specs.Devices.{TellsFaults};
 ghost use Rattle.aio_words.specs.Seats.{Belongs};
-ghost use Rattle.aio_shared.specs.CallsMade.{CallsAsWon};
+ghost use Rattle.aio_shared.specs.Notifying.{NotifiesAsWon};
 ghost use Rattle.aio_shared.specs.HandOver.{all_slots, first_slots_but};
 ghost use Rattle.aio_shared.specs.Members.{IsLaterMember, IsMemberOf};
 ghost use Rattle.aio_shared.specs.Reacting.{IsFaultWithin, Wakes};
@@ -32,7 +32,7 @@ impl<A: Arm, W: EventWait> Shared<A, W> {
         requires belongs { IsMemberOf self.now m.old }
         ensures woke { Wakes self.now.words.parkers (first_slots_but parker)
             m.old.pass m.new.pass }
-        ensures calls { CallsAsWon m.old.pass.view m.new.pass.view
+        ensures calls { NotifiesAsWon m.old.pass.view m.new.pass.view
             (N.call_count m.old.notifier) (N.call_count m.new.notifier) }
         ensures kept { m.new ≡ record m.old { pass = m.new.pass; notifier = m.new.notifier } }
         ensures faults { TellsFaults N.fault_count N.is_sure m.old.notifier m.new.notifier
@@ -59,7 +59,7 @@ impl<A: Arm, W: EventWait> Shared<A, W> {
     pub fn wake_all_slots<N: Notify>(&self, m: &mut Member<N, W>) -> Result<(), CountFault>
         requires belongs { IsMemberOf self.now m.old }
         ensures woke { Wakes self.now.words.parkers all_slots m.old.pass m.new.pass }
-        ensures calls { CallsAsWon m.old.pass.view m.new.pass.view
+        ensures calls { NotifiesAsWon m.old.pass.view m.new.pass.view
             (N.call_count m.old.notifier) (N.call_count m.new.notifier) }
         ensures kept { m.new ≡ record m.old { pass = m.new.pass; notifier = m.new.notifier } }
         ensures faults { TellsFaults N.fault_count N.is_sure m.old.notifier m.new.notifier
@@ -86,7 +86,7 @@ fn wake_first_slots<N: Notify>(
 ) -> Option<CountFault>
     requires { Belongs words.now p.old }
     ensures woke { Wakes words.now.parkers (first_slots_but parker) p.old p.new }
-    ensures calls { CallsAsWon p.old.view p.new.view (N.call_count n.old) (N.call_count n.new) }
+    ensures calls { NotifiesAsWon p.old.view p.new.view (N.call_count n.old) (N.call_count n.new) }
     ensures faults { TellsFaults N.fault_count N.is_sure n.old n.new (IsSome result) }
     ensures counts { IfSome result (IsFaultWithin (N.fault_count n.old) (N.fault_count n.new)) }
 {
@@ -105,7 +105,7 @@ fn wake_first_slots<N: Notify>(
 fn wake_slots<N: Notify>(words: &Words, p: &mut Pass, n: &mut N) -> Option<CountFault>
     requires { Belongs words.now p.old }
     ensures woke { Wakes words.now.parkers all_slots p.old p.new }
-    ensures calls { CallsAsWon p.old.view p.new.view (N.call_count n.old) (N.call_count n.new) }
+    ensures calls { NotifiesAsWon p.old.view p.new.view (N.call_count n.old) (N.call_count n.new) }
     ensures faults { TellsFaults N.fault_count N.is_sure n.old n.new (IsSome result) }
     ensures counts { IfSome result (IsFaultWithin (N.fault_count n.old) (N.fault_count n.new)) }
 {

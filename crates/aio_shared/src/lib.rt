@@ -1,19 +1,18 @@
 //! A reactor that several threads share (`async-io` 2, `reactor.rs`).
 //!
-//! It stands on the sources of `aio_source`, each in a lock of `aio_lock`, on the book of `aio_timers` and
-//! the queue of operations of `aio_ops`, on the rounds and hosts of `aio_react`, and on the words of
-//! `aio_words`. Each thread has a member of its own, the token of what it did. It promises of each call
-//! what the member did and which id it drew; that a timer is registered, or no longer, through the queue
-//! or, where that stays full, by the call itself; under which key each source is registered, and that
-//! the token of a source knows the rest of its connection whatever rounds did in between; and what a
-//! round did, and why a call refuses.
+//! It stands on the table of sources of `aio_sources`, on the book of `aio_timers` and the queue of
+//! operations of `aio_ops`, on the rounds and hosts of `aio_react`, and on the words of `aio_words`. Each
+//! thread has a member of its own, the token of what it did. It promises of each call what the member
+//! did and which id it drew; that a timer is registered, or no longer, through the queue or, where that
+//! stays full, by the call itself; under which key each source is registered, and that the token of a
+//! source knows the rest of its connection whatever rounds did in between; and what a round did, and
+//! why a call refuses.
 //!
 //! Locks are taken in this order: the reactor, the table of sources, one source; or the reactor, the
 //! timers. So whoever is inside a source does not ask for the table.
 #![tactic(auto)]
 
 mod cell;
-mod closing;
 mod hand_over;
 mod inside;
 mod members;
@@ -22,20 +21,17 @@ mod reacting;
 mod round_lock;
 mod seats;
 mod shared;
-mod source_table;
 mod sources;
 mod starting;
-#[cfg(test)]
-mod tests;
 mod timers;
 mod waiting;
 mod waking;
 
+pub use aio_sources::{Attempt, InsertFault, PollDir, SourceRef, Sources, Tried, TryDir, Visit};
 pub use cell::RoundCell;
 pub use inside::Inside;
 pub use members::Member;
-pub use polling::{Attempt, PollDir, PollFault, Tried, TryDir, Visit};
+pub use polling::PollFault;
 pub use reacting::{ReactFault, ReactedIn};
 pub use shared::Shared;
-pub use sources::{InsertFault, SourceRef, Sources};
 pub use starting::Started;

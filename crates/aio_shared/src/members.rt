@@ -73,7 +73,7 @@ impl<A: Arm, W: EventWait> Shared<A, W> {
         ensures twin { IfOk result (λ made. IsTrue (N.is_sure m.old.notifier)
             → IsTrue (N.is_sure made.notifier)) }
         ensures counted { OnOk result (m.new ≡ with_one_more_made m.old) }
-        ensures spent { (result ≡ Err PassRefusal.PassesSpent) ↔ (m.old.ops.made ≡ pass_limit) }
+        ensures spent { (result ≡ Err PassRefusal.PassesSpent) ↔ (m.old.ops.splits ≡ pass_limit) }
         ensures refused { OnErr result (m.new ≡ m.old) }
     {
         if m.ops.is_spent() {

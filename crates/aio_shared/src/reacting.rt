@@ -1,23 +1,25 @@
 //! A round of a shared reactor, by the member that holds its cell.
 
-ghost use Rattle.std.specs.Prelude.{◌≡◌, ◌≢◌, ◌↔◌, ℕ, ◌+◌, ◌-◌, ◌^◌, ◌<◌, ◌≤◌, [], true, false, Err, OnOk, OnErr, IfErr};
+ghost use Rattle.std.specs.Prelude.{◌≡◌, ◌↔◌, ◌+◌, ◌-◌, ◌^◌, ◌<◌, ◌≤◌, [], true, false, Err, OnOk, OnErr, IfErr};
 ghost use Rattle.aio_base.specs.Devices.{TellsFaults};
 ghost use Rattle.aio_rules.specs.SharedWords.{blocking};
 ghost use Rattle.aio_words.specs.Seats.{Belongs, IsIdleOrWaits, is_waiting};
-ghost use Rattle.aio_shared.specs.CallsMade.{CallsAsWon};
+ghost use Rattle.aio_shared.specs.Notifying.{NotifiesAsWon};
 ghost use Rattle.aio_shared.specs.Members.{IsLaterMember, IsMemberOf};
 ghost use Rattle.aio_shared.specs.OneCell.{IsCellOf};
-ghost use Rattle.aio_shared.specs.Reacting.{BeginRefused, BeginsAs, EnterRefused, Enters, Finishes, HandlesSome, NotifyFailed, Reacts, Settles, Tells, Wakes, rose};
-ghost use Rattle.aio_shared.specs.TimerCalls.{Drained, PushedNothing};
+ghost use Rattle.aio_shared.specs.Reacting.{BeginRefused, BeginsAs, BeginsOver, ClockGoesOn, DrainsAtMost, EnterRefused, Enters, Finishes, FinishesOver, NotifyFailed, Reacts, Settles, ReportsRound, Wakes, rose};
+ghost use Rattle.aio_sources.specs.Events.{HandlesSome};
+ghost use Rattle.aio_ops.specs.Passes.{Drained};
+ghost use Rattle.aio_shared.specs.TimerCalls.{PushedNothing};
 
 use crate::cell::RoundCell;
 use crate::members::Member;
 use crate::shared::Shared;
-use crate::source_table::SourceTable;
 use crate::waking::wake_each;
 use aio_base::{Arm, ArmFault, Clock, CountFault, EventWait, Notify, OutOfMemory};
 use aio_ops::OpPass;
 use aio_react::{Round, RoundFault};
+use aio_timers::TimerBook;
 use aio_words::RoundSeat;
 use std::sync::Wait;
 
@@ -88,7 +90,7 @@ impl<A: Arm, W: EventWait> Shared<A, W> {
             result }
         ensures spent { (result ≡ Err ReactFault.RoundsSpent)
             ↔ ((cell.old.round.running ≡ false) × (cell.old.seat.view.seen ≡ 2 ^ 64 - 1)) }
-        ensures calls { CallsAsWon m.old.pass.view m.new.pass.view
+        ensures calls { NotifiesAsWon m.old.pass.view m.new.pass.view
             (N.call_count m.old.notifier) (N.call_count m.new.notifier) }
         ensures seat { cell.new.seat.view.mode ≡ blocking cell.old.seat.view.mode }
         ensures kept { m.new ≡ record m.old {
@@ -101,8 +103,7 @@ impl<A: Arm, W: EventWait> Shared<A, W> {
         ensures later { IsLaterMember N.fault_count N.is_sure m.old m.new }
         ensures faults { TellsFaults N.fault_count N.is_sure m.old.notifier m.new.notifier
             (NotifyFailed result) }
-        ensures bounds { C.bounds clock.new ≡ C.bounds clock.old }
-        ensures latest { C.latest clock.old ≤ C.latest clock.new }
+        ensures clock { ClockGoesOn C.bounds C.latest clock.old clock.new }
     {
         let resumed = !cell.round().is_idle();
         let in_hand = cell.round().in_hand() as u32;
@@ -146,8 +147,7 @@ impl<A: Arm, W: EventWait> Shared<A, W> {
             cell.old cell.new m.old.ops m.new.ops) }
         ensures refused { IfErr result (λ fault.
             EnterRefused fault cell.old cell.new m.old.ops m.new.ops) }
-        ensures bounds { C.bounds clock.new ≡ C.bounds clock.old }
-        ensures latest { C.latest clock.old ≤ C.latest clock.new }
+        ensures clock { ClockGoesOn C.bounds C.latest clock.old clock.new }
     {
         if cell.round.is_idle() {
             match self.begin_round(
@@ -163,7 +163,7 @@ impl<A: Arm, W: EventWait> Shared<A, W> {
                     return Err(fault);
                 }
                 Ok(()) => {
-                    cell.wait.wait_once(&cell.seat, &mut cell.round);
+                    cell.wait.await_events(&cell.seat, &mut cell.round);
                     self.words.waited(&mut cell.seat);
                     return Ok(());
                 }
@@ -195,8 +195,7 @@ impl<A: Arm, W: EventWait> Shared<A, W> {
         ensures room { OnOk result (seat.old.view.seen < 2 ^ 64 - 1) }
         ensures refused { IfErr result (λ fault. BeginRefused fault
             seat.old.view seat.new.view round.old round.new ops.old ops.new) }
-        ensures bounds { C.bounds clock.new ≡ C.bounds clock.old }
-        ensures latest { C.latest clock.old ≤ C.latest clock.new }
+        ensures clock { ClockGoesOn C.bounds C.latest clock.old clock.new }
     {
         let rounds = self.words.rounds(seat);
         if rounds == u64::MAX {
@@ -230,12 +229,35 @@ impl<A: Arm, W: EventWait> Shared<A, W> {
         ensures drained { OnOk result (Drained ops.old ops.new) }
         ensures refused { OnErr result (round.new ≡ round.old) }
         ensures pushed { OnErr result (PushedNothing ops.old ops.new) }
-        ensures bounds { C.bounds clock.new ≡ C.bounds clock.old }
-        ensures latest { C.latest clock.old ≤ C.latest clock.new }
+        ensures clock { ClockGoesOn C.bounds C.latest clock.old clock.new }
     {
         let mut guard = self.timers.lock(rt);
-        let book = &mut *guard;
-        match self.drain(rt, ops, book, 0) {
+        self.begin_over(rt, ops, &mut *guard, round, clock, limit, number)
+    }
+
+    /// Drains the queue of operations into the book and begins a round, by a pass over what the drain left.
+    fn begin_over<R: Wait, C: Clock>(
+        &self,
+        rt: &R,
+        ops: &mut OpPass,
+        book: &mut TimerBook,
+        round: &mut Round,
+        clock: &mut C,
+        limit: Option<u64>,
+        number: u64,
+    ) -> Result<(), OutOfMemory>
+        requires ops { ops.old.queue ≡ self.now.ops }
+        requires idle { round.old.running ≡ false }
+        ensures begun { OnOk result
+            (BeginsOver number (C.bounds clock.old) (C.latest clock.old) (C.latest clock.new) limit
+            ops.old ops.new book.old book.new round.new) }
+        ensures drained { OnOk result (Drained ops.old ops.new) }
+        ensures refused { OnErr result (round.new ≡ round.old) }
+        ensures pushed { OnErr result (PushedNothing ops.old ops.new) }
+        ensures kept { OnErr result (DrainsAtMost ops.old ops.new book.old book.new) }
+        ensures clock { ClockGoesOn C.bounds C.latest clock.old clock.new }
+    {
+        match self.ops.drain(rt, ops, book) {
             Err(refused) => return Err(refused),
             Ok(_) => {}
         }
@@ -252,8 +274,8 @@ impl<A: Arm, W: EventWait> Shared<A, W> {
         ensures handled { HandlesSome self.now.sure_of_arms cell.old.round cell.new.round }
         ensures none_left { OnOk result (cell.new.round.hand ≡ []) }
     {
-        let guard = self.sources.lock(rt);
-        handle_each(rt, &*guard, &mut cell.round)
+        let table = self.sources.lock(rt);
+        table.handle_each(rt, &mut cell.round)
     }
 
     /// Ends the round, after a drain, under the lock of the book.
@@ -275,17 +297,40 @@ impl<A: Arm, W: EventWait> Shared<A, W> {
         ensures drained { OnOk result (Drained m.old.ops m.new.ops) }
         ensures refused { OnErr result (cell.new ≡ cell.old) }
         ensures pushed { OnErr result (PushedNothing m.old.ops m.new.ops) }
-        ensures bounds { C.bounds clock.new ≡ C.bounds clock.old }
-        ensures latest { C.latest clock.old ≤ C.latest clock.new }
+        ensures clock { ClockGoesOn C.bounds C.latest clock.old clock.new }
     {
         let mut guard = self.timers.lock(rt);
-        let book = &mut *guard;
-        match self.drain(rt, &mut m.ops, book, 0) {
+        self.end_over(rt, &mut m.ops, &mut *guard, &mut cell.round, clock)
+    }
+
+    /// Drains the queue of operations into the book and ends the round, by a pass over what the drain left
+    /// where the round asks for one.
+    fn end_over<R: Wait, C: Clock>(
+        &self,
+        rt: &R,
+        p: &mut OpPass,
+        book: &mut TimerBook,
+        round: &mut Round,
+        clock: &mut C,
+    ) -> Result<(), OutOfMemory>
+        requires ops { p.old.queue ≡ self.now.ops }
+        requires running { round.old.running ≡ true }
+        requires hand { round.old.hand ≡ [] }
+        ensures finished { OnOk result
+            (FinishesOver (C.bounds clock.old) (C.latest clock.old) (C.latest clock.new)
+            p.old p.new book.old book.new round.old round.new) }
+        ensures drained { OnOk result (Drained p.old p.new) }
+        ensures refused { OnErr result (round.new ≡ round.old) }
+        ensures pushed { OnErr result (PushedNothing p.old p.new) }
+        ensures kept { OnErr result (DrainsAtMost p.old p.new book.old book.new) }
+        ensures clock { ClockGoesOn C.bounds C.latest clock.old clock.new }
+    {
+        match self.ops.drain(rt, p, book) {
             Err(refused) => return Err(refused),
             Ok(_) => {}
         }
         let now = clock.now();
-        match cell.round.finish(book, now) {
+        match round.finish(book, now) {
             Err(refused) => Err(refused),
             Ok(_) => Ok(()),
         }
@@ -303,9 +348,9 @@ impl<A: Arm, W: EventWait> Shared<A, W> {
         requires few { in_hand ≤ 1024 }
         ensures kept { m.new ≡ record m.old { pass = m.new.pass; notifier = m.new.notifier } }
         ensures woke { Wakes self.now.words.parkers cell.now.round.taken m.old.pass m.new.pass }
-        ensures calls { CallsAsWon m.old.pass.view m.new.pass.view
+        ensures calls { NotifiesAsWon m.old.pass.view m.new.pass.view
             (N.call_count m.old.notifier) (N.call_count m.new.notifier) }
-        ensures tells { Tells cell.now.round resumed in_hand
+        ensures tells { ReportsRound cell.now.round resumed in_hand
             (record { before = N.fault_count m.old.notifier; after = N.fault_count m.new.notifier })
             result }
         ensures faults { TellsFaults N.fault_count N.is_sure m.old.notifier m.new.notifier
@@ -345,22 +390,4 @@ impl<A: Arm, W: EventWait> Shared<A, W> {
             self.words.waited(seat);
         }
     }
-}
-
-/// Handles each event in hand of a round, while the caller has the table of sources.
-fn handle_each<A: Arm, R: Wait>(
-    rt: &R,
-    table: &SourceTable<A>,
-    round: &mut Round,
-) -> Result<(), OutOfMemory>
-    ensures handled { HandlesSome A.all_sure round.old round.new }
-    ensures none_left { OnOk result (round.new.hand ≡ []) }
-{
-    while round.in_hand() > 0 {
-        match table.handle(rt, round) {
-            Err(refused) => return Err(refused),
-            Ok(()) => {}
-        }
-    }
-    Ok(())
 }

@@ -74,7 +74,7 @@ impl<W: EventWait + Drop> RoundLock<W> {
 }
 
 impl<W: EventWait> RoundLock<W> {
-    /// A member for another thread, which `from` counts.
+    /// A member for another thread, split off `from`.
     pub(crate) fn member(&self, from: &mut Claim<W>) -> Claim<W>
         requires { from.old.lock ≡ self.now }
         ensures made { result ≡ new_claim from.old }

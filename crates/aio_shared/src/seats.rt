@@ -96,13 +96,13 @@ impl<W: EventWait> Lesson<RoundCell<W>, Knows> for Push<W> {
     ghost fact = { λ knows items. items ≡ [] };
 }
 
-/// A new member beside one, which counts it.
+/// A member is split off another, which keeps count of those.
 pub struct NewMember;
 
 impl Split<Knows> for NewMember {
-    ghost use Rattle.aio_rules.specs.RoundLock.{next_claim, with_one_more};
+    ghost use Rattle.aio_rules.specs.RoundLock.{next_claim, split_claim};
 
-    ghost left = { with_one_more };
+    ghost left = { split_claim };
 
     ghost right = { next_claim };
 }

@@ -2,19 +2,19 @@
 
 ghost use Rattle.std.specs.Prelude.{◌≡◌, ◌≤◌, [], IfOk, IfErr, IsPermutation};
 ghost use Rattle.std.specs.Arc.{arc_value};
-ghost use Rattle.aio_rules.specs.SharedWords.{first_view, with_one_more};
+ghost use Rattle.aio_rules.specs.SharedWords.{first_view, after_split};
 ghost use Rattle.aio_shared.specs.OneCell.{first_claim};
-ghost use Rattle.aio_shared.specs.Starting.{AreParts, IsFirstMember, IsNewReactor, keys_added, new_about};
+ghost use Rattle.aio_shared.specs.Starting.{AreParts, IsFirstMember, IsNewReactor, new_about};
+ghost use Rattle.aio_sources.specs.Starting.{keys_added};
 
 use crate::cell::RoundCell;
 use crate::members::Member;
 use crate::round_lock::{Claim, RoundLock};
-use crate::source_table::SourceTable;
-use crate::sources::SourceRef;
 use crate::starting::Started;
 use aio_base::{Arm, ArmFault, EventWait, Notify, OutOfMemory};
 use aio_ops::{OpPass, Ops};
 use aio_react::Round;
+use aio_sources::{SourceRef, SourceTable};
 use aio_timers::TimerBook;
 use aio_words::{Pass, RoundSeat, Words};
 use std::alloc::Global;
@@ -143,7 +143,7 @@ pub(crate) fn open_lock<A: Arm, W: EventWait + Drop>(
     seat: RoundSeat,
     wait: W,
 ) -> Result<(RoundLock<W>, Claim<W>), W>
-    requires { seat.view ≡ with_one_more first_view }
+    requires { seat.view ≡ after_split first_view }
     ensures opened { IfOk result (λ made. made.1
         ≡ first_claim made.0 (new_about seat.words (W.is_sure wait) A.all_sure)) }
     ensures back { IfErr result (λ back. back ≡ wait) }
@@ -153,7 +153,7 @@ pub(crate) fn open_lock<A: Arm, W: EventWait + Drop>(
     };
     match RoundLock::new::<A>(alloc, RoundCell::new(seat, round, wait)) {
         Ok(made) => Ok(made),
-        Err(cell) => Err(cell.wait.into_half()),
+        Err(cell) => Err(cell.wait.into_inner()),
     }
 }
 

@@ -1,10 +1,10 @@
 //! The calls on timers: an operation joins the queue, or is applied to the book by the call itself.
 
-ghost use Rattle.std.specs.Prelude.{◌≡◌, ◌+◌, ◌≤◌, IsTrue, IfOk, OnOk, OnErr};
-ghost use Rattle.aio_ops.specs.Passes.{Drains};
+ghost use Rattle.std.specs.Prelude.{◌≡◌, ◌+◌, IsTrue, OnOk, OnErr};
+ghost use Rattle.aio_ops.specs.Passes.{Drained};
 ghost use Rattle.aio_react.specs.Hosts.{NotifierTells, has_id_left, insert_fault};
 ghost use Rattle.aio_shared.specs.Members.{IsLaterMember, IsMemberOf};
-ghost use Rattle.aio_shared.specs.TimerCalls.{CarriesOut, Drained, DrainsAndApplies, GivesUp, Inserts, IsLaterPass, Removes, Tries};
+ghost use Rattle.aio_shared.specs.TimerCalls.{CarriesOut, GivesUp, Inserts, IsLaterPass, RemovesTimer, Tries, TriesOver};
 
 use crate::members::Member;
 use crate::shared::Shared;
@@ -13,9 +13,6 @@ use aio_ops::OpPass;
 use aio_react::InsertRefusal;
 use aio_timers::{TimerBook, TimerOp};
 use std::sync::Wait;
-
-/// How many operations a drain takes at most.
-const DRAINED: u32 = 1_000;
 
 /// How often a call drains the queue and pushes its operation again, at most.
 const TRIES: u32 = 1_000;
@@ -80,7 +77,7 @@ impl<A: Arm, W: EventWait> Shared<A, W> {
         id: TimerId,
     ) -> Result<(), OutOfMemory>
         requires belongs { IsMemberOf self.now m.old }
-        ensures removes { Removes at id m.old m.new result }
+        ensures removes { RemovesTimer at id m.old m.new result }
         ensures belongs { IsMemberOf self.now m.new }
         ensures later { IsLaterMember N.fault_count N.is_sure m.old m.new }
     {
@@ -119,13 +116,28 @@ impl<A: Arm, W: EventWait> Shared<A, W> {
         ensures tries { Tries op.now p.old p.new result }
     {
         let mut guard = self.timers.lock(rt);
-        let book = &mut *guard;
-        self.drain(rt, p, book, 0)?;
+        self.push_after_drain(rt, p, &mut *guard, op)
+    }
+
+    /// Drains the queue into the book, and then pushes an operation. Whether the queue took it.
+    /// `OutOfMemory` where there was no room; then neither.
+    fn push_after_drain<R: Wait>(
+        &self,
+        rt: &R,
+        p: &mut OpPass,
+        book: &mut TimerBook,
+        op: &TimerOp,
+    ) -> Result<bool, OutOfMemory>
+        requires belongs { p.old.queue ≡ self.now.ops }
+        ensures tries { Tries op.now p.old p.new result }
+        ensures over { TriesOver op.now p.old p.new book.old book.new result }
+    {
+        self.ops.drain(rt, p, book)?;
         Ok(self.ops.push(rt, p, *op).is_ok())
     }
 
     /// Drains the queue and applies an operation to the book, under its lock.
-    pub(crate) fn drain_and_apply<R: Wait>(
+    fn drain_and_apply<R: Wait>(
         &self,
         rt: &R,
         p: &mut OpPass,
@@ -136,49 +148,6 @@ impl<A: Arm, W: EventWait> Shared<A, W> {
         ensures refused { OnErr result (p.new ≡ p.old) }
     {
         let mut guard = self.timers.lock(rt);
-        self.drain_then_apply(rt, p, &mut *guard, op)
-    }
-
-    /// Drains the queue into the book, and then applies an operation to it. `OutOfMemory` where there
-    /// was no room; then neither.
-    fn drain_then_apply<R: Wait>(
-        &self,
-        rt: &R,
-        p: &mut OpPass,
-        book: &mut TimerBook,
-        op: &TimerOp,
-    ) -> Result<(), OutOfMemory>
-        requires belongs { p.old.queue ≡ self.now.ops }
-        ensures applied { OnOk result
-            (DrainsAndApplies op.now p.old p.new book.old book.new) }
-        ensures drained { OnOk result (Drained p.old p.new) }
-        ensures refused { OnErr result (p.new ≡ p.old) }
-        ensures kept { OnErr result (book.new.entries ≡ book.old.entries) }
-    {
-        self.drain(rt, p, book, 1)?;
-        book.apply(*op);
-        Ok(())
-    }
-
-    /// Drains the queue of operations into the book, in which there is room for `more` timers then. The
-    /// answer is how many operations were taken out of the queue and applied. `OutOfMemory` where there
-    /// was no room; then none was taken.
-    pub(crate) fn drain<R: Wait>(
-        &self,
-        rt: &R,
-        p: &mut OpPass,
-        book: &mut TimerBook,
-        more: u32,
-    ) -> Result<u32, OutOfMemory>
-        requires belongs { p.old.queue ≡ self.now.ops }
-        requires few { more ≤ 1 }
-        ensures drains { IfOk result (λ count. Drains count p.old p.new book.old book.new) }
-        ensures pass { OnOk result (Drained p.old p.new) }
-        ensures room { OnOk result (more ≤ book.new.spare) }
-        ensures refused { OnErr result (p.new ≡ p.old) }
-        ensures kept { OnErr result (book.new.entries ≡ book.old.entries) }
-    {
-        book.reserve(DRAINED + more)?;
-        Ok(self.ops.drain_into(rt, p, book))
+        self.ops.apply_after_drain(rt, p, &mut *guard, *op)
     }
 }

@@ -3,7 +3,7 @@
 ghost use Rattle.std.specs.Prelude.{◌≡◌, IfSome, IsSome};
 ghost use Rattle.aio_base.specs.Devices.{TellsFaults};
 ghost use Rattle.aio_words.specs.Seats.{Belongs};
-ghost use Rattle.aio_shared.specs.CallsMade.{CallsAsWon};
+ghost use Rattle.aio_shared.specs.Notifying.{NotifiesAsWon};
 ghost use Rattle.aio_shared.specs.Reacting.{IsFaultWithin, Wakes, first_fault};
 
 use aio_base::{CountFault, Notify, Waker};
@@ -19,7 +19,7 @@ pub(crate) fn wake_each<N: Notify>(
 ) -> Option<CountFault>
     requires { Belongs words.now p.old }
     ensures woke { Wakes words.now.parkers wakers.now p.old p.new }
-    ensures calls { CallsAsWon p.old.view p.new.view (N.call_count n.old) (N.call_count n.new) }
+    ensures calls { NotifiesAsWon p.old.view p.new.view (N.call_count n.old) (N.call_count n.new) }
     ensures faults { TellsFaults N.fault_count N.is_sure n.old n.new (IsSome result) }
     ensures counts { IfSome result (IsFaultWithin (N.fault_count n.old) (N.fault_count n.new)) }
 {

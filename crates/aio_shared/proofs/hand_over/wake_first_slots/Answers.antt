@@ -2,7 +2,7 @@ use Rattle.std.proofs.Common.{sym, subst, ◌∙◌, IsSome, IfSome}
 use Rattle.aio_base.specs.Devices.{HasCause}
 use Rattle.aio_shared.specs.HandOver.{first_slot, first_slots_of}
 use Rattle.aio_shared.specs.Reacting.{IsFaultWithin, Wakes}
-use Rattle.aio_shared.proofs.CallsMade.{called_further, woke_called}
+use Rattle.aio_shared.proofs.Notifying.{notifies_by_wake, notifies_further}
 use Rattle.aio_shared.proofs.HandingOver.{first_slots_one, first_slots_same, wakes_behind}
 use Rattle.aio_shared.proofs.WakingEach.{cause_further, within_further}
 use Rattle.aio_shared.proofs.hand_over.wake_first_slots.Goals as goal
@@ -13,7 +13,7 @@ loop-other-preserved-then-other-parker g c =
       woke = subst (λ ws. Wakes c.args.words.now.parkers ws c.args.p.now c.loop-other.p) (sym (first_slots_same c.loop-other.other c.args.parker c.if-other-parker.true)) so_far.woke;
       faults = so_far.faults;
       counts = so_far.counts;
-      calls = so_far.calls;
+      told = so_far.told;
     }
 
 pub loop-other-preserved : goal.loop-other-preserved
@@ -30,5 +30,5 @@ loop-other-preserved g c =
         sure = woken.faults.sure ∙ so_far.faults.sure;
       };
       counts = subst (λ r. IfSome r (IsFaultWithin before after)) first (within_further c.loop-other.first c.wake-woken.result _ _ _ _ so_far.faults.cause.later so_far.counts woken.faults.cause woken.counts);
-      calls = called_further _ _ _ _ _ _ so_far.calls (woke_called g.N.Notify.call_count g.N.Notify.notify_step _ _ _ _ _ _ _ woken.woke);
+      told = notifies_further _ _ _ _ _ _ so_far.told (notifies_by_wake g.N.Notify.call_count g.N.Notify.notify_step _ _ _ _ _ _ _ woken.woke);
     }

@@ -2,7 +2,7 @@ use Rattle.std.proofs.Common.{◌≡◌, sym, subst, ◌∙◌, IsSome, IfSome, 
 use Rattle.aio_base.specs.Devices.{HasCause}
 use Rattle.aio_shared.specs.HandOver.{slots_below}
 use Rattle.aio_shared.specs.Reacting.{IsFaultWithin, Wakes}
-use Rattle.aio_shared.proofs.CallsMade.{called_further, woke_called}
+use Rattle.aio_shared.proofs.Notifying.{notifies_by_wake, notifies_further}
 use Rattle.aio_shared.proofs.HandingOver.{slots_more, wakes_behind}
 use Rattle.aio_shared.proofs.WakingEach.{cause_further, within_further}
 use Rattle.aio_shared.proofs.hand_over.wake_slots.Goals as goal
@@ -21,7 +21,7 @@ loop-slot-preserved g c =
         sure = woken.faults.sure ∙ so_far.faults.sure;
       };
       counts = subst (λ r. IfSome r (IsFaultWithin before after)) first (within_further c.loop-slot.first c.wake-woken.result _ _ _ _ so_far.faults.cause.later so_far.counts woken.faults.cause woken.counts);
-      calls = called_further _ _ _ _ _ _ so_far.calls (woke_called g.N.Notify.call_count g.N.Notify.notify_step _ _ _ _ _ _ _ woken.woke);
+      told = notifies_further _ _ _ _ _ _ so_far.told (notifies_by_wake g.N.Notify.call_count g.N.Notify.notify_step _ _ _ _ _ _ _ woken.woke);
     }
 
 pub returns-clause-woke : goal.returns-clause-woke

@@ -1,6 +1,6 @@
 use Rattle.std.proofs.Common.{IfSome, IsSome}
 use Rattle.aio_base.specs.Devices.{TellsFaults}
-use Rattle.aio_shared.specs.CallsMade.{CallsAsWon}
+use Rattle.aio_shared.specs.Notifying.{NotifiesAsWon}
 use Rattle.aio_shared.specs.HandOver.{slots_below}
 use Rattle.aio_shared.specs.Reacting.{IsFaultWithin, Wakes}
 use Rattle.aio_shared.proofs.hand_over.wake_slots.Given as goal
@@ -10,5 +10,5 @@ invariant-loop-slot g l = record {
   woke : Wakes l.words.parkers (slots_below l.slot) l.initial.p l.p;
   faults : TellsFaults g.N.Faults.fault_count g.N.Faults.is_sure l.initial.n l.n (IsSome l.first);
   counts : IfSome l.first (IsFaultWithin (g.N.Faults.fault_count l.initial.n) (g.N.Faults.fault_count l.n));
-  calls : CallsAsWon l.initial.p.view l.p.view (g.N.Notify.call_count l.initial.n) (g.N.Notify.call_count l.n);
+  told : NotifiesAsWon l.initial.p.view l.p.view (g.N.Notify.call_count l.initial.n) (g.N.Notify.call_count l.n);
 }

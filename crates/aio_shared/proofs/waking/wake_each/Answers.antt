@@ -1,7 +1,7 @@
 use Rattle.std.proofs.Common.{sym, subst, ◌∙◌, IsSome, IfSome}
 use Rattle.aio_base.specs.Devices.{HasCause}
 use Rattle.aio_shared.specs.Reacting.{IsFaultWithin}
-use Rattle.aio_shared.proofs.CallsMade.{called_further, woke_called}
+use Rattle.aio_shared.proofs.Notifying.{notifies_by_wake, notifies_further}
 use Rattle.aio_shared.proofs.WakingEach.{wakes_further, cause_further, within_further}
 use Rattle.aio_shared.proofs.waking.wake_each.Goals as goal
 
@@ -18,5 +18,5 @@ loop-waker-preserved g c =
         sure = woken.faults.sure ∙ so_far.1.sure;
       },
       subst (λ r. IfSome r (IsFaultWithin before after)) first (within_further c.loop-waker.first c.wake-woken.result _ _ _ _ so_far.1.cause.later so_far.2 woken.faults.cause woken.counts),
-      called_further _ _ _ _ _ _ so_far.3 (woke_called g.N.Notify.call_count g.N.Notify.notify_step _ _ _ _ _ _ _ woken.woke),
+      notifies_further _ _ _ _ _ _ so_far.3 (notifies_by_wake g.N.Notify.call_count g.N.Notify.notify_step _ _ _ _ _ _ _ woken.woke),
     )

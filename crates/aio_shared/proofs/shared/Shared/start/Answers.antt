@@ -1,8 +1,8 @@
 use Rattle.std.proofs.Common.{◌≡◌, [], sym, ap, subst}
 use Rattle.std.specs.Arc.{arc_value}
 use Rattle.aio_shared.specs.Members.{SharedValue}
-use Rattle.aio_shared.specs.Starting.{BeginAll}
-use Rattle.aio_shared.proofs.Beginning.{all_added}
+use Rattle.aio_sources.specs.Starting.{BeginAll}
+use Rattle.aio_sources.proofs.Beginning.{all_added}
 use Rattle.aio_shared.proofs.shared.Shared.start.Goals as goal
 
 pub assemble-requires : goal.assemble-requires

@@ -1,9 +1,0 @@
-use Rattle.std.proofs.Common.{length}
-use Rattle.aio_shared.proofs.Handling.{HandlesWith}
-use Rattle.aio_shared.proofs.reacting.handle_each.Given as goal
-
-abbrev pub invariant-loop-round : goal.invariant-loop-round
-invariant-loop-round g l = HandlesWith g.A.Faults.all_sure l.table l.initial.round l.round
-
-abbrev pub decreases-loop-round : goal.decreases-loop-round
-decreases-loop-round g l = length l.round.hand

@@ -1,5 +1,0 @@
-use Rattle.aio_shared.proofs.Keys.{keys_rise}
-use Rattle.aio_shared.proofs.source_table.SourceTable.keys_rise.Goals as goal
-
-pub returns : goal.returns
-returns g c = rw (← c.self.view_is) (keys_rise 0 c.self.inside.places.items)

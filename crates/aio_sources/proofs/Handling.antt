@@ -1,0 +1,96 @@
+-- Events of a round that are handled one after the other.
+use Rattle.std.proofs.Common.{◌≡◌, ◌≢◌, ◌<◌, ⊎_elim, ℕ, Bool, List, [], ◌∷◌, ◌++◌, length, refl, sym, ap, ◌∙◌, subst, append-nil, append_assoc, Option, Some, None, arith}
+use Rattle.aio_base.specs.declared.names.Event.{Event}
+use Rattle.aio_base.specs.declared.names.Waker.{Waker}
+use Rattle.aio_react.specs.declared.round.RoundFault.{RoundFault}
+use Rattle.aio_react.specs.declared.round.RoundFault.TheVariants.{Wait, Arm}
+use Rattle.aio_react.specs.Rounds.{RoundValue, handled, skipped, taken_first}
+use Rattle.aio_sources.specs.Events.{HandlesEach, HandlesOne, KeepsFault, HandlesSome}
+
+keeps_itself : (all_sure : Bool) (f : Option RoundFault) → KeepsFault all_sure f f
+keeps_itself all_sure (Some fault) = refl
+keeps_itself all_sure None = tt
+
+keeps_further : (all_sure : Bool) (f g h : Option RoundFault) → KeepsFault all_sure f g → KeepsFault all_sure g h → KeepsFault all_sure f h
+keeps_further all_sure (Some fault) g h x y = subst (λ z. KeepsFault all_sure z h) x y
+keeps_further all_sure None None h x y = y
+keeps_further all_sure None (Some (Arm fault)) h x y = subst (λ z. KeepsFault all_sure None z) (sym y) x
+keeps_further all_sure None (Some (Wait fault)) h x y = absurd x
+
+pub first_falls : {A : Type 0} (x : A) (l m : List A) → l ≡ x ∷ m → length m < length l
+first_falls x l m is = let same : length l ≡ length (x ∷ m) = ap length is in omega arith
+
+pub not_empty : {A : Type 0} (l : List A) → 0 < length l → l ≢ []
+not_empty l long empty = let none : length l ≡ 0 = ap length empty in omega arith
+
+-- what an event that left the hand lets be
+record Lets (old new : RoundValue) : Type 0 where
+  more : List Waker
+  taken : new.taken ≡ old.taken ++ more
+  running : new.running ≡ old.running
+  number : new.number ≡ old.number
+  limit : new.limit ≡ old.limit
+  last : new.last ≡ old.last
+
+handled_lets : (old new : RoundValue) (wakers : List Waker) (r : RoundValue) → new ≡ r → r.taken ≡ old.taken ++ wakers → r.running ≡ old.running → r.number ≡ old.number
+    → r.limit ≡ old.limit → r.last ≡ old.last → Lets old new
+handled_lets old new wakers r is taken running number limit last = record {
+  more = wakers;
+  taken = ap (λ (x : RoundValue). x.taken) is ∙ taken;
+  running = ap (λ (x : RoundValue). x.running) is ∙ running;
+  number = ap (λ (x : RoundValue). x.number) is ∙ number;
+  limit = ap (λ (x : RoundValue). x.limit) is ∙ limit;
+  last = ap (λ (x : RoundValue). x.last) is ∙ last;
+}
+
+one_lets : (all_sure : Bool) (keys : List ℕ) (event : Event) (old new : RoundValue) → HandlesOne all_sure keys event old new → Lets old new
+one_lets all_sure keys event old new one =
+    ⊎_elim (λ on. handled_lets old new (taken_first old on.1.source) (handled old (taken_first old on.1.source) on.1.fault) on.1.round refl refl refl refl refl)
+    (λ none. handled_lets old new [] (skipped old) none.1 (sym (append-nil old.taken)) refl refl refl refl)
+    one.became
+
+each_and_one : (all_sure : Bool) (keys : List ℕ) (events : List Event) (event : Event) (r s t : RoundValue) → HandlesEach all_sure keys events r s → HandlesOne all_sure keys event s t
+    → HandlesEach all_sure keys (events ++ event ∷ []) r t
+each_and_one all_sure keys [] event r s t each one = (t, subst (λ (x : RoundValue). HandlesOne all_sure keys event x t) each one, refl)
+each_and_one all_sure keys (first ∷ events) event r s t (mid, was, each) one = (mid, was, each_and_one all_sure keys events event mid s t each one)
+
+-- some events were handled by a table with these keys
+abbrev pub HandlesWith : Bool → List ℕ → RoundValue → RoundValue → Type 0
+HandlesWith all_sure keys old new = (some : HandlesSome all_sure old new) × (some.keys ≡ keys)
+
+pub handles_itself : (all_sure : Bool) (keys : List ℕ) (r : RoundValue) → HandlesWith all_sure keys r r
+handles_itself all_sure keys r = (
+  record {
+    keys = keys;
+    handled = [];
+    each = refl;
+    hand = refl;
+    more = [];
+    taken = sym (append-nil r.taken);
+    fault = keeps_itself all_sure r.fault;
+    running = refl;
+    number = refl;
+    limit = refl;
+    last = refl;
+  },
+  refl,
+)
+
+pub handles_further : (all_sure : Bool) (keys : List ℕ) (r s t : RoundValue) → HandlesWith all_sure keys r s → (event : Event) → HandlesOne all_sure keys event s t
+    → HandlesWith all_sure keys r t
+handles_further all_sure keys r s t (x, is) event y = let lets = one_lets all_sure keys event s t y in (
+  record {
+    keys = keys;
+    handled = x.handled ++ event ∷ [];
+    each = each_and_one all_sure keys x.handled event r s t (subst (λ ks. HandlesEach all_sure ks x.handled r s) is x.each) y;
+    hand = x.hand ∙ ap (λ l. x.handled ++ l) y.hand ∙ sym (append_assoc x.handled (event ∷ []) t.hand);
+    more = x.more ++ lets.more;
+    taken = lets.taken ∙ ap (λ l. l ++ lets.more) x.taken ∙ append_assoc r.taken x.more lets.more;
+    fault = keeps_further all_sure r.fault s.fault t.fault x.fault y.fault;
+    running = lets.running ∙ x.running;
+    number = lets.number ∙ x.number;
+    limit = lets.limit ∙ x.limit;
+    last = lets.last ∙ x.last;
+  },
+  refl,
+)

@@ -1,0 +1,74 @@
+-- What becomes of the events of a round at the sources of a table.
+use Rattle.std.specs.Prelude.{◌≡◌, ◌⊎◌, ℕ, Bool, false, List, [], ◌∷◌, ◌++◌, Option, None, Some, Result, ⊤}
+use Rattle.std.specs.List.{Contains}
+use Rattle.aio_base.specs.declared.names.Event.{Event}
+use Rattle.aio_base.specs.declared.names.Key.{Key}
+use Rattle.aio_base.specs.declared.outcomes.ArmFault.{ArmFault}
+use Rattle.aio_base.specs.declared.outcomes.Failed.{Failed}
+use Rattle.aio_base.specs.Devices.{ArmCall, Interests, Rose}
+use Rattle.aio_react.specs.declared.round.RoundFault.{RoundFault}
+use Rattle.aio_react.specs.declared.round.RoundFault.TheVariants.{Wait, Arm}
+use Rattle.aio_react.specs.Rounds.{RoundValue, arm_told, handled, handling_first, skipped, taken_first}
+use Rattle.aio_source.specs.Lent.{arm_answer, fault_of, UsesArm, arm_of}
+use Rattle.aio_source.specs.Values.{SourceValue}
+use Rattle.aio_base.specs.declared.names.Waker.{Waker}
+
+-- The first fault of a round stays. A new one is that of an arm, whose count rose, in a reactor that is not sure of its arms.
+abbrev pub KeepsFault : Bool → Option RoundFault → Option RoundFault → Type 0
+KeepsFault all_sure (Some fault) after = after ≡ Some fault
+KeepsFault all_sure None None = ⊤
+KeepsFault all_sure None (Some (Arm fault)) = (all_sure ≡ false) × Rose fault.before fault.after
+KeepsFault all_sure None (Some (Wait fault)) = ⊥
+
+-- The first event in hand was handled on a source of this key: the wakers that it gave joined those taken, and the first fault stays.
+pub record HandlesOn (key : Key) (old new : RoundValue) : Type 0 where
+  pub source : SourceValue
+  pub key_is : source.key ≡ key
+  pub fault : Option ArmFault
+  pub round : new ≡ handled old (taken_first old source) fault
+
+module _ {S : Type 0} (step : S → ArmCall → Result (Unit {0}) Failed → S → Type 0) (tells : S → Option Interests) (rest : S → List ℕ) (count : S → ℕ)
+    (is_sure : S → Bool) where
+  -- The same on this source, whose connection was lent to it as the arm: it was armed where the source asked for it, and the fault is the connection's.
+  pub record HandlesBy (source : SourceValue) (io after : S) (old new : RoundValue) : Type 0 where
+    pub fault : Option ArmFault
+    pub round : new ≡ handled old (taken_first old source) fault
+    pub lent : UsesArm step tells rest count is_sure (handling_first old source).arms (arm_of (handling_first old source).source)
+        (arm_answer (arm_told fault)) io after
+    pub counts : arm_told fault ≡ fault_of source.key (count io) (count after) (arm_answer (arm_told fault))
+
+  -- A source of this key did so, by a connection that is not named.
+  pub record HandlesByKey (key : Key) (old new : RoundValue) : Type 0 where
+    pub source : SourceValue
+    pub key_is : source.key ≡ key
+    pub io : S
+    pub after : S
+    pub handles : HandlesBy source io after old new
+
+-- What became of the first event in hand, where there are sources of these keys: a source of its key handled it, and it was skipped exactly where none
+-- has its key. It is in hand no longer.
+pub record HandlesOne (all_sure : Bool) (keys : List ℕ) (event : Event) (old new : RoundValue) : Type 0 where
+  pub hand : old.hand ≡ event ∷ new.hand
+  pub became : (Contains keys event.key.0 × HandlesOn event.key old new) ⊎ ((Contains keys event.key.0 → ⊥) × (new ≡ skipped old))
+  pub fault : KeepsFault all_sure old.fault new.fault
+
+-- What became of these events, the first ones in hand, one after the other.
+abbrev pub HandlesEach : Bool → List ℕ → List Event → RoundValue → RoundValue → Type 0
+HandlesEach all_sure keys [] old new = new ≡ old
+HandlesEach all_sure keys (event ∷ events) old new =
+    (mid : RoundValue) × HandlesOne all_sure keys event old mid × HandlesEach all_sure keys events mid new
+
+-- Some events are in hand no longer, the first ones: each was handled by a source of its key, or skipped where the table had none. The wakers that their
+-- sources gave joined those taken, at their end. The first fault stays.
+pub record HandlesSome (all_sure : Bool) (old new : RoundValue) : Type 0 where
+  pub keys : List ℕ
+  pub handled : List Event
+  pub each : HandlesEach all_sure keys handled old new
+  pub hand : old.hand ≡ handled ++ new.hand
+  pub more : List Waker
+  pub taken : new.taken ≡ old.taken ++ more
+  pub fault : KeepsFault all_sure old.fault new.fault
+  pub running : new.running ≡ old.running
+  pub number : new.number ≡ old.number
+  pub limit : new.limit ≡ old.limit
+  pub last : new.last ≡ old.last

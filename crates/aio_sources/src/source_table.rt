@@ -1,0 +1,356 @@
+//! The table of sources, and what a source takes of memory before its connection is added.
+
+ghost use Rattle.std.specs.Prelude.{◌≡◌, ◌≢◌, ◌↔◌, ◌+◌, ◌<◌, ◌≤◌, [], None, Some, length, max, min, vec_len, vec_capacity, IfOk, IfSome, IfErr, OnErr, OnOk, is_none, IsSome, IsNone, option_map, slice_get};
+ghost use Rattle.std.specs.List.{Contains, position_or_len};
+ghost use Rattle.std.specs.List.Sorted.{IsStrictlyIncreasing};
+ghost use Rattle.std.specs.Arc.{arc_value};
+ghost use Rattle.aio_base.specs.declared.names.Event.{Event};
+ghost use Rattle.aio_sources.specs.Sources.{Adds, FailsToAdd, IsLeastFree, live_keys, outside, with_key, without_key};
+ghost use Rattle.aio_sources.specs.Events.{HandlesBy, HandlesByKey, HandlesOne, HandlesSome, KeepsFault};
+
+use crate::added::add_source;
+use crate::sources::SourceRef;
+use aio_base::{Arm, CountFault, Key, OutOfMemory};
+use aio_lock::{Lock, Owner};
+use aio_react::Round;
+use aio_source::SourceCell;
+use aio_words::Words;
+use std::alloc::Global;
+use std::marker::Model;
+use std::sync::{Arc, Wait};
+
+/// How many sources live at most.
+const SOURCE_LIMIT: usize = 4096;
+
+/// The lock of a source, which the table and the token of the source share.
+pub(crate) type SourceLock<A> = Arc<Lock<SourceCell<A>>, Global>;
+
+/// The locks of the sources, each at the place of its key. Contracts see the keys, which rise. It has
+/// room for as many sources as may live.
+#[derive(Drop)]
+pub struct SourceTable<A: Arm> {
+    places: Vec<Option<SourceLock<A>>>,
+    /// Every key below this one is that of a source.
+    first_free: usize,
+    alloc: Global,
+}
+
+impl<A: Arm> Model for SourceTable<A> {
+    ghost use Rattle.std.specs.Prelude.{ℕ, List, ◌≤◌, is_none, vec_len, vec_capacity};
+    ghost use Rattle.std.specs.List.{position_or_len};
+    ghost use Rattle.aio_sources.specs.Sources.{live_keys};
+
+    ghost Value = { List ℕ };
+
+    ghost view = { λ t. live_keys 0 t.places.items };
+
+    ghost invariant = { λ t. (vec_len t.places ≤ 4096) × (4096 ≤ vec_capacity t.places)
+        × (t.first_free ≤ position_or_len is_none t.places.items) };
+}
+
+/// The memory of a source that is to come: its lock, once for the table and once for its token. Contracts
+/// see the words of its reactor.
+#[derive(Drop)]
+pub(crate) struct Vacancy<A: Arm> {
+    kept: SourceLock<A>,
+    lent: SourceLock<A>,
+    owner: Owner,
+    words: Arc<Words, Global>,
+}
+
+impl<A: Arm> Model for Vacancy<A> {
+    ghost use Rattle.std.specs.Prelude.{◌≡◌, []};
+    ghost use Rattle.std.specs.Arc.{arc_value};
+    ghost use Rattle.atomic_table.specs.Seated.{TableId};
+    ghost use Rattle.aio_rules.specs.SharedLock.{first_owner, took_out};
+    ghost use Rattle.aio_lock.specs.Tokens.{owner_of};
+
+    ghost Value = { TableId };
+
+    ghost view = { λ v. (arc_value v.words).identity };
+
+    ghost invariant = { λ v. (arc_value v.lent ≡ arc_value v.kept)
+        × (v.owner ≡ owner_of (arc_value v.kept) (took_out [] [] (first_owner []))) };
+}
+
+/// The key of a source that went out of the table. `SourceTable::take_out` alone makes one, so that what
+/// follows on it cannot be done without it. Contracts see the key.
+#[derive(Drop)]
+pub struct TakenOut {
+    key: Key,
+}
+
+impl Model for TakenOut {
+    ghost use Rattle.std.specs.Prelude.{ℕ, ◌<◌};
+
+    ghost Value = { ℕ };
+
+    ghost view = { λ t. t.key.0 };
+
+    ghost invariant = { λ t. t.key.0 < 4096 };
+}
+
+impl TakenOut {
+    /// The key.
+    pub(crate) fn key(&self) -> Key
+        ensures value { result.0 ≡ self.now }
+        ensures bound { result.0 < 4096 }
+    {
+        self.key
+    }
+}
+
+impl<A: Arm + Drop> Vacancy<A> {
+    /// Takes all the memory of a source. `OutOfMemory` where it is not there, or where too many tokens
+    /// share the words.
+    pub(crate) fn new(alloc: Global, words: &Arc<Words, Global>) -> Result<Vacancy<A>, OutOfMemory>
+        ensures { IfOk result (λ vacancy. vacancy ≡ (arc_value words.now).identity) }
+    {
+        let (lock, owner, _second) = Lock::vacant(alloc)?;
+        let Ok(kept) = Arc::new(alloc, lock) else {
+            return Err(OutOfMemory);
+        };
+        let Ok(lent) = Arc::try_clone(&kept) else {
+            return Err(OutOfMemory);
+        };
+        let Ok(words) = Arc::try_clone(words) else {
+            return Err(OutOfMemory);
+        };
+        Ok(Vacancy {
+            kept,
+            lent,
+            owner,
+            words,
+        })
+    }
+}
+
+impl<A: Arm + Drop> SourceTable<A> {
+    /// A table with no source. `OutOfMemory` where there is no room for 4,096 of them.
+    pub fn new(alloc: Global) -> Result<SourceTable<A>, OutOfMemory>
+        ensures { IfOk result (λ table. table ≡ []) }
+    {
+        let Ok(places) = Vec::with_capacity(alloc, SOURCE_LIMIT) else {
+            return Err(OutOfMemory);
+        };
+        Ok(SourceTable {
+            places,
+            first_free: 0,
+            alloc,
+        })
+    }
+
+    /// What has the memory for one more source.
+    pub(crate) fn vacancy(&self, words: &Arc<Words, Global>) -> Result<Vacancy<A>, OutOfMemory>
+        ensures { IfOk result (λ vacancy. vacancy ≡ (arc_value words.now).identity) }
+    {
+        Vacancy::new(self.alloc, words)
+    }
+
+    /// The least key that no source has. `None` exactly where 4,096 sources live.
+    pub(crate) fn free_key(&self) -> Option<Key>
+        ensures none { (result ≡ None) ↔ (length self.now ≡ 4096) }
+        ensures least { IfSome result (λ key. IsLeastFree self.now key.0) }
+        ensures bound { IfSome result (λ key. key.0 < 4096) }
+        ensures within { IfSome result (λ key. key.0 ≤ length self.now) }
+    {
+        let at = first_free_place(self.places.as_slice(), self.first_free);
+        if at < SOURCE_LIMIT {
+            Some(Key(at as u32))
+        } else {
+            None
+        }
+    }
+
+    /// Puts a lock at the place of the least free key.
+    fn put(&mut self, key: Key, lock: SourceLock<A>)
+        requires free { IsLeastFree self.old key.0 }
+        requires bound { key.0 < 4096 }
+        ensures { self.new ≡ with_key self.old key.0 }
+    {
+        let at = key.0 as usize;
+        fill_place(&mut self.places, at, lock);
+        self.first_free = at + 1;
+    }
+
+    /// Lets the lock of a key go, where there is one: no source of the table has the key then. The
+    /// answer says so of this key.
+    pub fn take_out(&mut self, key: Key) -> TakenOut
+        requires { key.0 < 4096 }
+        ensures keys { self.new ≡ without_key self.old key.0 }
+        ensures gone { ¬ Contains self.new key.0 }
+        ensures out { result ≡ key.0 }
+    {
+        let at = key.0 as usize;
+        clear_place(&mut self.places, at);
+        self.first_free = self.first_free.min(at);
+        TakenOut { key }
+    }
+
+    /// Adds a connection under the least free key, and gives it to its lock. Takes no memory. Where the
+    /// `add` fails the connection comes back, and the table is as before.
+    pub(crate) fn admit(
+        &mut self,
+        vacancy: Vacancy<A>,
+        key: Key,
+        io: A,
+    ) -> Result<SourceRef<A>, (A, CountFault)>
+        requires free { IsLeastFree self.old key.0 }
+        requires bound { key.0 < 4096 }
+        ensures keys { OnOk result (self.new ≡ with_key self.old key.0) }
+        ensures token { IfOk result (λ s. s ≡ outside vacancy key.0 (A.rest io)) }
+        ensures added { OnOk result (Adds A.arm_step key.0 io) }
+        ensures refused { OnErr result (self.new ≡ self.old) }
+        ensures back { IfErr result (λ back.
+            FailsToAdd A.arm_step A.rest A.fault_count A.is_sure key.0 io back.0 back.1) }
+    {
+        let source = match add_source(self.alloc, key, io) {
+            Ok(source) => source,
+            Err(back) => return Err(back),
+        };
+        let Vacancy {
+            kept,
+            lent,
+            mut owner,
+            words,
+        } = vacancy;
+        source.give(&lent, &mut owner);
+        self.put(key, kept);
+        Ok(SourceRef::new(key, words, lent, owner))
+    }
+}
+
+impl<A: Arm> SourceTable<A> {
+    /// The law of a table: its keys rise.
+    pub(crate) fn keys_rise(&self)
+        ensures { IsStrictlyIncreasing self.now }
+    {
+        let _places = &self.places;
+    }
+
+    /// The lock of the source of a key, where there is one.
+    fn lock_of(&self, key: Key) -> Option<&Lock<SourceCell<A>>>
+        ensures some { IsSome result → Contains self.now key.0 }
+        ensures none { IsNone result → ¬ Contains self.now key.0 }
+    {
+        let at = key.0 as usize;
+        if at >= self.places.len() {
+            return None;
+        }
+        match &self.places[at] {
+            Some(lock) => Some(lock),
+            None => None,
+        }
+    }
+
+    /// Handles the first event in hand of a round: by the source of its key, with the source's own
+    /// connection as the arm; an event whose key no source has is skipped. `OutOfMemory` where there is no
+    /// memory for the wakers; the event is still in hand then, and nothing has changed.
+    ///
+    /// The caller has the table, so no source goes out of it meanwhile.
+    pub(crate) fn handle<R: Wait>(&self, rt: &R, round: &mut Round) -> Result<(), OutOfMemory>
+        requires { round.old.hand ≢ [] }
+        ensures handled { OnOk result ((event : Event)
+            × HandlesOne A.all_sure self.now event round.old round.new) }
+        ensures lent { (event : Event) → slice_get round.old.hand 0 ≡ Some event
+            → Contains self.now event.key.0 → OnOk result
+            (HandlesByKey A.arm_step A.interests A.rest A.fault_count A.is_sure
+            event.key round.old round.new) }
+        ensures refused { OnErr result (round.new ≡ round.old) }
+    {
+        let Some(event) = round.peek() else {
+            unreachable!()
+        };
+        let Some(lock) = self.lock_of(event.key) else {
+            round.skip();
+            return Ok(());
+        };
+        let (mut cell, visit) = lock.visit(rt);
+        let handled = handle_in(&mut cell, event.key, round);
+        lock.leave(visit, cell);
+        handled
+    }
+
+    /// Handles each event in hand of a round, as `handle` does. `OutOfMemory` leaves in hand what was not
+    /// handled.
+    pub fn handle_each<R: Wait>(&self, rt: &R, round: &mut Round) -> Result<(), OutOfMemory>
+        ensures handled { HandlesSome A.all_sure round.old round.new }
+        ensures none_left { OnOk result (round.new.hand ≡ []) }
+    {
+        while round.in_hand() > 0 {
+            match self.handle(rt, round) {
+                Err(refused) => return Err(refused),
+                Ok(()) => {}
+            }
+        }
+        Ok(())
+    }
+}
+
+/// Handles the first event in hand, which is of this key, on a source, with its connection as the arm.
+/// `OutOfMemory` where there is no memory for the wakers. A source of another key, which no call puts at
+/// this place, answers so too: no event is lost then.
+fn handle_in<A: Arm>(
+    cell: &mut SourceCell<A>,
+    key: Key,
+    round: &mut Round,
+) -> Result<(), OutOfMemory>
+    requires { option_map (λ (event : Event). event.key) (slice_get round.old.hand 0) ≡ Some key }
+    ensures key { cell.new.state.key ≡ cell.old.state.key }
+    ensures rest { A.rest cell.new.io ≡ A.rest cell.old.io }
+    ensures own { OnOk result (cell.old.state.key ≡ key) }
+    ensures handled { OnOk result (HandlesBy A.arm_step A.interests A.rest A.fault_count A.is_sure
+        cell.old.state cell.old.io cell.new.io round.old round.new) }
+    ensures fault { OnOk result (KeepsFault A.all_sure round.old.fault round.new.fault) }
+    ensures refused { OnErr result (round.new ≡ round.old) }
+{
+    if cell.state.key() != key {
+        return Err(OutOfMemory);
+    }
+    match round.handle(&mut cell.state, &mut cell.io) {
+        Ok(_) => Ok(()),
+        Err(refused) => Err(refused),
+    }
+}
+
+/// The first place with nothing in it, or the end, where each place before `from` has something.
+fn first_free_place<T>(places: &[Option<T>], from: usize) -> usize
+    requires { from ≤ position_or_len is_none places.now }
+    ensures { result ≡ position_or_len is_none places.now }
+{
+    for place in from..places.len() {
+        if places[place].is_none() {
+            return place;
+        }
+    }
+    places.len()
+}
+
+/// Fills the first place with nothing in it, which may be the first past the end.
+fn fill_place<T: Drop>(places: &mut Vec<Option<T>>, at: usize, x: T)
+    requires free { at ≡ position_or_len is_none places.old.items }
+    requires room { at < vec_capacity places.old }
+    ensures keys { live_keys 0 places.new.items ≡ with_key (live_keys 0 places.old.items) at }
+    ensures next { at + 1 ≤ position_or_len is_none places.new.items }
+    ensures capacity { vec_capacity places.old ≤ vec_capacity places.new }
+    ensures len { vec_len places.new ≤ max (vec_len places.old) (at + 1) }
+{
+    if at < places.len() {
+        places[at] = Some(x);
+    } else {
+        places.push_reserved(Some(x));
+    }
+}
+
+/// Lets go what is at a place, where there is something.
+fn clear_place<T: Drop>(places: &mut Vec<Option<T>>, at: usize)
+    ensures keys { live_keys 0 places.new.items ≡ without_key (live_keys 0 places.old.items) at }
+    ensures next { min (position_or_len is_none places.old.items) at
+        ≤ position_or_len is_none places.new.items }
+    ensures capacity { vec_capacity places.old ≤ vec_capacity places.new }
+    ensures len { vec_len places.new ≡ vec_len places.old }
+{
+    if at < places.len() {
+        places[at] = None;
+    }
+}
