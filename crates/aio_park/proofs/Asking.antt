@@ -1,5 +1,5 @@
 -- Polls of a task, one after the other, and the masks that the member took between them.
-use Rattle.std.proofs.Common.{◌≡◌, ◌^◌, ◌-◌, ◌+◌, ◌≤◌, ℕ, zero, suc, Bool, List, [], ◌∷◌, ◌++◌, length, length-append, refl, sym, ap, ◌∙◌, subst, append-nil, append_assoc, le_refl, le_trans, arith}
+use Rattle.std.proofs.Common.{◌≡◌, ◌^◌, ◌-◌, ◌+◌, ◌≤◌, ℕ, zero, suc, Bool, [], ◌∷◌, ◌++◌, length, length-append, refl, sym, ap, ◌∙◌, subst, append-nil, append_assoc, le_refl, le_trans, arith}
 use Rattle.std.specs.Prelude.{Ok, Err}
 use Rattle.aio_base.specs.declared.outcomes.Poll.{Poll}
 use Rattle.aio_base.specs.declared.outcomes.Poll.TheVariants.{Ready, Pending}
@@ -9,7 +9,7 @@ use Rattle.aio_base.specs.Polls.{IfReady, WhilePending}
 use Rattle.aio_shared.specs.declared.reacting.ReactFault.{ReactFault}
 use Rattle.aio_shared.specs.Inside.{InsideValue}
 use Rattle.aio_shared.specs.Members.{Extends}
-use Rattle.aio_park.specs.Blocking.{Clocked, Gains, GainsOneAtMost, IsPast, IsTold, PolledUntil, PollsInTurn, PollsWith, gained, taken_of}
+use Rattle.aio_park.specs.Blocking.{Clocked, Gains, GainsOneAtMost, IsPast, PollsAtNow, PolledUntil, PollsInTurn, PollsWith, gained, taken_of}
 use Rattle.aio_park.specs.Polls.{Polled}
 use Rattle.aio_park.proofs.Gaining.{gained_is, own-append}
 
@@ -18,7 +18,7 @@ use Rattle.aio_park.proofs.Gaining.{gained_is, own-append}
 abbrev clocked : ClockBounds → ℕ → ℕ → Clocked
 clocked bounds before after = record { bounds = bounds; before = before; after = after }
 
-told_between : (parker : ℕ) (bounds : ClockBounds) (first before after last : ℕ) (cx : Cx) → first ≤ before → after ≤ last → IsTold parker (clocked bounds before after) cx → IsTold parker (clocked bounds first last) cx
+told_between : (parker : ℕ) (bounds : ClockBounds) (first before after last : ℕ) (cx : Cx) → first ≤ before → after ≤ last → PollsAtNow parker (clocked bounds before after) cx → PollsAtNow parker (clocked bounds first last) cx
 told_between parker bounds first before after last cx least most told = record {
   parker_is = told.parker_is;
   within = told.within;

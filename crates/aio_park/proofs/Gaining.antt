@@ -90,8 +90,8 @@ own_park parker (suc idle) found =
 -- ## What a seat gains
 
 -- steps that took nothing
-pub gains_none : (steps : List WordStep) (v w : SeatView) → w.did ≡ v.did ++ steps → w.made ≡ v.made → taken_masks steps ≡ [] → GainsNone v w
-gains_none steps v w did made none = λ parker. record { steps = steps; did = did; made = made; taken = none; own = own_none parker steps none }
+pub gains_none : (steps : List WordStep) (v w : SeatView) → w.did ≡ v.did ++ steps → w.splits ≡ v.splits → taken_masks steps ≡ [] → GainsNone v w
+gains_none steps v w did made none = λ parker. record { steps = steps; did = did; splits = made; taken = none; own = own_none parker steps none }
 
 pub gains_itself : (v : SeatView) → GainsNone v v
 gains_itself v = gains_none [] v v (sym (append-nil v.did)) refl refl
@@ -100,7 +100,7 @@ pub gains_further : (parker : ℕ) (a b c : SeatView) (xs ys : List ℕ) → Gai
 gains_further parker a b c xs ys x y = record {
   steps = x.steps ++ y.steps;
   did = y.did ∙ ap (λ l. l ++ y.steps) x.did ∙ append_assoc a.did x.steps y.steps;
-  made = y.made ∙ x.made;
+  splits = y.splits ∙ x.splits;
   taken = taken-append x.steps y.steps ∙ (λ i. x.taken i ++ y.taken i);
   own = own-append parker x.steps y.steps ∙ (λ i. x.own i ++ y.own i);
 }
@@ -111,12 +111,12 @@ gains_same p q same = subst (λ (s : SeatValue). GainsNone p.view s.view) (sym s
 
 -- one look at the ticker
 pub gains_look : (found : ℕ) (v w : SeatView) → w ≡ after (word_step.LoadTicker found) v → GainsNone v w
-gains_look found v w looked = gains_none (word_step.LoadTicker found ∷ []) v w (ap (λ (x : SeatView). x.did) looked) (ap (λ (x : SeatView). x.made) looked) refl
+gains_look found v w looked = gains_none (word_step.LoadTicker found ∷ []) v w (ap (λ (x : SeatView). x.did) looked) (ap (λ (x : SeatView). x.splits) looked) refl
 
 -- one swap of the parker's mask
 pub gains_swap : (parker found : ℕ) (v w : SeatView) → w ≡ after (word_step.SwapMask parker found) v → Gains parker v w (mask_list found)
 gains_swap parker found v w swapped =
-    record { steps = word_step.SwapMask parker found ∷ []; did = ap (λ (x : SeatView). x.did) swapped; made = ap (λ (x : SeatView). x.made) swapped; taken = refl; own = own_swap parker found }
+    record { steps = word_step.SwapMask parker found ∷ []; did = ap (λ (x : SeatView). x.did) swapped; splits = ap (λ (x : SeatView). x.splits) swapped; taken = refl; own = own_swap parker found }
 
 -- a swap that found nothing took nothing, and any other took what it found
 pub mask_none : (mask : ℕ) → mask ≡ 0 → mask_list mask ≡ []
@@ -127,13 +127,13 @@ mask_some mask some = ap (λ (b : Bool). if b then [] else mask ∷ []) (ne_eqb 
 
 -- so a swap that found nothing took nothing of any parker
 pub gains_nothing : (parker found : ℕ) (v w : SeatView) → found ≡ 0 → Gains parker v w (mask_list found) → GainsNone v w
-gains_nothing parker found v w nothing x = gains_none x.steps v w x.did x.made (x.taken ∙ mask_none found nothing)
+gains_nothing parker found v w nothing x = gains_none x.steps v w x.did x.splits (x.taken ∙ mask_none found nothing)
 
 pub gains_park : (parker found : ℕ) (v w : SeatView) → Parks parker found v w → Gains parker v w (mask_list found)
 gains_park parker found v w parked = record {
   steps = park_steps parker parked.1.0 found;
   did = ap (λ (x : SeatView). x.did) parked.1.1;
-  made = ap (λ (x : SeatView). x.made) parked.1.1;
+  splits = ap (λ (x : SeatView). x.splits) parked.1.1;
   taken = taken-park parker parked.1.0 found parked.0 ∙ sym (mask_some found parked.0);
   own = own_park parker parked.1.0 found;
 }
@@ -173,7 +173,7 @@ gains_most parker a b c none (Err fault) is took y =
 
 pub gains_wakes : (parkers : ℕ) (wakers : List Waker) (p q : SeatValue) → Wakes parkers wakers p q → GainsNone p.view q.view
 gains_wakes parkers wakers p q woken =
-    gains_none (all_wake_steps wakers parkers woken.founds) p.view q.view (ap (λ (x : SeatValue). x.view.did) woken.seat) (ap (λ (x : SeatValue). x.view.made) woken.seat) (wakes_take wakers parkers woken.founds)
+    gains_none (all_wake_steps wakers parkers woken.founds) p.view q.view (ap (λ (x : SeatValue). x.view.did) woken.seat) (ap (λ (x : SeatValue). x.view.splits) woken.seat) (wakes_take wakers parkers woken.founds)
 
 -- ## Causes
 

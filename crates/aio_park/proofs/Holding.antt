@@ -1,5 +1,5 @@
 -- Rounds by a member that holds the cell, one after the other.
-use Rattle.std.proofs.Common.{◌≡◌, ◌≢◌, ◌^◌, ◌-◌, ◌+◌, ◌≤◌, ℕ, zero, suc, Bool, true, false, ◌||◌, [], ◌∷◌, ◌++◌, map, refl, sym, ap, ◌∙◌, subst, append-nil, append_assoc, le_trans, Option, None, IfOk, Result, Ok, Err, eq-eqb, arith}
+use Rattle.std.proofs.Common.{◌≡◌, ◌≢◌, ◌^◌, ◌-◌, ◌+◌, ◌≤◌, ℕ, zero, suc, Bool, true, false, ◌||◌, [], ◌∷◌, ◌++◌, map, refl, sym, ap, ◌∙◌, subst, append-nil, append_assoc, le_trans, Option, None, IfOk, IfErr, Result, Ok, Err, eq-eqb, arith}
 use Rattle.std.specs.List.{list_any}
 use Rattle.std.proofs.lemmas.List.{map-append}
 use Rattle.std.proofs.lemmas.List.Elements.{All-append, All-cons, All-nil}
@@ -12,12 +12,13 @@ use Rattle.aio_rules.specs.WordCalls.{is_look_at_end}
 use Rattle.aio_shared.specs.declared.reacting.ReactedIn.{ReactedIn}
 use Rattle.aio_words.specs.Seats.{SeatValue}
 use Rattle.aio_shared.specs.declared.reacting.ReactFault.{ReactFault}
-use Rattle.aio_shared.specs.Cells.{CellValue, WaitStep}
+use Rattle.aio_shared.specs.Cells.{CellValue, WaitTells}
 use Rattle.aio_shared.specs.Members.{Extends, IsLaterMember, MemberValue}
 use Rattle.aio_shared.specs.OneCell.{Takes, ClaimValue, with_empties}
 use Rattle.aio_shared.specs.Reacting.{BeginsNone, NotifierCounts, Reacts, Start, until}
 use Rattle.aio_park.specs.Blocking.{gained}
-use Rattle.aio_park.specs.Driving.{ComesToNothing, Drives, DrivesRound, DrivesRounds, Passes, SwapsFirst, Tries, member_did}
+use Rattle.aio_park.specs.Driving.{ComesToNothing, Drives, DrivesRound, DrivesRounds, DrivesUntilFault, FailsRound, FailsWithin, Passes, ReactsBlocked, Stops, SwapsFirst, Tries, TriesRound, TriesUntil, TriesWithoutLimit, Waits, member_did}
+use Rattle.aio_park.specs.Driving.Stops.{StopsBlocked}
 use Rattle.aio_park.proofs.Gaining.{Follows, gained_is, member_itself}
 
 le_same : (a b : ℕ) → b ≡ a → a ≤ b
@@ -103,6 +104,10 @@ module _ {N : Type 0} where
     sure = ap (λ (x : MemberValue N). is_sure x.notifier) is;
   }
 
+-- of a cell that only its seat changed, twice
+seats : {K : Type 0} (a b c : CellValue K) → b ≡ record a { seat = b.seat } → c ≡ record b { seat = c.seat } → c ≡ record a { seat = c.seat }
+seats {K = K} a b c first second = second ∙ ap (λ (x : CellValue K). record x { seat = c.seat }) first
+
 module _ {N W : Type 0} where
   pub nothing_itself : (c : CellValue W) (m : MemberValue N) → ComesToNothing c c m m
   nothing_itself c m = record { cell = refl; member = refl; looks = []; did = sym (append-nil m.pass.view.did); below = All-nil (λ found. found ≢ 2 ^ 64 - 1) }
@@ -137,7 +142,7 @@ module _ {N W : Type 0} where
       subst (λ k. DrivesRounds faults parkers all_sure start k old new m later (before + more)) next (last, by, before, more, x, y, refl)
 
   -- a call of a clock with the same bounds
-  pub with_bounds : (parkers : ℕ) (all_sure : Bool) (given : Option ℕ) (bounds other : ClockBounds) (earliest latest : ℕ) (step : WaitStep W) (old new : CellValue W) (m later : MemberValue N) (notifier : NotifierCounts)
+  pub with_bounds : (parkers : ℕ) (all_sure : Bool) (given : Option ℕ) (bounds other : ClockBounds) (earliest latest : ℕ) (step : WaitTells W) (old new : CellValue W) (m later : MemberValue N) (notifier : NotifierCounts)
       (r : Result (Option ReactedIn) ReactFault) → other ≡ bounds
       → Tries parkers all_sure (record { given = given; bounds = other; earliest = earliest; latest = latest; step = step }) old new m later notifier r
       → Tries parkers all_sure (record { given = given; bounds = bounds; earliest = earliest; latest = latest; step = step }) old new m later notifier r
@@ -205,9 +210,94 @@ module _ {N W : Type 0} where
   -- a turn swapped its mask, and then did what it did by what that found
   pub swaps_first : (faults : N → ℕ) (parkers : ℕ) (all_sure : Bool) (start : Start W) (parker found : ℕ) (m mid later : MemberValue N) (r : Result ℕ ReactFault)
       → mid ≡ member_did (word_step.SwapMask parker found) m → Extends mid.pass.view.did later.pass.view.did
-      → (found ≢ 0 → IfOk r (λ mask. (mask ≡ found) × Passes W faults parkers all_sure start mid later)) → SwapsFirst W faults parkers all_sure start parker m later r
-  swaps_first faults parkers all_sure start parker found m mid later r is did passes = record {
+      → (found ≢ 0 → IfOk r (λ mask. (mask ≡ found) × Passes W faults parkers all_sure start mid later))
+      → (found ≡ 0 → IfOk r (λ mask. Waits W faults parkers all_sure start parker mask mid later))
+      → IfErr r (λ fault. Stops W faults parkers all_sure start parker fault mid later) → SwapsFirst W faults parkers all_sure start parker m later r
+  swaps_first faults parkers all_sure start parker found m mid later r is did passes waits stops = record {
     found = found;
     did = subst (λ (x : MemberValue N). Extends x.pass.view.did later.pass.view.did) is did;
     passes = subst (λ (x : MemberValue N). found ≢ 0 → IfOk r (λ mask. (mask ≡ found) × Passes W faults parkers all_sure start x later)) is passes;
+    waits = subst (λ (x : MemberValue N). found ≡ 0 → IfOk r (λ mask. Waits W faults parkers all_sure start parker mask x later)) is waits;
+    stops = subst (λ (x : MemberValue N). IfErr r (λ fault. Stops W faults parkers all_sure start parker fault x later)) is stops;
   }
+
+  -- the fault of a wait is that of a turn
+  pub stops_blocked : {X : Type 0} (faults : N → ℕ) (parkers : ℕ) (all_sure : Bool) (start : Start W) (parker : ℕ) (m later : MemberValue N) (r : Result X ReactFault)
+      → IfErr r (λ fault. ReactsBlocked W faults parkers all_sure start parker m later (Err fault)) → IfErr r (λ fault. Stops W faults parkers all_sure start parker fault m later)
+  stops_blocked faults parkers all_sure start parker m later (Ok done) fails = tt
+  stops_blocked faults parkers all_sure start parker m later (Err fault) fails = StopsBlocked fails
+
+  -- ## Tries of rounds without a limit
+
+  module _ (faults : N → ℕ) (parkers : ℕ) (all_sure : Bool) where
+    -- a try of this call of the clock, in a call that began no later and has the same bounds
+    pub try_of : (start : Start W) (given : Option ℕ) (other : ClockBounds) (earliest latest : ℕ) (old new : CellValue W) (m later : MemberValue N) (r : Result (Option ReactedIn) ReactFault)
+        → other ≡ start.bounds → start.earliest ≤ earliest → latest ≤ start.latest
+        → Tries parkers all_sure (record { given = given; bounds = other; earliest = earliest; latest = latest; step = start.step }) old new m later
+        (record { before = faults m.notifier; after = faults later.notifier }) r
+        → TriesRound faults parkers all_sure start given old new m later r
+    try_of start given other earliest latest old new m later r same before after_it tries = record {
+      moment = earliest;
+      not_before = before;
+      stop = latest;
+      not_after = after_it;
+      tries = with_bounds parkers all_sure given start.bounds other earliest latest start.step old new m later (record { before = faults m.notifier; after = faults later.notifier }) r same tries;
+    }
+
+    try_until : (start : Start W) (stop : ℕ) (given : Option ℕ) (old new : CellValue W) (m later : MemberValue N) (r : Result (Option ReactedIn) ReactFault) → start.latest ≤ stop
+        → TriesRound faults parkers all_sure start given old new m later r → TriesRound faults parkers all_sure (until stop start) given old new m later r
+    try_until start stop given old new m later r on x = record { moment = x.moment; not_before = x.not_before; stop = x.stop; not_after = le_trans x.not_after on; tries = x.tries }
+
+    -- tries until a moment are also ones until a later moment
+    pub tries_until : (start : Start W) (stop tries : ℕ) (old new : CellValue W) (m later : MemberValue N) → start.latest ≤ stop
+        → TriesWithoutLimit faults parkers all_sure start tries old new m later → TriesWithoutLimit faults parkers all_sure (until stop start) tries old new m later
+    tries_until start stop zero old new m later on x = x
+    tries_until start stop (suc tries) old new m later on (last, from, by, reacted, front, tried, seat) =
+        (last, from, by, reacted, tries_until start stop tries old last m by on front, try_until start stop None last from by later (Ok reacted) on tried, seat)
+
+    -- a step of the seat before them
+    pub tries_before : (start : Start W) (tries : ℕ) (old mid new : CellValue W) (m later : MemberValue N) → mid ≡ record old { seat = mid.seat }
+        → TriesWithoutLimit faults parkers all_sure start tries mid new m later → TriesWithoutLimit faults parkers all_sure start tries old new m later
+    tries_before start zero old mid new m later step (seat, same) = (seats old mid new step seat, same)
+    tries_before start (suc tries) old mid new m later step (last, from, by, reacted, front, tried, seat) =
+        (last, from, by, reacted, tries_before start tries old mid last m by step front, tried, seat)
+
+    -- and one after them
+    pub tries_after : (start : Start W) (tries : ℕ) (old mid new : CellValue W) (m later : MemberValue N) → new ≡ record mid { seat = new.seat }
+        → TriesWithoutLimit faults parkers all_sure start tries old mid m later → TriesWithoutLimit faults parkers all_sure start tries old new m later
+    tries_after start zero old mid new m later step (seat, same) = (seats old mid new seat step, same)
+    tries_after start (suc tries) old mid new m later step (last, from, by, reacted, front, tried, seat) =
+        (last, from, by, reacted, front, tried, seats from mid new seat step)
+
+    -- one more
+    pub tries_further : (start : Start W) (tries : ℕ) (old mid from new : CellValue W) (m by later : MemberValue N) (reacted : Option ReactedIn)
+        → TriesWithoutLimit faults parkers all_sure start tries old mid m by → from ≡ record mid { seat = from.seat }
+        → TriesRound faults parkers all_sure start None from new by later (Ok reacted) → TriesWithoutLimit faults parkers all_sure start (suc tries) old new m later
+    tries_further start tries old mid from new m by later reacted front step tried = (from, new, by, reacted, tries_after start tries old mid from m by step front, tried, refl)
+
+    -- all of a call between two steps of the seat
+    pub tries_between : {X : Type 0} (start : Start W) (old blocked left new : CellValue W) (m later : MemberValue N) (r : Result X ReactFault) → blocked ≡ record old { seat = blocked.seat }
+        → new ≡ record left { seat = new.seat } → TriesUntil faults parkers all_sure start r blocked left m later → TriesUntil faults parkers all_sure start r old new m later
+    tries_between start old blocked left new m later (Ok done) block unblock (tries, made) =
+        (tries, tries_before start tries old blocked new m later block (tries_after start tries blocked left new m later unblock made))
+    tries_between start old blocked left new m later (Err fault) block unblock (tries, last, from, by, front, tried, seat) =
+        (tries, last, from, by, tries_before start tries old blocked last m by block front, tried, seats from left new seat unblock)
+
+    -- a round that failed in a call that began later is one of a call that began earlier, if the bounds are the same
+    pub fails_earlier : (start : Start W) (bounds : ClockBounds) (moment : ℕ) (old new : CellValue W) (m later : MemberValue N) (fault : ReactFault)
+        → bounds ≡ start.bounds → start.earliest ≤ moment → FailsRound faults parkers all_sure (record start { bounds = bounds; earliest = moment }) old new m later fault
+        → FailsRound faults parkers all_sure start old new m later fault
+    fails_earlier start bounds moment old new m later fault same before x = record {
+      from = x.from;
+      by = x.by;
+      first = x.first;
+      tries = try_of start None bounds x.tries.moment x.tries.stop x.from new x.by later (Err fault) same (le_trans before x.tries.not_before) x.tries.not_after x.tries.tries;
+    }
+
+    -- the rounds of a member that took the cell, one of which failed, and gave it back
+    pub fails_where : {X : Type 0} (start : Start W) (rounds : ℕ) (m holding done later : MemberValue N) (taken left : CellValue W) (r : Result X ReactFault)
+        → Takes m.claim holding.claim taken → holding ≡ record m { claim = holding.claim } → later ≡ record done { claim = record done.claim { holds = false } }
+        → IfErr r (FailsWithin faults parkers all_sure start rounds taken left holding done) → IfErr r (DrivesUntilFault W faults parkers all_sure start rounds m later)
+    fails_where start rounds m holding done later taken left (Ok events) takes rest gave fails = tt
+    fails_where start rounds m holding done later taken left (Err fault) takes rest gave fails =
+        record { taken = taken; left = left; holding = holding; done = done; takes = takes; rest = rest; fails = fails; gave = gave }

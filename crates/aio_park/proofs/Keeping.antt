@@ -1,13 +1,15 @@
 -- What the calls of a thread keep of its member and its clock, one call after another.
-use Rattle.std.proofs.Common.{◌≡◌, ◌∙◌, ◌++◌, ℕ, zero, suc, Bool, true, false, [], ◌∷◌, refl, ap, sym, subst, le_refl, le_trans, Result, Ok, IfErr}
+use Rattle.std.proofs.Common.{◌≡◌, ◌∙◌, ℕ, zero, suc, Bool, true, false, [], ◌∷◌, refl, ap, sym, subst, le_refl, le_trans, Result, Ok, IfErr}
+use Rattle.std.specs.Fn.{iterate}
 use Rattle.aio_rules.specs.declared.seats.SeatView.{SeatView}
 use Rattle.aio_rules.specs.declared.seats.WordStep.TheVariants as word_step
 use Rattle.aio_base.specs.ClockBounds.{ClockBounds}
 use Rattle.aio_rules.specs.SharedWords.{after}
 use Rattle.aio_rules.specs.WordCalls.{count_of, is_won, park_steps}
 use Rattle.aio_shared.specs.declared.reacting.ReactFault.{ReactFault}
-use Rattle.aio_shared.specs.CallsMade.{CallsAsWon, raised_by}
-use Rattle.aio_shared.proofs.CallsMade.{called_further, none_called}
+use Rattle.aio_base.specs.Devices.{raised}
+use Rattle.aio_shared.specs.Notifying.{NotifiesAsWon}
+use Rattle.aio_shared.proofs.Notifying.{notifies_further, notifies_nobody}
 use Rattle.aio_shared.specs.Members.{IsLaterMember, IsMemberOf, MemberValue, SharedValue}
 use Rattle.aio_shared.specs.OneCell.{ClaimValue}
 use Rattle.aio_park.specs.Blocking.{HasFaultCause, KeepsThread}
@@ -21,35 +23,35 @@ none_won parker (suc idle) found = none_won parker idle found
 
 -- how often a member's notifier was called
 abbrev CallsBy : {N : Type 0} → (N → ℕ) → MemberValue N → MemberValue N → Type 0
-CallsBy calls_of a b = CallsAsWon a.pass.view b.pass.view (calls_of a.notifier) (calls_of b.notifier)
+CallsBy calls_of a b = NotifiesAsWon a.pass.view b.pass.view (calls_of a.notifier) (calls_of b.notifier)
 
 module _ {N : Type 0} (calls_of : N → ℕ) (m later : MemberValue N) where
   -- never, by a pop, by a look at the ticker, by a swap of a mask and by a park
   pub called_turn : later ≡ record m { claim = later.claim } → CallsBy calls_of m later
-  called_turn is = subst (λ (x : MemberValue N). CallsBy calls_of m x) (sym is) (none_called m.pass.view (calls_of m.notifier))
+  called_turn is = subst (λ (x : MemberValue N). CallsBy calls_of m x) (sym is) (notifies_nobody m.pass.view (calls_of m.notifier))
 
   pub called_look : (found : ℕ) → later ≡ record m { pass = later.pass } → later.pass.view ≡ after (word_step.LoadTicker found) m.pass.view → CallsBy calls_of m later
   called_look found is view = record {
-    steps = word_step.LoadTicker found ∷ [];
-    did = ap (λ (v : SeatView). v.did) view;
-    calls = ap (λ (x : MemberValue N). calls_of x.notifier) is;
+    made = word_step.LoadTicker found ∷ [];
+    view = ap (λ (v : SeatView). v.did) view;
+    count = ap (λ (x : MemberValue N). calls_of x.notifier) is;
   }
 
   pub called_swap : (parker found : ℕ) → later ≡ member_did (word_step.SwapMask parker found) m → CallsBy calls_of m later
   called_swap parker found is =
-      subst (λ (x : MemberValue N). CallsBy calls_of m x) (sym is) (record { steps = word_step.SwapMask parker found ∷ []; did = refl; calls = refl })
+      subst (λ (x : MemberValue N). CallsBy calls_of m x) (sym is) (record { made = word_step.SwapMask parker found ∷ []; view = refl; count = refl })
 
   pub called_park : (parker found : ℕ) → ParksFor parker found m later → CallsBy calls_of m later
   called_park parker found parked = record {
-    steps = park_steps parker parked.parks.1.0 found;
-    did = ap (λ (v : SeatView). v.did) parked.parks.1.1;
-    calls = ap (λ (x : MemberValue N). calls_of x.notifier) parked.rest
-        ∙ ap (λ k. raised_by k (calls_of m.notifier)) (sym (none_won parker parked.parks.1.0 found));
+    made = park_steps parker parked.parks.1.0 found;
+    view = ap (λ (v : SeatView). v.did) parked.parks.1.1;
+    count = ap (λ (x : MemberValue N). calls_of x.notifier) parked.rest
+        ∙ ap (λ k. iterate raised k (calls_of m.notifier)) (sym (none_won parker parked.parks.1.0 found));
   }
 
 module _ {N C : Type 0} {faults : N → ℕ} {is_sure : N → Bool} {calls_of : N → ℕ} {bounds_of : C → ClockBounds} {latest_of : C → ℕ} {shared : SharedValue} where
   -- where the clock was not looked at
-  pub keeps_member : {a b : MemberValue N} {x : C} → IsMemberOf shared b → IsLaterMember faults is_sure a b → CallsAsWon a.pass.view b.pass.view (calls_of a.notifier) (calls_of b.notifier) → KeepsThread faults is_sure {X = Unit {0}} calls_of bounds_of latest_of shared a b x x (Ok tt)
+  pub keeps_member : {a b : MemberValue N} {x : C} → IsMemberOf shared b → IsLaterMember faults is_sure a b → NotifiesAsWon a.pass.view b.pass.view (calls_of a.notifier) (calls_of b.notifier) → KeepsThread faults is_sure {X = Unit {0}} calls_of bounds_of latest_of shared a b x x (Ok tt)
   keeps_member {a} {b} {x} belongs later calls = record { cause = tt; belongs = belongs; later = later; calls = calls; bounds = refl; latest = le_refl (latest_of x) }
 
   -- a look of the member's seat at the ticker
@@ -78,7 +80,7 @@ module _ {N C : Type 0} {faults : N → ℕ} {is_sure : N → Bool} {calls_of : 
     cause = causes_within faults is_sure a b c c q (follows_later faults is_sure a b k.later) (follows_later faults is_sure b c l.later) l.cause (follows_itself faults is_sure c);
     belongs = l.belongs;
     later = member_further faults is_sure a b c k.later l.later;
-    calls = called_further a.pass.view b.pass.view c.pass.view (calls_of a.notifier) (calls_of b.notifier) (calls_of c.notifier) k.calls l.calls;
+    calls = notifies_further a.pass.view b.pass.view c.pass.view (calls_of a.notifier) (calls_of b.notifier) (calls_of c.notifier) k.calls l.calls;
     bounds = l.bounds ∙ k.bounds;
     latest = le_trans k.latest l.latest;
   }
@@ -97,8 +99,8 @@ module _ {N C : Type 0} {faults : N → ℕ} {is_sure : N → Bool} {calls_of : 
         belongs = belongs;
         later = locked_later faults is_sure a b c d e free taken claim k.later gave;
         calls =
-            subst (λ (x : MemberValue N). CallsAsWon a.pass.view x.pass.view (calls_of a.notifier) (calls_of x.notifier)) (sym gave)
-            (subst (λ (x : MemberValue N). CallsAsWon x.pass.view c.pass.view (calls_of x.notifier) (calls_of c.notifier)) taken k.calls);
+            subst (λ (x : MemberValue N). NotifiesAsWon a.pass.view x.pass.view (calls_of a.notifier) (calls_of x.notifier)) (sym gave)
+            (subst (λ (x : MemberValue N). NotifiesAsWon x.pass.view c.pass.view (calls_of x.notifier) (calls_of c.notifier)) taken k.calls);
         bounds = k.bounds;
         latest = k.latest;
       }

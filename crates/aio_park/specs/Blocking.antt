@@ -13,7 +13,7 @@ use Rattle.aio_base.specs.Devices.{Rose}
 use Rattle.aio_rules.specs.WordCalls.{is_look_at_end, taken_masks}
 use Rattle.aio_shared.specs.declared.reacting.ReactFault.{ReactFault}
 use Rattle.aio_shared.specs.declared.reacting.ReactFault.TheVariants as react_fault
-use Rattle.aio_shared.specs.CallsMade.{CallsAsWon}
+use Rattle.aio_shared.specs.Notifying.{NotifiesAsWon}
 use Rattle.aio_shared.specs.Inside.{InsideValue}
 use Rattle.aio_shared.specs.Members.{IsLaterMember, IsMemberOf, MemberValue, SharedValue}
 use Rattle.aio_shared.specs.Reacting.{IsFaultWithin}
@@ -56,7 +56,7 @@ pub record Clocked : Type 0 where
   pub after : ℕ
 
 -- A poll is told the thread's parker, and a moment that the clock answered in the call.
-pub record IsTold (parker : ℕ) (clock : Clocked) (cx : Cx) : Type 0 where
+pub record PollsAtNow (parker : ℕ) (clock : Clocked) (cx : Cx) : Type 0 where
   pub parker_is : cx.parker ≡ parker
   pub within : IsWithin clock.bounds cx.now
   pub earliest : clock.before ≤ cx.now
@@ -67,7 +67,7 @@ pub record IsTold (parker : ℕ) (clock : Clocked) (cx : Cx) : Type 0 where
 pub record Gains (parker : ℕ) (old new : SeatView) (masks : List ℕ) : Type 0 where
   pub steps : List WordStep
   pub did : new.did ≡ old.did ++ steps
-  pub made : new.made ≡ old.made
+  pub splits : new.splits ≡ old.splits
   pub taken : taken_masks steps ≡ masks
   pub own : taken_of parker steps ≡ masks
 
@@ -83,7 +83,7 @@ module _ {N T O : Type 0} (step : T → InsideValue N → Cx → Poll O → T �
   -- One poll of a task with this mask. It is told the parker and a moment that the clock answered in the call, and answers this.
   pub record PollsWith (mask : ℕ) (old : T) (host : InsideValue N) (answer : Poll O) (new : T) (left : InsideValue N) : Type 0 where
     pub cx : Cx
-    pub told : IsTold parker clock cx
+    pub told : PollsAtNow parker clock cx
     pub mask_is : cx.mask ≡ mask
     pub polled : step old host cx answer new left
 
@@ -125,6 +125,6 @@ module _ {N : Type 0} (faults : N → ℕ) (is_sure : N → Bool) where
     pub cause : IfErr answer (HasFaultCause old new)
     pub belongs : IsMemberOf shared new
     pub later : IsLaterMember faults is_sure old new
-    pub calls : CallsAsWon old.pass.view new.pass.view (calls_of old.notifier) (calls_of new.notifier)
+    pub calls : NotifiesAsWon old.pass.view new.pass.view (calls_of old.notifier) (calls_of new.notifier)
     pub bounds : bounds_of clock_after ≡ bounds_of clock
     pub latest : latest_of clock ≤ latest_of clock_after

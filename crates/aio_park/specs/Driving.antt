@@ -1,5 +1,5 @@
 -- Rounds that a member makes one after the other while it holds the round cell, and what its seat does.
-use Rattle.std.specs.Prelude.{◌≡◌, ◌≢◌, ℕ, zero, suc, ◌+◌, ◌-◌, ◌^◌, ◌≤◌, Bool, false, ◌==◌, if◌then◌else◌, List, [], ◌∷◌, ◌++◌, map, All, Option, None, Some, Result, Ok, Err, IfOk, ⊤}
+use Rattle.std.specs.Prelude.{◌≡◌, ◌≢◌, ℕ, zero, suc, ◌+◌, ◌-◌, ◌^◌, ◌≤◌, Bool, false, ◌<◌, List, [], ◌∷◌, ◌++◌, map, All, Option, None, Some, Result, Ok, Err, IfOk, IfErr}
 use Rattle.aio_rules.specs.declared.seats.SeatView.{SeatView}
 use Rattle.aio_rules.specs.declared.seats.WordStep.{WordStep}
 use Rattle.aio_rules.specs.declared.seats.WordStep.TheVariants as word_step
@@ -8,11 +8,13 @@ use Rattle.aio_rules.specs.SharedWords.{after}
 use Rattle.aio_words.specs.Calls.{Parks}
 use Rattle.aio_shared.specs.declared.reacting.ReactedIn.{ReactedIn}
 use Rattle.aio_shared.specs.declared.reacting.ReactFault.{ReactFault}
-use Rattle.aio_shared.specs.Cells.{CellValue, WaitStep}
+use Rattle.aio_shared.specs.declared.reacting.ReactFault.TheVariants as react_fault
+use Rattle.aio_shared.specs.Cells.{CellValue, WaitTells}
 use Rattle.aio_shared.specs.Members.{Extends, MemberValue}
 use Rattle.aio_shared.specs.OneCell.{FindsNone, Takes, TakesCell}
-use Rattle.aio_shared.specs.Reacting.{NotifierCounts, Reacts, Start}
+use Rattle.aio_shared.specs.Reacting.{BeginsNone, NotifierCounts, Reacts, Start}
 use Rattle.aio_park.specs.Blocking.{Gains}
+use Rattle.aio_park.specs.Looks.{BlocksWhile}
 
 -- A seat took no mask, of no parker.
 abbrev pub GainsNone : SeatView → SeatView → Type 0
@@ -23,7 +25,7 @@ abbrev pub member_did : {N : Type 0} → WordStep → MemberValue N → MemberVa
 member_did step m = record m { pass = record m.pass { view = after step m.pass.view } }
 
 -- what the rounds of a call are handed: no limit, the bounds of the clock and its latest moment, and what the half that waits tells of its waits
-abbrev pub start_of : {C W : Type 0} → (C → ClockBounds) → (C → ℕ) → WaitStep W → C → Start W
+abbrev pub start_of : {C W : Type 0} → (C → ClockBounds) → (C → ℕ) → WaitTells W → C → Start W
 start_of bounds_of latest_of step clock =
     record { given = None; bounds = bounds_of clock; earliest = latest_of clock; latest = latest_of clock; step = step }
 
@@ -37,11 +39,19 @@ module _ {N W : Type 0} where
     pub did : later.pass.view.did ≡ m.pass.view.did ++ map word_step.LoadTicker looks
     pub below : All (λ found. found ≢ 2 ^ 64 - 1) looks
 
+  -- A call of `react_in` told this fault. Where the fault is that no round can begin, the member looked at the ticker afterwards.
+  abbrev pub Fails : ℕ → Bool → Start W → CellValue W → CellValue W → MemberValue N → MemberValue N → NotifierCounts → ReactFault → Type 0
+  Fails parkers all_sure start old new m later notifier react_fault.RoundsSpent = BeginsNone old new × (later ≡ record m { pass = later.pass })
+  Fails parkers all_sure start old new m later notifier (react_fault.Wait fault) = Reacts parkers all_sure start old new m later notifier (Err (react_fault.Wait fault))
+  Fails parkers all_sure start old new m later notifier (react_fault.Arm fault) = Reacts parkers all_sure start old new m later notifier (Err (react_fault.Arm fault))
+  Fails parkers all_sure start old new m later notifier (react_fault.Notify fault) = Reacts parkers all_sure start old new m later notifier (Err (react_fault.Notify fault))
+  Fails parkers all_sure start old new m later notifier react_fault.OutOfMemory = Reacts parkers all_sure start old new m later notifier (Err react_fault.OutOfMemory)
+
   -- a call of `react_in`, and a look at the ticker where that answered that no round can begin
   abbrev pub Tries : ℕ → Bool → Start W → CellValue W → CellValue W → MemberValue N → MemberValue N → NotifierCounts → Result (Option ReactedIn) ReactFault → Type 0
   Tries parkers all_sure start old new m later notifier (Ok (Some reacted)) = Reacts parkers all_sure start old new m later notifier (Ok reacted)
   Tries parkers all_sure start old new m later notifier (Ok None) = ComesToNothing old new m later
-  Tries parkers all_sure start old new m later notifier (Err fault) = ⊤
+  Tries parkers all_sure start old new m later notifier (Err fault) = Fails parkers all_sure start old new m later notifier fault
 
   module _ (faults : N → ℕ) (parkers : ℕ) (all_sure : Bool) (start : Start W) where
     -- A whole round without a limit, or the rest of one that ran, after tries that came to nothing. It handled so many events.
@@ -64,6 +74,45 @@ module _ {N W : Type 0} where
     DrivesRounds (suc rounds) old new m later events = (last : CellValue W) × (by : MemberValue N) × (before more : ℕ)
         × DrivesRounds rounds old last m by before × DrivesRound last new by later more × (events ≡ before + more)
 
+    -- A try of a round with this limit, between two moments of the clock in the call, and what it came to.
+    pub record TriesRound (given : Option ℕ) (old new : CellValue W) (m later : MemberValue N) (answer : Result (Option ReactedIn) ReactFault) : Type 0 where
+      pub moment : ℕ
+      pub not_before : start.earliest ≤ moment
+      pub stop : ℕ
+      pub not_after : stop ≤ start.latest
+      pub tries : Tries parkers all_sure (record start { given = given; earliest = moment; latest = stop }) old new m later
+          (record { before = faults m.notifier; after = faults later.notifier }) answer
+
+    -- After tries that came to nothing, a try of a round without a limit failed by this fault.
+    pub record FailsRound (old new : CellValue W) (m later : MemberValue N) (fault : ReactFault) : Type 0 where
+      pub from : CellValue W
+      pub by : MemberValue N
+      pub first : ComesToNothing old from m by
+      pub tries : TriesRound None from new by later (Err fault)
+
+    -- Fewer rounds than this, one after the other, and then one that failed by this fault.
+    pub record FailsWithin (rounds : ℕ) (old new : CellValue W) (m later : MemberValue N) (fault : ReactFault) : Type 0 where
+      pub made : ℕ
+      pub fewer : made < rounds
+      pub events : ℕ
+      pub last : CellValue W
+      pub by : MemberValue N
+      pub rounds_are : DrivesRounds made old last m by events
+      pub fails : FailsRound last new by later fault
+
+    -- So many tries of a round without a limit, none of which failed, one after the other. Before, between and after them nothing changed but the cell's
+    -- seat.
+    abbrev pub TriesWithoutLimit : ℕ → CellValue W → CellValue W → MemberValue N → MemberValue N → Type 0
+    TriesWithoutLimit zero old new m later = (new ≡ record old { seat = new.seat }) × (later ≡ m)
+    TriesWithoutLimit (suc tries) old new m later = (last from : CellValue W) × (by : MemberValue N) × (reacted : Option ReactedIn)
+        × TriesWithoutLimit tries old last m by × TriesRound None last from by later (Ok reacted) × (new ≡ record from { seat = new.seat })
+
+    -- The same of a call with this answer: its fault is that of one more try, the last one.
+    abbrev pub TriesUntil : {X : Type 0} → Result X ReactFault → CellValue W → CellValue W → MemberValue N → MemberValue N → Type 0
+    TriesUntil (Ok done) old new m later = (tries : ℕ) × TriesWithoutLimit tries old new m later
+    TriesUntil (Err fault) old new m later = (tries : ℕ) × (last from : CellValue W) × (by : MemberValue N)
+        × TriesWithoutLimit tries old last m by × TriesRound None last from by later (Err fault) × (new ≡ record from { seat = new.seat })
+
 -- A member parked for this parker, and did nothing else: only the last swap of the park found woken slots, these.
 pub record ParksFor {N : Type 0} (parker mask : ℕ) (m later : MemberValue N) : Type 0 where
   pub parks : Parks parker mask m.pass.view later.pass.view
@@ -82,18 +131,26 @@ module _ {N : Type 0} (W : Type 0) (faults : N → ℕ) where
     pub rounds_are : DrivesRounds faults parkers all_sure start rounds taken left holding done events
     pub gave : later ≡ record done { claim = record done.claim { holds = false } }
 
-  -- A member took the cell by one try, made a round with the limit 0, or a try of one that came to nothing, and gave the cell back.
-  pub record ReactsAtOnce (parkers : ℕ) (all_sure : Bool) (start : Start W) (m later : MemberValue N) : Type 0 where
+  -- A member took the cell, made fewer rounds without a limit than this, then one that failed by this fault, and gave the cell back.
+  pub record DrivesUntilFault (parkers : ℕ) (all_sure : Bool) (start : Start W) (rounds : ℕ) (m later : MemberValue N) (fault : ReactFault) : Type 0 where
+    pub taken : CellValue W
+    pub left : CellValue W
+    pub holding : MemberValue N
+    pub done : MemberValue N
+    pub takes : Takes m.claim holding.claim taken
+    pub rest : holding ≡ record m { claim = holding.claim }
+    pub fails : FailsWithin faults parkers all_sure start rounds taken left holding done fault
+    pub gave : later ≡ record done { claim = record done.claim { holds = false } }
+
+  -- A member took the cell by one try, tried a round with the limit 0, which came to this, and gave the cell back.
+  pub record ReactsAtOnce (parkers : ℕ) (all_sure : Bool) (start : Start W) (m later : MemberValue N) (answer : Result (Option ReactedIn) ReactFault) : Type 0 where
     pub taken : CellValue W
     pub left : CellValue W
     pub holding : MemberValue N
     pub done : MemberValue N
     pub takes : TakesCell m.claim holding.claim taken
     pub rest : holding ≡ record m { claim = holding.claim }
-    pub stop : ℕ
-    pub reacted : Option ReactedIn
-    pub tries : Tries parkers all_sure (record start { given = Some 0; latest = stop }) taken left holding done
-        (record { before = faults holding.notifier; after = faults done.notifier }) (Ok reacted)
+    pub tries : TriesRound faults parkers all_sure start (Some 0) taken left holding done answer
     pub gave : later ≡ record done { claim = record done.claim { holds = false } }
 
   -- What a member does for the reactor where its task may be polled at once.
@@ -101,10 +158,39 @@ module _ {N : Type 0} (W : Type 0) (faults : N → ℕ) where
     -- nothing, as a pop of the call found no cell
     FindsNoCell : FindsNone m.claim later.claim → later ≡ record m { claim = later.claim } → Passes parkers all_sure start m later
     -- one round that does not wait, or a try of it
-    TriesOneRound : ReactsAtOnce parkers all_sure start m later → Passes parkers all_sure start m later
+    TriesOneRound : (reacted : Option ReactedIn) → ReactsAtOnce parkers all_sure start m later (Ok reacted) → Passes parkers all_sure start m later
 
-  -- A turn of a member swapped its parker's mask first. Where that found woken slots, the turn answers just these, and the member passed a round.
+  -- A member took the cell by one try, tried rounds without a limit while the cell's seat blocked this parker, and gave the cell back.
+  pub record ReactsBlocked (parkers : ℕ) (all_sure : Bool) (start : Start W) (parker : ℕ) (m later : MemberValue N) (answer : Result (Unit {0}) ReactFault) : Type 0 where
+    pub taken : CellValue W
+    pub left : CellValue W
+    pub holding : MemberValue N
+    pub done : MemberValue N
+    pub takes : TakesCell m.claim holding.claim taken
+    pub rest : holding ≡ record m { claim = holding.claim }
+    pub blocks : BlocksWhile parker taken.seat.view left.seat.view answer
+    pub tries : TriesUntil faults parkers all_sure start answer taken left holding done
+    pub gave : later ≡ record done { claim = record done.claim { holds = false } }
+
+  -- How a member waits for woken slots of this parker, and what its last swap of the mask then finds.
+  pub data Waits (parkers : ℕ) (all_sure : Bool) (start : Start W) (parker mask : ℕ) (m later : MemberValue N) : Type 0 where
+    -- a pop of the call found no cell, and the thread parked
+    WaitsParked : (none : MemberValue N) → FindsNone m.claim none.claim → none ≡ record m { claim = none.claim } → ParksFor parker mask none later
+        → Waits parkers all_sure start parker mask m later
+    -- by rounds, and then it swapped the mask once
+    WaitsInRounds : (gave : MemberValue N) → ReactsBlocked parkers all_sure start parker m gave (Ok tt) → later ≡ member_did (word_step.SwapMask parker mask) gave
+        → Waits parkers all_sure start parker mask m later
+
+  -- The fault of a turn is that of the member's last try of a round.
+  pub data Stops (parkers : ℕ) (all_sure : Bool) (start : Start W) (parker : ℕ) (fault : ReactFault) (m later : MemberValue N) : Type 0 where
+    StopsAtOnce : ReactsAtOnce parkers all_sure start m later (Err fault) → Stops parkers all_sure start parker fault m later
+    StopsBlocked : ReactsBlocked parkers all_sure start parker m later (Err fault) → Stops parkers all_sure start parker fault m later
+
+  -- A turn of a member swapped its parker's mask first. Where that found woken slots, the turn answers just these, and the member passed a round; where it
+  -- found none, the member waited for some.
   pub record SwapsFirst (parkers : ℕ) (all_sure : Bool) (start : Start W) (parker : ℕ) (m later : MemberValue N) (answer : Result ℕ ReactFault) : Type 0 where
     pub found : ℕ
     pub did : Extends (m.pass.view.did ++ word_step.SwapMask parker found ∷ []) later.pass.view.did
     pub passes : found ≢ 0 → IfOk answer (λ mask. (mask ≡ found) × Passes parkers all_sure start (member_did (word_step.SwapMask parker found) m) later)
+    pub waits : found ≡ 0 → IfOk answer (λ mask. Waits parkers all_sure start parker mask (member_did (word_step.SwapMask parker found) m) later)
+    pub stops : IfErr answer (λ fault. Stops parkers all_sure start parker fault (member_did (word_step.SwapMask parker found) m) later)

@@ -3,3 +3,4 @@ pub mod Driving
 pub mod Looks
 pub mod Polls
 pub mod Groups
+pub mod Until

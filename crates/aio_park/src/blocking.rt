@@ -1,15 +1,16 @@
 //! A thread that polls a task until it ends, and makes rounds of a shared reactor in between.
 
-ghost use Rattle.std.specs.Prelude.{◌≡◌, false, ℕ, ◌+◌, ◌<◌, ◌≤◌, [], ◌∷◌, length, IfOk, IfErr, OnErr};
+ghost use Rattle.std.specs.Prelude.{◌≡◌, false, ℕ, ◌+◌, ◌<◌, ◌≤◌, [], ◌∷◌, length, Err, IfOk, IfErr, OnErr};
 ghost use Rattle.aio_rules.specs.declared.seats.Mode.TheVariants as mode;
 ghost use Rattle.aio_rules.specs.declared.seats.WordStep.TheVariants as word_step;
 ghost use Rattle.aio_shared.specs.Cells.{IsIdle};
 ghost use Rattle.aio_shared.specs.Inside.{IsLaterInside};
 ghost use Rattle.aio_shared.specs.Members.{IsLaterMember, IsMemberOf};
 ghost use Rattle.aio_shared.specs.OneCell.{IsCellOf};
+ghost use Rattle.aio_shared.specs.Reacting.{until};
 ghost use Rattle.aio_words.specs.Seats.{Blocks};
 ghost use Rattle.aio_park.specs.Blocking.{Gains, GainsOneAtMost, HasFaultCause, IsPast, KeepsThread, PolledUntil, gained, mask_list, taken_of};
-ghost use Rattle.aio_park.specs.Driving.{GainsNone, ParksFor, Passes, SwapsFirst, member_did, start_of};
+ghost use Rattle.aio_park.specs.Driving.{GainsNone, ParksFor, Passes, ReactsAtOnce, ReactsBlocked, SwapsFirst, TriesUntil, Waits, member_did, start_of};
 ghost use Rattle.aio_park.specs.Looks.{BlocksWhile, HasSeenWoken, WaitsAfterLooks};
 ghost use Rattle.aio_park.specs.Polls.{Polled};
 
@@ -179,7 +180,8 @@ fn turn<R: Wait, N: Notify, C: Clock, A: Arm, W: EventWait>(
     requires belongs { IsMemberOf shared.now m.old }
     requires parker { parker < shared.now.words.parkers }
     ensures swaps { SwapsFirst W N.fault_count shared.now.words.parkers shared.now.sure_of_arms
-        (start_of C.bounds C.latest W.wait_step clock.old) parker m.old m.new result }
+        (until (C.latest clock.new) (start_of C.bounds C.latest W.wait_step clock.old))
+        parker m.old m.new result }
     ensures took { IfOk result (λ mask.
         Gains parker m.old.pass.view m.new.pass.view (mask_list mask)) }
     ensures most { OnErr result (GainsOneAtMost parker m.old.pass.view m.new.pass.view) }
@@ -221,7 +223,13 @@ fn react_in_passing<R: Wait, N: Notify, C: Clock, A: Arm, W: EventWait>(
 ) -> Result<(), ReactFault>
     requires belongs { IsMemberOf shared.now m.old }
     ensures passes { IfOk result (λ none. Passes W N.fault_count shared.now.words.parkers
-        shared.now.sure_of_arms (start_of C.bounds C.latest W.wait_step clock.old) m.old m.new) }
+        shared.now.sure_of_arms
+        (until (C.latest clock.new) (start_of C.bounds C.latest W.wait_step clock.old))
+        m.old m.new) }
+    ensures fails { IfErr result (λ fault. ReactsAtOnce W N.fault_count shared.now.words.parkers
+        shared.now.sure_of_arms
+        (until (C.latest clock.new) (start_of C.bounds C.latest W.wait_step clock.old))
+        m.old m.new (Err fault)) }
     ensures took { GainsNone m.old.pass.view m.new.pass.view }
     ensures keeps { KeepsThread N.fault_count N.is_sure N.call_count C.bounds C.latest
         shared.now m.old m.new clock.old clock.new result }
@@ -250,6 +258,14 @@ fn wait_for_slots<R: Wait, N: Notify, C: Clock, A: Arm, W: EventWait>(
 ) -> Result<u64, ReactFault>
     requires belongs { IsMemberOf shared.now m.old }
     requires parker { parker < shared.now.words.parkers }
+    ensures waits { IfOk result (λ mask. Waits W N.fault_count shared.now.words.parkers
+        shared.now.sure_of_arms
+        (until (C.latest clock.new) (start_of C.bounds C.latest W.wait_step clock.old))
+        parker mask m.old m.new) }
+    ensures fails { IfErr result (λ fault. ReactsBlocked W N.fault_count shared.now.words.parkers
+        shared.now.sure_of_arms
+        (until (C.latest clock.new) (start_of C.bounds C.latest W.wait_step clock.old))
+        parker m.old m.new (Err fault)) }
     ensures took { IfOk result (λ mask.
         Gains parker m.old.pass.view m.new.pass.view (mask_list mask)) }
     ensures none { OnErr result (GainsNone m.old.pass.view m.new.pass.view) }
@@ -301,6 +317,9 @@ fn react_blocking<R: Wait, N: Notify, C: Clock, A: Arm, W: EventWait>(
     requires idle { IsIdle cell.old }
     requires parker { parker < shared.now.words.parkers }
     ensures blocks { BlocksWhile parker cell.old.seat.view cell.new.seat.view result }
+    ensures tries { TriesUntil N.fault_count shared.now.words.parkers shared.now.sure_of_arms
+        (until (C.latest clock.new) (start_of C.bounds C.latest W.wait_step clock.old))
+        result cell.old cell.new m.old m.new }
     ensures took { GainsNone m.old.pass.view m.new.pass.view }
     ensures keeps { KeepsThread N.fault_count N.is_sure N.call_count C.bounds C.latest
         shared.now m.old m.new clock.old clock.new result }
@@ -332,6 +351,9 @@ fn react_until_woken<R: Wait, N: Notify, C: Clock, A: Arm, W: EventWait>(
     ensures woken { IfOk result (λ none. (parker : ℕ)
         → cell.old.seat.view.mode ≡ mode.Block parker
         → HasSeenWoken parker cell.new.seat.view) }
+    ensures tries { TriesUntil N.fault_count shared.now.words.parkers shared.now.sure_of_arms
+        (until (C.latest clock.new) (start_of C.bounds C.latest W.wait_step clock.old))
+        result cell.old cell.new m.old m.new }
     ensures took { GainsNone m.old.pass.view m.new.pass.view }
     ensures keeps { KeepsThread N.fault_count N.is_sure N.call_count C.bounds C.latest
         shared.now m.old m.new clock.old clock.new result }

@@ -12,8 +12,10 @@ mod blocking;
 mod group;
 mod rounds;
 mod thread;
+mod until;
 
 pub use blocking::block_on;
 pub use group::{Group, GroupRefusal, Slot};
 pub use rounds::{BlockFault, drive};
 pub use thread::Thread;
+pub use until::{TryUntil, UntilFault};

@@ -2,14 +2,14 @@
 
 ghost use Rattle.std.specs.Prelude.{◌≡◌, ◌≤◌, ℕ, true, [], IfOk, IfErr};
 ghost use Rattle.aio_rules.specs.SharedWords.{blocking};
-ghost use Rattle.aio_shared.specs.CallsMade.{CallsAsWon};
+ghost use Rattle.aio_shared.specs.Notifying.{NotifiesAsWon};
 ghost use Rattle.aio_shared.specs.Cells.{IsIdle};
 ghost use Rattle.aio_shared.specs.Members.{IsLaterMember, IsMemberOf};
 ghost use Rattle.aio_shared.specs.OneCell.{IsCellOf};
 ghost use Rattle.aio_shared.specs.Reacting.{until};
 ghost use Rattle.aio_words.specs.Seats.{IsIdleOrWaits};
 ghost use Rattle.aio_park.specs.Blocking.{HasFaultCause, KeepsThread};
-ghost use Rattle.aio_park.specs.Driving.{Drives, DrivesRound, DrivesRounds, GainsNone, Tries, start_of};
+ghost use Rattle.aio_park.specs.Driving.{Drives, DrivesRound, DrivesRounds, DrivesUntilFault, FailsRound, FailsWithin, GainsNone, Tries, start_of};
 ghost use Rattle.aio_park.specs.Looks.{WaitsAfterLooks};
 
 use aio_base::{Arm, Clock, EventWait, Notify};
@@ -51,6 +51,10 @@ pub fn drive<R: Wait, N: Notify, C: Clock, A: Arm, W: EventWait>(
         shared.now.sure_of_arms
         (until (C.latest clock.new) (start_of C.bounds C.latest W.wait_step clock.old))
         rounds m.old m.new) }
+    ensures fails { IfErr result (DrivesUntilFault W N.fault_count shared.now.words.parkers
+        shared.now.sure_of_arms
+        (until (C.latest clock.new) (start_of C.bounds C.latest W.wait_step clock.old))
+        rounds m.old m.new) }
     ensures cause { IfErr result (HasFaultCause N.fault_count N.is_sure m.old m.new) }
     ensures belongs { IsMemberOf shared.now m.new }
     ensures kept { m.new ≡ record m.old {
@@ -61,7 +65,7 @@ pub fn drive<R: Wait, N: Notify, C: Clock, A: Arm, W: EventWait>(
     } }
     ensures cell { m.new.claim.holds ≡ m.old.claim.holds }
     ensures later { IsLaterMember N.fault_count N.is_sure m.old m.new }
-    ensures calls { CallsAsWon m.old.pass.view m.new.pass.view
+    ensures calls { NotifiesAsWon m.old.pass.view m.new.pass.view
         (N.call_count m.old.notifier) (N.call_count m.new.notifier) }
     ensures bounds { C.bounds clock.new ≡ C.bounds clock.old }
     ensures latest { C.latest clock.old ≤ C.latest clock.new }
@@ -86,6 +90,10 @@ fn drive_rounds<R: Wait, N: Notify, C: Clock, A: Arm, W: EventWait>(
     requires cell { IsCellOf m.old.claim cell.old }
     requires idle { IsIdle cell.old }
     ensures rounds { IfOk result (DrivesRounds N.fault_count shared.now.words.parkers
+        shared.now.sure_of_arms
+        (until (C.latest clock.new) (start_of C.bounds C.latest W.wait_step clock.old))
+        rounds cell.old cell.new m.old m.new) }
+    ensures fails { IfErr result (FailsWithin N.fault_count shared.now.words.parkers
         shared.now.sure_of_arms
         (until (C.latest clock.new) (start_of C.bounds C.latest W.wait_step clock.old))
         rounds cell.old cell.new m.old m.new) }
@@ -122,6 +130,10 @@ fn drive_round<R: Wait, N: Notify, C: Clock, A: Arm, W: EventWait>(
     requires cell { IsCellOf m.old.claim cell.old }
     requires idle { IsIdle cell.old }
     ensures round { IfOk result (DrivesRound N.fault_count shared.now.words.parkers
+        shared.now.sure_of_arms
+        (until (C.latest clock.new) (start_of C.bounds C.latest W.wait_step clock.old))
+        cell.old cell.new m.old m.new) }
+    ensures fails { IfErr result (FailsRound N.fault_count shared.now.words.parkers
         shared.now.sure_of_arms
         (until (C.latest clock.new) (start_of C.bounds C.latest W.wait_step clock.old))
         cell.old cell.new m.old m.new) }

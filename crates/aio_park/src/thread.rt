@@ -2,7 +2,7 @@
 
 ghost use Rattle.std.specs.Prelude.{◌≡◌, ℕ, ◌+◌, ◌<◌, ◌≤◌, length, Err, IfOk, IfErr, OnOk, OnErr};
 ghost use Rattle.aio_ops.specs.Passes.{pass_limit};
-ghost use Rattle.aio_shared.specs.CallsMade.{CallsAsWon};
+ghost use Rattle.aio_shared.specs.Notifying.{NotifiesAsWon};
 ghost use Rattle.aio_shared.specs.HandOver.{all_slots, first_slots_but};
 ghost use Rattle.aio_shared.specs.Inside.{IsLaterInside};
 ghost use Rattle.aio_shared.specs.Members.{IsNewMember, with_one_more_made};
@@ -90,7 +90,7 @@ impl<R: Wait + Copy, N: Notify + Drop, A: Arm + Drop, W: EventWait + Drop, C: Dr
           member = with_one_more_made self.old.host.member;
         }) }
         ensures spent { result ≡ Err PassRefusal.PassesSpent
-            → self.old.host.member.ops.made ≡ pass_limit }
+            → self.old.host.member.ops.splits ≡ pass_limit }
         ensures refused { OnErr result (self.new.host ≡ self.old.host) }
         ensures first { self.new.host.member.ops.number ≡ 0 }
         ensures kept { (self.new.parker ≡ self.old.parker) × (self.new.clock ≡ self.old.clock) }
@@ -156,7 +156,7 @@ impl<R: Wait + Copy, N: Notify, A: Arm, W: EventWait, C: Clock> Thread<R, N, A, 
     pub fn hand_over(&mut self) -> Result<(), CountFault>
         ensures woke { Wakes self.old.host.shared.words.parkers (first_slots_but self.old.parker)
             self.old.host.member.pass self.new.host.member.pass }
-        ensures calls { CallsAsWon self.old.host.member.pass.view self.new.host.member.pass.view
+        ensures calls { NotifiesAsWon self.old.host.member.pass.view self.new.host.member.pass.view
             (N.call_count self.old.host.member.notifier) (N.call_count self.new.host.member.notifier) }
         ensures cause { IfErr result (IsFaultWithin
             (N.fault_count self.old.host.member.notifier) (N.fault_count self.new.host.member.notifier)) }
@@ -177,7 +177,7 @@ impl<R: Wait + Copy, N: Notify, A: Arm, W: EventWait, C: Clock> Thread<R, N, A, 
     pub fn wake_all(&mut self) -> Result<(), CountFault>
         ensures woke { Wakes self.old.host.shared.words.parkers all_slots
             self.old.host.member.pass self.new.host.member.pass }
-        ensures calls { CallsAsWon self.old.host.member.pass.view self.new.host.member.pass.view
+        ensures calls { NotifiesAsWon self.old.host.member.pass.view self.new.host.member.pass.view
             (N.call_count self.old.host.member.notifier) (N.call_count self.new.host.member.notifier) }
         ensures cause { IfErr result (IsFaultWithin
             (N.fault_count self.old.host.member.notifier) (N.fault_count self.new.host.member.notifier)) }

@@ -1,12 +1,12 @@
 use Rattle.std.proofs.Common.{subst}
 use Rattle.aio_park.specs.Blocking.{Gains, mask_list}
-use Rattle.aio_shared.proofs.CallsMade.{none_called}
+use Rattle.aio_shared.proofs.Notifying.{notifies_nobody}
 use Rattle.aio_park.proofs.Gaining.{gains_after, gains_itself, gains_neither, gains_nothing, mask_some, member_itself}
 use Rattle.aio_park.proofs.Keeping.{keeps_as, keeps_member, keeps_then}
 use Rattle.aio_park.proofs.blocking.next_mask_of.Goals as goal
 
 pub loop-init : goal.loop-init
-loop-init g c = record { took = gains_itself _; keeps = keeps_member c.requires.belongs (member_itself _ _ _) (none_called _ _) }
+loop-init g c = record { took = gains_itself _; keeps = keeps_member c.requires.belongs (member_itself _ _ _) (notifies_nobody _ _) }
 
 pub returns-in-Err-clause-keeps : goal.returns-in-Err-clause-keeps
 returns-in-Err-clause-keeps g c = keeps_then c.loop.invariant.keeps c.in-Err.ensures.keeps

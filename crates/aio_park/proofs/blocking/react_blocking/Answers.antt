@@ -1,9 +1,10 @@
-use Rattle.std.proofs.Common.{◌≡◌, ◌++◌, [], ◌∷◌, rules, ap, ◌∙◌}
+use Rattle.std.proofs.Common.{◌≡◌, ◌++◌, [], ◌∷◌, rules, refl, ap, ◌∙◌}
 use Rattle.aio_rules.specs.declared.seats.Mode.TheVariants as mode
 use Rattle.aio_rules.specs.declared.seats.SeatView.{SeatView}
 use Rattle.aio_rules.specs.declared.seats.WordStep.TheVariants as word_step
 use Rattle.aio_words.specs.Seats.{SeatValue}
 use Rattle.aio_park.specs.Looks.{HasSeenWoken}
+use Rattle.aio_park.proofs.Holding.{tries_between}
 use Rattle.aio_park.proofs.Looking.{of_parker}
 use Rattle.aio_park.proofs.blocking.react_blocking.Goals as goal
 
@@ -36,3 +37,6 @@ returns-clause-blocks g c =
           (c.unblock.ensures.view parker (ap (λ (s : SeatValue). s.view.mode) c.seat-2.ensures.value ∙ c.react_until_woken-reacted.ensures.mode ∙ blocked))
           ∙ ap (λ (s : SeatValue). s.view.did ++ word_step.StoreBlocked parker 0 1 ∷ []) c.seat-2.ensures.value;
     }
+
+pub returns-clause-tries : goal.returns-clause-tries
+returns-clause-tries g c = tries_between g.N.Faults.fault_count c.args.shared.now.words.parkers c.args.shared.now.sure_of_arms _ c.args.cell.now (record c.args.cell.now { seat = c.block.new.s }) c.react_until_woken-reacted.new.cell _ _ _ c.react_until_woken-reacted.result refl refl c.react_until_woken-reacted.ensures.tries

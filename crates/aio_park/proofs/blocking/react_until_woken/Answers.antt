@@ -1,11 +1,14 @@
-use Rattle.std.proofs.Common.{refl, sym, ap, ◌∙◌}
+use Rattle.std.proofs.Common.{refl, sym, ap, ◌∙◌, suc, le_refl, None, Ok, Err}
 use Rattle.aio_rules.specs.declared.seats.SeatView.{SeatView}
 use Rattle.aio_rules.specs.declared.seats.WordStep.TheVariants as word_step
 use Rattle.aio_rules.specs.SharedWords.{after, blocking}
 use Rattle.aio_words.specs.Seats.{SeatValue}
 use Rattle.aio_shared.specs.Members.{MemberValue}
-use Rattle.aio_shared.proofs.CallsMade.{none_called}
+use Rattle.aio_shared.proofs.Notifying.{notifies_nobody}
+use Rattle.aio_shared.specs.Reacting.{until}
+use Rattle.aio_park.specs.Driving.{start_of}
 use Rattle.aio_park.proofs.Gaining.{gains_itself, gains_neither, member_itself}
+use Rattle.aio_park.proofs.Holding.{tries_after, tries_further, tries_until, try_of}
 use Rattle.aio_park.proofs.Keeping.{keeps_as, keeps_member, keeps_then}
 use Rattle.aio_park.proofs.Looking.{looks_further, looks_itself, looks_round, looks_woken}
 use Rattle.aio_park.proofs.blocking.react_until_woken.Goals as goal
@@ -15,8 +18,9 @@ loop-init g c = record {
   took = gains_itself _;
   mode = refl;
   claim = refl;
-  keeps = keeps_member c.requires.belongs (member_itself _ _ _) (none_called _ _);
+  keeps = keeps_member c.requires.belongs (member_itself _ _ _) (notifies_nobody _ _);
   cell = c.requires.cell;
+  tries = (0, (refl, refl));
   looks = λ parker is. looks_itself parker _ _;
 }
 
@@ -35,6 +39,14 @@ loop-preserved g c = record {
   claim = ap (λ (x : MemberValue g.row.N.Denot). x.claim) c.react_once.ensures.kept ∙ c.loop.invariant.claim;
   keeps = keeps_then c.loop.invariant.keeps (keeps_as (λ cause. cause) c.in-Ok.ensures.keeps);
   cell = c.react_once.ensures.cell;
+  tries = (
+    suc c.loop.invariant.tries.0,
+    tries_further g.N.Faults.fault_count c.args.shared.now.words.parkers c.args.shared.now.sure_of_arms (until (g.C.Clock.latest c.react_once.new.clock) (start_of g.C.Clock.bounds g.C.Clock.latest g.W.EventWait.wait_step c.args.clock.now)) c.loop.invariant.tries.0 c.args.cell.now c.loop.cell (record c.loop.cell { seat = c.take_or_wait.new.s }) c.react_once.new.cell c.args.m.now c.loop.m c.react_once.new.m c.in-Ok.field-0
+        (tries_until g.N.Faults.fault_count c.args.shared.now.words.parkers c.args.shared.now.sure_of_arms (until (g.C.Clock.latest c.loop.clock) (start_of g.C.Clock.bounds g.C.Clock.latest g.W.EventWait.wait_step c.args.clock.now)) (g.C.Clock.latest c.react_once.new.clock) c.loop.invariant.tries.0 _ _ _ _ c.in-Ok.ensures.keeps.latest c.loop.invariant.tries.1)
+        refl
+        (try_of g.N.Faults.fault_count c.args.shared.now.words.parkers c.args.shared.now.sure_of_arms (until (g.C.Clock.latest c.react_once.new.clock) (start_of g.C.Clock.bounds g.C.Clock.latest g.W.EventWait.wait_step c.args.clock.now)) None (g.C.Clock.bounds c.loop.clock) (g.C.Clock.latest c.loop.clock) (g.C.Clock.latest c.react_once.new.clock) (record c.loop.cell { seat = c.take_or_wait.new.s }) c.react_once.new.cell c.loop.m c.react_once.new.m (Ok c.in-Ok.field-0)
+        c.loop.invariant.keeps.bounds c.loop.invariant.keeps.latest (le_refl _) c.in-Ok.ensures.tries),
+  );
   looks = λ parker is.
       looks_further parker _ c.args.cell.now.seat.view c.loop.cell.seat.view c.react_once.new.cell.seat.view (c.loop.invariant.looks parker is)
       (looks_round parker c.loop.cell.seat.view c.take_or_wait.new.s.view c.react_once.new.cell.seat.view
@@ -67,3 +79,19 @@ returns-in-Some-take_or_wait-clause-woken g c parker is = (
       ∙ ap (λ (s : SeatValue). after (word_step.LoadMask parker c.in-Some-take_or_wait.field-0) s.view) c.seat.ensures.value),
   c.in-Some-take_or_wait.ensures.some.0,
 )
+
+pub returns-in-Err-clause-tries : goal.returns-in-Err-clause-tries
+returns-in-Err-clause-tries g c = (
+  c.loop.invariant.tries.0,
+  (record c.loop.cell { seat = c.take_or_wait.new.s }),
+  c.react_once.new.cell,
+  c.loop.m,
+  tries_after g.N.Faults.fault_count c.args.shared.now.words.parkers c.args.shared.now.sure_of_arms (until (g.C.Clock.latest c.react_once.new.clock) (start_of g.C.Clock.bounds g.C.Clock.latest g.W.EventWait.wait_step c.args.clock.now)) c.loop.invariant.tries.0 c.args.cell.now c.loop.cell (record c.loop.cell { seat = c.take_or_wait.new.s }) c.args.m.now c.loop.m refl
+      (tries_until g.N.Faults.fault_count c.args.shared.now.words.parkers c.args.shared.now.sure_of_arms (until (g.C.Clock.latest c.loop.clock) (start_of g.C.Clock.bounds g.C.Clock.latest g.W.EventWait.wait_step c.args.clock.now)) (g.C.Clock.latest c.react_once.new.clock) c.loop.invariant.tries.0 _ _ _ _ c.in-Err.ensures.keeps.latest c.loop.invariant.tries.1),
+  try_of g.N.Faults.fault_count c.args.shared.now.words.parkers c.args.shared.now.sure_of_arms (until (g.C.Clock.latest c.react_once.new.clock) (start_of g.C.Clock.bounds g.C.Clock.latest g.W.EventWait.wait_step c.args.clock.now)) None (g.C.Clock.bounds c.loop.clock) (g.C.Clock.latest c.loop.clock) (g.C.Clock.latest c.react_once.new.clock) (record c.loop.cell { seat = c.take_or_wait.new.s }) c.react_once.new.cell c.loop.m c.react_once.new.m (Err c.in-Err.fault)
+      c.loop.invariant.keeps.bounds c.loop.invariant.keeps.latest (le_refl _) c.in-Err.ensures.tries,
+  refl,
+)
+
+pub returns-in-Some-take_or_wait-clause-tries : goal.returns-in-Some-take_or_wait-clause-tries
+returns-in-Some-take_or_wait-clause-tries g c = (c.loop.invariant.tries.0, tries_after g.N.Faults.fault_count c.args.shared.now.words.parkers c.args.shared.now.sure_of_arms (until (g.C.Clock.latest c.loop.clock) (start_of g.C.Clock.bounds g.C.Clock.latest g.W.EventWait.wait_step c.args.clock.now)) c.loop.invariant.tries.0 c.args.cell.now c.loop.cell (record c.loop.cell { seat = c.take_or_wait.new.s }) c.args.m.now c.loop.m refl c.loop.invariant.tries.1)

@@ -1,5 +1,6 @@
 use Rattle.std.proofs.Common.{refl}
 use Rattle.aio_park.specs.Blocking.{mask_list}
+use Rattle.aio_park.specs.Driving.Waits.{WaitsInRounds, WaitsParked}
 use Rattle.aio_park.proofs.Gaining.{gains_after, gains_locked}
 use Rattle.aio_park.proofs.Holding.{later_waited}
 use Rattle.aio_park.proofs.Keeping.{called_park, called_swap, called_turn, keeps_as, keeps_locked, keeps_member, keeps_then}
@@ -31,3 +32,32 @@ returns-in-Ok-clause-keeps g c =
 pub returns-in-Err-clause-none : goal.returns-in-Err-clause-none
 returns-in-Err-clause-none g c =
     gains_locked c.args.m.now c.try_round.new.m c.react_blocking-reacted.new.m c.give_round.new.m c.in-Some.ensures.kept c.react_blocking-reacted.ensures.took c.give_round.ensures.gave
+
+pub returns-in-None-clause-waits : goal.returns-in-None-clause-waits
+returns-in-None-clause-waits g c = WaitsParked c.try_round.new.m (c.in-None.ensures.none refl) c.in-None.ensures.kept c.park.ensures.parks
+
+pub returns-in-Ok-clause-waits : goal.returns-in-Ok-clause-waits
+returns-in-Ok-clause-waits g c = WaitsInRounds c.give_round.new.m (record {
+  taken = c.in-Some.cell;
+  left = c.react_blocking-reacted.new.cell;
+  holding = c.try_round.new.m;
+  done = c.react_blocking-reacted.new.m;
+  takes = c.in-Some.ensures.some;
+  rest = c.in-Some.ensures.kept;
+  blocks = c.in-Ok.ensures.blocks;
+  tries = c.in-Ok.ensures.tries;
+  gave = c.give_round.ensures.gave;
+}) c.take.ensures.swapped
+
+pub returns-in-Err-clause-fails : goal.returns-in-Err-clause-fails
+returns-in-Err-clause-fails g c = record {
+  taken = c.in-Some.cell;
+  left = c.react_blocking-reacted.new.cell;
+  holding = c.try_round.new.m;
+  done = c.react_blocking-reacted.new.m;
+  takes = c.in-Some.ensures.some;
+  rest = c.in-Some.ensures.kept;
+  blocks = c.in-Err.ensures.blocks;
+  tries = c.in-Err.ensures.tries;
+  gave = c.give_round.ensures.gave;
+}

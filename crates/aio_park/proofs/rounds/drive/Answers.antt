@@ -3,7 +3,7 @@ use Rattle.aio_shared.specs.Members.{MemberValue}
 use Rattle.aio_shared.specs.OneCell.{ClaimValue}
 use Rattle.aio_shared.specs.Reacting.{until}
 use Rattle.aio_park.specs.Driving.{start_of}
-use Rattle.aio_park.proofs.Holding.{drives_where}
+use Rattle.aio_park.proofs.Holding.{drives_where, fails_where}
 use Rattle.aio_park.proofs.Keeping.{keeps_locked}
 use Rattle.aio_park.proofs.rounds.drive.Goals as goal
 
@@ -47,3 +47,9 @@ returns-clause-bounds g c = c.drive_rounds-driven.ensures.keeps.bounds
 
 pub returns-clause-latest : goal.returns-clause-latest
 returns-clause-latest g c = c.drive_rounds-driven.ensures.keeps.latest
+
+pub returns-clause-fails : goal.returns-clause-fails
+returns-clause-fails g c =
+    fails_where g.N.Faults.fault_count c.args.shared.now.words.parkers c.args.shared.now.sure_of_arms (until (g.C.Clock.latest c.drive_rounds-driven.new.clock) (start_of g.C.Clock.bounds g.C.Clock.latest g.W.EventWait.wait_step c.args.clock.now)) c.args.rounds c.args.m.now c.take_round-cell.new.m
+    c.drive_rounds-driven.new.m c.give_round.new.m c.take_round-cell.result c.drive_rounds-driven.new.cell c.drive_rounds-driven.result
+    c.take_round-cell.ensures.takes c.take_round-cell.ensures.kept c.give_round.ensures.gave c.drive_rounds-driven.ensures.fails

@@ -1,6 +1,8 @@
-use Rattle.std.proofs.Common.{refl, ap, ◌∙◌, le_refl, None, Ok}
+use Rattle.std.proofs.Common.{refl, ap, ◌∙◌, le_refl, None, Ok, Err}
 use Rattle.aio_rules.specs.SharedWords.{blocking}
-use Rattle.aio_park.proofs.Holding.{nothing_further, with_bounds}
+use Rattle.aio_shared.specs.Reacting.{until}
+use Rattle.aio_park.specs.Driving.{start_of}
+use Rattle.aio_park.proofs.Holding.{nothing_further, try_of, with_bounds}
 use Rattle.aio_park.proofs.Keeping.{keeps_as, keeps_then}
 use Rattle.aio_park.proofs.rounds.drive_round.Goals as goal
 
@@ -33,4 +35,13 @@ loop-preserved g c = record {
   keeps = keeps_then c.loop.invariant.keeps (keeps_as (λ cause. cause) c.in-Ok-None.ensures.keeps);
   cell = c.react_once.ensures.cell;
   idle = c.react_once.ensures.seat ∙ ap blocking c.loop.invariant.idle;
+}
+
+pub returns-in-Err-clause-fails : goal.returns-in-Err-clause-fails
+returns-in-Err-clause-fails g c = record {
+  from = c.loop.cell;
+  by = c.loop.m;
+  first = c.loop.invariant.nothing;
+  tries = try_of g.N.Faults.fault_count c.args.shared.now.words.parkers c.args.shared.now.sure_of_arms (until (g.C.Clock.latest c.react_once.new.clock) (start_of g.C.Clock.bounds g.C.Clock.latest g.W.EventWait.wait_step c.args.clock.now)) None (g.C.Clock.bounds c.loop.clock) (g.C.Clock.latest c.loop.clock) (g.C.Clock.latest c.react_once.new.clock) c.loop.cell c.react_once.new.cell c.loop.m
+      c.react_once.new.m (Err c.in-Err.fault) c.loop.invariant.keeps.bounds c.loop.invariant.keeps.latest (le_refl _) c.in-Err.ensures.tries;
 }

@@ -1,7 +1,7 @@
 use Rattle.std.proofs.Common.{rules, arith}
 use Rattle.aio_shared.specs.Reacting.{until}
 use Rattle.aio_park.specs.Driving.{start_of}
-use Rattle.aio_park.proofs.Holding.{from_earlier, one_more, rounds_until}
+use Rattle.aio_park.proofs.Holding.{fails_earlier, from_earlier, one_more, rounds_until}
 use Rattle.aio_park.proofs.Keeping.{keeps_as, keeps_then}
 use Rattle.aio_park.proofs.rounds.drive_rounds.Goals as goal
 
@@ -21,3 +21,15 @@ loop-preserved g c = record {
 
 pub returns-in-Err-clause-keeps : goal.returns-in-Err-clause-keeps
 returns-in-Err-clause-keeps g c = keeps_then c.loop.invariant.keeps (keeps_as (λ cause. cause) c.in-Err.ensures.keeps)
+
+pub returns-in-Err-clause-fails : goal.returns-in-Err-clause-fails
+returns-in-Err-clause-fails g c = record {
+  made = c.loop.counter;
+  fewer = search rules;
+  events = c.loop.events;
+  last = c.loop.cell;
+  by = c.loop.m;
+  rounds_are = rounds_until _ _ _ (until (g.C.Clock.latest c.loop.clock) (start_of g.C.Clock.bounds g.C.Clock.latest g.W.EventWait.wait_step c.args.clock.now)) (g.C.Clock.latest c.drive_round.new.clock) _ _ _ _ _ _ c.in-Err.ensures.keeps.latest c.loop.invariant.rounds;
+  fails = fails_earlier g.N.Faults.fault_count c.args.shared.now.words.parkers c.args.shared.now.sure_of_arms (until (g.C.Clock.latest c.drive_round.new.clock) (start_of g.C.Clock.bounds g.C.Clock.latest g.W.EventWait.wait_step c.args.clock.now)) (g.C.Clock.bounds c.loop.clock) (g.C.Clock.latest c.loop.clock) c.loop.cell c.drive_round.new.cell c.loop.m c.drive_round.new.m c.in-Err.fault
+      c.loop.invariant.keeps.bounds c.loop.invariant.keeps.latest c.in-Err.ensures.fails;
+}

@@ -45,8 +45,8 @@ returns-then-ticker-clause-keeps g c =
       belongs = c.react_in.ensures.belongs;
       later = c.react_in.ensures.later;
       calls = c.react_in.ensures.calls;
-      bounds = c.react_in.ensures.bounds;
-      latest = c.react_in.ensures.latest;
+      bounds = c.react_in.ensures.clock.bounds;
+      latest = c.react_in.ensures.clock.latest;
     } in
     keeps_then reacted
     (keeps_as (λ none. spent_cause c.react_in.new.m (record c.react_in.new.m { pass = c.ticker.new.p }) c.ticker.result c.if-ticker.true view)
@@ -61,8 +61,8 @@ returns-else-ticker-clause-keeps g c =
       belongs = c.react_in.ensures.belongs;
       later = c.react_in.ensures.later;
       calls = c.react_in.ensures.calls;
-      bounds = c.react_in.ensures.bounds;
-      latest = c.react_in.ensures.latest;
+      bounds = c.react_in.ensures.clock.bounds;
+      latest = c.react_in.ensures.clock.latest;
     } in
     keeps_then reacted
     (keeps_as (λ none. none)
