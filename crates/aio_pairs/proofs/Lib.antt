@@ -1,8 +1,8 @@
-pub mod Whole
-pub mod Windows
-pub mod Reading
-pub mod Taking
-pub mod Flows
-pub mod Movings
-pub mod Fitting
-mod WorkedLines
+pub mod LineLemmas
+pub mod SearchLemmas
+pub mod BacklogLemmas
+pub mod Tellings
+pub mod PassingLemmas
+pub mod ExchangeLemmas
+pub mod FitLemmas
+mod Worked

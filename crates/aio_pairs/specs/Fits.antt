@@ -1,45 +1,57 @@
--- Which ends a pair may come to, by what its two connections have to give.
-use Rattle.std.specs.Prelude.{◌≡◌, ◌⊎◌, ℕ, ◌+◌, ◌≤◌, Bool, false, IsTrue, List, ◌++◌, length, take, drop, Option, option_map, IfSome, ⊤}
-use Rattle.aio_pairs.specs.WholeLines.{lines, longest_line, HasNoLineFeed}
+-- What two connections may bring a pair to, by what they have to give.
+use Rattle.std.specs.Prelude.{◌≡◌, ◌⊎◌, ℕ, ◌+◌, ◌≤◌, Bool, true, false, List, ◌++◌, length, take, Option, option_map, IfSome, ⊤}
 use Rattle.aio_base.specs.Connections.{Telling}
+use Rattle.aio_pairs.specs.Backlogs.{SideState, saturated}
+use Rattle.aio_pairs.specs.Lines.{HasNoLineFeed, lines, longest_line, unfinished}
+use Rattle.aio_pairs.specs.declared.outcomes.PairEnd.{PairEnd}
+use Rattle.aio_pairs.specs.declared.outcomes.PairEnd.TheVariants as pair
 use Rattle.aio_pairs.specs.declared.outcomes.Side.{Side}
 use Rattle.aio_pairs.specs.declared.outcomes.Side.TheVariants.{A, B}
-use Rattle.aio_pairs.specs.declared.outcomes.PairEnd.{PairEnd}
-use Rattle.aio_pairs.specs.declared.outcomes.PairEnd.TheVariants as ending
-use Rattle.aio_pairs.specs.Sides.{SideValue, backlog, clamp}
 
--- what a connection has to give: how many bytes of it were passed on already, those that are still to come where that is told, whether it ends then,
--- and whether it is sure and prompt
-pub record Given : Type 0 where
-  pub passed : ℕ
-  pub bytes : Option (List ℕ)
+-- What a side has to give from some moment on: behind so many bytes that were written already all its further bytes, where they are told, and whether
+-- these are all it will ever give. And whether its connection is sure and prompt.
+pub record ToGive : Type 0 where
+  pub forwarded : ℕ
+  pub further : Option (List ℕ)
   pub ends : Bool
-  pub sure : Bool
-  pub prompt : Bool
+  pub is_sure : Bool
+  pub is_prompt : Bool
 
-abbrev pub given : SideValue → Telling → Bool → Given
-given s t sure = record { passed = s.passed; bytes = option_map (λ left. backlog s ++ left) t.left; ends = t.ends; sure = sure; prompt = t.prompt }
+-- a side's backlog comes before what its connection has left
+abbrev pub to_give : SideState → Telling → (sure : Bool) → ToGive
+to_give side telling sure = record {
+  forwarded = side.forwarded;
+  further = option_map (λ left. side.backlog ++ left) telling.left;
+  ends = telling.ends;
+  is_sure = sure;
+  is_prompt = telling.prompt;
+}
 
--- it ends, and so many bytes of it are whole lines
-abbrev pub GivesLines : Given → ℕ → Type 0
-GivesLines g n = IfSome g.bytes (λ bytes. IsTrue g.ends × (n ≡ clamp (g.passed + length (lines bytes))))
+-- it ends, and of all its bytes so many are whole lines
+abbrev pub LinesAre : ToGive → ℕ → Type 0
+LinesAre side n = IfSome side.further (λ bytes. (side.ends ≡ true) × (n ≡ saturated (side.forwarded + length (lines bytes))))
 
--- the first `at` bytes end in as many as a line may have after the last line end, none of which is a line feed
-abbrev pub GivesTooLong : Given → ℕ → Type 0
-GivesTooLong g at = IfSome g.bytes (λ bytes. (length (lines bytes) + longest_line ≤ length bytes)
-    × HasNoLineFeed (take longest_line (drop (length (lines bytes)) bytes)) × (at ≡ clamp (g.passed + length (lines bytes) + longest_line)))
+-- behind its whole lines stand as many bytes without a line feed as a line may have, and with them they are the first so many
+abbrev pub LongAt : ToGive → ℕ → Type 0
+LongAt side n = IfSome side.further (λ bytes. (longest_line ≤ length (unfinished bytes)) × HasNoLineFeed (take longest_line (unfinished bytes))
+    × (n ≡ saturated (side.forwarded + length (lines bytes) + longest_line)))
 
-abbrev pub at_side : {X : Type 0} → Side → X → X → X
-at_side A a b = a
-at_side B a b = b
+abbrev pub of_side : {X : Type 0} → Side → (a b : X) → X
+of_side A a b = a
+of_side B a b = b
 
--- the end fits; `least` is what the last move cannot lie before, and `most` what no look at the clock can lie behind
-abbrev pub Fits : (a b : Given) → (least most idle : ℕ) → (notifier_sure : Bool) → PairEnd → Type 0
-Fits a b least most idle sure (ending.Ended to_a to_b) = GivesLines a to_b × GivesLines b to_a
-Fits a b least most idle sure (ending.Idle last now) = (least ≤ last) × (now ≤ most) × (last + idle ≤ now) × ((a.prompt ≡ false) ⊎ (b.prompt ≡ false))
-Fits a b least most idle sure (ending.TooLong side at) = GivesTooLong (at_side side a b) at
-Fits a b least most idle sure (ending.ReadFault f) = (a.sure ≡ false) ⊎ (b.sure ≡ false)
-Fits a b least most idle sure (ending.WriteFault f) = (a.sure ≡ false) ⊎ (b.sure ≡ false)
-Fits a b least most idle sure (ending.ArmFault f) = (a.sure ≡ false) ⊎ (b.sure ≡ false)
-Fits a b least most idle sure (ending.NotifyFault f) = sure ≡ false
-Fits a b least most idle sure ending.OutOfMemory = ⊤
+-- one of the two connections is not sure
+abbrev pub MayFail : (a b : ToGive) → Type 0
+MayFail a b = (a.is_sure ≡ false) ⊎ (b.is_sure ≡ false)
+
+-- The pair may end so. It is idle by a clock that says nothing before `earliest` and nothing after `latest`.
+abbrev pub Fits : (a b : ToGive) → (earliest latest idle : ℕ) → (notifier_sure : Bool) → PairEnd → Type 0
+Fits a b earliest latest idle notifier_sure (pair.Ended to_a to_b) = LinesAre b to_a × LinesAre a to_b
+Fits a b earliest latest idle notifier_sure (pair.Idle last now) =
+    ((a.is_prompt ≡ false) ⊎ (b.is_prompt ≡ false)) × (last + idle ≤ now) × (earliest ≤ last) × (now ≤ latest)
+Fits a b earliest latest idle notifier_sure (pair.TooLong side at) = LongAt (of_side side a b) at
+Fits a b earliest latest idle notifier_sure (pair.ReadFault f) = MayFail a b
+Fits a b earliest latest idle notifier_sure (pair.WriteFault f) = MayFail a b
+Fits a b earliest latest idle notifier_sure (pair.ArmFault f) = MayFail a b
+Fits a b earliest latest idle notifier_sure (pair.NotifyFault f) = notifier_sure ≡ false
+Fits a b earliest latest idle notifier_sure pair.OutOfMemory = ⊤

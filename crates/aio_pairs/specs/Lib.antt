@@ -1,7 +1,6 @@
-pub mod WholeLines
-pub mod Ends
-pub mod Sides
-pub mod SideReads
-pub mod Moves
-pub mod HostCalls
+pub mod Lines
+pub mod Search
+pub mod Calls
+pub mod Backlogs
+pub mod Exchanges
 pub mod Fits

@@ -1,4 +1,4 @@
-//! The ends of a pair: entered sources.
+//! What a pair reads and writes: the ends of its two connections.
 
 ghost use Rattle.std.specs.Prelude.{◌≡◌, ◌<◌, ◌≤◌, length, take, Ok};
 ghost use Rattle.aio_base.specs.declared.outcomes.Poll.TheVariants.{Ready, Pending};
@@ -8,59 +8,60 @@ use aio_future::{Async, Tried};
 use aio_react::Host;
 use aio_source::SourceCell;
 
-/// An entered source of a host, which tells what its connection tells.
+/// One connection of a pair, as an entered source of a host. It tells of its bytes what the connection
+/// tells.
 pub trait End<H: Host>: Tells {
     ghost use Rattle.aio_base.specs.Connections.{ReadTells, WriteTells};
     ghost use Rattle.aio_future.specs.Tries.{tried_count, tried_fault, TriesWithin, IsOfRead, IsOfWrite, TryFaults};
-    ghost use Rattle.aio_pairs.specs.Ends.{EndMove, EndReads, EndWrites, KeepsHost};
+    ghost use Rattle.aio_pairs.specs.Calls.{EndCall, Reads, Writes, LeavesHost};
 
-    /// The state before a call, the call with its answer, and the state after it.
-    ghost end_step: { Self → EndMove → Self → Type 0 };
+    /// How a call with its answer leads from one state to the next.
+    ghost end_step: { Self → EndCall → Self → Type 0 };
 
-    /// Reads into the front of `buf`, as `Async::read_with` with the rounds that the host counts.
+    /// What `Async::read_with` does, by the host's ticker: the bytes read are the first of `buf`.
     fn read(&mut self, host: &mut H, buf: &mut [u8], w: Waker) -> Tried
         requires { 0 < length buf.old }
-        ensures step { end_step self.old (EndReads (length buf.old) w result
+        ensures host { LeavesHost H.rules H.is_later H.notifier_is_sure host.old host.new }
+        ensures step { end_step self.old (Reads (length buf.old) w result
             (take (tried_count result.answer) buf.new)) self.new }
-        ensures bound { tried_count result.answer ≤ length buf.new }
-        ensures kind { IsOfRead result.answer }
         ensures told { ReadTells (Self.telling self.old) (Self.telling self.new)
-            (take (tried_count result.answer) buf.new) (result.answer ≡ Pending)
-            (result.answer ≡ Ready (Ok 0)) }
+            (take (tried_count result.answer) buf.new)
+            (result.answer ≡ Pending) (result.answer ≡ Ready (Ok 0)) }
+        ensures most { tried_count result.answer ≤ length buf.new }
+        ensures kind { IsOfRead result.answer }
         ensures faults { TryFaults (Self.fault_count self.old) (Self.fault_count self.new)
-            (Self.is_sure self.old) (Self.is_sure self.new) (tried_fault result.answer) }
-        ensures host { KeepsHost H.rules H.is_later H.notifier_is_sure host.old host.new };
+            (Self.is_sure self.old) (Self.is_sure self.new) (tried_fault result.answer) };
 
-    /// Sends the front of `piece`, as `Async::write_with` with the rounds that the host counts.
+    /// What `Async::write_with` does, by the host's ticker: the bytes written are the first of `piece`.
     fn write(&mut self, host: &mut H, piece: &[u8], w: Waker) -> Tried
         requires { 0 < length piece.now }
-        ensures step { end_step self.old (EndWrites piece.now w result) self.new }
-        ensures bound { TriesWithin (length piece.now) result.answer }
-        ensures kind { IsOfWrite result.answer }
+        ensures host { LeavesHost H.rules H.is_later H.notifier_is_sure host.old host.new }
+        ensures step { end_step self.old (Writes piece.now w result) self.new }
         ensures told { WriteTells (Self.telling self.old) (Self.telling self.new)
             (take (tried_count result.answer) piece.now) (result.answer ≡ Pending) }
+        ensures most { TriesWithin (length piece.now) result.answer }
+        ensures kind { IsOfWrite result.answer }
         ensures faults { TryFaults (Self.fault_count self.old) (Self.fault_count self.new)
-            (Self.is_sure self.old) (Self.is_sure self.new) (tried_fault result.answer) }
-        ensures host { KeepsHost H.rules H.is_later H.notifier_is_sure host.old host.new };
+            (Self.is_sure self.old) (Self.is_sure self.new) (tried_fault result.answer) };
 }
 
-/// An end over a source of its own, for any host.
+/// An end that owns its source, and serves any host.
 #[derive(Drop)]
 pub struct MemEnd<C> {
-    /// The source, beside its connection.
+    /// The source with its connection.
     pub cell: SourceCell<C>,
 }
 
 impl<C: Conn> Faults for MemEnd<C> {
-    ghost fault_count = { λ e. C.fault_count e.cell.io };
+    ghost fault_count = { λ end. C.fault_count end.cell.io };
 
-    ghost is_sure = { λ e. C.is_sure e.cell.io };
+    ghost is_sure = { λ end. C.is_sure end.cell.io };
 
     ghost all_sure = { C.all_sure };
 
-    ghost sure_below_top = { λ e sure. C.sure_below_top e.cell.io sure };
+    ghost sure_below_top = { λ end sure. C.sure_below_top end.cell.io sure };
 
-    ghost each_sure = { λ e all. C.each_sure e.cell.io all };
+    ghost each_sure = { λ end all. C.each_sure end.cell.io all };
 
     fn faults(&self) -> u64 {
         self.cell.io.faults()
@@ -68,26 +69,25 @@ impl<C: Conn> Faults for MemEnd<C> {
 }
 
 impl<C: Conn> Tells for MemEnd<C> {
-    ghost telling = { λ e. C.telling e.cell.io };
+    ghost telling = { λ end. C.telling end.cell.io };
 
-    ghost left_is_bounded = { λ e. C.left_is_bounded e.cell.io };
+    ghost left_is_bounded = { λ end. C.left_is_bounded end.cell.io };
 }
 
 impl<H: Host, C: Conn> End<H> for MemEnd<C> {
-    ghost use Rattle.aio_pairs.specs.Ends.{EntersSource};
+    ghost use Rattle.aio_pairs.specs.Calls.{Enters};
 
-    ghost end_step = { λ old call new. EntersSource C.conn_step C.arm_step C.interests C.rest
-        C.fault_count C.is_sure old.cell.state old.cell.io call new.cell.state new.cell.io };
+    ghost end_step = { λ before call after. Enters C.conn_step C.arm_step C.interests C.rest
+        C.fault_count C.is_sure before.cell.state before.cell.io call
+        after.cell.state after.cell.io };
 
     fn read(&mut self, host: &mut H, buf: &mut [u8], w: Waker) -> Tried {
-        let ticker = host.ticker();
-        let mut entered = Async::of(&mut self.cell, ticker);
-        entered.read_with(buf, w)
+        let rounds = host.ticker();
+        Async::of(&mut self.cell, rounds).read_with(buf, w)
     }
 
     fn write(&mut self, host: &mut H, piece: &[u8], w: Waker) -> Tried {
-        let ticker = host.ticker();
-        let mut entered = Async::of(&mut self.cell, ticker);
-        entered.write_with(piece, w)
+        let rounds = host.ticker();
+        Async::of(&mut self.cell, rounds).write_with(piece, w)
     }
 }

@@ -1,32 +1,28 @@
-//! Laws of whole lines and of what a pair passes on, as contracts of functions with no work to do.
+//! What holds of whole lines and of polls of a pair, as contracts of functions that do nothing.
 
-ghost use Rattle.std.specs.Prelude.{◌≡◌, ◌++◌, List, ℕ, Option};
-ghost use Rattle.aio_pairs.specs.WholeLines.{longest_line, lines, IsFront, AreLines};
-ghost use Rattle.aio_pairs.specs.Sides.{SideValue, backlog};
-ghost use Rattle.aio_pairs.specs.Moves.{Flow};
+ghost use Rattle.std.specs.Prelude.{◌≡◌, ◌++◌, List, ℕ};
+ghost use Rattle.aio_pairs.specs.Exchanges.{PairOk};
+ghost use Rattle.aio_pairs.specs.Lines.{longest_line, lines, IsPrefix, AreLines};
 
-/// The lines of some bytes are the longest front part of them that is made of whole lines.
-pub fn lines_are_the_longest()
-    ensures front { (bytes : List ℕ) → IsFront (lines bytes) bytes }
-    ensures whole { (bytes : List ℕ) → AreLines longest_line (lines bytes) }
-    ensures longest { (bytes other : List ℕ) → AreLines longest_line other → IsFront other bytes
-        → IsFront other (lines bytes) }
+/// `lines` is the longest prefix of some bytes that is whole lines, each of at most 4,096 bytes.
+pub fn lines_are_the_longest_prefix()
+    ensures prefix { (bytes : List ℕ) → IsPrefix (lines bytes) bytes }
+    ensures lines { (bytes : List ℕ) → AreLines longest_line (lines bytes) }
+    ensures longest { (bytes other : List ℕ) → IsPrefix other bytes
+        → AreLines longest_line other → IsPrefix other (lines bytes) }
 {}
 
-/// What was passed on of the lines of some bytes stays a front part of the lines whatever follows, and
-/// the lines of what is left and of what follows come after it. So over all polls what was written to
-/// the other side is a front part of the lines of all that was read.
-pub fn lines_go_on()
-    ensures { (gone left more : List ℕ) → IsFront gone (lines (gone ++ left))
-        → lines (gone ++ (left ++ more)) ≡ gone ++ lines (left ++ more) }
+/// What was taken of the lines of some bytes, be it up to the midst of a line, is a prefix of their lines
+/// whatever comes behind them, and then come the lines of the rest.
+pub fn taken_lines_stay_lines()
+    ensures { (taken left more : List ℕ) → IsPrefix taken (lines (taken ++ left))
+        → lines (taken ++ (left ++ more)) ≡ taken ++ lines (left ++ more) }
 {}
 
-/// What a poll wrote of a side is a front part of the lines of the backlog before it and of what it
-/// read, and the backlog after it is these bytes without what was written.
-pub fn what_is_written_is_whole()
-    ensures { (old new : SideValue) (left_old left sent_old sent : Option (List ℕ))
-        (read written : List ℕ)
-        → Flow old new left_old left sent_old sent read written
-        → IsFront written (lines (backlog old ++ read))
-        × (backlog old ++ read ≡ written ++ backlog new) }
+/// Two polls, one after the other, keep for a side what each of them keeps. So whatever number of polls
+/// wrote is a prefix of the lines of all that was read, and nothing is lost or written twice.
+pub fn polls_join()
+    ensures { (first mid last read_1 read_2 written_1 written_2 : List ℕ)
+        → PairOk first mid read_1 written_1 → PairOk mid last read_2 written_2
+        → PairOk first last (read_1 ++ read_2) (written_1 ++ written_2) }
 {}

@@ -1,20 +1,18 @@
-//! The rules of a relay of lines between two connections: what whole lines are and where they end, what
-//! one side holds of the other's bytes, the ends of a pair with their calls, and which ends fit.
+//! The parts of a relay of lines: whole lines and where they end, the backlog of a side, the ends that it
+//! reads and writes, and what a pair of them may come to.
 //!
-//! It stands on `aio_base`, on the entered sources of `aio_future` and on the hosts of `aio_react`. A
-//! side promises that what waits in it is the whole lines of what was read, and what fits is said over
-//! what the two connections tell.
+//! By `PairOk` nothing but whole lines is ever written, in order and each once, whatever the connections
+//! answer and however long their pieces are. `Fits` says of two connections what a pair over them may
+//! come to.
 #![tactic(auto)]
 
-mod buffers;
+mod backlogs;
 mod ends;
-mod finding;
 pub mod laws;
+mod lines;
 mod outcomes;
-mod stops;
 
-pub use buffers::{BLOCK, SideBuffer};
+pub use backlogs::{BLOCK, Backlog, count_of};
 pub use ends::{End, MemEnd};
-pub use finding::{LONGEST, lines_end};
-pub use outcomes::{PairEnd, Side};
-pub use stops::{Stop, Tally};
+pub use lines::{LONGEST, lines_end};
+pub use outcomes::{PairEnd, Side, Tally};

@@ -1,34 +1,82 @@
-//! The sides of a pair, and how a pair ends.
+//! The two sides of a pair, and what it may come to.
+
+ghost use Rattle.std.specs.Prelude.{◌≡◌, ◌+◌, ◌<◌, ◌^◌, ◌||◌, nat_lt, true, false};
 
 use aio_base::{ArmFault, CountFault, Moment};
 
-/// A side of a pair.
+/// One of the two connections of a pair.
 #[derive(Clone, Copy, Debug, PartialEq, Eq)]
 pub enum Side {
-    /// The connection that was accepted first.
+    /// The one that came first.
     A,
-    /// The other.
+    /// The one that came second.
     B,
 }
 
-/// How a pair ended.
+/// What a pair came to.
 #[derive(Clone, Copy, Debug, PartialEq, Eq)]
 pub enum PairEnd {
-    /// Both sides ended, and all their whole lines were written: so many bytes in all to each side.
+    /// Both connections ended, and every whole line of either was written to the other: so many bytes
+    /// altogether.
     Ended { to_a: u64, to_b: u64 },
-    /// Nothing moved since `last` for the idle time of the pair, at the moment `now`.
+    /// At `now`, the idle time had passed since the last byte was read or written, at `last`.
     Idle { last: Moment, now: Moment },
-    /// The first `at` bytes of a side end in 4,096 bytes after its last line end, none of them a line
-    /// end.
+    /// A line has no line feed within its first 4,096 bytes: these are the last of the side's first `at`
+    /// bytes.
     TooLong { side: Side, at: u64 },
-    /// A read failed, with the two counts of faults of its end.
+    /// A connection failed in a read, between these two counts of its faults.
     ReadFault(CountFault),
-    /// A write failed, with the two counts of faults of its end.
+    /// A connection failed in a write, between these two counts of its faults.
     WriteFault(CountFault),
-    /// An end could not be armed.
+    /// A connection that was blocked could not be armed.
     ArmFault(ArmFault),
-    /// The host's notifier failed.
+    /// The notifier of the host failed.
     NotifyFault(CountFault),
-    /// Memory ran out.
+    /// There was no memory for the timer.
     OutOfMemory,
+}
+
+/// What went over from one side to the other in the running poll.
+#[derive(Clone, Copy)]
+pub struct Tally {
+    /// How many bytes were read of the side.
+    pub read: usize,
+    /// Whether any byte was written to the other.
+    pub wrote: bool,
+}
+
+impl Tally {
+    /// Nothing went over yet.
+    pub fn new() -> Tally
+        ensures { result ≡ record { read = 0; wrote = false } }
+    {
+        Tally {
+            read: 0,
+            wrote: false,
+        }
+    }
+
+    /// So many bytes more were read.
+    pub fn add_read(&mut self, n: usize)
+        requires { self.old.read + n < 2 ^ 64 }
+        ensures { self.new ≡ record { read = self.old.read + n; wrote = self.old.wrote } }
+    {
+        self.read += n;
+    }
+
+    /// So many bytes more were written.
+    pub fn add_written(&mut self, n: usize)
+        ensures { self.new ≡ record { read = self.old.read; wrote = self.old.wrote || nat_lt 0 n } }
+    {
+        if n > 0 {
+            self.wrote = true;
+        }
+    }
+
+    /// Whether anything went over.
+    pub fn has_moved(&self) -> bool
+        ensures { result ≡ (self.now.wrote || nat_lt 0 self.now.read) }
+    {
+        self.wrote || self.read > 0
+    }
 }

@@ -1,3 +1,4 @@
-pub mod Steps
-pub mod KeptLemmas
-pub mod PollEnds
+pub mod StepLemmas
+pub mod TurnLemmas
+pub mod WaitLemmas
+pub mod PollLemmas

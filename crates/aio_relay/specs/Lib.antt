@@ -1,2 +1,2 @@
-pub mod KeptTimers
+pub mod Waiting
 pub mod Pairs

@@ -1,14 +1,14 @@
-//! A pair of connections as a task that writes the whole lines of each to the other.
+//! A relay of lines: two connections as a task that writes to each the whole lines of the other.
 //!
-//! It stands on the rules and the ends of `aio_pairs`, on the timer of `aio_future` and on the hosts of
-//! `aio_react`. A poll promises which calls it made on the two ends and what they made of each side's
-//! bytes, and each end of a pair has its cause in the poll that tells it.
+//! `Pair` runs on any host, over any two ends of `aio_pairs`. The relation of its polls says which calls
+//! it made on both ends and in which order, what became of each byte, and why it answers what it
+//! answers; what it comes to at last fits its two connections.
 #![tactic(auto)]
 
-mod keeping;
 pub mod laws;
-mod moving;
-mod pairs;
+mod pair;
+mod passing;
+mod waiting;
 
 pub use aio_pairs::{End, MemEnd, PairEnd, Side};
-pub use pairs::Pair;
+pub use pair::Pair;

@@ -1,0 +1,169 @@
+-- Lemmas on one step from one end to the other.
+use Rattle.std.proofs.Common.{◌≡◌, ℕ, ◌+◌, ◌<◌, ◌≤◌, Bool, true, false, length, take, drop, refl, sym, ap, ◌∙◌, arith, inl, inr, Option, Some, None, Result, Ok, Err, length-append, length-drop}
+use Rattle.std.specs.Prelude.{◌⊎◌, zero, suc, nat_le, if◌then◌else◌, IsOk, IfSome, IfErr}
+use Rattle.std.proofs.lemmas.Bool.{true≢false, false_from_ne_true, leb-true, leb-false}
+use Rattle.std.proofs.lemmas.List.{drop-drop, length-take-le}
+use Rattle.aio_base.specs.declared.outcomes.CountFault.{CountFault}
+use Rattle.aio_base.specs.declared.outcomes.Poll.{Poll}
+use Rattle.aio_base.specs.declared.outcomes.Poll.TheVariants.{Ready, Pending}
+use Rattle.aio_future.specs.Tries.{TryFaults, TriesWithin, IsOfRead, IsOfWrite, counts_of, tried_count, tried_fault}
+use Rattle.aio_future.specs.declared.tried.TryFault.{TryFault}
+use Rattle.aio_future.specs.declared.tried.TryFault.TheVariants as try
+use Rattle.aio_pairs.specs.Backlogs.{SideState, shrunk, saturated}
+use Rattle.aio_pairs.specs.Calls.{RoseIn}
+use Rattle.aio_pairs.specs.Exchanges.{IsLongHere, IsReason, after_read, after_write, failure_in, pair_end_of, tries_again, work_left}
+use Rattle.aio_pairs.specs.Lines.{lines, longest_line, unfinished}
+use Rattle.aio_pairs.specs.declared.outcomes.PairEnd.{PairEnd}
+use Rattle.aio_pairs.specs.declared.outcomes.PairEnd.TheVariants as pair
+use Rattle.aio_pairs.specs.declared.outcomes.Side.{Side}
+use Rattle.aio_pairs.specs.declared.outcomes.Tally.{Tally}
+use Rattle.aio_pairs.proofs.LineLemmas.{lines-left, lines-length}
+
+-- ## What an answer means
+
+abbrev on_more : Side → SideState → Bool → Result Bool PairEnd
+on_more here side long = if long then Err (pair.TooLong here (saturated (side.forwarded + length (lines side.backlog) + longest_line))) else Ok true
+
+abbrev answer_of : ℕ → Poll (Result ℕ TryFault)
+answer_of n = Ready (Ok (suc n))
+
+-- a side that does not go on after a read has ended, or the read was blocked
+pub read-over : (here : Side) (side : SideState) (answer : Poll (Result ℕ TryFault)) → tries_again (after_read here side answer) ≡ false
+    → (tried_count answer ≡ 0) × ((answer ≡ Ready (Ok 0)) ⊎ (answer ≡ Pending))
+read-over here side (Ready (Ok zero)) over = (refl, inl refl)
+read-over here side (Ready (Ok (suc n))) over =
+    (elim (nat_le longest_line (length (unfinished side.backlog))) as (λ b. tries_again (on_more here side b) ≡ false → (suc n ≡ 0) × ((answer_of n ≡ Ready (Ok 0)) ⊎ (answer_of n ≡ Pending))) [
+      | true ↦ λ over. absurd (true≢false over)
+      | false ↦ λ over. absurd (true≢false over)
+    ]) over
+read-over here side (Ready (Err (try.Read f))) over = absurd (true≢false over)
+read-over here side (Ready (Err (try.Write f))) over = absurd (true≢false over)
+read-over here side (Ready (Err (try.Arm f))) over = absurd (true≢false over)
+read-over here side Pending over = (refl, inr refl)
+
+pub write-over : (answer : Poll (Result ℕ TryFault)) → tries_again (after_write answer) ≡ false → (tried_count answer ≡ 0) × (answer ≡ Pending)
+write-over (Ready (Ok n)) over = absurd (true≢false over)
+write-over (Ready (Err (try.Read f))) over = absurd (true≢false over)
+write-over (Ready (Err (try.Write f))) over = absurd (true≢false over)
+write-over (Ready (Err (try.Arm f))) over = absurd (true≢false over)
+write-over Pending over = (refl, refl)
+
+-- the fault that ends a pair is the answer's
+pub read-failure : (here : Side) (side : SideState) (answer : Poll (Result ℕ TryFault)) → IsOfRead answer
+    → IfSome (failure_in (after_read here side answer)) (λ f. (answer ≡ Ready (Err f)) × IsOfRead (Ready (Err f)))
+read-failure here side (Ready (Ok zero)) kind = tt
+read-failure here side (Ready (Ok (suc n))) kind =
+    elim (nat_le longest_line (length (unfinished side.backlog))) as (λ b. IfSome (failure_in (on_more here side b)) (λ f. (answer_of n ≡ Ready (Err f)) × IsOfRead (Ready (Err f)))) [
+      | true ↦ tt
+      | false ↦ tt
+    ]
+read-failure here side (Ready (Err (try.Read f))) kind = (refl, tt)
+read-failure here side (Ready (Err (try.Write f))) kind = absurd kind
+read-failure here side (Ready (Err (try.Arm f))) kind = (refl, tt)
+read-failure here side Pending kind = tt
+
+pub write-failure : (answer : Poll (Result ℕ TryFault)) → IsOfWrite answer → IfSome (failure_in (after_write answer)) (λ f. (answer ≡ Ready (Err f)) × IsOfWrite (Ready (Err f)))
+write-failure (Ready (Ok n)) kind = tt
+write-failure (Ready (Err (try.Read f))) kind = absurd kind
+write-failure (Ready (Err (try.Write f))) kind = (refl, tt)
+write-failure (Ready (Err (try.Arm f))) kind = (refl, tt)
+write-failure Pending kind = tt
+
+-- no line is too long after a read that did not end the pair, where none was before
+pub read-short : (here : Side) (side : SideState) (answer : Poll (Result ℕ TryFault)) → IsOk (after_read here side answer)
+    → (tried_count answer ≡ 0 → length (unfinished side.backlog) < longest_line) → length (unfinished side.backlog) < longest_line
+read-short here side (Ready (Ok zero)) ok before = before refl
+read-short here side (Ready (Ok (suc n))) ok before =
+    (elim (nat_le longest_line (length (unfinished side.backlog))) as (λ b. nat_le longest_line (length (unfinished side.backlog)) ≡ b → IsOk (on_more here side b) → length (unfinished side.backlog) < longest_line) [
+      | true ↦ λ e ok. absurd (true≢false (sym ok))
+      | false ↦ λ e ok. leb-false longest_line (length (unfinished side.backlog)) e
+    ]) refl ok
+read-short here side (Ready (Err f)) ok before = before refl
+read-short here side Pending ok before = before refl
+
+-- ## Reasons
+
+pub rose-in : (before after : ℕ) (sure_before sure_after : Bool) (f : CountFault) → TryFaults before after sure_before sure_after (Some f) → RoseIn before after sure_after f
+rose-in before after sure_before sure_after f t = (
+  t.sure ∙ false_from_ne_true sure_before (λ is. (t.cause.never is).0 refl),
+  t.counts.0,
+  t.counts.1,
+  t.counts.2,
+)
+
+-- what is a reason stays one where what it says is said by more
+pub reason-on : (long new_long : Side → ℕ → Type 0) (failed new_failed notified new_notified : CountFault → Type 0) (end : PairEnd)
+    → ((side : Side) (at : ℕ) → long side at → new_long side at) → ((f : CountFault) → failed f → new_failed f) → ((f : CountFault) → notified f → new_notified f)
+    → IsReason long failed notified end → IsReason new_long new_failed new_notified end
+reason-on long new_long failed new_failed notified new_notified (pair.TooLong side at) on_long on_failed on_notified is = on_long side at is
+reason-on long new_long failed new_failed notified new_notified (pair.ReadFault f) on_long on_failed on_notified is = on_failed f is
+reason-on long new_long failed new_failed notified new_notified (pair.WriteFault f) on_long on_failed on_notified is = on_failed f is
+reason-on long new_long failed new_failed notified new_notified (pair.ArmFault f) on_long on_failed on_notified is = on_failed (record { before = f.before; after = f.after }) is
+reason-on long new_long failed new_failed notified new_notified (pair.NotifyFault f) on_long on_failed on_notified is = on_notified f is
+reason-on long new_long failed new_failed notified new_notified (pair.Ended to_a to_b) on_long on_failed on_notified is = is
+reason-on long new_long failed new_failed notified new_notified (pair.Idle last now) on_long on_failed on_notified is = is
+reason-on long new_long failed new_failed notified new_notified pair.OutOfMemory on_long on_failed on_notified is = is
+
+reason-of_failure : (long : Side → ℕ → Type 0) (failed notified : CountFault → Type 0) (f : TryFault) → failed (counts_of f) → IsReason long failed notified (pair_end_of f)
+reason-of_failure long failed notified (try.Read f) is = is
+reason-of_failure long failed notified (try.Write f) is = is
+reason-of_failure long failed notified (try.Arm f) is = is
+
+pub read-reason : (here : Side) (side : SideState) (answer : Poll (Result ℕ TryFault)) (failed notified : CountFault → Type 0)
+    → IfSome (tried_fault answer) failed → IfErr (after_read here side answer) (IsReason (IsLongHere here side) failed notified)
+read-reason here side (Ready (Ok zero)) failed notified fails = tt
+read-reason here side (Ready (Ok (suc n))) failed notified fails =
+    (elim (nat_le longest_line (length (unfinished side.backlog))) as (λ b. nat_le longest_line (length (unfinished side.backlog)) ≡ b → IfErr (on_more here side b) (IsReason (IsLongHere here side) failed notified)) [
+      | true ↦ λ e. (refl, (leb-true longest_line (length (unfinished side.backlog)) e, refl))
+      | false ↦ λ e. tt
+    ]) refl
+read-reason here side (Ready (Err f)) failed notified fails = reason-of_failure (IsLongHere here side) failed notified f fails
+read-reason here side Pending failed notified fails = tt
+
+pub write-reason : (long : Side → ℕ → Type 0) (answer : Poll (Result ℕ TryFault)) (failed notified : CountFault → Type 0)
+    → IfSome (tried_fault answer) failed → IfErr (after_write answer) (IsReason long failed notified)
+write-reason long (Ready (Ok n)) failed notified fails = tt
+write-reason long (Ready (Err f)) failed notified fails = reason-of_failure long failed notified f fails
+write-reason long Pending failed notified fails = tt
+
+-- the fault of a try, as one of two ends that failed
+pub tried-rose : (answer : Poll (Result ℕ TryFault)) (before after : ℕ) (sure_before sure_after : Bool) → TryFaults before after sure_before sure_after (tried_fault answer)
+    → IfSome (tried_fault answer) (RoseIn before after sure_after)
+tried-rose (Ready (Ok n)) before after sure_before sure_after t = tt
+tried-rose (Ready (Err f)) before after sure_before sure_after t = rose-in before after sure_before sure_after (counts_of f) t
+tried-rose Pending before after sure_before sure_after t = tt
+
+pub some-on : (x : Option CountFault) (P Q : CountFault → Type 0) → ((f : CountFault) → P f → Q f) → IfSome x P → IfSome x Q
+some-on None P Q on is = tt
+some-on (Some f) P Q on is = on f is
+
+-- a fault of the host's notifier is none of an end
+pub notifier-alone : (notified : CountFault → Type 0) (end : PairEnd) (Holds : TryFault → Type 0) → IsReason (λ side at. ⊥) (λ f. ⊥) notified end
+    → IfSome (failure_in {T = Bool} (Err end)) Holds
+notifier-alone notified (pair.NotifyFault f) Holds is = tt
+notifier-alone notified (pair.TooLong side at) Holds is = absurd is
+notifier-alone notified (pair.ReadFault f) Holds is = absurd is
+notifier-alone notified (pair.WriteFault f) Holds is = absurd is
+notifier-alone notified (pair.ArmFault f) Holds is = absurd is
+notifier-alone notified (pair.Ended to_a to_b) Holds is = absurd is
+notifier-alone notified (pair.Idle last now) Holds is = absurd is
+notifier-alone notified pair.OutOfMemory Holds is = absurd is
+
+-- ## What is left to do
+
+pub write-work : (side : SideState) (tally : Tally) (wrote : Bool) (n : ℕ) → n ≤ length (lines side.backlog)
+    → work_left (shrunk side n) (record { read = tally.read; wrote = wrote }) + n ≡ work_left side tally
+write-work side tally wrote n within = omega (arith, within, lines-length side.backlog, length-drop n side.backlog)
+
+pub tries-within : (room : ℕ) (answer : Poll (Result ℕ TryFault)) → TriesWithin room answer → tried_count answer ≤ room
+tries-within room (Ready (Ok n)) is = is.1
+tries-within room (Ready (Err f)) is = omega arith
+tries-within room Pending is = omega arith
+
+-- what stands behind the lines stays there when some of them are written
+pub shrunk-rest : (side : SideState) (n : ℕ) → n ≤ length (lines side.backlog) → unfinished (drop n side.backlog) ≡ unfinished side.backlog
+shrunk-rest side n within =
+    let all = lines-left side.backlog n within in
+    let size : n + length (lines (drop n side.backlog)) ≡ length (lines side.backlog) =
+    omega (arith, ap length all, length-append (take n side.backlog) (lines (drop n side.backlog)), length-take-le n side.backlog (omega (arith, within, lines-length side.backlog))) in
+    drop-drop (length (lines (drop n side.backlog))) n side.backlog ∙ ap (λ k. drop k side.backlog) size
