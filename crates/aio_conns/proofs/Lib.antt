@@ -1,0 +1,3 @@
+pub mod Prompt
+pub mod Telling
+pub mod Turns
