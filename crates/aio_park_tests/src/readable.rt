@@ -2,18 +2,15 @@
 //! docs/BLOCK_ON.md too.
 
 // begin
-ghost use Rattle.std.specs.Prelude.{◌≡◌, false};
-
-use aio_base::{Cx, Dir, EventWait, Moment, Notify, OutOfMemory, Poll, Task};
+use aio_base::{Dir, EventWait, Moment, Notify, OutOfMemory};
 use aio_devices::{MemBytes, MemClock, MemNotify, MemWait};
-use aio_future::{Timer, TimerFault};
-use aio_park::{BlockFault, Thread};
-use aio_shared::{Attempt, InsertFault, Inside, PollFault, SourceRef};
+use aio_park::{BlockFault, Thread, TryUntil, UntilFault};
+use aio_shared::{Attempt, InsertFault};
 use std::alloc::Global;
 use std::sync::Wait;
 
 /// Reads a byte of a connection, where that does not block.
-#[derive(Drop)]
+#[derive(Clone, Copy, Drop)]
 struct ReadByte;
 
 impl Attempt<MemBytes> for ReadByte {
@@ -31,83 +28,30 @@ impl Attempt<MemBytes> for ReadByte {
 /// Why it is not known whether a byte comes in time.
 #[derive(Clone, Copy, Debug, PartialEq, Eq)]
 enum Fault {
-    /// The poller could not be armed, or the task of a replaced waker may not know that it was woken.
-    Source(PollFault),
-    /// The timer has no id or no memory, or a thread that waits may not know of it.
-    Timer(TimerFault),
-    /// A round failed.
-    Round(BlockFault),
-    /// The connection did not join the reactor.
-    Insert(InsertFault),
     /// Memory ran out for the reactor.
     OutOfMemory,
-}
-
-/// Reads a byte of a source, unless a moment comes first.
-#[derive(Drop)]
-struct ReadInTime {
-    source: SourceRef<MemBytes>,
-    timeout: Timer,
-    polls: u64,
-    ghost outside: { source.inside ≡ false },
-}
-
-impl<R: Wait, N: Notify, W: EventWait> Task<Inside<R, N, MemBytes, W>> for ReadInTime {
-    ghost use Rattle.std.specs.Prelude.{⊤};
-
-    /// The byte, or `None` where the moment came first.
-    type Output = Result<Option<u8>, Fault>;
-
-    ghost gives = { λ t sure moment output. ⊤ };
-
-    ghost poll_step = { λ old host cx answer new left. ⊤ };
-
-    ghost poll_count = { λ t. t.polls };
-
-    fn poll(
-        &mut self,
-        host: &mut Inside<R, N, MemBytes, W>,
-        cx: Cx,
-    ) -> Poll<Result<Option<u8>, Fault>> {
-        self.polls = self.polls.saturating_add(1);
-        let now = cx.now;
-        let waker = cx.own_waker();
-        match host.try_source(&mut self.source, Dir::Read, waker, ReadByte) {
-            Poll::Ready(Ok(byte)) => return Poll::Ready(Ok(Some(byte))),
-            Poll::Ready(Err(fault)) => return Poll::Ready(Err(Fault::Source(fault))),
-            Poll::Pending => {}
-        }
-        match self.timeout.poll(host, now, waker) {
-            Poll::Ready(Ok(_)) => Poll::Ready(Ok(None)),
-            Poll::Ready(Err(fault)) => Poll::Ready(Err(Fault::Timer(fault))),
-            Poll::Pending => Poll::Pending,
-        }
-    }
-
-    fn polls(&self) -> u64 {
-        self.polls
-    }
-
-    ghost gives_later = { λ t sure a b output later given. given };
+    /// The connection did not join the reactor.
+    Insert(InsertFault),
+    /// The poller could not be armed, or the timer has no id or no memory, or a notifier failed.
+    Poll(UntilFault),
+    /// A round failed.
+    Round(BlockFault),
 }
 
 /// Reads a byte of a connection on this thread, unless a moment comes first.
 fn read_in_time<R: Wait + Copy, N: Notify, W: EventWait>(
     thread: &mut Thread<R, N, MemBytes, W, MemClock>,
     io: MemBytes,
-    at: Moment,
+    until: Moment,
 ) -> Result<Option<u8>, Fault> {
     let source = match thread.host.insert_source(io) {
         Ok(source) => source,
         Err((_, fault)) => return Err(Fault::Insert(fault)),
     };
-    let mut task = ReadInTime {
-        source,
-        timeout: Timer::at(at),
-        polls: 0,
-    };
+    let mut task = TryUntil::new(source, Dir::Read, ReadByte, until);
     match thread.run(&mut task) {
-        Ok(read) => read,
+        Ok(Ok(read)) => Ok(read),
+        Ok(Err(fault)) => Err(Fault::Poll(fault)),
         Err(fault) => Err(Fault::Round(fault)),
     }
 }
@@ -118,10 +62,10 @@ fn read_alone<R: Wait + Copy>(
     alloc: Global,
     clock: MemClock,
     io: MemBytes,
-    at: Moment,
+    until: Moment,
 ) -> Result<Option<u8>, Fault> {
     match Thread::new(alloc, rt, 1, MemWait::new(1), MemNotify::new(), clock) {
-        Ok(mut thread) => read_in_time(&mut thread, io, at),
+        Ok(mut thread) => read_in_time(&mut thread, io, until),
         Err(OutOfMemory) => Err(Fault::OutOfMemory),
     }
 }

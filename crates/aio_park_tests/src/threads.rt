@@ -3,7 +3,7 @@
 ghost use Rattle.std.specs.Prelude.{◌≡◌, ◌<◌, ◌≤◌, true, IfOk, IfSome};
 ghost use Rattle.aio_rules.specs.SharedWords.{after};
 ghost use Rattle.aio_rules.specs.declared.seats.WordStep.TheVariants as word_step;
-ghost use Rattle.aio_shared.specs.Sources.{outside};
+ghost use Rattle.aio_sources.specs.Sources.{outside};
 ghost use Rattle.aio_shared.specs.Starting.{IsNewReactor};
 ghost use Rattle.aio_park.specs.Blocking.{HasFaultCause};
 

@@ -1,9 +1,6 @@
 //! Assertions as calls: what stands in the body of a test makes its proof longer by the square, and an
 //! assertion is long.
 
-ghost use Rattle.std.specs.Prelude.{◌≡◌};
-
-use aio_base::Moment;
 use std::fmt::Debug;
 use std::process::Abort;
 
@@ -17,10 +14,3 @@ pub(crate) fn may_be_shared<T: Send + Sync>(_value: &T) {}
 
 /// Takes what may go to another thread.
 pub(crate) fn may_be_sent<T: Send>(_value: &T) {}
-
-/// The moment so many nanoseconds after the clock's start.
-pub(crate) fn moment(rt: &impl Abort, nanoseconds: u64) -> Moment
-    ensures { result ≡ nanoseconds }
-{
-    Moment::new(nanoseconds).expect(rt, "the moment is at most 10^18")
-}

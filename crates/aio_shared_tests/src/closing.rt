@@ -1,16 +1,14 @@
 //! What no clause says of sources that are closed beside other threads: that a key goes to the next source only
 //! once its `remove` was made, and that nobody waits for ever.
 
-ghost use Rattle.std.specs.Prelude.{◌≡◌, false, IfOk};
-ghost use Rattle.aio_shared.specs.Sources.{outside};
+ghost use Rattle.std.specs.Prelude.{◌≡◌, false, IfSome};
 
-use crate::asserts::{moment, same};
-use crate::callers::{Caller, another, enter};
-use crate::owners::insert_io;
-use crate::seats::Reaction;
-use aio_base::{Arm, Dir, EventWait, Failed, Faults, Interest, Key, Waker};
-use aio_devices::{MemClock, MemNotify, MemWait, SureArm, clock_at};
-use aio_shared::{InsertFault, Shared, SourceRef};
+use crate::acts::Reaction;
+use crate::asserts::same;
+use crate::hosts::{Quiet, two_callers};
+use aio_base::{Arm, Dir, Failed, Faults, Interest, Key, Waker};
+use aio_devices::{MemNotify, MemWait, SureArm};
+use aio_shared::{Shared, SourceRef};
 use aio_source::SourceCell;
 use std::alloc::{AllocError, Global};
 use std::sync::{Mutex, Wait};
@@ -107,26 +105,29 @@ impl<R: Wait> Arm for KeyedArm<'_, R> {
 type Keyed<'a, R> = Shared<KeyedArm<'a, R>, MemWait>;
 
 /// Polls the read direction of a source with waker 3: its connection is armed for it.
-fn poll_reads<A: Arm>(cell: &mut SourceCell<A>)
+fn poll_reads<R: Wait>(cell: &mut SourceCell<KeyedArm<'_, R>>)
     ensures { cell.new.state.key ≡ cell.old.state.key }
 {
     cell.state.poll_dir(&mut cell.io, Dir::Read, Waker(3), 0);
 }
 
-/// A connection joins, and its read direction is polled.
+/// A connection joins, and its read direction is polled. `None` where it was refused.
 fn join_and_arm<'a, R: Wait>(
-    rt: &R,
+    rt: &'a R,
     shared: &Keyed<'a, R>,
-    io: KeyedArm<'a, R>,
-) -> Result<SourceRef<KeyedArm<'a, R>>, InsertFault>
-    ensures belongs { IfOk result (λ s. s.words ≡ shared.now.words.identity) }
-    ensures outside { IfOk result (λ s. s.inside ≡ false) }
+    interests: &'a Interests,
+) -> Option<SourceRef<KeyedArm<'a, R>>>
+    ensures belongs { IfSome result (λ s. s.words ≡ shared.now.words.identity) }
+    ensures outside { IfSome result (λ s. s.inside ≡ false) }
 {
-    let mut token = insert_io(rt, shared, io)?;
+    let mut token = match shared.sources(rt).insert(KeyedArm { rt, interests }) {
+        Ok(token) => token,
+        Err(_) => return None,
+    };
     let mut cell = shared.enter(rt, &mut token);
     poll_reads(&mut cell);
     shared.leave(&mut token, cell);
-    Ok(token)
+    Some(token)
 }
 
 /// So many sources come, are armed and go, one after the other. How many they were.
@@ -138,7 +139,7 @@ fn come_and_go<'a, R: Wait>(
 ) -> u32 {
     let mut done: u32 = 0;
     for _ in 0..times {
-        let Ok(token) = join_and_arm(rt, shared, KeyedArm { rt, interests }) else {
+        let Some(token) = join_and_arm(rt, shared, interests) else {
             return done;
         };
         if shared.close_source(rt, token).is_ok() {
@@ -157,7 +158,7 @@ fn come_and_stay<'a, R: Wait>(
 ) -> u32 {
     let mut done: u32 = 0;
     for _ in 0..times {
-        if join_and_arm(rt, shared, KeyedArm { rt, interests }).is_ok() {
+        if join_and_arm(rt, shared, interests).is_some() {
             done = done.saturating_add(1);
         }
     }
@@ -189,15 +190,12 @@ fn a_source_that_stays_is_armed_though_others_go(rt: HostRuntime) -> Result<(), 
     Ok(())
 }
 
-/// A caller over a wait that gives an event of the first key in each round.
-type Beside<R> = Caller<R, MemNotify, SureArm, MemWait>;
-
 /// So many sources come and go. How many they were.
-fn close_times<R: Wait>(caller: &Beside<R>, times: u32) -> u32 {
+fn close_times<R: Wait>(caller: &Quiet<R>, times: u32) -> u32 {
     let host = &caller.host;
     let mut done: u32 = 0;
     for _ in 0..times {
-        let Ok(token) = insert_io(&host.rt, &host.shared, SureArm::new(0)) else {
+        let Ok(token) = host.insert_source(SureArm::new(0)) else {
             return done;
         };
         if host.shared.close_source(&host.rt, token).is_ok() {
@@ -216,10 +214,10 @@ fn events_in(reaction: Reaction) -> u32 {
 }
 
 /// Makes so many rounds. How many events they handled.
-fn react_times<R: Wait + Copy>(mut caller: Beside<R>, mut clock: MemClock, times: u32) -> u32 {
+fn react_times<R: Wait + Copy>(mut caller: Quiet<R>, times: u32) -> u32 {
     let mut events: u32 = 0;
     for _ in 0..times {
-        events = events.saturating_add(events_in(caller.react(&mut clock)));
+        events = events.saturating_add(events_in(caller.react()));
     }
     events
 }
@@ -227,22 +225,19 @@ fn react_times<R: Wait + Copy>(mut caller: Beside<R>, mut clock: MemClock, times
 /// The sources of one thread come and go, while another makes rounds that name their key.
 fn close_beside_rounds<R: Threads + Wait + Sync>(
     rt: &R,
-    one: Beside<&R>,
-    other: Beside<&R>,
-    clock: MemClock,
+    one: Quiet<&R>,
+    other: Quiet<&R>,
 ) -> (u32, u32) {
     join(
         rt,
         move || close_times(&one, 500),
-        move || react_times(other, clock, 500),
+        move || react_times(other, 500),
     )
 }
 
 #[test]
 fn sources_are_closed_beside_rounds_that_visit_them(rt: HostRuntime) -> Result<(), Fail> {
-    let mut one = enter(&rt, rt.alloc(), MemWait::new(1), MemNotify::new())?;
-    let other = another(&mut one)?;
-    let clock = clock_at(rt.alloc(), moment(&rt, 5))?;
-    same(&rt, close_beside_rounds(&rt, one, other, clock), (500, 500));
+    let (one, other) = two_callers(&rt, rt.alloc(), MemWait::new(1), 5)?;
+    same(&rt, close_beside_rounds(&rt, one, other), (500, 500));
     Ok(())
 }

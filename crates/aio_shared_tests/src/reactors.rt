@@ -1,13 +1,17 @@
-//! What no clause says of a whole reactor: that its parts work together with ample memory, and that an
-//! event goes to the source of its key.
+//! What no clause says of a whole reactor: that its parts work together with ample memory, up to the limits
+//! of parkers, of operations and of sources.
 
-use crate::asserts::{moment, same};
-use crate::callers::{Caller, another, enter};
-use crate::owners::Owner;
-use crate::seats::reacted;
-use aio_base::{Arm, ArmFault, Dir, Event, EventWait, Interest, Key, Notify, Poll, Waker};
-use aio_devices::{FailingArm, MemNotify, MemWait, ScriptedWait, SureArm, WaitAnswer, clock_at};
-use aio_shared::{Member, ReactFault, Shared};
+use crate::acts::Act::{React, Take};
+use crate::acts::Came::{Mask, Round};
+use crate::acts::{Act, Came};
+use crate::asserts::{may_be_sent, may_be_shared, same};
+use crate::hosts::{Quiet, clock, enter, two_callers};
+use crate::owners::owner_over;
+use aio_base::{ArmFault, Event, Interest, Key, Poll, Waker};
+use aio_devices::{
+    FailingNotify, MemNotify, MemWait, ScriptedWait, SureArm, WaitAnswer, fault_after,
+};
+use aio_shared::{InsertFault, Member, PollFault, Shared, SourceRef};
 use std::alloc::Global;
 use std::process::Abort;
 use std::sync::Wait;
@@ -15,13 +19,20 @@ use std::test::Fail;
 
 #[test]
 fn a_member_comes_beside_the_first(rt: HostRuntime) -> Result<(), Fail> {
-    let mut caller: Caller<_, _, SureArm, _> = enter(
-        &rt,
-        rt.alloc(),
-        MemWait::new(2),
-        MemNotify::new(),
-    )?;
-    another(&mut caller)?;
+    two_callers(&rt, rt.alloc(), MemWait::new(2), 5)?;
+    Ok(())
+}
+
+#[test]
+fn a_reactor_and_its_members_go_to_other_threads(rt: HostRuntime) -> Result<(), Fail> {
+    let now = clock(rt.alloc(), 5)?;
+    let mut caller: Quiet<_> = enter(&rt, rt.alloc(), MemWait::new(0), MemNotify::new(), now)?;
+    may_be_shared(&*caller.host.shared);
+    may_be_sent(&caller.host.member);
+    let host = &mut caller.host;
+    let cell = host.shared.take_round(&host.rt, &mut host.member);
+    may_be_sent(&cell);
+    host.shared.give_round(&host.rt, &mut host.member, cell);
     Ok(())
 }
 
@@ -49,25 +60,15 @@ fn the_last_slot_of_the_last_of_16_parkers_is_woken(rt: HostRuntime) -> Result<(
     Ok(())
 }
 
-/// Asserts that a poll of a source waits.
-fn assert_waits<R: Wait, N: Notify, A: Arm, W: EventWait>(
-    rt: &impl Abort,
-    owner: &mut Owner<R, N, A, W>,
-    dir: Dir,
-    waker: u32,
-) {
-    let polled = owner.poll(dir, Waker(waker));
-    same(rt, polled.answer, Poll::Pending);
-}
+const ALL_OF_A_FULL_QUEUE: [(Act, Came); 2] = [(React, Round(0, 1001)), (Take, Mask(1))];
 
+// One timer more than the queue of operations holds.
 #[test]
-fn an_event_goes_to_the_source_of_its_key(rt: HostRuntime) -> Result<(), Fail> {
-    let caller = enter(&rt, rt.alloc(), MemWait::new(2), MemNotify::new())?;
-    let mut owner = Owner::new(caller, SureArm::new(7))?;
-    let mut clock = clock_at(rt.alloc(), moment(&rt, 5))?;
-    assert_waits(&rt, &mut owner, Dir::Read, 3);
-    same(&rt, owner.caller.react(&mut clock), reacted(2, 1));
-    same(&rt, owner.caller.take(), 8);
+fn a_full_queue_refuses_no_timer(rt: HostRuntime) -> Result<(), Fail> {
+    let now = clock(rt.alloc(), 5)?;
+    let mut caller: Quiet<_> = enter(&rt, rt.alloc(), MemWait::new(0), MemNotify::new(), now)?;
+    same(&rt, caller.insert_times(5, 1001), 1001);
+    caller.plays(&rt, &ALL_OF_A_FULL_QUEUE);
     Ok(())
 }
 
@@ -86,41 +87,70 @@ fn another_key_first(alloc: Global) -> Result<ScriptedWait, Fail> {
     Ok(ScriptedWait::new(answers))
 }
 
+const SECOND_TAKES: [(Act, Came); 3] = [
+    (React, Round(1, 0)),
+    (React, Round(1, 1)),
+    (React, Round(1, 0)),
+];
+
 #[test]
 fn an_event_takes_the_waiters_of_its_source(rt: HostRuntime) -> Result<(), Fail> {
     let wait = another_key_first(rt.alloc())?;
-    let caller = enter(&rt, rt.alloc(), wait, MemNotify::new())?;
-    let mut owner = Owner::new(caller, SureArm::new(7))?;
-    let mut clock = clock_at(rt.alloc(), moment(&rt, 30))?;
+    let devices = (MemNotify::new(), SureArm::new(7), wait);
+    let mut owner = owner_over(&rt, rt.alloc(), devices, 30)?;
     same(&rt, owner.poll_and_count(), true);
-    same(&rt, owner.caller.react(&mut clock), reacted(1, 0));
-    same(&rt, owner.caller.react(&mut clock), reacted(1, 1));
-    same(&rt, owner.caller.react(&mut clock), reacted(1, 0));
+    owner.plays(&rt, &SECOND_TAKES);
     same(&rt, owner.number(), 8);
     Ok(())
 }
 
-/// A wait that gives one event of the read direction for key 0.
-fn readable(alloc: Global) -> Result<ScriptedWait, Fail> {
-    let answer = gives(alloc, 0, Interest::READ)?;
-    Ok(ScriptedWait::new(vec![in alloc; answer]?))
+const TAKES_THE_REPLACED: [(Act, Came); 1] = [(Take, Mask(8))];
+
+// The thread of the waker that was replaced may not know of it.
+#[test]
+fn a_poll_tells_that_the_replaced_waker_could_not_be_told(rt: HostRuntime) -> Result<(), Fail> {
+    let devices = (FailingNotify::new(), SureArm::new(7), MemWait::new(0));
+    let mut owner = owner_over(&rt, rt.alloc(), devices, 5)?;
+    let polled = owner.poll_blocking();
+    let told = Poll::Ready(Err(PollFault::Notify(fault_after(0))));
+    same(&rt, polled, (Poll::Pending, told));
+    owner.plays(&rt, &TAKES_THE_REPLACED);
+    Ok(())
+}
+
+/// How many sources began under the keys from 0 on, in order.
+fn begun_in_order(sources: Vec<Result<SourceRef<SureArm>, ArmFault>>) -> u32 {
+    let mut next: u32 = 0;
+    for source in sources {
+        match source {
+            Ok(token) => {
+                if token.key() == Key(next) {
+                    next = next.saturating_add(1);
+                }
+            }
+            Err(_) => {}
+        }
+    }
+    next
+}
+
+/// Asserts that a reactor has no room for one more source: a connection comes back.
+pub(crate) fn assert_full<R: Wait + Abort>(rt: &R, shared: &Shared<SureArm, MemWait>) {
+    match shared.sources(rt).insert(SureArm::new(9)) {
+        Ok(_) => assert!(rt; false),
+        Err(refused) => same(rt, refused, (SureArm::new(9), InsertFault::Full)),
+    }
 }
 
 #[test]
-fn a_failed_arm_is_told_and_the_taken_are_woken(rt: HostRuntime) -> Result<(), Fail> {
-    let caller = enter(&rt, rt.alloc(), readable(rt.alloc())?, MemNotify::new())?;
-    let io = FailingArm::new(5, vec![in rt.alloc(); 4]?);
-    let mut owner = Owner::new(caller, io)?;
-    let mut clock = clock_at(rt.alloc(), moment(&rt, 5))?;
-    assert_waits(&rt, &mut owner, Dir::Read, 3);
-    assert_waits(&rt, &mut owner, Dir::Write, 4);
-    let fault = ArmFault {
-        key: Key(0),
-        before: 0,
-        after: 1,
-    };
-    let answer = owner.caller.react(&mut clock);
-    same(&rt, answer, Some(Err(ReactFault::Arm(fault))));
-    same(&rt, owner.caller.take(), 8);
-    Ok(())
+fn a_reactor_starts_with_4096_sources(rt: HostRuntime) -> Result<(), Fail> {
+    let ios = vec![in rt.alloc(); SureArm::new(7); 4096]?;
+    match Shared::start(rt.alloc(), 1, MemWait::new(1), MemNotify::new(), ios) {
+        Ok(started) => {
+            same(&rt, begun_in_order(started.sources), 4096);
+            assert_full(&rt, &started.shared);
+            Ok(())
+        }
+        Err(_) => Err(Fail::from("no reactor")),
+    }
 }

@@ -3,6 +3,7 @@
 ghost use Rattle.std.specs.Prelude.{◌≡◌, false, IfOk};
 
 use crate::asserts::{may_be_sent, may_be_shared, same};
+use crate::reactors::assert_full;
 use aio_base::{Arm, ArmFault, CountFault, EventWait, Key, OutOfMemory};
 use aio_devices::{FailingArm, MemNotify, MemWait, SureArm, fault_after};
 use aio_shared::{InsertFault, Shared, SourceRef};
@@ -86,14 +87,6 @@ fn insert_times<R: Wait>(
         }
     }
     Ok(())
-}
-
-/// Asserts that a table is full: a connection comes back.
-fn assert_full<R: Wait + Abort>(rt: &R, shared: &Shared<SureArm, MemWait>) {
-    match shared.sources(rt).insert(SureArm::new(9)) {
-        Ok(_) => assert!(rt; false),
-        Err(refused) => same(rt, refused, (SureArm::new(9), InsertFault::Full)),
-    }
 }
 
 #[test]

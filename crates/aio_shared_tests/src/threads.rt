@@ -3,13 +3,14 @@
 
 ghost use Rattle.std.specs.Prelude.{◌≡◌};
 
-use crate::asserts::{moment, same};
-use crate::callers::{Caller, Quiet, another, enter, enter_quiet, insert};
+use crate::acts::Act::React;
+use crate::acts::Came::Round;
+use crate::acts::{Act, Came, Reaction};
+use crate::asserts::same;
+use crate::hosts::{Caller, Quiet, another, clock, enter, insert, remove, two_callers};
 use crate::owners::Owner;
-use crate::seats::{Reaction, reacted};
-use aio_base::{Dir, Event, Interest, Key, Moment, Poll, Waker};
-use aio_devices::{MemClock, MemNotify, MemWait, ScriptedWait, SureArm, WaitAnswer, clock_at};
-use aio_react::TimerHost;
+use aio_base::{Dir, Event, Interest, Key, Poll};
+use aio_devices::{MemNotify, MemWait, ScriptedWait, SureArm, WaitAnswer};
 use aio_source::Polled;
 use std::alloc::Global;
 use std::process::Abort;
@@ -22,35 +23,32 @@ fn insert_on_two_threads<R: Threads + Wait + Sync>(
     rt: &R,
     mut one: Quiet<&R>,
     mut other: Quiet<&R>,
-    at: Moment,
 ) -> (u32, u32) {
     join(
         rt,
-        move || one.insert_times(at, 800),
-        move || other.insert_times(at, 800),
+        move || one.insert_times(5, 800),
+        move || other.insert_times(5, 800),
     )
 }
 
+const ALL_OF_BOTH: [(Act, Came); 1] = [(React, Round(0, 1600))];
+
 #[test]
 fn timers_of_two_threads_are_all_registered(rt: HostRuntime) -> Result<(), Fail> {
-    let mut first = enter_quiet(&rt, rt.alloc())?;
-    let mut clock = clock_at(rt.alloc(), moment(&rt, 5))?;
-    let one = another(&mut first)?;
-    let other = another(&mut first)?;
-    let taken = insert_on_two_threads(&rt, one, other, moment(&rt, 5));
-    same(&rt, taken, (800, 800));
-    same(&rt, first.react(&mut clock), reacted(0, 1600));
+    let now = clock(rt.alloc(), 5)?;
+    let mut first: Quiet<_> = enter(&rt, rt.alloc(), MemWait::new(0), MemNotify::new(), now)?;
+    let one = another(&mut first, clock(rt.alloc(), 5)?)?;
+    let other = another(&mut first, clock(rt.alloc(), 5)?)?;
+    same(&rt, insert_on_two_threads(&rt, one, other), (800, 800));
+    first.plays(&rt, &ALL_OF_BOTH);
     Ok(())
 }
 
-/// A caller over a wait that gives an event of the first key in each round.
-type Beside<R> = Caller<R, MemNotify, SureArm, MemWait>;
+/// An owner of a source over a wait that gives an event of the first key in each round.
+type Poller<R> = Owner<R, MemNotify, SureArm, MemWait>;
 
 /// Polls a source and raises the number of its connection so many times.
-fn poll_times<R: Wait + Copy>(
-    mut owner: Owner<R, MemNotify, SureArm, MemWait>,
-    times: u32,
-) -> Owner<R, MemNotify, SureArm, MemWait> {
+fn poll_times<R: Wait + Copy>(mut owner: Poller<R>, times: u32) -> Poller<R> {
     for _ in 0..times {
         owner.poll_and_count();
     }
@@ -66,10 +64,10 @@ fn woken_in(reaction: Reaction) -> u64 {
 }
 
 /// Makes so many rounds. How many wakers were woken.
-fn react_times<R: Wait + Copy>(mut caller: Beside<R>, mut clock: MemClock, times: u32) -> u64 {
+fn react_times<R: Wait + Copy>(mut caller: Quiet<R>, times: u32) -> u64 {
     let mut woken: u64 = 0;
     for _ in 0..times {
-        woken = woken.saturating_add(woken_in(caller.react(&mut clock)));
+        woken = woken.saturating_add(woken_in(caller.react()));
     }
     woken
 }
@@ -77,24 +75,21 @@ fn react_times<R: Wait + Copy>(mut caller: Beside<R>, mut clock: MemClock, times
 /// One thread polls its source, and another makes rounds, 200 times each.
 fn poll_beside_rounds<'a, R: Threads + Wait + Sync>(
     rt: &'a R,
-    owner: Owner<&'a R, MemNotify, SureArm, MemWait>,
-    caller: Beside<&'a R>,
-    clock: MemClock,
-) -> (Owner<&'a R, MemNotify, SureArm, MemWait>, u64) {
+    owner: Poller<&'a R>,
+    caller: Quiet<&'a R>,
+) -> (Poller<&'a R>, u64) {
     join(
         rt,
         move || poll_times(owner, 200),
-        move || react_times(caller, clock, 200),
+        move || react_times(caller, 200),
     )
 }
 
 #[test]
 fn a_token_knows_its_connection_beside_rounds(rt: HostRuntime) -> Result<(), Fail> {
-    let mut first = enter(&rt, rt.alloc(), MemWait::new(1), MemNotify::new())?;
-    let beside = another(&mut first)?;
+    let (first, beside) = two_callers(&rt, rt.alloc(), MemWait::new(1), 30)?;
     let owner = Owner::new(first, SureArm::new(7))?;
-    let clock = clock_at(rt.alloc(), moment(&rt, 30))?;
-    let (mut owner, woken) = poll_beside_rounds(&rt, owner, beside, clock);
+    let (mut owner, woken) = poll_beside_rounds(&rt, owner, beside);
     same(&rt, woken <= 200, true);
     same(&rt, owner.number(), 207);
     Ok(())
@@ -102,13 +97,6 @@ fn a_token_knows_its_connection_beside_rounds(rt: HostRuntime) -> Result<(), Fai
 
 /// How often each thread does its work.
 const TURNS: u32 = 100;
-
-/// A deadline that is reached, and one that is not.
-#[derive(Drop)]
-struct Times {
-    now: Moment,
-    later: Moment,
-}
 
 /// How many wakers were stored, in timers that are due and in sources; and how many came, out of a round
 /// or because another one took their place.
@@ -141,25 +129,18 @@ fn polled_as(polled: Polled) -> Tally {
     }
 }
 
-/// What a try to react comes to.
-fn reacted_as(reaction: Reaction) -> Tally {
-    Tally {
-        stored: 0,
-        came: woken_in(reaction),
-    }
-}
-
 /// Registers a timer that is due; and one that is not due yet, which is taken out again.
-fn set_timers<H: TimerHost>(host: &mut H, times: &Times, waker: Waker) -> Tally
-    ensures { H.is_later host.old host.new }
+fn set_timers<R: Wait>(caller: &mut Worker<R>, waker: u32) -> Tally
+    ensures { caller.new.host.shared ≡ caller.old.host.shared }
 {
-    if let Ok(id) = insert(host, times.later, waker) {
-        if host.remove_timer(times.later, id).is_err() {
+    let host = &mut caller.host;
+    if let Ok(id) = insert(host, 9, waker) {
+        if remove(host, 9, id.0).is_err() {
             return NOTHING;
         }
     }
     Tally {
-        stored: one_if(insert(host, times.now, waker).is_ok()),
+        stored: one_if(insert(host, 5, waker).is_ok()),
         came: 0,
     }
 }
@@ -167,89 +148,68 @@ fn set_timers<H: TimerHost>(host: &mut H, times: &Times, waker: Waker) -> Tally
 /// A caller over a wait whose rounds give events of two keys in turn.
 type Worker<R> = Caller<R, MemNotify, SureArm, ScriptedWait>;
 
+/// Tries to react: what came.
+fn react_once<R: Wait>(caller: &mut Worker<R>) -> Tally
+    ensures { caller.new.host.shared ≡ caller.old.host.shared }
+{
+    Tally {
+        stored: 0,
+        came: woken_in(caller.react()),
+    }
+}
+
 /// Sets timers, polls a source, and tries to react.
-fn work_once<R: Wait>(
-    owner: &mut Owner<R, MemNotify, SureArm, ScriptedWait>,
-    clock: &mut MemClock,
-    times: &Times,
-    waker: Waker,
-) -> Tally {
-    let set = set_timers(&mut owner.caller.host, times, waker);
+fn work_once<R: Wait>(owner: &mut Owner<R, MemNotify, SureArm, ScriptedWait>, waker: u32) -> Tally {
+    let set = set_timers(&mut owner.caller, waker);
     let polled = owner.poll(Dir::Read, waker);
-    let reacted = owner.caller.react(clock);
-    set.and(polled_as(polled)).and(reacted_as(reacted))
+    let reacted = react_once(&mut owner.caller);
+    set.and(polled_as(polled)).and(reacted)
 }
 
 /// A thread's work with a source of its own, which it leaves in the table. Each poll has another waker than
 /// the one before.
-fn work<R: Wait + Copy>(caller: Worker<R>, mut clock: MemClock, times: &Times) -> Tally {
+fn work<R: Wait + Copy>(caller: Worker<R>) -> Tally {
     let Ok(mut owner) = Owner::new(caller, SureArm::new(0)) else {
         return NOTHING;
     };
     let mut tally = NOTHING;
     for turn in 0..TURNS {
-        let waker = Waker(turn % 2);
-        tally = tally.and(work_once(&mut owner, &mut clock, times, waker));
+        tally = tally.and(work_once(&mut owner, turn % 2));
     }
     tally
 }
 
-/// A thread's way into the reactor, and its clock.
-#[derive(Drop)]
-struct Shift<R: Wait> {
-    caller: Worker<R>,
-    clock: MemClock,
-}
-
-impl<R: Wait + Copy> Shift<R> {
-    fn work(self, times: &Times) -> Tally {
-        work(self.caller, self.clock, times)
-    }
-}
-
 /// Two threads at work.
-fn work_on_two<R: Threads + Wait + Sync>(
-    rt: &R,
-    pair: (Shift<&R>, Shift<&R>),
-    times: &Times,
-) -> Tally {
+fn work_on_two<R: Threads + Wait + Sync>(rt: &R, pair: (Worker<&R>, Worker<&R>)) -> Tally {
     let (one, other) = pair;
-    let (first, second) = join(rt, move || one.work(times), move || other.work(times));
+    let (first, second) = join(rt, move || work(one), move || work(other));
     first.and(second)
 }
 
 /// Four threads at work.
 fn work_on_four<R: Threads + Wait + Sync>(
     rt: &R,
-    ones: (Shift<&R>, Shift<&R>),
-    others: (Shift<&R>, Shift<&R>),
-    times: &Times,
+    ones: (Worker<&R>, Worker<&R>),
+    others: (Worker<&R>, Worker<&R>),
 ) -> Tally {
     let (first, second) = join(
         rt,
-        move || work_on_two(rt, ones, times),
-        move || work_on_two(rt, others, times),
+        move || work_on_two(rt, ones),
+        move || work_on_two(rt, others),
     );
     first.and(second)
 }
 
-/// What two more threads need.
-fn two_shifts<R: Wait + Copy>(
-    rt: &impl Abort,
+/// Two more threads.
+fn two_more<R: Wait + Copy>(
     alloc: Global,
     first: &mut Worker<R>,
-) -> Result<(Shift<R>, Shift<R>), Fail>
+) -> Result<(Worker<R>, Worker<R>), Fail>
     requires { first.old.host.member.ops.number ≡ 0 }
     ensures { first.new.host.member.ops.number ≡ 0 }
 {
-    let one = Shift {
-        caller: another(first)?,
-        clock: clock_at(alloc, moment(rt, 5))?,
-    };
-    let other = Shift {
-        caller: another(first)?,
-        clock: clock_at(alloc, moment(rt, 5))?,
-    };
+    let one = another(first, clock(alloc, 5)?)?;
+    let other = another(first, clock(alloc, 5)?)?;
     Ok((one, other))
 }
 
@@ -271,32 +231,21 @@ fn keys_in_turn(alloc: Global, pairs: u32) -> Result<ScriptedWait, Fail> {
     Ok(ScriptedWait::new(answers))
 }
 
-/// What two rounds come to, which give an event of each of four keys.
-fn react_twice<R: Wait>(caller: &mut Worker<R>, clock: &mut MemClock) -> Tally {
-    let one = reacted_as(caller.react(clock));
-    let other = reacted_as(caller.react(clock));
-    one.and(other)
+/// Four threads at work beside each other, and then two rounds, which give an event of each of four keys.
+fn work_and_react<R: Threads + Wait + Sync>(rt: &R, alloc: Global) -> Result<Tally, Fail> {
+    let wait = keys_in_turn(alloc, 300)?;
+    let mut first = enter(rt, alloc, wait, MemNotify::new(), clock(alloc, 10)?)?;
+    let ones = two_more(alloc, &mut first)?;
+    let others = two_more(alloc, &mut first)?;
+    let done = work_on_four(rt, ones, others);
+    Ok(done.and(react_once(&mut first)).and(react_once(&mut first)))
 }
 
-/// Asserts that each waker came that was stored, and that there were more than 400.
-fn assert_each_came(rt: &impl Abort, tally: Tally) {
-    same(rt, tally.came, tally.stored);
-    same(rt, tally.stored > 400, true);
-}
-
+// Each waker came that was stored, and there were more than 400.
 #[test]
 fn each_waker_of_four_threads_comes_once(rt: HostRuntime) -> Result<(), Fail> {
-    let wait = keys_in_turn(rt.alloc(), 300)?;
-    let mut first = enter(&rt, rt.alloc(), wait, MemNotify::new())?;
-    let ones = two_shifts(&rt, rt.alloc(), &mut first)?;
-    let others = two_shifts(&rt, rt.alloc(), &mut first)?;
-    let times = Times {
-        now: moment(&rt, 5),
-        later: moment(&rt, 9),
-    };
-    let done = work_on_four(&rt, ones, others, &times);
-    let mut clock = clock_at(rt.alloc(), moment(&rt, 10))?;
-    let left = react_twice(&mut first, &mut clock);
-    assert_each_came(&rt, done.and(left));
+    let tally = work_and_react(&rt, rt.alloc())?;
+    same(&rt, tally.came, tally.stored);
+    same(&rt, tally.stored > 400, true);
     Ok(())
 }

@@ -75,6 +75,31 @@ fn a_full_queue_hands_the_operation_back(rt: HostRuntime) -> Result<(), Fail> {
 }
 
 #[test]
+fn an_operation_that_is_kept_out_of_the_queue_is_applied(rt: HostRuntime) -> Result<(), Fail> {
+    let (ops, mut first) = Ops::new(rt.alloc())?;
+    let at = moment(&rt, 5);
+    let mut book = TimerBook::new(rt.alloc());
+    let applied = ops.apply_after_drain(&rt, &mut first, &mut book, insert(at));
+    assert_eq!(rt; applied, Ok(()));
+    assert_eq!(rt; ops.drain(&rt, &mut first, &mut book), Ok(0));
+    assert_eq!(rt; book.len(), 1);
+    Ok(())
+}
+
+#[test]
+fn an_operation_is_applied_after_those_that_are_queued(rt: HostRuntime) -> Result<(), Fail> {
+    let (ops, mut first) = Ops::new(rt.alloc())?;
+    let at = moment(&rt, 5);
+    let mut book = TimerBook::new(rt.alloc());
+    assert!(rt; ops.push(&rt, &mut first, insert(at)).is_ok());
+    let applied = ops.apply_after_drain(&rt, &mut first, &mut book, remove(at));
+    assert_eq!(rt; applied, Ok(()));
+    assert_eq!(rt; ops.drain(&rt, &mut first, &mut book), Ok(0));
+    assert_eq!(rt; book.len(), 0);
+    Ok(())
+}
+
+#[test]
 fn passes_are_numbered_in_the_order_in_which_they_are_made(rt: HostRuntime) -> Result<(), Fail> {
     let (ops, mut first) = Ops::new(rt.alloc())?;
     let Ok(second) = ops.pass(&rt, &mut first) else {

@@ -146,7 +146,7 @@ fn a_wake_before_the_park_is_found(rt: HostRuntime) -> Result<(), Fail> {
 }
 
 fn let_others_run() {
-    for _ in 0..100_000u32 {
+    for _ in 0..1_000u32 {
         thread::yield_now();
     }
 }

@@ -1,0 +1,103 @@
+//! What a thread does with a reactor, and what comes of it, as the rows of a table say both.
+
+use aio_base::{CountFault, Dir, OutOfMemory, Poll, TimerId};
+use aio_react::InsertRefusal;
+use aio_shared::{ReactFault, ReactedIn};
+
+/// What a try to react comes to: nothing where another thread has the round cell.
+pub(crate) type Reaction = Option<Result<ReactedIn, ReactFault>>;
+
+/// What a thread does.
+#[derive(Clone, Copy)]
+pub(crate) enum Act {
+    /// Registers a timer at this moment, in nanoseconds, with this waker.
+    Insert(u64, u32),
+    /// Takes the timer of this moment with this id out again.
+    Remove(u64, u64),
+    /// Counts the rounds, and wakes the task of this waker.
+    Wake(u32),
+    /// Wakes it by the member's seat, with another notifier.
+    WakeApart(u32),
+    /// Polls a direction of the thread's source with this waker.
+    Poll(Dir, u32),
+    /// Reacts without waiting.
+    React,
+    /// Reacts where the round seat waits for the parker.
+    ReactWaiting,
+    /// Takes the mask of the parker.
+    Take,
+    /// Takes the round cell, looks at it, and gives it back.
+    Look,
+}
+
+/// What comes of it.
+#[derive(Clone, Copy, Debug, PartialEq)]
+pub(crate) enum Came {
+    /// A timer was registered under this id.
+    Id(u64),
+    /// A timer was refused, or its registration could not be told.
+    Refused(InsertRefusal),
+    /// Nothing failed.
+    Done,
+    /// So many rounds had begun, and nothing failed.
+    Rounds(u64),
+    /// A waker waits.
+    Pending,
+    /// A round was begun, handled so many events and woke so many wakers.
+    Round(u32, u64),
+    /// A round met this.
+    Failed(ReactFault),
+    /// The mask.
+    Mask(u64),
+    /// How many waits there were, whether the round is idle, and how many rounds have begun.
+    Cell(u64, bool, u64),
+    /// Something else.
+    Other,
+}
+
+/// What an insert came to.
+pub(crate) fn inserted(answer: Result<TimerId, InsertRefusal>) -> Came {
+    match answer {
+        Ok(id) => Came::Id(id.0),
+        Err(refusal) => Came::Refused(refusal),
+    }
+}
+
+/// What a removal came to.
+pub(crate) fn removed(answer: Result<(), OutOfMemory>) -> Came {
+    match answer {
+        Ok(()) => Came::Done,
+        Err(_) => Came::Other,
+    }
+}
+
+/// What a wake came to, after so many rounds.
+pub(crate) fn woken(rounds: u64, answer: Result<(), CountFault>) -> Came {
+    match answer {
+        Ok(()) => Came::Rounds(rounds),
+        Err(_) => Came::Other,
+    }
+}
+
+/// What a poll came to.
+pub(crate) fn polled<F>(answer: &Poll<Result<(), F>>) -> Came {
+    match answer {
+        Poll::Pending => Came::Pending,
+        Poll::Ready(_) => Came::Other,
+    }
+}
+
+/// What a try to react came to.
+pub(crate) fn reacted(reaction: Reaction) -> Came {
+    match reaction {
+        Some(Ok(answer)) => {
+            if answer.resumed {
+                Came::Other
+            } else {
+                Came::Round(answer.events, answer.woken)
+            }
+        }
+        Some(Err(fault)) => Came::Failed(fault),
+        None => Came::Other,
+    }
+}
