@@ -1,11 +1,16 @@
 -- Events of a round that are handled one after the other.
-use Rattle.std.proofs.Common.{◌≡◌, ◌≢◌, ◌<◌, ⊎_elim, ℕ, Bool, List, [], ◌∷◌, ◌++◌, length, refl, sym, ap, ◌∙◌, subst, append-nil, append_assoc, Option, Some, None, arith}
+use Rattle.std.proofs.Common.{◌≡◌, ◌≢◌, ◌<◌, ⊎_elim, ℕ, Bool, List, [], ◌∷◌, ◌++◌, length, refl, sym, ap, ◌∙◌, subst, append-nil, append_assoc, Option, Some, None, Result, Ok, Err, OnOk, arith}
 use Rattle.aio_base.specs.declared.names.Event.{Event}
+use Rattle.aio_base.specs.declared.names.Key.{Key}
 use Rattle.aio_base.specs.declared.names.Waker.{Waker}
+use Rattle.aio_base.specs.declared.outcomes.Failed.{Failed}
+use Rattle.aio_base.specs.declared.outcomes.OutOfMemory.{OutOfMemory}
+use Rattle.aio_base.specs.Devices.{ArmCall, Interests}
+use Rattle.aio_source.specs.declared.source.SourceCell.{SourceCell}
 use Rattle.aio_react.specs.declared.round.RoundFault.{RoundFault}
 use Rattle.aio_react.specs.declared.round.RoundFault.TheVariants.{Wait, Arm}
 use Rattle.aio_react.specs.Rounds.{RoundValue, handled, skipped, taken_first}
-use Rattle.aio_sources.specs.Events.{HandlesEach, HandlesOne, KeepsFault, HandlesSome}
+use Rattle.aio_sources.specs.Events.{HandlesBy, HandlesByKey, HandlesEach, HandlesOne, KeepsFault, HandlesSome}
 
 keeps_itself : (all_sure : Bool) (f : Option RoundFault) → KeepsFault all_sure f f
 keeps_itself all_sure (Some fault) = refl
@@ -22,6 +27,22 @@ first_falls x l m is = let same : length l ≡ length (x ∷ m) = ap length is i
 
 pub not_empty : {A : Type 0} (l : List A) → 0 < length l → l ≢ []
 not_empty l long empty = let none : length l ≡ 0 = ap length empty in omega arith
+
+-- ## One event
+
+abbrev key_in : Key → Option Event → Key
+key_in other None = other
+key_in other (Some event) = event.key
+
+-- what was done on a source of the first event's key was done by a source of that key
+module _ {S : Type 0} (step : S → ArmCall → Result (Unit {0}) Failed → S → Type 0) (tells : S → Option Interests) (rest : S → List ℕ) (count : S → ℕ) (is_sure : S → Bool)
+    (event same : Event) (first : Option Event) (is : first ≡ Some event) (is_same : first ≡ Some same) where
+  pub handles_by_key : (found put : SourceCell S) (old new : RoundValue) (answer : Result (Unit {0}) OutOfMemory) → OnOk answer (found.state.key ≡ event.key)
+      → OnOk answer (HandlesBy step tells rest count is_sure found put old new) → OnOk answer (HandlesByKey step tells rest count is_sure same.key old new)
+  handles_by_key found put old new (Ok done) own handles = record { found = found; key_is = own ∙ ap (key_in event.key) (sym is ∙ is_same); put = put; handles = handles }
+  handles_by_key found put old new (Err refused) own handles = tt
+
+-- ## One event after the other
 
 -- what an event that left the hand lets be
 record Lets (old new : RoundValue) : Type 0 where

@@ -9,7 +9,8 @@ use Rattle.aio_base.specs.Devices.{ArmCall, Interests, Rose}
 use Rattle.aio_react.specs.declared.round.RoundFault.{RoundFault}
 use Rattle.aio_react.specs.declared.round.RoundFault.TheVariants.{Wait, Arm}
 use Rattle.aio_react.specs.Rounds.{RoundValue, arm_told, handled, handling_first, skipped, taken_first}
-use Rattle.aio_source.specs.Lent.{arm_answer, fault_of, UsesArm, arm_of}
+use Rattle.aio_source.specs.declared.source.SourceCell.{SourceCell}
+use Rattle.aio_source.specs.Lent.{arm_answer, fault_of, UsesArm, arm_of, settled}
 use Rattle.aio_source.specs.Values.{SourceValue}
 use Rattle.aio_base.specs.declared.names.Waker.{Waker}
 
@@ -29,21 +30,22 @@ pub record HandlesOn (key : Key) (old new : RoundValue) : Type 0 where
 
 module _ {S : Type 0} (step : S → ArmCall → Result (Unit {0}) Failed → S → Type 0) (tells : S → Option Interests) (rest : S → List ℕ) (count : S → ℕ)
     (is_sure : S → Bool) where
-  -- The same on this source, whose connection was lent to it as the arm: it was armed where the source asked for it, and the fault is the connection's.
-  pub record HandlesBy (source : SourceValue) (io after : S) (old new : RoundValue) : Type 0 where
+  -- The same on this source, as it was found and as it was put back, whose own connection was lent to it as the arm: the waiters of the directions that the
+  -- event names went, the connection was armed where the source asked for it, and the fault is the connection's. Nothing else was done to either.
+  pub record HandlesBy (found put : SourceCell S) (old new : RoundValue) : Type 0 where
     pub fault : Option ArmFault
-    pub round : new ≡ handled old (taken_first old source) fault
-    pub lent : UsesArm step tells rest count is_sure (handling_first old source).arms (arm_of (handling_first old source).source)
-        (arm_answer (arm_told fault)) io after
-    pub counts : arm_told fault ≡ fault_of source.key (count io) (count after) (arm_answer (arm_told fault))
+    pub round : new ≡ handled old (taken_first old found.state) fault
+    pub source : put.state ≡ settled (handling_first old found.state).arms (arm_answer (arm_told fault)) (handling_first old found.state).source
+    pub lent : UsesArm step tells rest count is_sure (handling_first old found.state).arms (arm_of (handling_first old found.state).source)
+        (arm_answer (arm_told fault)) found.io put.io
+    pub counts : arm_told fault ≡ fault_of found.state.key (count found.io) (count put.io) (arm_answer (arm_told fault))
 
-  -- A source of this key did so, by a connection that is not named.
+  -- A source of this key did so, which is not named.
   pub record HandlesByKey (key : Key) (old new : RoundValue) : Type 0 where
-    pub source : SourceValue
-    pub key_is : source.key ≡ key
-    pub io : S
-    pub after : S
-    pub handles : HandlesBy source io after old new
+    pub found : SourceCell S
+    pub key_is : found.state.key ≡ key
+    pub put : SourceCell S
+    pub handles : HandlesBy found put old new
 
 -- What became of the first event in hand, where there are sources of these keys: a source of its key handled it, and it was skipped exactly where none
 -- has its key. It is in hand no longer.

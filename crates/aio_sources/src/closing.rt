@@ -1,12 +1,11 @@
 //! A source that is closed: it goes out of the table, then out of its lock for good, and then its
 //! connection is told.
 
-ghost use Rattle.std.specs.Prelude.{◌≡◌, ◌<◌, false, IfErr};
+ghost use Rattle.std.specs.Prelude.{◌≡◌, false, IfErr};
 ghost use Rattle.std.specs.List.{Contains};
-ghost use Rattle.aio_base.specs.Devices.{RemoveOf};
-ghost use Rattle.aio_words.specs.Calls.{uncounted};
 ghost use Rattle.aio_sources.specs.Sources.{IsUnsure, Removes};
 
+use crate::sealed::{Sealed, remove_from};
 use crate::source_table::{SourceTable, TakenOut};
 use crate::sources::SourceRef;
 use aio_base::{Arm, CountFault, Key};
@@ -14,12 +13,13 @@ use aio_source::SourceCell;
 use std::marker::Model;
 use std::sync::Wait;
 
-/// The connection of a source that went out of the table and then out of its lock. `SourceRef::take_closed`
-/// alone makes one. Contracts see the key of the source, and the rest of its connection.
+/// A source that went out of the table and then out of its lock, with its connection.
+/// `SourceRef::take_closed` alone makes one. Contracts see the key of the source, and the rest of its
+/// connection.
 #[derive(Drop)]
 pub struct Closed<A: Arm> {
     key: Key,
-    io: A,
+    cell: Sealed<SourceCell<A>>,
 }
 
 impl<A: Arm> Model for Closed<A> {
@@ -28,15 +28,14 @@ impl<A: Arm> Model for Closed<A> {
 
     ghost Value = { ClosedValue };
 
-    ghost view = { λ c. record { key = c.key.0; rest = A.rest c.io } };
+    ghost view = { λ c. record { key = c.key.0; rest = A.rest c.cell.value.io } };
 
     ghost invariant = { λ c. c.key.0 < 4096 };
 }
 
 impl<A: Arm + Drop> SourceRef<A> {
-    /// Takes the source out of its lock for good, as soon as no round visits it; its waiters are given up.
-    /// The caller has the table, which the source has left, so that no round comes to it any more. Takes
-    /// no memory.
+    /// Takes the source out of its lock for good, as soon as no round visits it. The caller has the table,
+    /// which the source has left, so that no round comes to it any more. Takes no memory.
     pub fn take_closed<R: Wait>(self, rt: &R, table: &SourceTable<A>, out: &TakenOut) -> Closed<A>
         requires out { ¬ Contains table.now out.now }
         requires key { out.now ≡ self.key }
@@ -49,40 +48,23 @@ impl<A: Arm + Drop> SourceRef<A> {
             lock,
             mut owner,
         } = self;
-        let SourceCell { state: _, io } = lock.take(rt, &mut owner);
-        Closed { key: out.key(), io }
+        let cell = Sealed::take(rt, &lock, &mut owner);
+        Closed {
+            key: out.key(),
+            cell,
+        }
     }
 }
 
 impl<A: Arm + Drop> Closed<A> {
-    /// Makes one `remove` of the source's key on its connection, which is let go. The caller has the table,
-    /// in which no source has the key.
+    /// Makes one `remove` of the source's key on its connection, which is let go, and gives the waiters of
+    /// the source up. The caller has the table, in which no source has the key.
     pub fn remove(self, table: &SourceTable<A>) -> Result<(), CountFault>
         requires out { ¬ Contains table.now self.key }
         ensures removed { Removes A.arm_step A.rest A.fault_count self.key self.rest result }
         ensures cause { IfErr result (λ fault. IsUnsure A.all_sure fault) }
     {
-        let Closed { key, mut io } = self;
-        remove_from(&mut io, key)
-    }
-}
-
-/// Makes one `remove` of this key on a connection.
-fn remove_from<A: Arm>(io: &mut A, key: Key) -> Result<(), CountFault>
-    requires { key.0 < 4096 }
-    ensures step { A.arm_step io.old (RemoveOf key) (uncounted result) io.new }
-    ensures counts { IfErr result (λ fault. fault ≡ record {
-      before = A.fault_count io.old;
-      after = A.fault_count io.new;
-    }) }
-    ensures cause { IfErr result (λ fault. IsUnsure A.all_sure fault) }
-{
-    let before = io.faults();
-    match io.remove(key) {
-        Ok(()) => Ok(()),
-        Err(_) => Err(CountFault {
-            before,
-            after: io.faults(),
-        }),
+        let Closed { key, cell } = self;
+        remove_from(cell, key).into_answer()
     }
 }

@@ -10,8 +10,8 @@
 //! table.
 #![tactic(auto)]
 
-mod added;
 mod closing;
+mod sealed;
 mod source_table;
 mod sources;
 mod starting;

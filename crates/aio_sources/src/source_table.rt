@@ -1,19 +1,18 @@
 //! The table of sources, and what a source takes of memory before its connection is added.
 
-ghost use Rattle.std.specs.Prelude.{◌≡◌, ◌≢◌, ◌↔◌, ◌+◌, ◌<◌, ◌≤◌, [], None, Some, length, max, min, vec_len, vec_capacity, IfOk, IfSome, IfErr, OnErr, OnOk, is_none, IsSome, IsNone, option_map, slice_get};
+ghost use Rattle.std.specs.Prelude.{◌≡◌, ◌≢◌, ◌↔◌, ◌+◌, ◌<◌, ◌≤◌, [], None, Some, length, max, min, vec_len, vec_capacity, IfOk, IfSome, IfErr, OnErr, OnOk, is_none, IsSome, IsNone, slice_get};
 ghost use Rattle.std.specs.List.{Contains, position_or_len};
 ghost use Rattle.std.specs.List.Sorted.{IsStrictlyIncreasing};
 ghost use Rattle.std.specs.Arc.{arc_value};
 ghost use Rattle.aio_base.specs.declared.names.Event.{Event};
 ghost use Rattle.aio_sources.specs.Sources.{Adds, FailsToAdd, IsLeastFree, live_keys, outside, with_key, without_key};
-ghost use Rattle.aio_sources.specs.Events.{HandlesBy, HandlesByKey, HandlesOne, HandlesSome, KeepsFault};
+ghost use Rattle.aio_sources.specs.Events.{HandlesByKey, HandlesOne, HandlesSome};
 
-use crate::added::add_source;
+use crate::sealed::{Sealed, SharedLock, SourceLock, add_source, handle_in};
 use crate::sources::SourceRef;
 use aio_base::{Arm, CountFault, Key, OutOfMemory};
-use aio_lock::{Lock, Owner};
+use aio_lock::Owner;
 use aio_react::Round;
-use aio_source::SourceCell;
 use aio_words::Words;
 use std::alloc::Global;
 use std::marker::Model;
@@ -21,9 +20,6 @@ use std::sync::{Arc, Wait};
 
 /// How many sources live at most.
 const SOURCE_LIMIT: usize = 4096;
-
-/// The lock of a source, which the table and the token of the source share.
-pub(crate) type SourceLock<A> = Arc<Lock<SourceCell<A>>, Global>;
 
 /// The locks of the sources, each at the place of its key. Contracts see the keys, which rise. It has
 /// room for as many sources as may live.
@@ -69,8 +65,8 @@ impl<A: Arm> Model for Vacancy<A> {
 
     ghost view = { λ v. (arc_value v.words).identity };
 
-    ghost invariant = { λ v. (arc_value v.lent ≡ arc_value v.kept)
-        × (v.owner ≡ owner_of (arc_value v.kept) (took_out [] [] (first_owner []))) };
+    ghost invariant = { λ v. (v.lent ≡ v.kept)
+        × (v.owner ≡ owner_of v.kept (took_out [] [] (first_owner []))) };
 }
 
 /// The key of a source that went out of the table. `SourceTable::take_out` alone makes one, so that what
@@ -106,13 +102,7 @@ impl<A: Arm + Drop> Vacancy<A> {
     pub(crate) fn new(alloc: Global, words: &Arc<Words, Global>) -> Result<Vacancy<A>, OutOfMemory>
         ensures { IfOk result (λ vacancy. vacancy ≡ (arc_value words.now).identity) }
     {
-        let (lock, owner, _second) = Lock::vacant(alloc)?;
-        let Ok(kept) = Arc::new(alloc, lock) else {
-            return Err(OutOfMemory);
-        };
-        let Ok(lent) = Arc::try_clone(&kept) else {
-            return Err(OutOfMemory);
-        };
+        let (kept, lent, owner) = SharedLock::twice(alloc)?;
         let Ok(words) = Arc::try_clone(words) else {
             return Err(OutOfMemory);
         };
@@ -229,7 +219,7 @@ impl<A: Arm> SourceTable<A> {
     }
 
     /// The lock of the source of a key, where there is one.
-    fn lock_of(&self, key: Key) -> Option<&Lock<SourceCell<A>>>
+    fn lock_of(&self, key: Key) -> Option<&SourceLock<A>>
         ensures some { IsSome result → Contains self.now key.0 }
         ensures none { IsNone result → ¬ Contains self.now key.0 }
     {
@@ -265,9 +255,9 @@ impl<A: Arm> SourceTable<A> {
             round.skip();
             return Ok(());
         };
-        let (mut cell, visit) = lock.visit(rt);
+        let (mut cell, visit) = Sealed::visit(rt, lock);
         let handled = handle_in(&mut cell, event.key, round);
-        lock.leave(visit, cell);
+        cell.leave(lock, visit);
         handled
     }
 
@@ -284,32 +274,6 @@ impl<A: Arm> SourceTable<A> {
             }
         }
         Ok(())
-    }
-}
-
-/// Handles the first event in hand, which is of this key, on a source, with its connection as the arm.
-/// `OutOfMemory` where there is no memory for the wakers. A source of another key, which no call puts at
-/// this place, answers so too: no event is lost then.
-fn handle_in<A: Arm>(
-    cell: &mut SourceCell<A>,
-    key: Key,
-    round: &mut Round,
-) -> Result<(), OutOfMemory>
-    requires { option_map (λ (event : Event). event.key) (slice_get round.old.hand 0) ≡ Some key }
-    ensures key { cell.new.state.key ≡ cell.old.state.key }
-    ensures rest { A.rest cell.new.io ≡ A.rest cell.old.io }
-    ensures own { OnOk result (cell.old.state.key ≡ key) }
-    ensures handled { OnOk result (HandlesBy A.arm_step A.interests A.rest A.fault_count A.is_sure
-        cell.old.state cell.old.io cell.new.io round.old round.new) }
-    ensures fault { OnOk result (KeepsFault A.all_sure round.old.fault round.new.fault) }
-    ensures refused { OnErr result (round.new ≡ round.old) }
-{
-    if cell.state.key() != key {
-        return Err(OutOfMemory);
-    }
-    match round.handle(&mut cell.state, &mut cell.io) {
-        Ok(_) => Ok(()),
-        Err(refused) => Err(refused),
     }
 }
 

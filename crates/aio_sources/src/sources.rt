@@ -3,12 +3,12 @@
 ghost use Rattle.std.specs.Prelude.{◌≡◌, ◌↔◌, ◌∷◌, true, false, length, IfOk, ◌<◌, IfErr, OnErr, Some};
 ghost use Rattle.std.specs.List.Sorted.{IsStrictlyIncreasing};
 ghost use Rattle.std.specs.Arc.{arc_value};
-ghost use Rattle.aio_base.specs.Devices.{RemoveOf};
 ghost use Rattle.aio_rules.specs.SharedLock.{first_owner};
 ghost use Rattle.aio_lock.specs.Tokens.{owner_of};
-ghost use Rattle.aio_sources.specs.Sources.{Adds, HandsBack, IsUnsure, Joins, Removes, outside, refusal_of, rest_of};
+ghost use Rattle.aio_sources.specs.Sources.{Adds, HandsBack, Joins, outside, refusal_of, rest_of};
 
-use crate::source_table::{SourceLock, SourceTable};
+use crate::sealed::SourceLock;
+use crate::source_table::SourceTable;
 use aio_base::{Arm, CountFault, Key};
 use aio_lock::Owner;
 use aio_source::SourceCell;
@@ -42,7 +42,6 @@ pub struct SourceRef<A: Arm> {
 impl<A: Arm> Model for SourceRef<A> {
     ghost use Rattle.std.specs.Prelude.{◌≡◌, ◌<◌};
     ghost use Rattle.std.specs.Arc.{arc_value};
-    ghost use Rattle.aio_base.specs.Devices.{RemoveOf};
     ghost use Rattle.aio_rules.specs.SharedLock.{is_inside};
     ghost use Rattle.aio_sources.specs.Sources.{IsSourceOwner, SourceRefValue, rest_of};
 
@@ -55,7 +54,7 @@ impl<A: Arm> Model for SourceRef<A> {
       rest = rest_of s.owner.knows;
     } };
 
-    ghost invariant = { λ s. (s.owner.lock ≡ arc_value s.lock)
+    ghost invariant = { λ s. (s.owner.lock ≡ s.lock)
         × IsSourceOwner s.key.0 s.owner.knows × (s.key.0 < 4096) };
 }
 
@@ -67,8 +66,7 @@ impl<A: Arm> SourceRef<A> {
         lock: SourceLock<A>,
         owner: Owner,
     ) -> SourceRef<A>
-        requires owner { owner
-            ≡ owner_of (arc_value lock) (first_owner (key.0 ∷ rest_of owner.knows)) }
+        requires owner { owner ≡ owner_of lock (first_owner (key.0 ∷ rest_of owner.knows)) }
         requires bound { key.0 < 4096 }
         ensures { result ≡ outside (arc_value words).identity key.0 (rest_of owner.knows) }
     {
