@@ -6,3 +6,4 @@ pub mod HandingOver
 pub mod Rounding
 pub mod Notifying
 pub mod DrainedOnly
+pub mod InTurn

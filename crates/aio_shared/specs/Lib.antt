@@ -11,3 +11,4 @@ pub mod Starting
 pub mod Reacting
 pub mod Notifying
 pub mod Polling
+pub mod Waking

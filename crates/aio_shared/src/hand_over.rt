@@ -6,7 +6,9 @@ ghost use Rattle.aio_words.specs.Seats.{Belongs};
 ghost use Rattle.aio_shared.specs.Notifying.{NotifiesAsWon};
 ghost use Rattle.aio_shared.specs.HandOver.{all_slots, first_slots_but};
 ghost use Rattle.aio_shared.specs.Members.{IsLaterMember, IsMemberOf};
+ghost use Rattle.aio_react.specs.Hosts.{wake_fault};
 ghost use Rattle.aio_shared.specs.Reacting.{IsFaultWithin, Wakes};
+ghost use Rattle.aio_shared.specs.Waking.{TellsFirst};
 
 use crate::members::Member;
 use crate::shared::Shared;
@@ -34,6 +36,9 @@ impl<A: Arm, W: EventWait> Shared<A, W> {
             m.old.pass m.new.pass }
         ensures calls { NotifiesAsWon m.old.pass.view m.new.pass.view
             (N.call_count m.old.notifier) (N.call_count m.new.notifier) }
+        ensures first { TellsFirst N.call_count N.fault_count N.notify_step self.now.words.parkers
+            (first_slots_but parker) m.old.pass.view m.new.pass.view m.old.notifier m.new.notifier
+            (wake_fault result) }
         ensures kept { m.new ≡ record m.old { pass = m.new.pass; notifier = m.new.notifier } }
         ensures faults { TellsFaults N.fault_count N.is_sure m.old.notifier m.new.notifier
             (IsErr result) }
@@ -61,6 +66,9 @@ impl<A: Arm, W: EventWait> Shared<A, W> {
         ensures woke { Wakes self.now.words.parkers all_slots m.old.pass m.new.pass }
         ensures calls { NotifiesAsWon m.old.pass.view m.new.pass.view
             (N.call_count m.old.notifier) (N.call_count m.new.notifier) }
+        ensures first { TellsFirst N.call_count N.fault_count N.notify_step self.now.words.parkers
+            all_slots m.old.pass.view m.new.pass.view m.old.notifier m.new.notifier
+            (wake_fault result) }
         ensures kept { m.new ≡ record m.old { pass = m.new.pass; notifier = m.new.notifier } }
         ensures faults { TellsFaults N.fault_count N.is_sure m.old.notifier m.new.notifier
             (IsErr result) }
@@ -89,6 +97,8 @@ fn wake_first_slots<N: Notify>(
     ensures calls { NotifiesAsWon p.old.view p.new.view (N.call_count n.old) (N.call_count n.new) }
     ensures faults { TellsFaults N.fault_count N.is_sure n.old n.new (IsSome result) }
     ensures counts { IfSome result (IsFaultWithin (N.fault_count n.old) (N.fault_count n.new)) }
+    ensures first { TellsFirst N.call_count N.fault_count N.notify_step words.now.parkers
+        (first_slots_but parker) p.old.view p.new.view n.old n.new result }
 {
     let mut first = None;
     for other in 0..16u32 {
@@ -108,6 +118,8 @@ fn wake_slots<N: Notify>(words: &Words, p: &mut Pass, n: &mut N) -> Option<Count
     ensures calls { NotifiesAsWon p.old.view p.new.view (N.call_count n.old) (N.call_count n.new) }
     ensures faults { TellsFaults N.fault_count N.is_sure n.old n.new (IsSome result) }
     ensures counts { IfSome result (IsFaultWithin (N.fault_count n.old) (N.fault_count n.new)) }
+    ensures first { TellsFirst N.call_count N.fault_count N.notify_step words.now.parkers
+        all_slots p.old.view p.new.view n.old n.new result }
 {
     let mut first = None;
     for slot in 0..1024u32 {

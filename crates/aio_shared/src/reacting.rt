@@ -8,6 +8,7 @@ ghost use Rattle.aio_shared.specs.Notifying.{NotifiesAsWon};
 ghost use Rattle.aio_shared.specs.Members.{IsLaterMember, IsMemberOf};
 ghost use Rattle.aio_shared.specs.OneCell.{IsCellOf};
 ghost use Rattle.aio_shared.specs.Reacting.{BeginRefused, BeginsAs, BeginsOver, ClockGoesOn, DrainsAtMost, EnterRefused, Enters, Finishes, FinishesOver, NotifyFailed, Reacts, Settles, ReportsRound, Wakes, rose};
+ghost use Rattle.aio_shared.specs.Waking.{TellsFirstWake};
 ghost use Rattle.aio_sources.specs.Events.{HandlesSome};
 ghost use Rattle.aio_ops.specs.Passes.{Drained};
 ghost use Rattle.aio_shared.specs.TimerCalls.{PushedNothing};
@@ -88,6 +89,9 @@ impl<A: Arm, W: EventWait> Shared<A, W> {
             cell.old cell.new m.old m.new
             (record { before = N.fault_count m.old.notifier; after = N.fault_count m.new.notifier })
             result }
+        ensures first { TellsFirstWake N.call_count N.fault_count N.notify_step
+            self.now.words.parkers cell.new.round.taken
+            m.old.pass.view m.new.pass.view m.old.notifier m.new.notifier result }
         ensures spent { (result ≡ Err ReactFault.RoundsSpent)
             ↔ ((cell.old.round.running ≡ false) × (cell.old.seat.view.seen ≡ 2 ^ 64 - 1)) }
         ensures calls { NotifiesAsWon m.old.pass.view m.new.pass.view
@@ -350,6 +354,9 @@ impl<A: Arm, W: EventWait> Shared<A, W> {
         ensures woke { Wakes self.now.words.parkers cell.now.round.taken m.old.pass m.new.pass }
         ensures calls { NotifiesAsWon m.old.pass.view m.new.pass.view
             (N.call_count m.old.notifier) (N.call_count m.new.notifier) }
+        ensures first { TellsFirstWake N.call_count N.fault_count N.notify_step
+            self.now.words.parkers cell.now.round.taken
+            m.old.pass.view m.new.pass.view m.old.notifier m.new.notifier result }
         ensures tells { ReportsRound cell.now.round resumed in_hand
             (record { before = N.fault_count m.old.notifier; after = N.fault_count m.new.notifier })
             result }

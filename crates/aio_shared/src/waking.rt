@@ -5,6 +5,7 @@ ghost use Rattle.aio_base.specs.Devices.{TellsFaults};
 ghost use Rattle.aio_words.specs.Seats.{Belongs};
 ghost use Rattle.aio_shared.specs.Notifying.{NotifiesAsWon};
 ghost use Rattle.aio_shared.specs.Reacting.{IsFaultWithin, Wakes, first_fault};
+ghost use Rattle.aio_shared.specs.Waking.{TellsFirst};
 
 use aio_base::{CountFault, Notify, Waker};
 use aio_words::{Pass, Words};
@@ -22,6 +23,8 @@ pub(crate) fn wake_each<N: Notify>(
     ensures calls { NotifiesAsWon p.old.view p.new.view (N.call_count n.old) (N.call_count n.new) }
     ensures faults { TellsFaults N.fault_count N.is_sure n.old n.new (IsSome result) }
     ensures counts { IfSome result (IsFaultWithin (N.fault_count n.old) (N.fault_count n.new)) }
+    ensures first { TellsFirst N.call_count N.fault_count N.notify_step words.now.parkers
+        wakers.now p.old.view p.new.view n.old n.new result }
 {
     let mut first = None;
     for waker in wakers {

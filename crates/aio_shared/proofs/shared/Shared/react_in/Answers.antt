@@ -1,4 +1,5 @@
-use Rattle.std.proofs.Common.{rules, ap, ◌∙◌, refl}
+use Rattle.std.proofs.Common.{rules, ◌≡◌, ap, ◌∙◌, refl, subst}
+use Rattle.aio_shared.specs.Waking.{TellsFirstWake}
 use Rattle.aio_shared.proofs.Draining.{pushed_nothing_itself, pushed_nothing_further}
 use Rattle.aio_shared.proofs.DrainedOnly.{drained_is_later}
 use Rattle.aio_shared.proofs.Rounding.{entered_pushed, entered_until, handled_says, is_later, new_says, ran_out, reacts}
@@ -47,6 +48,15 @@ returns-clause-reacts g c =
     c.end_round.new.cell c.wake_taken.new.m _ _ c.enter_round.ensures.clock.bounds c.enter_round.ensures.clock.latest c.in-Ok-end_round.ensures.finished c.end_round.ensures.cell
     c.in-Ok-handle_in_hand.ensures.none_left c.in-Ok-end_round.ensures.drained c.enter_round.ensures.kept c.end_round.ensures.kept c.wake_taken.ensures.kept
     _ c.wake_taken.ensures.woke _ _ _ _ _ (search rules) (search rules) (search rules) c.wake_taken.ensures.tells
+
+-- the seat and the notifier that the wakes began with are those of the call
+pub returns-clause-first : goal.returns-clause-first
+returns-clause-first g c =
+    let m1 = c.enter_round.new.m in
+    let m2 = c.end_round.new.m in
+    let kept : m2 ≡ record c.args.m.now { ops = m2.ops } = c.end_round.ensures.kept ∙ (λ i. record (c.enter_round.ensures.kept i) { ops = m2.ops }) in
+    subst (λ m. TellsFirstWake g.N.Notify.call_count g.N.Faults.fault_count g.N.Notify.notify_step c.args.self.now.words.parkers c.end_round.new.cell.round.taken m.pass.view c.wake_taken.new.m.pass.view m.notifier c.wake_taken.new.m.notifier c.wake_taken.result)
+    kept c.wake_taken.ensures.first
 
 pub returns-clause-cell : goal.returns-clause-cell
 returns-clause-cell g c =
