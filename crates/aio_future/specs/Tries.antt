@@ -1,5 +1,5 @@
--- Polls and tries of an entered source: which calls were made on its connection, in which order, and what they came to.
-use Rattle.std.specs.Prelude.{◌≡◌, ◌⊎◌, ℕ, ◌<◌, ◌≤◌, Bool, List, Option, None, Some, IfSome, IsSome, Result, Ok, Err, take, ⊤}
+-- Polls, reads and writes of an entered source: what they answer, and which calls of its connection they made for that, in which order.
+use Rattle.std.specs.Prelude.{◌≡◌, ◌⊎◌, ℕ, ◌<◌, ◌≤◌, Bool, true, false, List, Option, None, Some, IfSome, IsSome, Result, Ok, Err, take, ⊤}
 use Rattle.aio_base.specs.Connections.{ConnMove, ReadOf, WriteOf, did_count}
 use Rattle.aio_base.specs.Devices.{ArmCall, HasCause, Interests, Rose}
 use Rattle.aio_base.specs.declared.connections.Did.{Did}
@@ -13,14 +13,67 @@ use Rattle.aio_base.specs.declared.outcomes.Poll.{Poll}
 use Rattle.aio_base.specs.declared.outcomes.Poll.TheVariants.{Ready, Pending}
 use Rattle.aio_source.specs.Answers.{poll_answer, armed_in}
 use Rattle.aio_source.specs.Lent.{UsesArm, arm_of, fault_of, settled, arm_answer}
-use Rattle.aio_source.specs.Rules.{polling}
+use Rattle.aio_source.specs.Rules.{direction_of, is_ready, polling}
 use Rattle.aio_source.specs.Values.{SourceValue}
 use Rattle.aio_source.specs.declared.answers.Polled.{Polled}
-use Rattle.aio_future.specs.declared.tried.Attempt.{Attempt}
-use Rattle.aio_future.specs.declared.tried.Attempt.TheVariants.{Over, Again}
 use Rattle.aio_future.specs.declared.tried.Tried.{Tried}
 use Rattle.aio_future.specs.declared.tried.TryFault.{TryFault}
 use Rattle.aio_future.specs.declared.tried.TryFault.TheVariants as fault
+
+-- ## Answers of a read or a write
+
+-- how many bytes a call with this answer moved
+abbrev pub bytes_over : Poll (Result ℕ TryFault) → ℕ
+bytes_over Pending = 0
+bytes_over (Ready (Err why)) = 0
+bytes_over (Ready (Ok bytes)) = bytes
+
+-- Of so many bytes that it was handed, a call that ended well moved one at least, and none beyond them.
+abbrev pub MovesWithin : (handed : ℕ) → Poll (Result ℕ TryFault) → Type 0
+MovesWithin handed Pending = ⊤
+MovesWithin handed (Ready (Err why)) = ⊤
+MovesWithin handed (Ready (Ok bytes)) = (0 < bytes) × (bytes ≤ handed)
+
+-- what a fault tells of the connection's count of faults: what it was, and what it came to
+abbrev pub counts_in : TryFault → CountFault
+counts_in (fault.Arm why) = record { before = why.before; after = why.after }
+counts_in (fault.Read why) = why
+counts_in (fault.Write why) = why
+
+-- those counts, of a call that failed
+abbrev pub fault_counts : Poll (Result ℕ TryFault) → Option CountFault
+fault_counts Pending = None
+fault_counts (Ready (Err why)) = Some (counts_in why)
+fault_counts (Ready (Ok bytes)) = None
+
+-- which faults a read can tell, and which a write can: no one tells that of the other
+abbrev pub IsReadFault : TryFault → Type 0
+IsReadFault (fault.Arm why) = ⊤
+IsReadFault (fault.Read why) = ⊤
+IsReadFault (fault.Write why) = ⊥
+
+abbrev pub IsWriteFault : TryFault → Type 0
+IsWriteFault (fault.Arm why) = ⊤
+IsWriteFault (fault.Read why) = ⊥
+IsWriteFault (fault.Write why) = ⊤
+
+-- what is said of the fault of a call that failed
+abbrev pub IfFailed : Poll (Result ℕ TryFault) → (TryFault → Type 0) → Type 0
+IfFailed Pending Holds = ⊤
+IfFailed (Ready (Err why)) Holds = Holds why
+IfFailed (Ready (Ok bytes)) Holds = ⊤
+
+abbrev pub IsReadAnswer : Poll (Result ℕ TryFault) → Type 0
+IsReadAnswer answer = IfFailed answer IsReadFault
+
+abbrev pub IsWriteAnswer : Poll (Result ℕ TryFault) → Type 0
+IsWriteAnswer answer = IfFailed answer IsWriteFault
+
+-- A call between these counts of faults tells a fault only for a cause of its own, with two counts that lie between them; and it stays as sure as it was.
+pub record FaultsWithin (before after : ℕ) (was_sure is_sure : Bool) (told : Option CountFault) : Type 0 where
+  pub counts : IfSome told (λ two. (before ≤ two.before) × Rose two.before two.after × (two.after ≤ after))
+  pub cause : HasCause before after was_sure (IsSome told)
+  pub sure : is_sure ≡ was_sure
 
 -- ## A poll
 
@@ -34,113 +87,18 @@ pub record Polls {C : Type 0} (step : C → ArmCall → Result (Unit {0}) Failed
 
 -- ## A try
 
-abbrev pub tried_count : Poll (Result ℕ TryFault) → ℕ
-tried_count (Ready (Ok n)) = n
-tried_count (Ready (Err f)) = 0
-tried_count Pending = 0
+-- what the connection's own answer comes to: blocked is pending, and a failure is told as this fault with the two counts
+abbrev pub try_answer : (CountFault → TryFault) → (before after : ℕ) → Result Did Failed → Poll (Result ℕ TryFault)
+try_answer fails before after (Ok Blocked) = Pending
+try_answer fails before after (Ok (Bytes n)) = Ready (Ok n)
+try_answer fails before after (Err failed) = Ready (Err (fails (record { before = before; after = after })))
 
--- a write that sent bytes sent one at least, and no more than it was handed
-abbrev pub TriesWithin : ℕ → Poll (Result ℕ TryFault) → Type 0
-TriesWithin room (Ready (Ok n)) = (0 < n) × (n ≤ room)
-TriesWithin room (Ready (Err f)) = ⊤
-TriesWithin room Pending = ⊤
-
--- the counts of faults that a fault carries
-abbrev pub counts_of : TryFault → CountFault
-counts_of (fault.Read f) = f
-counts_of (fault.Write f) = f
-counts_of (fault.Arm f) = record { before = f.before; after = f.after }
-
-abbrev pub tried_fault : Poll (Result ℕ TryFault) → Option CountFault
-tried_fault (Ready (Ok n)) = None
-tried_fault (Ready (Err f)) = Some (counts_of f)
-tried_fault Pending = None
-
--- a read that failed tells of the read or of an arm, a write of the write or of an arm
-abbrev pub IsOfRead : Poll (Result ℕ TryFault) → Type 0
-IsOfRead (Ready (Ok n)) = ⊤
-IsOfRead (Ready (Err (fault.Read f))) = ⊤
-IsOfRead (Ready (Err (fault.Write f))) = ⊥
-IsOfRead (Ready (Err (fault.Arm f))) = ⊤
-IsOfRead Pending = ⊤
-
-abbrev pub IsOfWrite : Poll (Result ℕ TryFault) → Type 0
-IsOfWrite (Ready (Ok n)) = ⊤
-IsOfWrite (Ready (Err (fault.Read f))) = ⊥
-IsOfWrite (Ready (Err (fault.Write f))) = ⊤
-IsOfWrite (Ready (Err (fault.Arm f))) = ⊤
-IsOfWrite Pending = ⊤
-
--- A fault that is told has its cause in this call, and carries two counts within it.
-pub record TryFaults (before after : ℕ) (sure_before sure_after : Bool) (fault : Option CountFault) : Type 0 where
-  pub cause : HasCause before after sure_before (IsSome fault)
-  pub sure : sure_after ≡ sure_before
-  pub counts : IfSome fault (λ f. (before ≤ f.before) × Rose f.before f.after × (f.after ≤ after))
-
--- ## One try and one poll
-
--- what a poll that answers so comes to: where the direction is ready it is tried once more; else the call is over, and hands out the same waker
-abbrev pub attempt_by : Poll (Result (Unit {0}) ArmFault) → Option Waker → Attempt
-attempt_by (Ready (Ok done)) replaced = Again
-attempt_by (Ready (Err f)) replaced = Over (record { answer = Ready (Err (fault.Arm f)); replaced = replaced })
-attempt_by Pending replaced = Over (record { answer = Pending; replaced = replaced })
-
--- the answer as far as it is known: a call that tries once more was blocked
-abbrev pub attempt_answer : Attempt → Poll (Result ℕ TryFault)
-attempt_answer (Over tried) = tried.answer
-attempt_answer Again = Pending
-
--- no bytes went over, and a fault is of an arm
-abbrev pub IsOfArm : Poll (Result ℕ TryFault) → Type 0
-IsOfArm (Ready (Ok n)) = ⊥
-IsOfArm (Ready (Err (fault.Read f))) = ⊥
-IsOfArm (Ready (Err (fault.Write f))) = ⊥
-IsOfArm (Ready (Err (fault.Arm f))) = ⊤
-IsOfArm Pending = ⊤
-
--- One poll after a try that was blocked.
-pub record PollsBlocked {C : Type 0} (step : C → ArmCall → Result (Unit {0}) Failed → C → Type 0) (tells : C → Option Interests) (rest : C → List ℕ)
-    (count : C → ℕ) (is_sure : C → Bool) (dir : Dir) (w : Waker) (ticker : ℕ) (old : SourceValue) (io_old : C) (attempt : Attempt) (new : SourceValue) (io_new : C) : Type 0 where
-  pub polled : Polled
-  pub polls : Polls step tells rest count is_sure dir w ticker old io_old polled new io_new
-  pub comes : attempt ≡ attempt_by polled.answer polled.replaced
-
--- What came after a try with this answer: the call is over where bytes went over or the try failed, with its two counts; where it was blocked the
--- direction was polled.
-abbrev pub AfterTry : {C : Type 0} → (C → ArmCall → Result (Unit {0}) Failed → C → Type 0) → (C → Option Interests) → (C → List ℕ) → (C → ℕ) → (C → Bool)
-    → (CountFault → TryFault) → Dir → Waker → ℕ → Result Did Failed → SourceValue → (io_old tried : C) → Attempt → SourceValue → (io_new : C) → Type 0
-AfterTry step tells rest count is_sure fails dir w ticker (Ok (Bytes n)) old io_old tried attempt new io_new =
-    (attempt ≡ Over (record { answer = Ready (Ok n); replaced = None })) × (new ≡ old) × (io_new ≡ tried)
-AfterTry step tells rest count is_sure fails dir w ticker (Err failed) old io_old tried attempt new io_new =
-    (attempt ≡ Over (record { answer = Ready (Err (fails (record { before = count io_old; after = count tried }))); replaced = None }))
-    × (new ≡ old) × (io_new ≡ tried)
-AfterTry step tells rest count is_sure fails dir w ticker (Ok Blocked) old io_old tried attempt new io_new =
-    PollsBlocked step tells rest count is_sure dir w ticker old tried attempt new io_new
-
--- One try of the connection, by its own relation, and what came after it. `call` is the call by its answer, and `fails` how its fault is told.
-pub record TriesOnce {C : Type 0} (conn : C → ConnMove → C → Type 0) (step : C → ArmCall → Result (Unit {0}) Failed → C → Type 0) (tells : C → Option Interests)
-    (rest : C → List ℕ) (count : C → ℕ) (is_sure : C → Bool) (call : Result Did Failed → ConnMove) (fails : CountFault → TryFault) (dir : Dir) (w : Waker)
-    (ticker : ℕ) (old : SourceValue) (io_old : C) (attempt : Attempt) (new : SourceValue) (io_new : C) : Type 0 where
+-- One try is one call of the connection, by its own relation. `call` is that call by its answer.
+pub record TriesNow {C : Type 0} (conn : C → ConnMove → C → Type 0) (count : C → ℕ) (call : Result Did Failed → ConnMove) (fails : CountFault → TryFault)
+    (io : C) (answer : Poll (Result ℕ TryFault)) (io_left : C) : Type 0 where
   pub did : Result Did Failed
-  pub tried : C
-  pub made : conn io_old (call did) tried
-  pub after : AfterTry step tells rest count is_sure fails dir w ticker did old io_old tried attempt new io_new
-
--- A whole call: one try and, where it was blocked, one poll; or, where that poll was ready, both once more, and then the poll is not ready.
-pub record TriesTwice {C : Type 0} (conn : C → ConnMove → C → Type 0) (step : C → ArmCall → Result (Unit {0}) Failed → C → Type 0) (tells : C → Option Interests)
-    (rest : C → List ℕ) (count : C → ℕ) (is_sure : C → Bool) (call : Result Did Failed → ConnMove) (fails : CountFault → TryFault) (dir : Dir) (w : Waker)
-    (ticker : ℕ) (old : SourceValue) (io_old : C) (result : Tried) (new : SourceValue) (io_new : C) : Type 0 where
-  pub mid : SourceValue
-  pub io_mid : C
-  pub first : TriesOnce conn step tells rest count is_sure call fails dir w ticker old io_old Again mid io_mid
-  pub second : TriesOnce conn step tells rest count is_sure call fails dir w ticker mid io_mid (Over result) new io_new
-
-abbrev pub Tries : {C : Type 0} → (C → ConnMove → C → Type 0) → (C → ArmCall → Result (Unit {0}) Failed → C → Type 0) → (C → Option Interests)
-    → (C → List ℕ) → (C → ℕ) → (C → Bool) → (Result Did Failed → ConnMove) → (CountFault → TryFault) → Dir → Waker → (ticker : ℕ)
-    → SourceValue → C → Tried → SourceValue → C → Type 0
-Tries conn step tells rest count is_sure call fails dir w ticker old io_old result new io_new =
-    TriesOnce conn step tells rest count is_sure call fails dir w ticker old io_old (Over result) new io_new
-    ⊎ TriesTwice conn step tells rest count is_sure call fails dir w ticker old io_old result new io_new
+  pub made : conn io (call did) io_left
+  pub answers : answer ≡ try_answer fails (count io) (count io_left) did
 
 -- a read with this room that left the buffer so, and a write of this piece, each by its answer
 abbrev pub read_call : (room : ℕ) → (buf : List ℕ) → Result Did Failed → ConnMove
@@ -148,3 +106,63 @@ read_call room buf did = ReadOf room did (take (did_count did) buf)
 
 abbrev pub write_call : List ℕ → Result Did Failed → ConnMove
 write_call piece did = WriteOf piece did
+
+-- ## Waiting for a direction
+
+-- how a call whose last try was blocked ends by a poll with this answer and this replaced waker; one that found the direction ready does not end
+abbrev pub end_by_poll : Poll (Result (Unit {0}) ArmFault) → Option Waker → Option Tried
+end_by_poll Pending replaced = Some (record { answer = Pending; replaced = replaced })
+end_by_poll (Ready (Err why)) replaced = Some (record { answer = Ready (Err (fault.Arm why)); replaced = replaced })
+end_by_poll (Ready (Ok done)) replaced = None
+
+-- the answer as far as it is known: a call that does not end yet was blocked
+abbrev pub answer_so_far : Option Tried → Poll (Result ℕ TryFault)
+answer_so_far None = Pending
+answer_so_far (Some tried) = tried.answer
+
+-- such an end has no bytes, and no fault but that of an arm
+abbrev pub IsWaitAnswer : Poll (Result ℕ TryFault) → Type 0
+IsWaitAnswer Pending = ⊤
+IsWaitAnswer (Ready (Err (fault.Arm why))) = ⊤
+IsWaitAnswer (Ready (Err (fault.Read why))) = ⊥
+IsWaitAnswer (Ready (Err (fault.Write why))) = ⊥
+IsWaitAnswer (Ready (Ok bytes)) = ⊥
+
+-- One poll of the direction after a blocked try, and how the call ends by it.
+pub record WaitsFor {C : Type 0} (step : C → ArmCall → Result (Unit {0}) Failed → C → Type 0) (tells : C → Option Interests) (rest : C → List ℕ)
+    (count : C → ℕ) (is_sure : C → Bool) (dir : Dir) (w : Waker) (ticker : ℕ) (old : SourceValue) (io_old : C) (end : Option Tried) (new : SourceValue) (io_new : C) : Type 0 where
+  pub polled : Polled
+  pub polls : Polls step tells rest count is_sure dir w ticker old io_old polled new io_new
+  pub ends : end ≡ end_by_poll polled.answer polled.replaced
+
+-- the direction was ready before, and is no longer
+pub record SpendsReadiness (dir : Dir) (old new : SourceValue) : Type 0 where
+  pub was : is_ready (direction_of old.directions dir) ≡ true
+  pub is_no_more : is_ready (direction_of new.directions dir) ≡ false
+
+-- ## A try, and a wait where it was blocked
+
+module _ {C : Type 0} (conn : C → ConnMove → C → Type 0) (step : C → ArmCall → Result (Unit {0}) Failed → C → Type 0) (tells : C → Option Interests)
+    (rest : C → List ℕ) (count : C → ℕ) (is_sure : C → Bool) (call : Result Did Failed → ConnMove) (fails : CountFault → TryFault)
+    (dir : Dir) (w : Waker) (ticker : ℕ) where
+  -- what followed on a try with this answer
+  abbrev pub FollowsTry : Poll (Result ℕ TryFault) → SourceValue → (tried : C) → Option Tried → SourceValue → (io_new : C) → Type 0
+  FollowsTry Pending old tried end new io_new = WaitsFor step tells rest count is_sure dir w ticker old tried end new io_new
+  FollowsTry (Ready done) old tried end new io_new = (end ≡ Some (record { answer = Ready done; replaced = None })) × (new ≡ old) × (io_new ≡ tried)
+
+  pub record TriesThenWaits (old : SourceValue) (io_old : C) (end : Option Tried) (new : SourceValue) (io_new : C) : Type 0 where
+    pub answer : Poll (Result ℕ TryFault)
+    pub tried : C
+    pub tries : TriesNow conn count call fails io_old answer tried
+    pub follows : FollowsTry answer old tried end new io_new
+
+  -- both were done twice: the first time the direction was ready, the second time not
+  pub record TriesTwice (old : SourceValue) (io_old : C) (result : Tried) (new : SourceValue) (io_new : C) : Type 0 where
+    pub between : SourceValue
+    pub io_between : C
+    pub first : TriesThenWaits old io_old None between io_between
+    pub second : TriesThenWaits between io_between (Some result) new io_new
+
+  -- A whole call: a try and a wait, once or twice.
+  abbrev pub Tries : SourceValue → C → Tried → SourceValue → C → Type 0
+  Tries old io_old result new io_new = TriesThenWaits old io_old (Some result) new io_new ⊎ TriesTwice old io_old result new io_new

@@ -3,10 +3,10 @@
 ghost use Rattle.std.specs.Prelude.{◌≡◌, ◌<◌, ◌≤◌, length, take, Ok};
 ghost use Rattle.aio_base.specs.Connections.{ReadTells, WriteTells};
 ghost use Rattle.aio_base.specs.declared.outcomes.Poll.TheVariants.{Ready, Pending};
-ghost use Rattle.aio_future.specs.Tries.{Polls, Tries, TryFaults, TriesWithin, IsOfRead, IsOfWrite, read_call, tried_count, tried_fault, write_call};
+ghost use Rattle.aio_future.specs.Tries.{FaultsWithin, IsReadAnswer, IsWriteAnswer, MovesWithin, Polls, Tries, bytes_over, fault_counts, read_call, write_call};
 
-use crate::tried::{Attempt, Tried, TryFault};
-use crate::tries::{poll_dir, read_once, write_once};
+use crate::tried::{Tried, TryFault};
+use crate::tries::{poll_dir, read_or_wait, write_or_wait};
 use aio_base::{Arm, Conn, Dir, Waker};
 use aio_source::{Polled, SourceCell};
 
@@ -58,11 +58,12 @@ impl<'a, C> Async<'a, C> {
         poll_dir(self.cell, Dir::Write, self.ticker, w)
     }
 
-    /// Reads into the front of `buf` (`async-io` 2, `lib.rs`, `Async::read_with`). Where the
-    /// connection is blocked the direction is polled, and where that is ready both are done once more;
-    /// the second poll is never ready, since the first one took what made it so. Pending only where the
-    /// last try was blocked. A fault only where the connection's count of faults rose. It takes no
-    /// memory.
+    /// Reads into the front of `buf` what there is to read; 0 bytes are the end (`async-io` 2, `lib.rs`,
+    /// `Async::read_with`). A blocked connection is waited for with `w`: its direction is polled. Where
+    /// that finds it ready, an event came before; it is read once more and, blocked again, polled once
+    /// more, which finds it ready no more. So a pending answer means that the last read was blocked.
+    ///
+    /// `TryFault` only where the connection's count of faults rose. It takes no memory.
     pub fn read_with(&mut self, buf: &mut [u8], w: Waker) -> Tried
     where
         C: Conn,
@@ -71,29 +72,30 @@ impl<'a, C> Async<'a, C> {
             (read_call (length buf.old) buf.new) TryFault.Read Dir.Read w self.old.ticker
             self.old.cell.now.state self.old.cell.now.io
             result self.new.cell.now.state self.new.cell.now.io }
-        ensures bound { tried_count result.answer ≤ length buf.new }
-        ensures kind { IsOfRead result.answer }
+        ensures most { bytes_over result.answer ≤ length buf.new }
+        ensures kind { IsReadAnswer result.answer }
         ensures told { ReadTells (C.telling self.old.cell.now.io) (C.telling self.new.cell.now.io)
-            (take (tried_count result.answer) buf.new) (result.answer ≡ Pending)
+            (take (bytes_over result.answer) buf.new) (result.answer ≡ Pending)
             (result.answer ≡ Ready (Ok 0)) }
-        ensures faults { TryFaults (C.fault_count self.old.cell.now.io)
+        ensures faults { FaultsWithin (C.fault_count self.old.cell.now.io)
             (C.fault_count self.new.cell.now.io) (C.is_sure self.old.cell.now.io)
-            (C.is_sure self.new.cell.now.io) (tried_fault result.answer) }
+            (C.is_sure self.new.cell.now.io) (fault_counts result.answer) }
         ensures key { self.new.cell.now.state.key ≡ self.old.cell.now.state.key }
         ensures same_reference { self.new.cell.ghost_name ≡ self.old.cell.ghost_name }
         ensures ticker { self.new.ticker ≡ self.old.ticker }
     {
-        match read_once(self.cell, self.ticker, buf, w) {
-            Attempt::Over(tried) => tried,
-            Attempt::Again => match read_once(self.cell, self.ticker, buf, w) {
-                Attempt::Over(tried) => tried,
-                Attempt::Again => unreachable!(),
-            },
+        if let Some(tried) = read_or_wait(self.cell, self.ticker, buf, w) {
+            return tried;
         }
+        let Some(tried) = read_or_wait(self.cell, self.ticker, buf, w) else {
+            unreachable!();
+        };
+        tried
     }
 
-    /// Sends the front of `piece` (`async-io` 2, `lib.rs`, `Async::write_with`), with at most two tries
-    /// and two polls, as `read_with`. It takes no memory.
+    /// Writes the front of `piece`, one byte at least, as much as the connection takes (`async-io` 2,
+    /// `lib.rs`, `Async::write_with`). It waits, tries again and fails as `read_with` does. It takes no
+    /// memory.
     pub fn write_with(&mut self, piece: &[u8], w: Waker) -> Tried
     where
         C: Conn,
@@ -102,23 +104,23 @@ impl<'a, C> Async<'a, C> {
             (write_call piece.now) TryFault.Write Dir.Write w self.old.ticker
             self.old.cell.now.state self.old.cell.now.io
             result self.new.cell.now.state self.new.cell.now.io }
-        ensures bound { TriesWithin (length piece.now) result.answer }
-        ensures kind { IsOfWrite result.answer }
+        ensures most { MovesWithin (length piece.now) result.answer }
+        ensures kind { IsWriteAnswer result.answer }
         ensures told { WriteTells (C.telling self.old.cell.now.io) (C.telling self.new.cell.now.io)
-            (take (tried_count result.answer) piece.now) (result.answer ≡ Pending) }
-        ensures faults { TryFaults (C.fault_count self.old.cell.now.io)
+            (take (bytes_over result.answer) piece.now) (result.answer ≡ Pending) }
+        ensures faults { FaultsWithin (C.fault_count self.old.cell.now.io)
             (C.fault_count self.new.cell.now.io) (C.is_sure self.old.cell.now.io)
-            (C.is_sure self.new.cell.now.io) (tried_fault result.answer) }
+            (C.is_sure self.new.cell.now.io) (fault_counts result.answer) }
         ensures key { self.new.cell.now.state.key ≡ self.old.cell.now.state.key }
         ensures same_reference { self.new.cell.ghost_name ≡ self.old.cell.ghost_name }
         ensures ticker { self.new.ticker ≡ self.old.ticker }
     {
-        match write_once(self.cell, self.ticker, piece, w) {
-            Attempt::Over(tried) => tried,
-            Attempt::Again => match write_once(self.cell, self.ticker, piece, w) {
-                Attempt::Over(tried) => tried,
-                Attempt::Again => unreachable!(),
-            },
+        if let Some(tried) = write_or_wait(self.cell, self.ticker, piece, w) {
+            return tried;
         }
+        let Some(tried) = write_or_wait(self.cell, self.ticker, piece, w) else {
+            unreachable!();
+        };
+        tried
     }
 }

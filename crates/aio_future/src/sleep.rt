@@ -2,7 +2,7 @@
 
 ghost use Rattle.std.specs.Prelude.{◌≡◌, Some};
 ghost use Rattle.aio_base.specs.Polls.{IfReady};
-ghost use Rattle.aio_future.specs.Sleeping.{FiresBy, WaitsOn};
+ghost use Rattle.aio_future.specs.Sleeping.{FiresBy, PollsTimer};
 
 use crate::answers::TimerFault;
 use crate::timer::Timer;
@@ -42,8 +42,8 @@ fn poll_timer<H: TimerHost>(
 ) -> Poll<Result<Moment, TimerFault>>
     ensures fires { IfReady result
         (FiresBy timer.old.deadline (H.notifier_is_sure host.old) now) }
-    ensures waits { WaitsOn timer.old.deadline now result timer.new.deadline }
-    ensures later { H.is_later host.old host.new }
+    ensures polls { PollsTimer H.rules H.is_later H.notifier_is_sure now waker
+        timer.old host.old result timer.new host.new }
 {
     timer.poll(host, now, waker)
 }
@@ -51,14 +51,16 @@ fn poll_timer<H: TimerHost>(
 impl<H: TimerHost> Task<H> for Sleep {
     ghost use Rattle.std.specs.Prelude.{◌≡◌};
     ghost use Rattle.aio_base.specs.Devices.{raised};
-    ghost use Rattle.aio_future.specs.Sleeping.{FiresBy, WaitsOn, fires_later};
+    ghost use Rattle.aio_base.specs.Tasks.{own_waker};
+    ghost use Rattle.aio_future.specs.Sleeping.{FiresBy, PollsTimer, fires_later};
 
     type Output = Result<Moment, TimerFault>;
 
     ghost gives = { λ t. FiresBy t.timer.deadline };
 
     ghost poll_step = { λ old host cx answer new left. (new.polls ≡ raised old.polls)
-        × WaitsOn old.timer.deadline cx.now answer new.timer.deadline };
+        × PollsTimer H.rules H.is_later H.notifier_is_sure
+        cx.now (record { 0 = own_waker cx.parker cx.mask }) old.timer host answer new.timer left };
 
     ghost poll_count = { λ t. t.polls };
 

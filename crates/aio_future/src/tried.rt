@@ -1,32 +1,26 @@
-//! What a try over an entered source answers.
+//! The answers of a read or a write over an entered source.
 
 use aio_base::{ArmFault, CountFault, Poll, Waker};
 
-/// The fault of a try.
+/// How a read or a write of an entered source failed. Each case has the counts of the connection's
+/// faults before and after what failed.
 #[derive(Clone, Copy, Debug, PartialEq, Eq)]
 pub enum TryFault {
-    /// The read failed.
+    /// The connection's read.
     Read(CountFault),
-    /// The write failed.
+    /// The connection's write.
     Write(CountFault),
-    /// The connection was blocked, and could not be armed.
+    /// The arming of the connection, which was to be waited for.
     Arm(ArmFault),
 }
 
-/// The answer to a try.
+/// What a read or a write of an entered source comes to.
 #[derive(Clone, Copy, Debug, PartialEq, Eq)]
 pub struct Tried {
-    /// How many bytes went over; pending where the connection was blocked.
+    /// The number of bytes that were moved, of which 0 read are the end; or pending, while the
+    /// direction is waited for.
     pub answer: Poll<Result<usize, TryFault>>,
-    /// The poll waiter that the waker took the place of, to be woken.
+    /// The waker of another task that waited by polls of this direction, and does no longer. It is to
+    /// be woken.
     pub replaced: Option<Waker>,
-}
-
-/// What one try and, where it was blocked, one poll of the direction came to.
-#[derive(Clone, Copy)]
-pub(crate) enum Attempt {
-    /// The call is over with this answer.
-    Over(Tried),
-    /// The try was blocked and the direction was ready: it is tried once more.
-    Again,
 }

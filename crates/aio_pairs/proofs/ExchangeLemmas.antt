@@ -4,7 +4,7 @@ use Rattle.std.specs.Prelude.{◌⊎◌, ◌||◌, nat_lt, IfSome}
 use Rattle.aio_base.specs.Connections.{Telling, WriteTells, IsAtItsEnd}
 use Rattle.aio_base.specs.declared.names.Waker.{Waker}
 use Rattle.aio_base.specs.declared.outcomes.Poll.TheVariants.{Ready, Pending}
-use Rattle.aio_future.specs.Tries.{tried_count, tried_fault, IsOfRead, IsOfWrite, TryFaults}
+use Rattle.aio_future.specs.Tries.{bytes_over, fault_counts, IsReadAnswer, IsWriteAnswer, FaultsWithin}
 use Rattle.aio_future.specs.declared.tried.Tried.{Tried}
 use Rattle.aio_future.specs.declared.tried.TryFault.{TryFault}
 use Rattle.aio_pairs.specs.Backlogs.{SideState, TakesUp, shrunk}
@@ -15,12 +15,12 @@ use Rattle.aio_pairs.specs.declared.outcomes.Tally.{Tally}
 use Rattle.aio_pairs.proofs.PassingLemmas.{way-begins, way-reads, way-beside-read, way-writes, way-beside-write, way-rests}
 
 read-failed : (fault : Option TryFault) (room : ℕ) (w : Waker) (tried : Tried) (bytes : List ℕ) (calls others : List EndCall)
-    → IfSome fault (λ f. (tried.answer ≡ Ready (Err f)) × IsOfRead (Ready (Err f))) → IfSome fault (λ f. EndsIn f (Reads room w tried bytes ∷ calls) ⊎ EndsIn f others)
+    → IfSome fault (λ f. (tried.answer ≡ Ready (Err f)) × IsReadAnswer (Ready (Err f))) → IfSome fault (λ f. EndsIn f (Reads room w tried bytes ∷ calls) ⊎ EndsIn f others)
 read-failed None room w tried bytes calls others h = tt
 read-failed (Some f) room w tried bytes calls others h = inl h
 
 write-failed : (fault : Option TryFault) (piece : List ℕ) (w : Waker) (tried : Tried) (calls others : List EndCall)
-    → IfSome fault (λ f. (tried.answer ≡ Ready (Err f)) × IsOfWrite (Ready (Err f))) → IfSome fault (λ f. EndsIn f others ⊎ EndsIn f (Writes piece w tried ∷ calls))
+    → IfSome fault (λ f. (tried.answer ≡ Ready (Err f)) × IsWriteAnswer (Ready (Err f))) → IfSome fault (λ f. EndsIn f others ⊎ EndsIn f (Writes piece w tried ∷ calls))
 write-failed None piece w tried calls others h = tt
 write-failed (Some f) piece w tried calls others h = inr h
 
@@ -73,12 +73,12 @@ module _ {E : Type 0} (step : E → EndCall → E → Type 0) (told : E → Tell
 
   pub reads-go-on : (from to new_from : E) (side new_side : SideState) (tally : Tally) (room : ℕ) (w : Waker) (tried : Tried) (more : Bool) (fault : Option TryFault)
       → lines side.backlog ≡ [] → side.ended ≡ false → TakesUp step told from new_from side new_side room w tried
-      → TryFaults (count from) (count new_from) (sure from) (sure new_from) (tried_fault tried.answer)
-      → (more ≡ false → (tried_count tried.answer ≡ 0) × ((tried.answer ≡ Ready (Ok 0)) ⊎ (tried.answer ≡ Pending)))
-      → IfSome fault (λ f. (tried.answer ≡ Ready (Err f)) × IsOfRead (Ready (Err f)))
-      → GoesOn step told sure count from to new_from to side new_side tally (record { read = tally.read + tried_count tried.answer; wrote = tally.wrote }) more fault
+      → FaultsWithin (count from) (count new_from) (sure from) (sure new_from) (fault_counts tried.answer)
+      → (more ≡ false → (bytes_over tried.answer ≡ 0) × ((tried.answer ≡ Ready (Ok 0)) ⊎ (tried.answer ≡ Pending)))
+      → IfSome fault (λ f. (tried.answer ≡ Ready (Err f)) × IsReadAnswer (Ready (Err f)))
+      → GoesOn step told sure count from to new_from to side new_side tally (record { read = tally.read + bytes_over tried.answer; wrote = tally.wrote }) more fault
   reads-go-on from to new_from side new_side tally room w tried more fault none not_ended taken faults over failed from_old to_old side_old other_old other other_tally before other_more x =
-      let new_tally : Tally = record { read = tally.read + tried_count tried.answer; wrote = tally.wrote } in
+      let new_tally : Tally = record { read = tally.read + bytes_over tried.answer; wrote = tally.wrote } in
       subst (λ (s : SideState). Exchange step told sure count from_old to_old new_from to side_old other_old s other new_tally other_tally more other_more fault) (sym taken.side_is) (record {
         a_calls = Reads room w tried taken.bytes ∷ x.a_calls;
         b_calls = x.b_calls;
@@ -92,14 +92,14 @@ module _ {E : Type 0} (step : E → EndCall → E → Type 0) (told : E → Tell
       })
 
   pub writes-go-on : (from to new_to : E) (side : SideState) (tally : Tally) (w : Waker) (tried : Tried) (more : Bool) (fault : Option TryFault)
-      → 0 < length (lines side.backlog) → tried_count tried.answer ≤ length (lines side.backlog)
+      → 0 < length (lines side.backlog) → bytes_over tried.answer ≤ length (lines side.backlog)
       → step to (Writes (lines side.backlog) w tried) new_to
-      → WriteTells (told to) (told new_to) (take (tried_count tried.answer) (lines side.backlog)) (tried.answer ≡ Pending)
-      → TryFaults (count to) (count new_to) (sure to) (sure new_to) (tried_fault tried.answer)
-      → (more ≡ false → (tried_count tried.answer ≡ 0) × (tried.answer ≡ Pending))
-      → IfSome fault (λ f. (tried.answer ≡ Ready (Err f)) × IsOfWrite (Ready (Err f)))
-      → GoesOn step told sure count from to from new_to side (shrunk side (tried_count tried.answer)) tally
-      (record { read = tally.read; wrote = tally.wrote || nat_lt 0 (tried_count tried.answer) }) more fault
+      → WriteTells (told to) (told new_to) (take (bytes_over tried.answer) (lines side.backlog)) (tried.answer ≡ Pending)
+      → FaultsWithin (count to) (count new_to) (sure to) (sure new_to) (fault_counts tried.answer)
+      → (more ≡ false → (bytes_over tried.answer ≡ 0) × (tried.answer ≡ Pending))
+      → IfSome fault (λ f. (tried.answer ≡ Ready (Err f)) × IsWriteAnswer (Ready (Err f)))
+      → GoesOn step told sure count from to from new_to side (shrunk side (bytes_over tried.answer)) tally
+      (record { read = tally.read; wrote = tally.wrote || nat_lt 0 (bytes_over tried.answer) }) more fault
   writes-go-on from to new_to side tally w tried more fault some within call tells faults over failed from_old to_old side_old other_old other other_tally before other_more x = record {
     a_calls = x.a_calls;
     b_calls = Writes (lines side.backlog) w tried ∷ x.b_calls;

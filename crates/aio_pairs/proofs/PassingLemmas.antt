@@ -8,7 +8,7 @@ use Rattle.aio_base.specs.declared.names.Dir.TheVariants.{Read, Write}
 use Rattle.aio_base.specs.declared.names.Waker.{Waker}
 use Rattle.aio_base.specs.declared.outcomes.Poll.{Poll}
 use Rattle.aio_base.specs.declared.outcomes.Poll.TheVariants.{Ready, Pending}
-use Rattle.aio_future.specs.Tries.{tried_count}
+use Rattle.aio_future.specs.Tries.{bytes_over}
 use Rattle.aio_future.specs.declared.tried.Tried.{Tried}
 use Rattle.aio_future.specs.declared.tried.TryFault.{TryFault}
 use Rattle.aio_pairs.specs.Backlogs.{SideState, ends_with, grown, shrunk}
@@ -96,11 +96,11 @@ module _ {E : Type 0} (told : E → Telling) where
   pub way-reads : (from_old to_old from to new_from : E) (from_calls to_calls : List EndCall) (old side : SideState) (tally : Tally) (before more : Bool)
       (room : ℕ) (w : Waker) (tried : Tried) (bytes : List ℕ)
       → OneWay told from_old to_old from to from_calls to_calls old side tally before
-      → lines side.backlog ≡ [] → side.ended ≡ false → length bytes ≡ tried_count tried.answer
+      → lines side.backlog ≡ [] → side.ended ≡ false → length bytes ≡ bytes_over tried.answer
       → ReadTells (told from) (told new_from) bytes (tried.answer ≡ Pending) (tried.answer ≡ Ready (Ok 0))
-      → (more ≡ false → (tried_count tried.answer ≡ 0) × ((tried.answer ≡ Ready (Ok 0)) ⊎ (tried.answer ≡ Pending)))
+      → (more ≡ false → (bytes_over tried.answer ≡ 0) × ((tried.answer ≡ Ready (Ok 0)) ⊎ (tried.answer ≡ Pending)))
       → OneWay told from_old to_old new_from to (Reads room w tried bytes ∷ from_calls) to_calls old (grown side bytes tried.answer)
-      (record { read = tally.read + tried_count tried.answer; wrote = tally.wrote }) more
+      (record { read = tally.read + bytes_over tried.answer; wrote = tally.wrote }) more
   way-reads from_old to_old from to new_from from_calls to_calls old side tally before more room w tried bytes way none not_ended size tells over =
       record {
         ok = ok-reads old.backlog side.backlog _ _ bytes way.ok;
@@ -142,13 +142,13 @@ module _ {E : Type 0} (told : E → Telling) where
   pub way-writes : (from_old to_old from to new_to : E) (from_calls to_calls : List EndCall) (old side : SideState) (tally : Tally) (before more : Bool)
       (w : Waker) (tried : Tried)
       → OneWay told from_old to_old from to from_calls to_calls old side tally before
-      → 0 < length (lines side.backlog) → tried_count tried.answer ≤ length (lines side.backlog)
-      → WriteTells (told to) (told new_to) (take (tried_count tried.answer) (lines side.backlog)) (tried.answer ≡ Pending)
-      → (more ≡ false → (tried_count tried.answer ≡ 0) × (tried.answer ≡ Pending))
-      → OneWay told from_old to_old from new_to from_calls (Writes (lines side.backlog) w tried ∷ to_calls) old (shrunk side (tried_count tried.answer))
-      (record { read = tally.read; wrote = tally.wrote || nat_lt 0 (tried_count tried.answer) }) more
+      → 0 < length (lines side.backlog) → bytes_over tried.answer ≤ length (lines side.backlog)
+      → WriteTells (told to) (told new_to) (take (bytes_over tried.answer) (lines side.backlog)) (tried.answer ≡ Pending)
+      → (more ≡ false → (bytes_over tried.answer ≡ 0) × (tried.answer ≡ Pending))
+      → OneWay told from_old to_old from new_to from_calls (Writes (lines side.backlog) w tried ∷ to_calls) old (shrunk side (bytes_over tried.answer))
+      (record { read = tally.read; wrote = tally.wrote || nat_lt 0 (bytes_over tried.answer) }) more
   way-writes from_old to_old from to new_to from_calls to_calls old side tally before more w tried way some within tells over =
-      let n = tried_count tried.answer in
+      let n = bytes_over tried.answer in
       let piece = take n (lines side.backlog) in
       let size : length piece ≡ n = length-take-le n (lines side.backlog) within in
       let all = length-append (went_over Write to_calls) piece in

@@ -4,7 +4,7 @@ use Rattle.aio_base.specs.Connections.{Telling, ReadTells}
 use Rattle.aio_base.specs.declared.names.Waker.{Waker}
 use Rattle.aio_base.specs.declared.outcomes.Poll.{Poll}
 use Rattle.aio_base.specs.declared.outcomes.Poll.TheVariants.{Ready, Pending}
-use Rattle.aio_future.specs.Tries.{tried_count}
+use Rattle.aio_future.specs.Tries.{bytes_over}
 use Rattle.aio_future.specs.declared.tried.Tried.{Tried}
 use Rattle.aio_future.specs.declared.tried.TryFault.{TryFault}
 use Rattle.aio_pairs.specs.Calls.{EndCall, Reads}
@@ -38,7 +38,7 @@ shrunk side n = record { backlog = drop n side.backlog; forwarded = saturated (s
 pub record TakesUp {E : Type 0} (step : E → EndCall → E → Type 0) (told : E → Telling) (end end_after : E) (side side_after : SideState)
     (room : ℕ) (w : Waker) (tried : Tried) : Type 0 where
   pub bytes : List ℕ
-  pub size : length bytes ≡ tried_count tried.answer
+  pub size : length bytes ≡ bytes_over tried.answer
   pub side_is : side_after ≡ grown side bytes tried.answer
   pub call : step end (Reads room w tried bytes) end_after
   pub tells : ReadTells (told end) (told end_after) bytes (tried.answer ≡ Pending) (tried.answer ≡ Ready (Ok 0))

@@ -6,7 +6,7 @@ use Rattle.aio_base.specs.declared.names.Dir.TheVariants.{Read, Write}
 use Rattle.aio_base.specs.declared.names.Waker.{Waker}
 use Rattle.aio_base.specs.declared.outcomes.CountFault.{CountFault}
 use Rattle.aio_base.specs.declared.outcomes.Failed.{Failed}
-use Rattle.aio_future.specs.Tries.{Tries, read_call, tried_count, write_call}
+use Rattle.aio_future.specs.Tries.{Tries, read_call, bytes_over, write_call}
 use Rattle.aio_future.specs.declared.tried.Tried.{Tried}
 use Rattle.aio_future.specs.declared.tried.TryFault.TheVariants as fault
 use Rattle.aio_react.specs.Hosts.{HostRules, NotifierTells}
@@ -25,7 +25,7 @@ pub record EntersToRead {C : Type 0} (conn_step : C → ConnMove → C → Type 
     (room : ℕ) (w : Waker) (tried : Tried) (bytes : List ℕ) (source_after : SourceValue) (conn_after : C) : Type 0 where
   pub rounds : ℕ
   pub buffer : List ℕ
-  pub given : bytes ≡ take (tried_count tried.answer) buffer
+  pub given : bytes ≡ take (bytes_over tried.answer) buffer
   pub tries : Tries conn_step arm_step interests rest count sure (read_call room buffer) fault.Read Read w rounds source conn tried source_after conn_after
 
 pub record EntersToWrite {C : Type 0} (conn_step : C → ConnMove → C → Type 0) (arm_step : C → ArmCall → Result (Unit {0}) Failed → C → Type 0)

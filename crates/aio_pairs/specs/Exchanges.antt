@@ -6,7 +6,7 @@ use Rattle.aio_base.specs.declared.names.Dir.TheVariants.{Read, Write}
 use Rattle.aio_base.specs.declared.outcomes.CountFault.{CountFault}
 use Rattle.aio_base.specs.declared.outcomes.Poll.{Poll}
 use Rattle.aio_base.specs.declared.outcomes.Poll.TheVariants.{Ready, Pending}
-use Rattle.aio_future.specs.Tries.{tried_count, IsOfRead, IsOfWrite}
+use Rattle.aio_future.specs.Tries.{bytes_over, IsReadAnswer, IsWriteAnswer}
 use Rattle.aio_future.specs.declared.tried.TryFault.{TryFault}
 use Rattle.aio_future.specs.declared.tried.TryFault.TheVariants as fault
 use Rattle.aio_pairs.specs.Backlogs.{SideState, saturated}
@@ -31,7 +31,7 @@ went_over dir [] = []
 went_over Read (Reads room w tried bytes ∷ earlier) = went_over Read earlier ++ bytes
 went_over Read (Writes piece w tried ∷ earlier) = went_over Read earlier
 went_over Write (Reads room w tried bytes ∷ earlier) = went_over Write earlier
-went_over Write (Writes piece w tried ∷ earlier) = went_over Write earlier ++ take (tried_count tried.answer) piece
+went_over Write (Writes piece w tried ∷ earlier) = went_over Write earlier ++ take (bytes_over tried.answer) piece
 
 -- what the latest call in this direction answered
 abbrev pub last_answer : Dir → List EndCall → Option (Poll (Result ℕ TryFault))
@@ -44,8 +44,8 @@ last_answer Write (Writes piece w tried ∷ earlier) = Some tried.answer
 -- the latest call of all answered with this fault, and the fault is of such a call
 abbrev pub EndsIn : TryFault → List EndCall → Type 0
 EndsIn f [] = ⊥
-EndsIn f (Reads room w tried bytes ∷ earlier) = (tried.answer ≡ Ready (Err f)) × IsOfRead (Ready (Err f))
-EndsIn f (Writes piece w tried ∷ earlier) = (tried.answer ≡ Ready (Err f)) × IsOfWrite (Ready (Err f))
+EndsIn f (Reads room w tried bytes ∷ earlier) = (tried.answer ≡ Ready (Err f)) × IsReadAnswer (Ready (Err f))
+EndsIn f (Writes piece w tried ∷ earlier) = (tried.answer ≡ Ready (Err f)) × IsWriteAnswer (Ready (Err f))
 
 -- the latest call in this direction was to be tried again later, on an end that is not prompt
 abbrev pub IsBlocked : Dir → List EndCall → (prompt : Bool) → Type 0

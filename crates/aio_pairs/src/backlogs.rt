@@ -3,7 +3,7 @@
 ghost use Rattle.std.specs.Prelude.{◌≡◌, ◌+◌, ◌-◌, ◌<◌, ◌≤◌, ◌↔◌, [], nat_le, true, false, length, take, drop, slice_range, IfOk, Ok};
 ghost use Rattle.aio_base.specs.Connections.{ReadTells};
 ghost use Rattle.aio_base.specs.declared.outcomes.Poll.TheVariants.{Ready, Pending};
-ghost use Rattle.aio_future.specs.Tries.{tried_count, tried_fault, IsOfRead, TryFaults};
+ghost use Rattle.aio_future.specs.Tries.{bytes_over, fault_counts, IsReadAnswer, FaultsWithin};
 ghost use Rattle.aio_pairs.specs.Backlogs.{TakesUp, ends_with, shrunk};
 ghost use Rattle.aio_pairs.specs.Calls.{Reads, LeavesHost};
 ghost use Rattle.aio_pairs.specs.Lines.{lines, unfinished};
@@ -129,10 +129,10 @@ impl Backlog {
         requires some { 0 < room }
         requires block { room ≤ BLOCK }
         ensures reads { TakesUp E.end_step E.telling end.old end.new self.old self.new room w result }
-        ensures most { tried_count result.answer ≤ room }
-        ensures kind { IsOfRead result.answer }
-        ensures faults { TryFaults (E.fault_count end.old) (E.fault_count end.new)
-            (E.is_sure end.old) (E.is_sure end.new) (tried_fault result.answer) }
+        ensures most { bytes_over result.answer ≤ room }
+        ensures kind { IsReadAnswer result.answer }
+        ensures faults { FaultsWithin (E.fault_count end.old) (E.fault_count end.new)
+            (E.is_sure end.old) (E.is_sure end.new) (fault_counts result.answer) }
         ensures host { LeavesHost H.rules H.is_later H.notifier_is_sure host.old host.new }
     {
         let held = self.end - self.start;
@@ -149,7 +149,7 @@ impl Backlog {
 
 /// How many bytes went over in a try.
 pub fn count_of(answer: Poll<Result<usize, TryFault>>) -> usize
-    ensures { result ≡ tried_count answer }
+    ensures { result ≡ bytes_over answer }
 {
     match answer {
         Poll::Ready(Ok(n)) => n,
@@ -184,14 +184,14 @@ fn read_behind<H: Host, E: End<H>>(
     requires fits { held + room ≤ length buffer.old }
     ensures front { take held buffer.new ≡ slice_range buffer.old start (start + held) }
     ensures step { E.end_step end.old (Reads room w result
-        (take (tried_count result.answer) (drop held buffer.new))) end.new }
+        (take (bytes_over result.answer) (drop held buffer.new))) end.new }
     ensures told { ReadTells (E.telling end.old) (E.telling end.new)
-        (take (tried_count result.answer) (drop held buffer.new))
+        (take (bytes_over result.answer) (drop held buffer.new))
         (result.answer ≡ Pending) (result.answer ≡ Ready (Ok 0)) }
-    ensures most { tried_count result.answer ≤ room }
-    ensures kind { IsOfRead result.answer }
-    ensures faults { TryFaults (E.fault_count end.old) (E.fault_count end.new)
-        (E.is_sure end.old) (E.is_sure end.new) (tried_fault result.answer) }
+    ensures most { bytes_over result.answer ≤ room }
+    ensures kind { IsReadAnswer result.answer }
+    ensures faults { FaultsWithin (E.fault_count end.old) (E.fault_count end.new)
+        (E.is_sure end.old) (E.is_sure end.new) (fault_counts result.answer) }
     ensures host { LeavesHost H.rules H.is_later H.notifier_is_sure host.old host.new }
 {
     if start > 0 {

@@ -12,7 +12,7 @@ use aio_source::SourceCell;
 /// tells.
 pub trait End<H: Host>: Tells {
     ghost use Rattle.aio_base.specs.Connections.{ReadTells, WriteTells};
-    ghost use Rattle.aio_future.specs.Tries.{tried_count, tried_fault, TriesWithin, IsOfRead, IsOfWrite, TryFaults};
+    ghost use Rattle.aio_future.specs.Tries.{bytes_over, fault_counts, MovesWithin, IsReadAnswer, IsWriteAnswer, FaultsWithin};
     ghost use Rattle.aio_pairs.specs.Calls.{EndCall, Reads, Writes, LeavesHost};
 
     /// How a call with its answer leads from one state to the next.
@@ -23,14 +23,14 @@ pub trait End<H: Host>: Tells {
         requires { 0 < length buf.old }
         ensures host { LeavesHost H.rules H.is_later H.notifier_is_sure host.old host.new }
         ensures step { end_step self.old (Reads (length buf.old) w result
-            (take (tried_count result.answer) buf.new)) self.new }
+            (take (bytes_over result.answer) buf.new)) self.new }
         ensures told { ReadTells (Self.telling self.old) (Self.telling self.new)
-            (take (tried_count result.answer) buf.new)
+            (take (bytes_over result.answer) buf.new)
             (result.answer ≡ Pending) (result.answer ≡ Ready (Ok 0)) }
-        ensures most { tried_count result.answer ≤ length buf.new }
-        ensures kind { IsOfRead result.answer }
-        ensures faults { TryFaults (Self.fault_count self.old) (Self.fault_count self.new)
-            (Self.is_sure self.old) (Self.is_sure self.new) (tried_fault result.answer) };
+        ensures most { bytes_over result.answer ≤ length buf.new }
+        ensures kind { IsReadAnswer result.answer }
+        ensures faults { FaultsWithin (Self.fault_count self.old) (Self.fault_count self.new)
+            (Self.is_sure self.old) (Self.is_sure self.new) (fault_counts result.answer) };
 
     /// What `Async::write_with` does, by the host's ticker: the bytes written are the first of `piece`.
     fn write(&mut self, host: &mut H, piece: &[u8], w: Waker) -> Tried
@@ -38,11 +38,11 @@ pub trait End<H: Host>: Tells {
         ensures host { LeavesHost H.rules H.is_later H.notifier_is_sure host.old host.new }
         ensures step { end_step self.old (Writes piece.now w result) self.new }
         ensures told { WriteTells (Self.telling self.old) (Self.telling self.new)
-            (take (tried_count result.answer) piece.now) (result.answer ≡ Pending) }
-        ensures most { TriesWithin (length piece.now) result.answer }
-        ensures kind { IsOfWrite result.answer }
-        ensures faults { TryFaults (Self.fault_count self.old) (Self.fault_count self.new)
-            (Self.is_sure self.old) (Self.is_sure self.new) (tried_fault result.answer) };
+            (take (bytes_over result.answer) piece.now) (result.answer ≡ Pending) }
+        ensures most { MovesWithin (length piece.now) result.answer }
+        ensures kind { IsWriteAnswer result.answer }
+        ensures faults { FaultsWithin (Self.fault_count self.old) (Self.fault_count self.new)
+            (Self.is_sure self.old) (Self.is_sure self.new) (fault_counts result.answer) };
 }
 
 /// An end that owns its source, and serves any host.

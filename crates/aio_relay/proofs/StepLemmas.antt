@@ -6,7 +6,7 @@ use Rattle.std.proofs.lemmas.List.{drop-drop, length-take-le}
 use Rattle.aio_base.specs.declared.outcomes.CountFault.{CountFault}
 use Rattle.aio_base.specs.declared.outcomes.Poll.{Poll}
 use Rattle.aio_base.specs.declared.outcomes.Poll.TheVariants.{Ready, Pending}
-use Rattle.aio_future.specs.Tries.{TryFaults, TriesWithin, IsOfRead, IsOfWrite, counts_of, tried_count, tried_fault}
+use Rattle.aio_future.specs.Tries.{FaultsWithin, MovesWithin, IsReadAnswer, IsWriteAnswer, counts_in, bytes_over, fault_counts}
 use Rattle.aio_future.specs.declared.tried.TryFault.{TryFault}
 use Rattle.aio_future.specs.declared.tried.TryFault.TheVariants as try
 use Rattle.aio_pairs.specs.Backlogs.{SideState, shrunk, saturated}
@@ -29,7 +29,7 @@ answer_of n = Ready (Ok (suc n))
 
 -- a side that does not go on after a read has ended, or the read was blocked
 pub read-over : (here : Side) (side : SideState) (answer : Poll (Result ℕ TryFault)) → tries_again (after_read here side answer) ≡ false
-    → (tried_count answer ≡ 0) × ((answer ≡ Ready (Ok 0)) ⊎ (answer ≡ Pending))
+    → (bytes_over answer ≡ 0) × ((answer ≡ Ready (Ok 0)) ⊎ (answer ≡ Pending))
 read-over here side (Ready (Ok zero)) over = (refl, inl refl)
 read-over here side (Ready (Ok (suc n))) over =
     (elim (nat_le longest_line (length (unfinished side.backlog))) as (λ b. tries_again (on_more here side b) ≡ false → (suc n ≡ 0) × ((answer_of n ≡ Ready (Ok 0)) ⊎ (answer_of n ≡ Pending))) [
@@ -41,7 +41,7 @@ read-over here side (Ready (Err (try.Write f))) over = absurd (true≢false over
 read-over here side (Ready (Err (try.Arm f))) over = absurd (true≢false over)
 read-over here side Pending over = (refl, inr refl)
 
-pub write-over : (answer : Poll (Result ℕ TryFault)) → tries_again (after_write answer) ≡ false → (tried_count answer ≡ 0) × (answer ≡ Pending)
+pub write-over : (answer : Poll (Result ℕ TryFault)) → tries_again (after_write answer) ≡ false → (bytes_over answer ≡ 0) × (answer ≡ Pending)
 write-over (Ready (Ok n)) over = absurd (true≢false over)
 write-over (Ready (Err (try.Read f))) over = absurd (true≢false over)
 write-over (Ready (Err (try.Write f))) over = absurd (true≢false over)
@@ -49,11 +49,11 @@ write-over (Ready (Err (try.Arm f))) over = absurd (true≢false over)
 write-over Pending over = (refl, refl)
 
 -- the fault that ends a pair is the answer's
-pub read-failure : (here : Side) (side : SideState) (answer : Poll (Result ℕ TryFault)) → IsOfRead answer
-    → IfSome (failure_in (after_read here side answer)) (λ f. (answer ≡ Ready (Err f)) × IsOfRead (Ready (Err f)))
+pub read-failure : (here : Side) (side : SideState) (answer : Poll (Result ℕ TryFault)) → IsReadAnswer answer
+    → IfSome (failure_in (after_read here side answer)) (λ f. (answer ≡ Ready (Err f)) × IsReadAnswer (Ready (Err f)))
 read-failure here side (Ready (Ok zero)) kind = tt
 read-failure here side (Ready (Ok (suc n))) kind =
-    elim (nat_le longest_line (length (unfinished side.backlog))) as (λ b. IfSome (failure_in (on_more here side b)) (λ f. (answer_of n ≡ Ready (Err f)) × IsOfRead (Ready (Err f)))) [
+    elim (nat_le longest_line (length (unfinished side.backlog))) as (λ b. IfSome (failure_in (on_more here side b)) (λ f. (answer_of n ≡ Ready (Err f)) × IsReadAnswer (Ready (Err f)))) [
       | true ↦ tt
       | false ↦ tt
     ]
@@ -62,7 +62,7 @@ read-failure here side (Ready (Err (try.Write f))) kind = absurd kind
 read-failure here side (Ready (Err (try.Arm f))) kind = (refl, tt)
 read-failure here side Pending kind = tt
 
-pub write-failure : (answer : Poll (Result ℕ TryFault)) → IsOfWrite answer → IfSome (failure_in (after_write answer)) (λ f. (answer ≡ Ready (Err f)) × IsOfWrite (Ready (Err f)))
+pub write-failure : (answer : Poll (Result ℕ TryFault)) → IsWriteAnswer answer → IfSome (failure_in (after_write answer)) (λ f. (answer ≡ Ready (Err f)) × IsWriteAnswer (Ready (Err f)))
 write-failure (Ready (Ok n)) kind = tt
 write-failure (Ready (Err (try.Read f))) kind = absurd kind
 write-failure (Ready (Err (try.Write f))) kind = (refl, tt)
@@ -71,7 +71,7 @@ write-failure Pending kind = tt
 
 -- no line is too long after a read that did not end the pair, where none was before
 pub read-short : (here : Side) (side : SideState) (answer : Poll (Result ℕ TryFault)) → IsOk (after_read here side answer)
-    → (tried_count answer ≡ 0 → length (unfinished side.backlog) < longest_line) → length (unfinished side.backlog) < longest_line
+    → (bytes_over answer ≡ 0 → length (unfinished side.backlog) < longest_line) → length (unfinished side.backlog) < longest_line
 read-short here side (Ready (Ok zero)) ok before = before refl
 read-short here side (Ready (Ok (suc n))) ok before =
     (elim (nat_le longest_line (length (unfinished side.backlog))) as (λ b. nat_le longest_line (length (unfinished side.backlog)) ≡ b → IsOk (on_more here side b) → length (unfinished side.backlog) < longest_line) [
@@ -83,7 +83,7 @@ read-short here side Pending ok before = before refl
 
 -- ## Reasons
 
-pub rose-in : (before after : ℕ) (sure_before sure_after : Bool) (f : CountFault) → TryFaults before after sure_before sure_after (Some f) → RoseIn before after sure_after f
+pub rose-in : (before after : ℕ) (sure_before sure_after : Bool) (f : CountFault) → FaultsWithin before after sure_before sure_after (Some f) → RoseIn before after sure_after f
 rose-in before after sure_before sure_after f t = (
   t.sure ∙ false_from_ne_true sure_before (λ is. (t.cause.never is).0 refl),
   t.counts.0,
@@ -104,13 +104,13 @@ reason-on long new_long failed new_failed notified new_notified (pair.Ended to_a
 reason-on long new_long failed new_failed notified new_notified (pair.Idle last now) on_long on_failed on_notified is = is
 reason-on long new_long failed new_failed notified new_notified pair.OutOfMemory on_long on_failed on_notified is = is
 
-reason-of_failure : (long : Side → ℕ → Type 0) (failed notified : CountFault → Type 0) (f : TryFault) → failed (counts_of f) → IsReason long failed notified (pair_end_of f)
+reason-of_failure : (long : Side → ℕ → Type 0) (failed notified : CountFault → Type 0) (f : TryFault) → failed (counts_in f) → IsReason long failed notified (pair_end_of f)
 reason-of_failure long failed notified (try.Read f) is = is
 reason-of_failure long failed notified (try.Write f) is = is
 reason-of_failure long failed notified (try.Arm f) is = is
 
 pub read-reason : (here : Side) (side : SideState) (answer : Poll (Result ℕ TryFault)) (failed notified : CountFault → Type 0)
-    → IfSome (tried_fault answer) failed → IfErr (after_read here side answer) (IsReason (IsLongHere here side) failed notified)
+    → IfSome (fault_counts answer) failed → IfErr (after_read here side answer) (IsReason (IsLongHere here side) failed notified)
 read-reason here side (Ready (Ok zero)) failed notified fails = tt
 read-reason here side (Ready (Ok (suc n))) failed notified fails =
     (elim (nat_le longest_line (length (unfinished side.backlog))) as (λ b. nat_le longest_line (length (unfinished side.backlog)) ≡ b → IfErr (on_more here side b) (IsReason (IsLongHere here side) failed notified)) [
@@ -121,16 +121,16 @@ read-reason here side (Ready (Err f)) failed notified fails = reason-of_failure 
 read-reason here side Pending failed notified fails = tt
 
 pub write-reason : (long : Side → ℕ → Type 0) (answer : Poll (Result ℕ TryFault)) (failed notified : CountFault → Type 0)
-    → IfSome (tried_fault answer) failed → IfErr (after_write answer) (IsReason long failed notified)
+    → IfSome (fault_counts answer) failed → IfErr (after_write answer) (IsReason long failed notified)
 write-reason long (Ready (Ok n)) failed notified fails = tt
 write-reason long (Ready (Err f)) failed notified fails = reason-of_failure long failed notified f fails
 write-reason long Pending failed notified fails = tt
 
 -- the fault of a try, as one of two ends that failed
-pub tried-rose : (answer : Poll (Result ℕ TryFault)) (before after : ℕ) (sure_before sure_after : Bool) → TryFaults before after sure_before sure_after (tried_fault answer)
-    → IfSome (tried_fault answer) (RoseIn before after sure_after)
+pub tried-rose : (answer : Poll (Result ℕ TryFault)) (before after : ℕ) (sure_before sure_after : Bool) → FaultsWithin before after sure_before sure_after (fault_counts answer)
+    → IfSome (fault_counts answer) (RoseIn before after sure_after)
 tried-rose (Ready (Ok n)) before after sure_before sure_after t = tt
-tried-rose (Ready (Err f)) before after sure_before sure_after t = rose-in before after sure_before sure_after (counts_of f) t
+tried-rose (Ready (Err f)) before after sure_before sure_after t = rose-in before after sure_before sure_after (counts_in f) t
 tried-rose Pending before after sure_before sure_after t = tt
 
 pub some-on : (x : Option CountFault) (P Q : CountFault → Type 0) → ((f : CountFault) → P f → Q f) → IfSome x P → IfSome x Q
@@ -155,7 +155,7 @@ pub write-work : (side : SideState) (tally : Tally) (wrote : Bool) (n : ℕ) →
     → work_left (shrunk side n) (record { read = tally.read; wrote = wrote }) + n ≡ work_left side tally
 write-work side tally wrote n within = omega (arith, within, lines-length side.backlog, length-drop n side.backlog)
 
-pub tries-within : (room : ℕ) (answer : Poll (Result ℕ TryFault)) → TriesWithin room answer → tried_count answer ≤ room
+pub tries-within : (room : ℕ) (answer : Poll (Result ℕ TryFault)) → MovesWithin room answer → bytes_over answer ≤ room
 tries-within room (Ready (Ok n)) is = is.1
 tries-within room (Ready (Err f)) is = omega arith
 tries-within room Pending is = omega arith

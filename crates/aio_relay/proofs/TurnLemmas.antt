@@ -6,7 +6,7 @@ use Rattle.aio_base.specs.Connections.{Telling, WriteTells}
 use Rattle.aio_base.specs.declared.names.Waker.{Waker}
 use Rattle.aio_base.specs.declared.outcomes.CountFault.{CountFault}
 use Rattle.aio_base.specs.declared.outcomes.Poll.TheVariants.{Ready, Pending}
-use Rattle.aio_future.specs.Tries.{TryFaults, TriesWithin, IsOfRead, IsOfWrite, tried_count, tried_fault}
+use Rattle.aio_future.specs.Tries.{FaultsWithin, MovesWithin, IsReadAnswer, IsWriteAnswer, bytes_over, fault_counts}
 use Rattle.aio_future.specs.declared.tried.Tried.{Tried}
 use Rattle.aio_future.specs.declared.tried.TryFault.{TryFault}
 use Rattle.aio_pairs.specs.Backlogs.{SideState, TakesUp, shrunk}
@@ -27,10 +27,10 @@ module _ {E : Type 0} (step : E → EndCall → E → Type 0) (told : E → Tell
   -- a read, whatever the step makes of its answer
   read-goes : (from to new_from : E) (side new_side : SideState) (tally new_tally : Tally) (room : ℕ) (w : Waker) (tried : Tried) (more : Bool) (fault : Option TryFault)
       → lines side.backlog ≡ [] → side.ended ≡ false → TakesUp step told from new_from side new_side room w tried
-      → TryFaults (count from) (count new_from) (sure from) (sure new_from) (tried_fault tried.answer)
-      → new_tally ≡ record { read = tally.read + tried_count tried.answer; wrote = tally.wrote }
-      → (more ≡ false → (tried_count tried.answer ≡ 0) × ((tried.answer ≡ Ready (Ok 0)) ⊎ (tried.answer ≡ Pending)))
-      → IfSome fault (λ f. (tried.answer ≡ Ready (Err f)) × IsOfRead (Ready (Err f)))
+      → FaultsWithin (count from) (count new_from) (sure from) (sure new_from) (fault_counts tried.answer)
+      → new_tally ≡ record { read = tally.read + bytes_over tried.answer; wrote = tally.wrote }
+      → (more ≡ false → (bytes_over tried.answer ≡ 0) × ((tried.answer ≡ Ready (Ok 0)) ⊎ (tried.answer ≡ Pending)))
+      → IfSome fault (λ f. (tried.answer ≡ Ready (Err f)) × IsReadAnswer (Ready (Err f)))
       → GoesOn step told sure count from to new_from to side new_side tally new_tally more fault
   read-goes from to new_from side new_side tally new_tally room w tried more fault none not_ended taken faults counted over failed =
       subst (λ (t : Tally). GoesOn step told sure count from to new_from to side new_side tally t more fault) (sym counted)
@@ -38,8 +38,8 @@ module _ {E : Type 0} (step : E → EndCall → E → Type 0) (told : E → Tell
 
   pub read-passes : (here : Side) (from to new_from : E) (side new_side : SideState) (tally new_tally : Tally) (room : ℕ) (w : Waker) (tried : Tried) (result : Result Bool PairEnd)
       → lines side.backlog ≡ [] → side.ended ≡ false → TakesUp step told from new_from side new_side room w tried
-      → TryFaults (count from) (count new_from) (sure from) (sure new_from) (tried_fault tried.answer) → IsOfRead tried.answer
-      → new_tally ≡ record { read = tally.read + tried_count tried.answer; wrote = tally.wrote } → result ≡ after_read here new_side tried.answer
+      → FaultsWithin (count from) (count new_from) (sure from) (sure new_from) (fault_counts tried.answer) → IsReadAnswer tried.answer
+      → new_tally ≡ record { read = tally.read + bytes_over tried.answer; wrote = tally.wrote } → result ≡ after_read here new_side tried.answer
       → GoesOn step told sure count from to new_from to side new_side tally new_tally (tries_again result) (failure_in result)
   read-passes here from to new_from side new_side tally new_tally room w tried result none not_ended taken faults kind counted is =
       subst (λ (r : Result Bool PairEnd). GoesOn step told sure count from to new_from to side new_side tally new_tally (tries_again r) (failure_in r)) (sym is)
@@ -49,8 +49,8 @@ module _ {E : Type 0} (step : E → EndCall → E → Type 0) (told : E → Tell
   -- the same where the host's notifier failed behind it
   pub read-stops : (notified : CountFault → Type 0) (end : PairEnd) (from to new_from : E) (side new_side : SideState) (tally new_tally : Tally) (room : ℕ) (w : Waker) (tried : Tried)
       → lines side.backlog ≡ [] → side.ended ≡ false → TakesUp step told from new_from side new_side room w tried
-      → TryFaults (count from) (count new_from) (sure from) (sure new_from) (tried_fault tried.answer)
-      → new_tally ≡ record { read = tally.read + tried_count tried.answer; wrote = tally.wrote } → IsReason (λ side at. ⊥) (λ f. ⊥) notified end
+      → FaultsWithin (count from) (count new_from) (sure from) (sure new_from) (fault_counts tried.answer)
+      → new_tally ≡ record { read = tally.read + bytes_over tried.answer; wrote = tally.wrote } → IsReason (λ side at. ⊥) (λ f. ⊥) notified end
       → GoesOn step told sure count from to new_from to side new_side tally new_tally true (failure_in {T = Bool} (Err end))
   read-stops notified end from to new_from side new_side tally new_tally room w tried none not_ended taken faults counted is =
       read-goes from to new_from side new_side tally new_tally room w tried true (failure_in {T = Bool} (Err end)) none not_ended taken faults counted
@@ -58,16 +58,16 @@ module _ {E : Type 0} (step : E → EndCall → E → Type 0) (told : E → Tell
 
   -- a write of the lines, likewise
   write-goes : (from to new_to : E) (side new_side : SideState) (tally new_tally : Tally) (piece : List ℕ) (n : ℕ) (w : Waker) (tried : Tried) (more : Bool) (fault : Option TryFault)
-      → 0 < length (lines side.backlog) → piece ≡ lines side.backlog → n ≡ tried_count tried.answer
-      → TriesWithin (length piece) tried.answer → step to (Writes piece w tried) new_to
-      → WriteTells (told to) (told new_to) (take (tried_count tried.answer) piece) (tried.answer ≡ Pending)
-      → TryFaults (count to) (count new_to) (sure to) (sure new_to) (tried_fault tried.answer)
+      → 0 < length (lines side.backlog) → piece ≡ lines side.backlog → n ≡ bytes_over tried.answer
+      → MovesWithin (length piece) tried.answer → step to (Writes piece w tried) new_to
+      → WriteTells (told to) (told new_to) (take (bytes_over tried.answer) piece) (tried.answer ≡ Pending)
+      → FaultsWithin (count to) (count new_to) (sure to) (sure new_to) (fault_counts tried.answer)
       → new_side ≡ shrunk side n → new_tally ≡ record { read = tally.read; wrote = tally.wrote || nat_lt 0 n }
-      → (more ≡ false → (tried_count tried.answer ≡ 0) × (tried.answer ≡ Pending))
-      → IfSome fault (λ f. (tried.answer ≡ Ready (Err f)) × IsOfWrite (Ready (Err f)))
+      → (more ≡ false → (bytes_over tried.answer ≡ 0) × (tried.answer ≡ Pending))
+      → IfSome fault (λ f. (tried.answer ≡ Ready (Err f)) × IsWriteAnswer (Ready (Err f)))
       → GoesOn step told sure count from to from new_to side new_side tally new_tally more fault
   write-goes from to new_to side new_side tally new_tally piece n w tried more fault some is counted within call tells faults shrinks tallied over failed =
-      let m = tried_count tried.answer in
+      let m = bytes_over tried.answer in
       let fits : m ≤ length (lines side.backlog) = subst (λ (l : List ℕ). m ≤ length l) is (tries-within (length piece) tried.answer within) in
       let same_call = subst (λ (l : List ℕ). step to (Writes l w tried) new_to) is call in
       let same_told = subst (λ (l : List ℕ). WriteTells (told to) (told new_to) (take m l) (tried.answer ≡ Pending)) is tells in
@@ -78,10 +78,10 @@ module _ {E : Type 0} (step : E → EndCall → E → Type 0) (told : E → Tell
       (writes-go-on step told sure count from to new_to side tally w tried more fault some fits same_call same_told faults over failed))
 
   pub write-passes : (from to new_to : E) (side new_side : SideState) (tally new_tally : Tally) (piece : List ℕ) (n : ℕ) (w : Waker) (tried : Tried) (result : Result Bool PairEnd)
-      → 0 < length (lines side.backlog) → piece ≡ lines side.backlog → n ≡ tried_count tried.answer
-      → TriesWithin (length piece) tried.answer → step to (Writes piece w tried) new_to
-      → WriteTells (told to) (told new_to) (take (tried_count tried.answer) piece) (tried.answer ≡ Pending)
-      → TryFaults (count to) (count new_to) (sure to) (sure new_to) (tried_fault tried.answer) → IsOfWrite tried.answer
+      → 0 < length (lines side.backlog) → piece ≡ lines side.backlog → n ≡ bytes_over tried.answer
+      → MovesWithin (length piece) tried.answer → step to (Writes piece w tried) new_to
+      → WriteTells (told to) (told new_to) (take (bytes_over tried.answer) piece) (tried.answer ≡ Pending)
+      → FaultsWithin (count to) (count new_to) (sure to) (sure new_to) (fault_counts tried.answer) → IsWriteAnswer tried.answer
       → new_side ≡ shrunk side n → new_tally ≡ record { read = tally.read; wrote = tally.wrote || nat_lt 0 n } → result ≡ after_write tried.answer
       → GoesOn step told sure count from to from new_to side new_side tally new_tally (tries_again result) (failure_in result)
   write-passes from to new_to side new_side tally new_tally piece n w tried result some is counted within call tells faults kind shrinks tallied answers =
@@ -90,10 +90,10 @@ module _ {E : Type 0} (step : E → EndCall → E → Type 0) (told : E → Tell
       some is counted within call tells faults shrinks tallied (write-over tried.answer) (write-failure tried.answer kind))
 
   pub write-stops : (notified : CountFault → Type 0) (end : PairEnd) (from to new_to : E) (side new_side : SideState) (tally new_tally : Tally) (piece : List ℕ) (n : ℕ) (w : Waker) (tried : Tried)
-      → 0 < length (lines side.backlog) → piece ≡ lines side.backlog → n ≡ tried_count tried.answer
-      → TriesWithin (length piece) tried.answer → step to (Writes piece w tried) new_to
-      → WriteTells (told to) (told new_to) (take (tried_count tried.answer) piece) (tried.answer ≡ Pending)
-      → TryFaults (count to) (count new_to) (sure to) (sure new_to) (tried_fault tried.answer)
+      → 0 < length (lines side.backlog) → piece ≡ lines side.backlog → n ≡ bytes_over tried.answer
+      → MovesWithin (length piece) tried.answer → step to (Writes piece w tried) new_to
+      → WriteTells (told to) (told new_to) (take (bytes_over tried.answer) piece) (tried.answer ≡ Pending)
+      → FaultsWithin (count to) (count new_to) (sure to) (sure new_to) (fault_counts tried.answer)
       → new_side ≡ shrunk side n → new_tally ≡ record { read = tally.read; wrote = tally.wrote || nat_lt 0 n } → IsReason (λ side at. ⊥) (λ f. ⊥) notified end
       → GoesOn step told sure count from to from new_to side new_side tally new_tally true (failure_in {T = Bool} (Err end))
   write-stops notified end from to new_to side new_side tally new_tally piece n w tried some is counted within call tells faults shrinks tallied why =

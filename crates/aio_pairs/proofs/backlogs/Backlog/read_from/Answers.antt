@@ -1,7 +1,7 @@
 use Rattle.std.proofs.Common.{◌≡◌, ◌∙◌, ◌+◌, ◌-◌, ◌<◌, ◌≤◌, ◌++◌, ℕ, Bool, List, [], ap, sym, subst, arith, length, take, drop, slice_range}
 use Rattle.std.proofs.lemmas.Grind.{common_steps}
 use Rattle.std.proofs.lemmas.List.{take-take, take_at, length-take-le, length-drop}
-use Rattle.aio_future.specs.Tries.{tried_count}
+use Rattle.aio_future.specs.Tries.{bytes_over}
 use Rattle.aio_pairs.specs.Backlogs.{SideState, grown}
 use Rattle.aio_pairs.specs.Lines.{HasNoLineFeed, lines, unfinished, longest_line}
 use Rattle.aio_pairs.proofs.BacklogLemmas.{held-clear, read-behind}
@@ -41,7 +41,7 @@ returns-clause-reads g c =
     let there = (goal.at.returns-clause-reads g c).After-as_slice in
     let r = c.read_behind-tried in
     let held = i.end - i.start in
-    let n = tried_count r.result.answer in
+    let n = bytes_over r.result.answer in
     let held_bytes = slice_range i.buffer.items i.start i.end in
     let bytes = take n (drop held r.new.buffer) in
     let room : held + n ≤ length r.new.buffer = grind (arith, common_steps) in
