@@ -17,8 +17,7 @@ use Rattle.aio_shared.specs.Members.{Extends, IsLaterMember, MemberValue}
 use Rattle.aio_shared.specs.OneCell.{Takes, ClaimValue, with_empties}
 use Rattle.aio_shared.specs.Reacting.{BeginsNone, NotifierCounts, Reacts, Start, until}
 use Rattle.aio_park.specs.Blocking.{gained}
-use Rattle.aio_park.specs.Driving.{ComesToNothing, Drives, DrivesRound, DrivesRounds, DrivesUntilFault, FailsRound, FailsWithin, Passes, ReactsBlocked, Stops, SwapsFirst, Tries, TriesRound, TriesUntil, TriesWithoutLimit, Waits, member_did}
-use Rattle.aio_park.specs.Driving.Stops.{StopsBlocked}
+use Rattle.aio_park.specs.Driving.{ComesToNothing, Drives, DrivesRound, DrivesRounds, DrivesUntilFault, FailsRound, FailsWithin, Passes, ReactsAtOnce, ReactsBlocked, SwapsFirst, Tries, TriesRound, TriesUntil, TriesWithoutLimit, Waits, member_did}
 use Rattle.aio_park.proofs.Gaining.{Follows, gained_is, member_itself}
 
 le_same : (a b : ℕ) → b ≡ a → a ≤ b
@@ -212,20 +211,16 @@ module _ {N W : Type 0} where
       → mid ≡ member_did (word_step.SwapMask parker found) m → Extends mid.pass.view.did later.pass.view.did
       → (found ≢ 0 → IfOk r (λ mask. (mask ≡ found) × Passes W faults parkers all_sure start mid later))
       → (found ≡ 0 → IfOk r (λ mask. Waits W faults parkers all_sure start parker mask mid later))
-      → IfErr r (λ fault. Stops W faults parkers all_sure start parker fault mid later) → SwapsFirst W faults parkers all_sure start parker m later r
-  swaps_first faults parkers all_sure start parker found m mid later r is did passes waits stops = record {
+      → (found ≢ 0 → IfErr r (λ fault. ReactsAtOnce W faults parkers all_sure start mid later (Err fault)))
+      → (found ≡ 0 → IfErr r (λ fault. ReactsBlocked W faults parkers all_sure start parker mid later (Err fault))) → SwapsFirst W faults parkers all_sure start parker m later r
+  swaps_first faults parkers all_sure start parker found m mid later r is did passes waits fails_passing fails_waiting = record {
     found = found;
     did = subst (λ (x : MemberValue N). Extends x.pass.view.did later.pass.view.did) is did;
     passes = subst (λ (x : MemberValue N). found ≢ 0 → IfOk r (λ mask. (mask ≡ found) × Passes W faults parkers all_sure start x later)) is passes;
     waits = subst (λ (x : MemberValue N). found ≡ 0 → IfOk r (λ mask. Waits W faults parkers all_sure start parker mask x later)) is waits;
-    stops = subst (λ (x : MemberValue N). IfErr r (λ fault. Stops W faults parkers all_sure start parker fault x later)) is stops;
+    fails_passing = subst (λ (x : MemberValue N). found ≢ 0 → IfErr r (λ fault. ReactsAtOnce W faults parkers all_sure start x later (Err fault))) is fails_passing;
+    fails_waiting = subst (λ (x : MemberValue N). found ≡ 0 → IfErr r (λ fault. ReactsBlocked W faults parkers all_sure start parker x later (Err fault))) is fails_waiting;
   }
-
-  -- the fault of a wait is that of a turn
-  pub stops_blocked : {X : Type 0} (faults : N → ℕ) (parkers : ℕ) (all_sure : Bool) (start : Start W) (parker : ℕ) (m later : MemberValue N) (r : Result X ReactFault)
-      → IfErr r (λ fault. ReactsBlocked W faults parkers all_sure start parker m later (Err fault)) → IfErr r (λ fault. Stops W faults parkers all_sure start parker fault m later)
-  stops_blocked faults parkers all_sure start parker m later (Ok done) fails = tt
-  stops_blocked faults parkers all_sure start parker m later (Err fault) fails = StopsBlocked fails
 
   -- ## Tries of rounds without a limit
 

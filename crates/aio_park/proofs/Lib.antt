@@ -4,3 +4,4 @@ pub mod Keeping
 pub mod Looking
 pub mod Asking
 pub mod Polling
+pub mod Turning

@@ -79,19 +79,24 @@ mask_list mask = if mask == 0 then [] else mask ∷ []
 abbrev pub GainsOneAtMost : ℕ → SeatView → SeatView → Type 0
 GainsOneAtMost parker old new = (mask : ℕ) × Gains parker old new (mask_list mask)
 
-module _ {N T O : Type 0} (step : T → InsideValue N → Cx → Poll O → T → InsideValue N → Type 0) (parker : ℕ) (clock : Clocked) where
-  -- One poll of a task with this mask. It is told the parker and a moment that the clock answered in the call, and answers this.
-  pub record PollsWith (mask : ℕ) (old : T) (host : InsideValue N) (answer : Poll O) (new : T) (left : InsideValue N) : Type 0 where
-    pub cx : Cx
-    pub told : PollsAtNow parker clock cx
-    pub mask_is : cx.mask ≡ mask
-    pub polled : step old host cx answer new left
+-- One poll of a task with this mask. It is told the parker and a moment that the clock answered in the call, and answers this.
+pub record PollsWith {N T O : Type 0} (step : T → InsideValue N → Cx → Poll O → T → InsideValue N → Type 0) (parker : ℕ) (clock : Clocked)
+    (mask : ℕ) (old : T) (host : InsideValue N) (answer : Poll O) (new : T) (left : InsideValue N) : Type 0 where
+  pub cx : Cx
+  pub told : PollsAtNow parker clock cx
+  pub mask_is : cx.mask ≡ mask
+  pub polled : step old host cx answer new left
 
-  -- One poll with this mask that answers Pending, after which the member itself takes exactly one mask, the next one.
+-- `turns` says what the thread does between two polls: from the member as the one poll left it to the member as the next one finds it, with the mask that
+-- this one has, or with the fault that ends the call.
+module _ {N T O : Type 0} (step : T → InsideValue N → Cx → Poll O → T → InsideValue N → Type 0)
+    (turns : Clocked → MemberValue N → MemberValue N → Result ℕ ReactFault → Type 0) (parker : ℕ) (clock : Clocked) where
+  -- One poll with this mask that answers Pending, after which the thread turns until the member itself took exactly one mask, the next one.
   pub record PollsAndTakes (mask : ℕ) (old : T) (host : InsideValue N) (next : ℕ) (new : T) (later : InsideValue N) : Type 0 where
     pub left : InsideValue N
-    pub polls : PollsWith mask old host Pending new left
+    pub polls : PollsWith step parker clock mask old host Pending new left
     pub takes : Gains parker left.member.pass.view later.member.pass.view (next ∷ [])
+    pub turned : turns clock left.member later.member (Ok next)
 
   -- So many of these, one after the other, the first with a mask of all ones; and the mask that is left for the next poll.
   abbrev pub PollsInTurn : ℕ → T → InsideValue N → ℕ → T → InsideValue N → Type 0
@@ -100,13 +105,14 @@ module _ {N T O : Type 0} (step : T → InsideValue N → Cx → Poll O → T �
       × PollsInTurn polls old host before task by × PollsAndTakes before task by mask new later
 
   -- The polls of a call, by its answer. The first one has a mask of all ones. Between two polls the member's own swaps took exactly one mask that is not
-  -- 0, and the next poll has it; so none that was taken is let go. The last poll answered the output; or, at a fault, it was Pending, and the member's own
-  -- swaps after it took one mask at most.
+  -- 0, and the next poll has it; so none that was taken is let go. The last poll answered the output; or, at a fault, it was Pending, the member's own
+  -- swaps after it took one mask at most, and the fault is that of the thread's turns since.
   abbrev pub PolledUntil : T → InsideValue N → Result O ReactFault → T → InsideValue N → Type 0
   PolledUntil old host (Ok output) new later = (polls mask : ℕ) × (task : T) × (by : InsideValue N)
-      × PollsInTurn polls old host mask task by × PollsWith mask task by (Ready output) new later
+      × PollsInTurn polls old host mask task by × PollsWith step parker clock mask task by (Ready output) new later
   PolledUntil old host (Err fault) new later = (polls mask : ℕ) × (task : T) × (by left : InsideValue N) × PollsInTurn polls old host mask task by
-      × PollsWith mask task by Pending new left × GainsOneAtMost parker left.member.pass.view later.member.pass.view
+      × PollsWith step parker clock mask task by Pending new left × GainsOneAtMost parker left.member.pass.view later.member.pass.view
+      × turns clock left.member later.member (Err fault)
 
 module _ {N : Type 0} (faults : N → ℕ) (is_sure : N → Bool) where
   -- Why a call stops with a fault: a wait or an arm may fail in this reactor, and its count rose between the two that are told; the member's notifier, which

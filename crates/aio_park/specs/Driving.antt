@@ -10,10 +10,10 @@ use Rattle.aio_shared.specs.declared.reacting.ReactedIn.{ReactedIn}
 use Rattle.aio_shared.specs.declared.reacting.ReactFault.{ReactFault}
 use Rattle.aio_shared.specs.declared.reacting.ReactFault.TheVariants as react_fault
 use Rattle.aio_shared.specs.Cells.{CellValue, WaitTells}
-use Rattle.aio_shared.specs.Members.{Extends, MemberValue}
+use Rattle.aio_shared.specs.Members.{Extends, MemberValue, SharedValue}
 use Rattle.aio_shared.specs.OneCell.{FindsNone, Takes, TakesCell}
 use Rattle.aio_shared.specs.Reacting.{BeginsNone, NotifierCounts, Reacts, Start}
-use Rattle.aio_park.specs.Blocking.{Gains}
+use Rattle.aio_park.specs.Blocking.{Clocked, Gains}
 use Rattle.aio_park.specs.Looks.{BlocksWhile}
 
 -- A seat took no mask, of no parker.
@@ -181,16 +181,32 @@ module _ {N : Type 0} (W : Type 0) (faults : N → ℕ) where
     WaitsInRounds : (gave : MemberValue N) → ReactsBlocked parkers all_sure start parker m gave (Ok tt) → later ≡ member_did (word_step.SwapMask parker mask) gave
         → Waits parkers all_sure start parker mask m later
 
-  -- The fault of a turn is that of the member's last try of a round.
-  pub data Stops (parkers : ℕ) (all_sure : Bool) (start : Start W) (parker : ℕ) (fault : ReactFault) (m later : MemberValue N) : Type 0 where
-    StopsAtOnce : ReactsAtOnce parkers all_sure start m later (Err fault) → Stops parkers all_sure start parker fault m later
-    StopsBlocked : ReactsBlocked parkers all_sure start parker m later (Err fault) → Stops parkers all_sure start parker fault m later
-
   -- A turn of a member swapped its parker's mask first. Where that found woken slots, the turn answers just these, and the member passed a round; where it
-  -- found none, the member waited for some.
+  -- found none, the member waited for some. The fault of a turn is that of the last try of a round that it made so.
   pub record SwapsFirst (parkers : ℕ) (all_sure : Bool) (start : Start W) (parker : ℕ) (m later : MemberValue N) (answer : Result ℕ ReactFault) : Type 0 where
     pub found : ℕ
     pub did : Extends (m.pass.view.did ++ word_step.SwapMask parker found ∷ []) later.pass.view.did
     pub passes : found ≢ 0 → IfOk answer (λ mask. (mask ≡ found) × Passes parkers all_sure start (member_did (word_step.SwapMask parker found) m) later)
     pub waits : found ≡ 0 → IfOk answer (λ mask. Waits parkers all_sure start parker mask (member_did (word_step.SwapMask parker found) m) later)
-    pub stops : IfErr answer (λ fault. Stops parkers all_sure start parker fault (member_did (word_step.SwapMask parker found) m) later)
+    pub fails_passing : found ≢ 0
+        → IfErr answer (λ fault. ReactsAtOnce parkers all_sure start (member_did (word_step.SwapMask parker found) m) later (Err fault))
+    pub fails_waiting : found ≡ 0
+        → IfErr answer (λ fault. ReactsBlocked parkers all_sure start parker (member_did (word_step.SwapMask parker found) m) later (Err fault))
+
+  -- So many turns of a member, one after the other, none of which took woken slots.
+  abbrev pub TurnsInVain : ℕ → Bool → Start W → ℕ → ℕ → MemberValue N → MemberValue N → Type 0
+  TurnsInVain parkers all_sure start parker zero m later = later ≡ m
+  TurnsInVain parkers all_sure start parker (suc turns) m later = (by : MemberValue N)
+      × TurnsInVain parkers all_sure start parker turns m by × SwapsFirst parkers all_sure start parker by later (Ok 0)
+
+  -- The turns of a member between two polls of its task: some in vain, and then one that answers this, the slots that it took or its fault.
+  pub record TakesTurns (parkers : ℕ) (all_sure : Bool) (start : Start W) (parker : ℕ) (m later : MemberValue N) (answer : Result ℕ ReactFault) : Type 0 where
+    pub turns : ℕ
+    pub by : MemberValue N
+    pub in_vain : TurnsInVain parkers all_sure start parker turns m by
+    pub last : SwapsFirst parkers all_sure start parker by later answer
+
+  -- the same of rounds over this clock
+  abbrev pub TurnsOver : WaitTells W → SharedValue → ℕ → Clocked → MemberValue N → MemberValue N → Result ℕ ReactFault → Type 0
+  TurnsOver step shared parker clock = TakesTurns shared.words.parkers shared.sure_of_arms
+      (record { given = None; bounds = clock.bounds; earliest = clock.before; latest = clock.after; step = step }) parker

@@ -38,17 +38,17 @@ ends_of_sleep Pending = Pending
 ends_of_sleep (Ready (Ok fired)) = Ready (Ok None)
 ends_of_sleep (Ready (Err fault)) = Ready (Err (Timer fault))
 
-module _ {O S : Type 0} (sleeps : Poll (Result ℕ TimerFault) → S → S → Type 0) where
-  -- how a poll goes on after the try of the operation: with what that came to, and then the timer is left alone; or, where it was pending, with what a
-  -- poll of the timer answers
-  abbrev pub GoesOnAfter : Poll (Result O PollFault) → S → S → Poll (Result (Option O) UntilFault) → Type 0
-  GoesOnAfter (Ready tried) sleep left answer = (answer ≡ Ready (ends_of_try tried)) × (left ≡ sleep)
-  GoesOnAfter Pending sleep left answer = (slept : Poll (Result ℕ TimerFault)) × sleeps slept sleep left × (answer ≡ ends_of_sleep slept)
+module _ {O S H : Type 0} (sleeps : Poll (Result ℕ TimerFault) → S → S → H → H → Type 0) where
+  -- how a poll goes on after the try of the operation: with what that came to, and then the timer and the host are left alone; or, where it was pending,
+  -- with what a poll of the timer answers and makes of the host
+  abbrev pub GoesOnAfter : Poll (Result O PollFault) → S → S → H → H → Poll (Result (Option O) UntilFault) → Type 0
+  GoesOnAfter (Ready tried) sleep sleep_left host left answer = (answer ≡ Ready (ends_of_try tried)) × (sleep_left ≡ sleep) × (left ≡ host)
+  GoesOnAfter Pending sleep sleep_left host left answer = (slept : Poll (Result ℕ TimerFault)) × sleeps slept sleep sleep_left host left × (answer ≡ ends_of_sleep slept)
 
   -- One poll of such a task: one try of the operation, as `tries` says it of the source and the host, and what came after it.
-  pub record TriesThenSleeps {K H : Type 0} (tries : Poll (Result O PollFault) → K → K → H → H → Type 0)
-      (source source_left : K) (host : H) (sleep left : S) (answer : Poll (Result (Option O) UntilFault)) : Type 0 where
+  pub record TriesThenSleeps {K : Type 0} (tries : Poll (Result O PollFault) → K → K → H → H → Type 0)
+      (source source_left : K) (host left : H) (sleep sleep_left : S) (answer : Poll (Result (Option O) UntilFault)) : Type 0 where
     pub tried : Poll (Result O PollFault)
     pub between : H
     pub first : tries tried source source_left host between
-    pub then : GoesOnAfter tried sleep left answer
+    pub then : GoesOnAfter tried sleep sleep_left between left answer

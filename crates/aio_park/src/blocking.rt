@@ -10,7 +10,7 @@ ghost use Rattle.aio_shared.specs.OneCell.{IsCellOf};
 ghost use Rattle.aio_shared.specs.Reacting.{until};
 ghost use Rattle.aio_words.specs.Seats.{Blocks};
 ghost use Rattle.aio_park.specs.Blocking.{Gains, GainsOneAtMost, HasFaultCause, IsPast, KeepsThread, PolledUntil, gained, mask_list, taken_of};
-ghost use Rattle.aio_park.specs.Driving.{GainsNone, ParksFor, Passes, ReactsAtOnce, ReactsBlocked, SwapsFirst, TriesUntil, Waits, member_did, start_of};
+ghost use Rattle.aio_park.specs.Driving.{GainsNone, ParksFor, Passes, ReactsAtOnce, ReactsBlocked, SwapsFirst, TakesTurns, TriesUntil, TurnsOver, Waits, member_did, start_of};
 ghost use Rattle.aio_park.specs.Looks.{BlocksWhile, HasSeenWoken, WaitsAfterLooks};
 ghost use Rattle.aio_park.specs.Polls.{Polled};
 
@@ -26,7 +26,9 @@ use std::sync::Wait;
 /// poll.
 ///
 /// Between two polls the thread takes exactly one mask that is not 0, and the next poll has it
-/// (`polled`): no woken slots that it took are let go. At a fault it took one mask at most.
+/// (`polled`): no woken slots that it took are let go. It does so in turns, each of which swaps the
+/// mask first, and then makes rounds or parks. At a fault it took one mask at most since the last
+/// poll, and the fault is the one that the last round of its last turn told.
 ///
 /// An output is one that the task allows at each moment past which the clock answers none
 /// (`output`): at 10^18 nanoseconds (`past_end`), and at the greatest moment that the clock tells
@@ -61,7 +63,8 @@ pub fn block_on<
     ensures output { IfOk result (λ output.
         (moment : ℕ) → IsPast (C.bounds clock.old) moment
         → T.gives task.old (N.is_sure host.old.member.notifier) moment output) }
-    ensures polled { PolledUntil T.poll_step parker
+    ensures polled { PolledUntil T.poll_step
+        (TurnsOver W N.fault_count W.wait_step host.old.shared parker) parker
         (record {
           bounds = C.bounds clock.old;
           before = C.latest clock.old;
@@ -89,7 +92,7 @@ pub fn block_on<
             Poll::Pending => {}
         }
         match next_mask(host, parker, clock) {
-            Err(fault) => return Err(fault),
+            Err(stop) => return Err(stop),
             Ok(found) => mask = found,
         }
     }
@@ -132,6 +135,10 @@ fn next_mask<R: Wait + Copy, N: Notify, C: Clock, A: Arm, W: EventWait>(
         Gains parker host.old.member.pass.view host.new.member.pass.view (mask ∷ [])) }
     ensures most { OnErr result
         (GainsOneAtMost parker host.old.member.pass.view host.new.member.pass.view) }
+    ensures turns { TakesTurns W N.fault_count host.old.shared.words.parkers
+        host.old.shared.sure_of_arms
+        (until (C.latest clock.new) (start_of C.bounds C.latest W.wait_step clock.old))
+        parker host.old.member host.new.member result }
     ensures shared { host.new.shared ≡ host.old.shared }
     ensures keeps { KeepsThread N.fault_count N.is_sure N.call_count C.bounds C.latest
         host.old.shared host.old.member host.new.member clock.old clock.new result }
@@ -151,6 +158,9 @@ fn next_mask_of<R: Wait, N: Notify, C: Clock, A: Arm, W: EventWait>(
     requires parker { parker < shared.now.words.parkers }
     ensures took { IfOk result (λ mask. Gains parker m.old.pass.view m.new.pass.view (mask ∷ [])) }
     ensures most { OnErr result (GainsOneAtMost parker m.old.pass.view m.new.pass.view) }
+    ensures turns { TakesTurns W N.fault_count shared.now.words.parkers shared.now.sure_of_arms
+        (until (C.latest clock.new) (start_of C.bounds C.latest W.wait_step clock.old))
+        parker m.old m.new result }
     ensures keeps { KeepsThread N.fault_count N.is_sure N.call_count C.bounds C.latest
         shared.now m.old m.new clock.old clock.new result }
 {

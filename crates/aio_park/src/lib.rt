@@ -3,9 +3,9 @@
 //!
 //! It stands on the reactor of `aio_shared` and the words of `aio_words`, through the member of one
 //! thread. It promises that an output is one that the task allows, that each poll after the first
-//! has the mask that a swap by the member took, why each fault comes, and that the round cell is
-//! with the member exactly where it was before; and that a group polls just the unfinished slots of
-//! the mask.
+//! has the mask that a swap by the member took, what the thread does in between, that a fault is the
+//! one that a round told, and that the round cell is with the member exactly where it was before;
+//! and that a group polls just the unfinished slots of the mask.
 #![tactic(auto)]
 
 mod blocking;

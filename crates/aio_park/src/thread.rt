@@ -9,6 +9,7 @@ ghost use Rattle.aio_shared.specs.Members.{IsNewMember, with_one_more_made};
 ghost use Rattle.aio_shared.specs.Reacting.{IsFaultWithin, Wakes};
 ghost use Rattle.aio_shared.specs.Starting.{IsFirstMember, IsNewReactor};
 ghost use Rattle.aio_park.specs.Blocking.{HasFaultCause, IsPast, PolledUntil, gained, taken_of};
+ghost use Rattle.aio_park.specs.Driving.{TurnsOver};
 
 use crate::blocking::block_on;
 use crate::rounds::BlockFault;
@@ -122,7 +123,9 @@ impl<R: Wait + Copy, N: Notify, A: Arm, W: EventWait, C: Clock> Thread<R, N, A, 
         ensures output { IfOk result (λ output.
             (moment : ℕ) → IsPast (C.bounds self.old.clock) moment
             → T.gives task.old (N.is_sure self.old.host.member.notifier) moment output) }
-        ensures polled { PolledUntil T.poll_step self.old.parker
+        ensures polled { PolledUntil T.poll_step
+            (TurnsOver W N.fault_count W.wait_step self.old.host.shared self.old.parker)
+            self.old.parker
             (record {
               bounds = C.bounds self.old.clock;
               before = C.latest self.old.clock;

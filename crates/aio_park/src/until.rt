@@ -58,7 +58,6 @@ impl<R: Wait, N: Notify, A: Arm, W: EventWait, T: Attempt<A> + Copy + Drop> Task
     ghost use Rattle.aio_base.specs.Devices.{raised};
     ghost use Rattle.aio_base.specs.Tasks.{own_waker};
     ghost use Rattle.aio_base.specs.declared.names.Waker.{Waker};
-    ghost use Rattle.aio_future.specs.Sleeping.{WaitsOn};
     ghost use Rattle.aio_shared.specs.Polling.{WorksOn};
     ghost use Rattle.aio_sources.specs.Visits.{TriesCell};
     ghost use Rattle.aio_park.specs.Until.{EndsBy, TriesThenSleeps, ends_later};
@@ -70,14 +69,15 @@ impl<R: Wait, N: Notify, A: Arm, W: EventWait, T: Attempt<A> + Copy + Drop> Task
 
     ghost poll_step = { λ old host cx answer new left. (new.polls ≡ raised old.polls)
         × TriesThenSleeps
-        (λ slept sleep after. WaitsOn sleep.timer.deadline cx.now slept after.timer.deadline)
+        (λ slept sleep after host_old host_left. ⟦<Sleep as Task<Inside<R, N, A, W>>>⟧.poll_step
+        sleep host_old cx slept after host_left)
         (λ tried token token_left host_old between. (waker : Waker)
         × (waker.0 ≡ own_waker cx.parker cx.mask)
         × WorksOn N.call_count N.notify_step A.rest
         (TriesCell A.arm_step A.interests A.rest A.fault_count A.is_sure T.attempts)
         (record { attempt = old.attempt; poll = record { dir = old.dir; waker = waker } })
         token token_left host_old between tried)
-        old.source new.source host old.sleep new.sleep answer };
+        old.source new.source host left old.sleep new.sleep answer };
 
     ghost poll_count = { λ t. t.polls };
 

@@ -2,9 +2,8 @@ use Rattle.std.proofs.Common.{refl}
 use Rattle.aio_park.specs.Blocking.{mask_list}
 use Rattle.aio_shared.specs.Reacting.{until}
 use Rattle.aio_park.specs.Driving.{start_of}
-use Rattle.aio_park.specs.Driving.Stops.{StopsAtOnce}
 use Rattle.aio_park.proofs.Gaining.{gains_before, gains_most, gains_where}
-use Rattle.aio_park.proofs.Holding.{stops_blocked, swaps_first}
+use Rattle.aio_park.proofs.Holding.{swaps_first}
 use Rattle.aio_park.proofs.Keeping.{called_swap, keeps_as, keeps_member, keeps_then}
 use Rattle.aio_park.proofs.blocking.turn.Goals as goal
 
@@ -40,14 +39,14 @@ returns-in-Err-clause-most g c = (
 pub returns-then-mask-eq0-clause-swaps : goal.returns-then-mask-eq0-clause-swaps
 returns-then-mask-eq0-clause-swaps g c =
     swaps_first g.N.Faults.fault_count c.args.shared.now.words.parkers c.args.shared.now.sure_of_arms (until (g.C.Clock.latest c.wait_for_slots.new.clock) (start_of g.C.Clock.bounds g.C.Clock.latest g.W.EventWait.wait_step c.args.clock.now)) c.args.parker c.take-mask.result c.args.m.now c.take-mask.new.m c.wait_for_slots.new.m c.wait_for_slots.result
-    c.take-mask.ensures.swapped c.wait_for_slots.ensures.keeps.later.did (λ some. absurd (some c.if-mask-eq0.true)) (λ none. c.wait_for_slots.ensures.waits) (stops_blocked _ _ _ _ _ _ _ c.wait_for_slots.result c.wait_for_slots.ensures.fails)
+    c.take-mask.ensures.swapped c.wait_for_slots.ensures.keeps.later.did (λ some. absurd (some c.if-mask-eq0.true)) (λ none. c.wait_for_slots.ensures.waits) (λ some. absurd (some c.if-mask-eq0.true)) (λ none. c.wait_for_slots.ensures.fails)
 
 pub returns-in-Err-clause-swaps : goal.returns-in-Err-clause-swaps
 returns-in-Err-clause-swaps g c =
     swaps_first g.N.Faults.fault_count c.args.shared.now.words.parkers c.args.shared.now.sure_of_arms (until (g.C.Clock.latest c.react_in_passing.new.clock) (start_of g.C.Clock.bounds g.C.Clock.latest g.W.EventWait.wait_step c.args.clock.now)) c.args.parker c.take-mask.result c.args.m.now c.take-mask.new.m c.react_in_passing.new.m _
-    c.take-mask.ensures.swapped c.in-Err.ensures.keeps.later.did (λ some. tt) (λ none. tt) (StopsAtOnce c.in-Err.ensures.fails)
+    c.take-mask.ensures.swapped c.in-Err.ensures.keeps.later.did (λ some. tt) (λ none. tt) (λ some. c.in-Err.ensures.fails) (λ none. absurd (c.if-mask-eq0.false none))
 
 pub returns-in-Ok-clause-swaps : goal.returns-in-Ok-clause-swaps
 returns-in-Ok-clause-swaps g c =
     swaps_first g.N.Faults.fault_count c.args.shared.now.words.parkers c.args.shared.now.sure_of_arms (until (g.C.Clock.latest c.react_in_passing.new.clock) (start_of g.C.Clock.bounds g.C.Clock.latest g.W.EventWait.wait_step c.args.clock.now)) c.args.parker c.take-mask.result c.args.m.now c.take-mask.new.m c.react_in_passing.new.m _
-    c.take-mask.ensures.swapped c.in-Ok.ensures.keeps.later.did (λ some. (refl, c.in-Ok.ensures.passes)) (λ none. absurd (c.if-mask-eq0.false none)) tt
+    c.take-mask.ensures.swapped c.in-Ok.ensures.keeps.later.did (λ some. (refl, c.in-Ok.ensures.passes)) (λ none. absurd (c.if-mask-eq0.false none)) (λ some. tt) (λ none. tt)
