@@ -14,8 +14,8 @@ use Rattle.aio_base.specs.Machine.{Outcome}
 use Rattle.aio_base.specs.Refusals.{is_refusal}
 use Rattle.aio_base.specs.Script.{outcomes_from, script_step, world_after}
 use Rattle.aio_base.specs.World.{World, opening}
-use Rattle.aio_trace.specs.Generating.{StepsLeft, steps_left}
-use Rattle.aio_trace.proofs.Ranges.{all_spelled, in_range}
+use Rattle.aio_generator.specs.Generating.{StepsLeft, steps_left}
+use Rattle.aio_generator.proofs.Ranges.{all_spelled, in_range}
 use Rattle.aio_replay.specs.declared.counts.Summary.{Summary}
 use Rattle.aio_replay.specs.declared.replayer.Replayer.{Replayer}
 use Rattle.aio_replay.specs.Replaying.{IsWithin, Replays, StandsFor}

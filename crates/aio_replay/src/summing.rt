@@ -7,7 +7,7 @@ ghost use Rattle.aio_replay.specs.Summing.{counts_told};
 use crate::counts::Summary;
 use crate::replayer::Replayer;
 use aio_base::OutOfMemory;
-use aio_trace::gen_steps;
+use aio_generator::gen_steps;
 use std::alloc::Global;
 
 /// Runs the first `n` steps that the seed gives, on a core over the poller in memory as `replay` runs

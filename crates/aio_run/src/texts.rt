@@ -14,8 +14,9 @@ ghost use Rattle.aio_run.specs.Texts.{Buffers};
 
 use aio_base::Step;
 use aio_bytes::{BLOCK, Sink, SinkRefusal, flush, write_all};
+use aio_generator::gen_steps;
 use aio_replay::{Summary, summary};
-use aio_trace::{gen_steps, write_line};
+use aio_trace::write_line;
 use itoa::Buffer;
 use std::alloc::{AllocError, Global};
 

@@ -1,10 +1,8 @@
 pub mod Bodies
-pub mod Generations
 pub mod LineLaws
 pub mod LineNumbers
 pub mod LineWords
 pub mod Printed
-pub mod Ranges
 pub mod ReadBack
 pub mod Telling
 pub mod WrittenLines

@@ -1,3 +1,2 @@
-pub mod Generating
 pub mod Reading
 pub mod Writing

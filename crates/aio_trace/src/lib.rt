@@ -1,16 +1,13 @@
 //! The language of traces in writing: which step a line reads as and what is wrong with a line that
-//! reads as none, the line of each step and of each answer, and the steps of a trace that a number
-//! describes.
+//! reads as none, and the line of each step and of each answer.
 //!
-//! It stands on `aio_base`, whose `specs/Lines.antt` says what a line reads as, by its words, and
-//! `specs/Generated.antt` which steps a seed gives. It promises both ways: a line reads as a step
-//! exactly where that definition says so and otherwise has the fault that it names, and a step that
-//! is written reads as itself and as no other.
+//! It stands on `aio_base`, whose `specs/Lines.antt` says what a line reads as, by its words. It
+//! promises both ways: a line reads as a step exactly where that definition says so and otherwise has
+//! the fault that it names, and a step that is written reads as itself and as no other.
 #![tactic(auto)]
 
 mod answer_lines;
 mod common;
-mod generating;
 pub mod laws;
 mod reading;
 mod step_lines;
@@ -18,6 +15,5 @@ mod words;
 mod writing;
 
 pub use aio_base::LineFault;
-pub use generating::{Steps, gen_steps};
 pub use reading::{is_header, read_line};
 pub use writing::{write_answer, write_line, write_reply};

@@ -1,7 +1,7 @@
 use Rattle.std.proofs.Common.{sym, ◌∙◌, ap, arith}
 use Rattle.aio_replay.proofs.SummaryCounts.{next_in_range, sums_all, sums_few, sums_none, sums_one, sums_within, wakes_few}
 use Rattle.aio_replay.proofs.summing.summary.Goals as goal
-use Rattle.aio_trace.specs.Generating.{steps_left}
+use Rattle.aio_generator.specs.Generating.{steps_left}
 
 pub loop-step-init : goal.loop-step-init
 loop-step-init c =

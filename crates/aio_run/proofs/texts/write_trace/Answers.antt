@@ -1,5 +1,5 @@
 use Rattle.std.proofs.Common.{sym, ap, ◌∙◌}
-use Rattle.aio_trace.specs.Generating.{steps_left}
+use Rattle.aio_generator.specs.Generating.{steps_left}
 use Rattle.aio_run.proofs.TraceTexts.{next_in_range, tells_done, tells_none, tells_on, traces_all, traces_none, traces_one, traces_part}
 use Rattle.aio_run.proofs.texts.write_trace.Goals as goal
 

@@ -1,7 +1,7 @@
 use Rattle.std.proofs.Common.{◌≡◌, ◌∷◌, ap, sym, ◌∙◌}
-use Rattle.aio_trace.specs.Generating.{steps_left}
-use Rattle.aio_trace.proofs.Generations.{one_given, fewer_left}
-use Rattle.aio_trace.proofs.generating.StepsIterator.next.Goals as goal
+use Rattle.aio_generator.specs.Generating.{steps_left}
+use Rattle.aio_generator.proofs.Generations.{one_given, fewer_left}
+use Rattle.aio_generator.proofs.generating.StepsIterator.next.Goals as goal
 
 one_step : (c : goal.After-generated) → steps_left c.args.self.now ≡ c.generated.result ∷ steps_left c.generated.new.self
 one_step c =

@@ -3,10 +3,9 @@
 ghost use Rattle.std.specs.Prelude.{◌≡◌, ◌+◌, ◌%◌, ◌^◌, ◌<◌, ◌≤◌};
 ghost use Rattle.std.specs.Iterator.{YieldsFirst, item_count};
 ghost use Rattle.aio_base.specs.Generated.{after_draws, dir_drawn, draw, drawn, generated_by, generated_of, generated_steps, interest_drawn, listener_drawn, next_state, timer_drawn};
-ghost use Rattle.aio_trace.specs.Generating.{LeavesRoom, StepsLeft, steps_left};
+ghost use Rattle.aio_generator.specs.Generating.{LeavesRoom, StepsLeft, steps_left};
 
-use crate::reading::moment_at;
-use aio_base::{Dir, Draws, Event, Interest, Key, Step, Waker};
+use aio_base::{Dir, Draws, Event, Interest, Key, Moment, Step, Waker};
 use std::marker::Model;
 
 /// The steps that a seed gives, one after the other. Seen by contracts as how many are left, and
@@ -182,5 +181,16 @@ impl Steps {
         ensures after { self.new.generator ≡ after_draws 1 self.old.generator }
     {
         1 + self.draws.draw() % (1 + self.timers)
+    }
+}
+
+/// The moment of so many nanoseconds.
+fn moment_at(nanoseconds: u64) -> Moment
+    requires { nanoseconds ≤ 10 ^ 18 }
+    ensures { result ≡ nanoseconds }
+{
+    match Moment::new(nanoseconds) {
+        Some(moment) => moment,
+        None => unreachable!(),
     }
 }

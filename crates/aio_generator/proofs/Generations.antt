@@ -2,7 +2,7 @@
 use Rattle.std.proofs.Common.{◌≡◌, ℕ, zero, suc, ◌-◌, ◌<◌, ◌%◌, ◌∷◌, length, refl, sym, ap, ◌∙◌, arith}
 use Rattle.aio_base.specs.declared.steps.Step.{Step}
 use Rattle.aio_base.specs.Generated.{Generator, Generated, drawn, generated_of, next_state, steps_from}
-use Rattle.aio_trace.specs.Generating.{StepsLeft, steps_left}
+use Rattle.aio_generator.specs.Generating.{StepsLeft, steps_left}
 
 abbrev generated_next : ℕ → Generator → ℕ → Generated
 generated_next kind g state = generated_of (kind % 16) (record g { state = state })
