@@ -1,0 +1,31 @@
+//! The devices of a reactor over the kit's `mio`: connections over TCP streams, the half of a poller that
+//! waits, its notifiers, a listening port and the machine's clock.
+//!
+//! It stands on `aio_base`, whose traits it meets, and on `mio`. Here the system's answers come in: the
+//! devices tell no bytes and no interests, and are never sure. What is proved of them is that each call is
+//! safe and meets its trait, that a fault is told only where the count of faults rose, and what is made of
+//! an event once the system has given it. What the system does is not.
+//!
+//! A connection asks the system for nothing where it is known that nothing would go over, and a notifier
+//! calls it only while a wait may be inside it; `readiness` and `wakes` say why no event and no notify is
+//! lost by that.
+#![tactic(auto)]
+
+mod answers;
+mod clock;
+mod connections;
+mod names;
+mod notify;
+mod parts;
+mod ports;
+mod readiness;
+mod selector;
+mod waits;
+mod wakes;
+
+pub use clock::RealClock;
+pub use connections::MioConn;
+pub use notify::MioNotify;
+pub use parts::{MioRefusal, mio_parts};
+pub use ports::MioPort;
+pub use waits::MioWait;

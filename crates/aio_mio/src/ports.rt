@@ -1,0 +1,153 @@
+//! A port of this machine.
+
+ghost use Rattle.std.specs.Prelude.{◌≡◌, ◌≢◌, false, IfOk};
+
+use crate::answers::counted;
+use crate::connections::MioConn;
+use crate::selector::Selector;
+use aio_base::{Failed, Faults, OutOfMemory, Port};
+use mio::net::TcpListener;
+use mio::{Events, Interest, Poll, Token};
+use std::alloc::Global;
+use std::io::{self, ErrorKind};
+use std::net::{Ipv4Addr, Net, SocketAddr};
+use std::sync::{Arc, Wait};
+
+/// How many turns an accept takes at most.
+const TURNS: u32 = 1_000_000;
+
+/// The one listener is all that the poll of a port watches.
+const EVENTS: usize = 1;
+
+/// What listens on 127.0.0.1 and accepts connections (`async-io` 2, `lib.rs`, `Async<TcpListener>`). It
+/// tells neither what it will hand out nor a port of its own, and is never sure.
+///
+/// Its listener has a poll of its own, so that an accept can wait while nothing else is waited for. What it
+/// accepts sends small pieces without delay.
+#[derive(Drop)]
+pub struct MioPort<R: Net + Copy> {
+    rt: R,
+    poll: Poll,
+    events: Events,
+    listener: Option<TcpListener>,
+    selector: Arc<Selector, Global>,
+    faults: u64,
+}
+
+impl<R: Net + Copy> MioPort<R> {
+    /// A port that is not bound. `OutOfMemory` where memory ran out.
+    pub(crate) fn new(
+        alloc: Global,
+        rt: R,
+        poll: Poll,
+        selector: Arc<Selector, Global>,
+    ) -> Result<MioPort<R>, OutOfMemory>
+        ensures { IfOk result (λ port. port.faults ≡ 0) }
+    {
+        let Ok(events) = Events::with_capacity(alloc, EVENTS) else {
+            return Err(OutOfMemory);
+        };
+        Ok(MioPort {
+            rt,
+            poll,
+            events,
+            listener: None,
+            selector,
+            faults: 0,
+        })
+    }
+
+    /// Listens, in place of what listened before. The port in use: the asked one where that is not 0.
+    fn listen(&mut self, port: u16) -> io::Result<u16>
+        ensures asked { port ≢ 0 → IfOk result (λ used. used ≡ port) }
+        ensures faults { self.new.faults ≡ self.old.faults }
+    {
+        let asked = SocketAddr::from((Ipv4Addr::LOCALHOST, port));
+        let mut listener = TcpListener::bind(&self.rt, asked)?;
+        let used = if port == 0 {
+            listener.local_addr()?.port()
+        } else {
+            port
+        };
+        self.poll
+            .registry()
+            .register(&mut listener, Token(0), Interest::READABLE)?;
+        self.listener = Some(listener);
+        Ok(used)
+    }
+
+    /// The next connection, or none where none is there yet. An error where nothing listens, or where the
+    /// system refused.
+    fn try_accept(&self) -> io::Result<Option<MioConn>> {
+        let Some(listener) = &self.listener else {
+            return Err(io::Error::from(ErrorKind::NotConnected));
+        };
+        match listener.accept() {
+            Ok((stream, _)) => {
+                let Ok(selector) = Arc::try_clone(&self.selector) else {
+                    return Err(io::Error::from(ErrorKind::OutOfMemory));
+                };
+                let _ = stream.set_nodelay(true);
+                Ok(Some(MioConn::new(stream, selector)))
+            }
+            Err(error) => match error.kind() {
+                ErrorKind::WouldBlock | ErrorKind::Interrupted | ErrorKind::ConnectionAborted => {
+                    Ok(None)
+                }
+                _ => Err(error),
+            },
+        }
+    }
+
+    /// The next connection, for which it waits without a limit. An error after the last turn too.
+    fn next(&mut self) -> io::Result<MioConn>
+        ensures faults { self.new.faults ≡ self.old.faults }
+    {
+        for _ in 0..TURNS {
+            if let Some(conn) = self.try_accept()? {
+                return Ok(conn);
+            }
+            self.poll.poll(&mut self.events, None)?;
+        }
+        Err(io::Error::from(ErrorKind::TimedOut))
+    }
+}
+
+impl<R: Net + Copy> Faults for MioPort<R> {
+    ghost fault_count = { λ p. p.faults };
+
+    ghost is_sure = { λ p. false };
+
+    ghost all_sure = { false };
+
+    ghost sure_below_top = { λ p sure. Prim.cc };
+
+    ghost each_sure = { λ p sure. Prim.cc };
+
+    fn faults(&self) -> u64 {
+        self.faults
+    }
+}
+
+impl<R: Net + Copy> Port for MioPort<R> {
+    ghost use Rattle.std.specs.Prelude.{None};
+
+    type C = MioConn;
+
+    ghost waiting = { λ p. None };
+
+    ghost own_port = { λ p. None };
+
+    /// Listens on a port of 127.0.0.1; for 0 the system chooses one that is free.
+    fn bind(&mut self, port: u16) -> Result<u16, Failed> {
+        let bound = self.listen(port);
+        counted(bound, &mut self.faults)
+    }
+
+    /// The next connection. It tries before it waits, since several connections may stand behind one event
+    /// of the listener, and takes at most 1,000,000 turns.
+    fn accept<W: Wait>(&mut self, _rt: &W) -> Result<MioConn, Failed> {
+        let accepted = self.next();
+        counted(accepted, &mut self.faults)
+    }
+}

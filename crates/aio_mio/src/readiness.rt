@@ -1,0 +1,81 @@
+//! Which directions of which sources may be ready, so that the system is asked only about those.
+//!
+//! A flag is set by each event that names its direction, by each arm under another key, and by each read
+//! or write that did not see the system run dry; a call clears it before it asks the system. So where it
+//! is clear, a call since the last event found that nothing more would go over: what comes later is a new
+//! event of a source that is watched for the direction. A call that is answered without the system is
+//! followed by a poll, and an arm makes the system tell anew what is ready.
+
+use aio_base::{Dir, Interest, Key, OutOfMemory};
+use std::alloc::Global;
+use std::sync::atomic::{AtomicBool, Ordering};
+
+/// As many keys as there are sources at once.
+const KEYS: usize = 4_096;
+
+/// Whether each direction of one source may be ready.
+#[derive(Drop)]
+struct Flags {
+    read: AtomicBool,
+    write: AtomicBool,
+}
+
+impl Flags {
+    fn of(&self, dir: Dir) -> &AtomicBool {
+        match dir {
+            Dir::Read => &self.read,
+            Dir::Write => &self.write,
+        }
+    }
+}
+
+/// Whether each direction of each source may be ready. Threads share it.
+#[derive(Drop)]
+pub(crate) struct Readiness {
+    flags: Vec<Flags>,
+}
+
+impl Readiness {
+    /// All of them may be ready. `OutOfMemory` where memory ran out.
+    pub(crate) fn new(alloc: Global) -> Result<Readiness, OutOfMemory> {
+        let Ok(mut flags) = Vec::with_capacity(alloc, KEYS) else {
+            return Err(OutOfMemory);
+        };
+        for _ in 0..KEYS {
+            let of_one = Flags {
+                read: AtomicBool::new(true),
+                write: AtomicBool::new(true),
+            };
+            if flags.push(of_one).is_err() {
+                return Err(OutOfMemory);
+            }
+        }
+        Ok(Readiness { flags })
+    }
+
+    /// A direction may be ready from now on.
+    pub(crate) fn set(&self, key: Key, dir: Dir) {
+        if let Some(flags) = self.flags.get(key.0 as usize) {
+            flags.of(dir).store(true, Ordering::SeqCst);
+        }
+    }
+
+    /// These directions may be ready from now on.
+    pub(crate) fn set_all(&self, key: Key, on: Interest) {
+        if on.read {
+            self.set(key, Dir::Read);
+        }
+        if on.write {
+            self.set(key, Dir::Write);
+        }
+    }
+
+    /// Whether a direction may be ready, which is asked once: then it is not, until it is set again. A key
+    /// beyond all sources is always ready.
+    pub(crate) fn take(&self, key: Key, dir: Dir) -> bool {
+        match self.flags.get(key.0 as usize) {
+            None => true,
+            Some(flags) => flags.of(dir).swap(false, Ordering::SeqCst),
+        }
+    }
+}
