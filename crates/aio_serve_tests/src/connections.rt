@@ -1,0 +1,41 @@
+//! Connections in memory.
+
+ghost use Rattle.std.specs.Prelude.{◌^◌, ◌<◌, IfOk};
+ghost use Rattle.aio_conns.specs.Given.{total_bytes};
+
+use aio_conns::{MemConn, Piece, SureConn};
+use std::alloc::{AllocError, Global};
+use std::test::Fail;
+
+/// The bytes of a text.
+fn bytes(alloc: Global, text: &str) -> Result<Vec<u8>, AllocError> {
+    let mut bytes = Vec::new(alloc);
+    bytes.extend_from_slice(text.as_bytes())?;
+    Ok(bytes)
+}
+
+/// One text, then a read that is blocked, and then another text.
+fn pieces(alloc: Global, first: Vec<u8>, then: Vec<u8>) -> Result<Vec<Piece>, Fail>
+    ensures { IfOk result (λ pieces. total_bytes pieces.items < 2 ^ 64) }
+{
+    let first = Piece::Bytes(first);
+    let then = Piece::Bytes(then);
+    Ok(vec![in alloc; first, Piece::Block, then]?)
+}
+
+/// Sends a text, then nothing for once, and then another text; it ends then, where that is asked for.
+pub(crate) fn sends(alloc: Global, first: &str, then: &str, ends: bool) -> Result<SureConn, Fail> {
+    let first = bytes(alloc, first)?;
+    let then = bytes(alloc, then)?;
+    let pieces = pieces(alloc, first, then)?;
+    Ok(SureConn::new(alloc, pieces, ends, 4096, u32::MAX)?)
+}
+
+/// The same, and ends; its calls of these numbers fail.
+pub(crate) fn fails(alloc: Global, text: &str, fails: &[u64]) -> Result<MemConn, Fail> {
+    let first = bytes(alloc, text)?;
+    let pieces = pieces(alloc, first, Vec::new(alloc))?;
+    let mut numbers = Vec::new(alloc);
+    numbers.extend_from_slice(fails)?;
+    Ok(MemConn::new(alloc, pieces, true, 4096, u32::MAX, numbers)?)
+}
