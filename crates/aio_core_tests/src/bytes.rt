@@ -1,5 +1,6 @@
 //! What no clause says: that calls succeed where memory is left, and how often an adapter tries again.
 
+use crate::asserts::{same, same_in};
 use aio_base::{Failed, Faults};
 use aio_bytes::{
     BufferedSource, MemSink, MemSource, Sink, SinkRefusal, Source, StdSink, StdSource, SureSink,
@@ -10,90 +11,125 @@ use std::io::{self, BufReader, ErrorKind};
 use std::process::Abort;
 use std::test::Fail;
 
+/// Asserts that a sink takes all of these bytes.
+fn writes<K: Sink>(rt: &impl Abort, sink: &mut K, bytes: &[u8]) {
+    same(rt, write_all(sink, bytes), Ok(()));
+}
+
+/// Writes a word in pieces, of which the first is one call, and the last is empty.
 fn writes_hello<K: Sink>(rt: &impl Abort, sink: &mut K) {
-    assert_eq!(rt; sink.write(b"hel"), Ok(3));
-    assert_eq!(rt; write_all(sink, b"lo"), Ok(()));
-    assert_eq!(rt; write_all(sink, b""), Ok(()));
+    same(rt, sink.write(b"hel"), Ok(3));
+    writes(rt, sink, b"lo");
+    writes(rt, sink, b"");
 }
 
 #[test]
 fn sinks_in_memory_hold_what_was_written(rt: HostRuntime) {
     let mut scripted = MemSink::new(rt.alloc(), Vec::new(rt.alloc()));
     writes_hello(&rt, &mut scripted);
-    assert_eq!(rt; scripted.bytes(), b"hello".as_slice());
+    same(&rt, scripted.bytes(), b"hello".as_slice());
     let mut sure = SureSink::new(rt.alloc());
     writes_hello(&rt, &mut sure);
-    assert_eq!(rt; sure.bytes(), b"hello".as_slice());
+    same(&rt, sure.bytes(), b"hello".as_slice());
 }
+
+/// Bytes that are written at once, what comes of it, and what the sink holds then.
+type Written = (&'static [u8], Result<(), SinkRefusal>, &'static [u8]);
+
+const FAILS_AT_ITS_SECOND_CALL: [Written; 3] = [
+    (b"ab", Ok(()), b"ab"),
+    (b"cd", Err(SinkRefusal::Failed), b"ab"),
+    (b"ef", Ok(()), b"abef"),
+];
 
 #[test]
 fn a_scripted_sink_fails_at_its_second_call_alone(rt: HostRuntime) -> Result<(), Fail> {
     let mut sink = MemSink::new(rt.alloc(), [2].to_vec(rt.alloc())?);
-    assert_eq!(rt; write_all(&mut sink, b"ab"), Ok(()));
-    assert_eq!(rt; write_all(&mut sink, b"cd"), Err(SinkRefusal::Failed));
-    assert_eq!(rt; sink.bytes(), b"ab".as_slice());
-    assert_eq!(rt; write_all(&mut sink, b"ef"), Ok(()));
-    assert_eq!(rt; sink.bytes(), b"abef".as_slice());
-    assert_eq!(rt; sink.faults(), 1);
+    for (bytes, answer, held) in FAILS_AT_ITS_SECOND_CALL {
+        same(&rt, write_all(&mut sink, bytes), answer);
+        same(&rt, sink.bytes(), held);
+    }
+    same(&rt, sink.faults(), 1);
     Ok(())
 }
 
-fn read_two<S: Source>(source: &mut S) -> (Result<usize, Failed>, [u8; 2]) {
+/// What a read with room for two bytes answers, and the two bytes then.
+type Read = (Result<usize, Failed>, [u8; 2]);
+
+fn read_two<S: Source>(source: &mut S) -> Read {
     let mut buf = [0; 2];
     let answer = source.read(&mut buf);
     (answer, buf)
 }
 
+/// Asserts what reads come to, one after the other, and how many bytes are in hand behind each.
+fn reads<S: Source>(rt: &impl Abort, source: &mut S, rows: &[(Read, usize)]) {
+    for (read, in_hand) in rows {
+        same(rt, read_two(source), *read);
+        same(rt, source.in_hand(), *in_hand);
+    }
+}
+
+/// The end of the bytes.
+const END: (Read, usize) = ((Ok(0), [0, 0]), 0);
+
+/// A read that fails.
+const FAILS: Read = (Err(Failed), [0, 0]);
+
+const AFTER_A_FAILING_CALL: [(Read, usize); 4] = [
+    ((Ok(1), [b'a', 0]), 0),
+    (FAILS, 0),
+    ((Ok(1), [b'b', 0]), 0),
+    END,
+];
+
 #[test]
 fn a_scripted_source_goes_on_after_a_failing_call(rt: HostRuntime) -> Result<(), Fail> {
-    let mut source = MemSource::new(b"ab".to_vec(rt.alloc())?, 1, [2].to_vec(rt.alloc())?);
-    for (answer, bytes) in [
-        (Ok(1), [b'a', 0]),
-        (Err(Failed), [0, 0]),
-        (Ok(1), [b'b', 0]),
-        (Ok(0), [0, 0]),
-    ] {
-        assert_eq!(rt; read_two(&mut source), (answer, bytes));
-    }
-    assert_eq!(rt; source.faults(), 1);
+    let fails = [2].to_vec(rt.alloc())?;
+    let mut source = MemSource::new(b"ab".to_vec(rt.alloc())?, 1, fails);
+    reads(&rt, &mut source, &AFTER_A_FAILING_CALL);
+    same(&rt, source.faults(), 1);
     Ok(())
 }
+
+const WHAT_FITS: [(Read, usize); 3] = [((Ok(2), *b"ab"), 1), ((Ok(1), [b'c', 0]), 0), END];
 
 #[test]
 fn a_sure_source_gives_what_fits(rt: HostRuntime) -> Result<(), Fail> {
     let mut source = SureSource::new(b"abc".to_vec(rt.alloc())?);
-    assert_eq!(rt; read_two(&mut source), (Ok(2), *b"ab"));
-    assert_eq!(rt; read_two(&mut source), (Ok(1), [b'c', 0]));
-    assert_eq!(rt; read_two(&mut source), (Ok(0), [0, 0]));
+    reads(&rt, &mut source, &WHAT_FITS);
     Ok(())
 }
 
 #[test]
-fn adapters_hand_on_bytes(rt: HostRuntime) {
+fn an_adapter_hands_on_what_it_reads(rt: HostRuntime) {
     let mut source = StdSource::new(b"abc".as_slice());
-    assert_eq!(rt; read_two(&mut source), (Ok(2), *b"ab"));
-    assert_eq!(rt; source.faults(), 0);
+    same(&rt, read_two(&mut source), (Ok(2), *b"ab"));
+    same(&rt, source.faults(), 0);
+}
+
+#[test]
+fn an_adapter_hands_on_what_is_written(rt: HostRuntime) {
     let mut written = Vec::new(rt.alloc());
     let mut sink = StdSink::new(&mut written);
     writes_hello(&rt, &mut sink);
-    assert_eq!(rt; sink.faults(), 0);
-    assert_eq!(rt; written.as_slice(), b"hello".as_slice());
+    same(&rt, sink.faults(), 0);
+    same(&rt, written.as_slice(), b"hello".as_slice());
 }
+
+const BEHIND_A_BUFFER: [(Read, usize); 4] = [
+    ((Ok(2), *b"ab"), 2),
+    ((Ok(2), *b"cd"), 0),
+    ((Ok(1), [b'e', 0]), 0),
+    END,
+];
 
 #[test]
 fn a_buffered_source_has_its_buffer_in_hand(rt: HostRuntime) -> Result<(), Fail> {
     let reader = BufReader::with_capacity(rt.alloc(), 4, b"abcde".as_slice())?;
     let mut source = BufferedSource::new(reader);
-    assert_eq!(rt; source.in_hand(), 0);
-    for (answer, bytes, in_hand) in [
-        (Ok(2), *b"ab", 2),
-        (Ok(2), *b"cd", 0),
-        (Ok(1), [b'e', 0], 0),
-        (Ok(0), [0, 0], 0),
-    ] {
-        assert_eq!(rt; read_two(&mut source), (answer, bytes));
-        assert_eq!(rt; source.in_hand(), in_hand);
-    }
+    same(&rt, source.in_hand(), 0);
+    reads(&rt, &mut source, &BEHIND_A_BUFFER);
     Ok(())
 }
 
@@ -101,10 +137,9 @@ fn a_buffered_source_has_its_buffer_in_hand(rt: HostRuntime) -> Result<(), Fail>
 fn a_buffered_source_counts_the_faults_behind_its_buffer(rt: HostRuntime) -> Result<(), Fail> {
     let halting = Halting::new(ErrorKind::WouldBlock, 1);
     let mut source = BufferedSource::new(BufReader::with_capacity(rt.alloc(), 4, halting)?);
-    assert_eq!(rt; read_two(&mut source), (Err(Failed), [0, 0]));
-    assert_eq!(rt; source.faults(), 1);
-    assert_eq!(rt; read_two(&mut source), (Ok(1), [b'x', 0]));
-    assert_eq!(rt; source.faults(), 1);
+    same(&rt, (read_two(&mut source), source.faults()), (FAILS, 1));
+    let read = (Ok(1), [b'x', 0]);
+    same(&rt, (read_two(&mut source), source.faults()), (read, 1));
     Ok(())
 }
 
@@ -159,7 +194,9 @@ impl io::Write for Halting {
 }
 
 /// The kind and number of the errors, whether the call answers `Ok`, and how many tries it makes.
-const HALTS: [(ErrorKind, u32, bool, u32); 5] = [
+type Halt = (ErrorKind, u32, bool, u32);
+
+const HALTS: [Halt; 5] = [
     (ErrorKind::Interrupted, 0, true, 1),
     (ErrorKind::Interrupted, 3, true, 4),
     (ErrorKind::Interrupted, 1_000, true, 1_001),
@@ -167,31 +204,46 @@ const HALTS: [(ErrorKind, u32, bool, u32); 5] = [
     (ErrorKind::WouldBlock, 1, false, 1),
 ];
 
+/// What a read over so many errors comes to, with the faults and the tries then.
+fn read_past(kind: ErrorKind, errors: u32) -> (Read, u64, u32) {
+    let mut halting = Halting::new(kind, errors);
+    let mut source = StdSource::new(&mut halting);
+    let read = read_two(&mut source);
+    let faults = source.faults();
+    (read, faults, halting.tries)
+}
+
+/// What a write over so many errors comes to, in the same way.
+fn write_past(kind: ErrorKind, errors: u32) -> (Result<usize, SinkRefusal>, u64, u32) {
+    let mut halting = Halting::new(kind, errors);
+    let mut sink = StdSink::new(&mut halting);
+    let answer = sink.write(b"xy");
+    let faults = sink.faults();
+    (answer, faults, halting.tries)
+}
+
+/// Asserts that a read and a write over so many errors succeed after so many tries.
+fn goes_past(rt: &impl Abort, kind: ErrorKind, errors: u32, tries: u32) {
+    let read = (Ok(1), [b'x', 0]);
+    same_in(rt, errors, read_past(kind, errors), (read, 0, tries));
+    same_in(rt, errors, write_past(kind, errors), (Ok(1), 0, tries));
+}
+
+/// Asserts that both fail after so many.
+fn stops_at(rt: &impl Abort, kind: ErrorKind, errors: u32, tries: u32) {
+    let failed = Err(SinkRefusal::Failed);
+    same_in(rt, errors, read_past(kind, errors), (FAILS, 1, tries));
+    same_in(rt, errors, write_past(kind, errors), (failed, 1, tries));
+}
+
 #[test]
 fn adapters_try_again_where_they_are_interrupted(rt: HostRuntime) {
     for (kind, errors, is_ok, tries) in HALTS {
-        let mut halting = Halting::new(kind, errors);
-        let mut source = StdSource::new(&mut halting);
-        let (answer, buf) = read_two(&mut source);
-        let faults = if is_ok { 0 } else { 1 };
-        assert_eq!(rt; answer, if is_ok { Ok(1) } else { Err(Failed) });
-        assert_eq!(rt; buf[0], if is_ok { b'x' } else { 0 });
-        assert_eq!(rt; source.faults(), faults);
-        assert_eq!(rt; halting.tries, tries);
-
-        let mut halting = Halting::new(kind, errors);
-        let mut sink = StdSink::new(&mut halting);
-        let answer = sink.write(b"xy");
-        assert_eq!(rt;
-            answer,
-            if is_ok {
-                Ok(1)
-            } else {
-                Err(SinkRefusal::Failed)
-            }
-        );
-        assert_eq!(rt; sink.faults(), faults);
-        assert_eq!(rt; halting.tries, tries);
+        if is_ok {
+            goes_past(&rt, kind, errors, tries);
+        } else {
+            stops_at(&rt, kind, errors, tries);
+        }
     }
 }
 
@@ -212,6 +264,6 @@ impl io::Write for Full {
 #[test]
 fn a_writer_that_takes_nothing_is_a_fault(rt: HostRuntime) {
     let mut sink = StdSink::new(Full);
-    assert_eq!(rt; write_all(&mut sink, b"a"), Err(SinkRefusal::Failed));
-    assert_eq!(rt; sink.faults(), 1);
+    same(&rt, write_all(&mut sink, b"a"), Err(SinkRefusal::Failed));
+    same(&rt, sink.faults(), 1);
 }

@@ -2,9 +2,11 @@
 
 ghost use Rattle.std.specs.Prelude.{◌≤◌, length, None, false};
 
+use crate::asserts::{same, same_in};
 use aio_base::{Failed, Faults};
 use aio_bytes::{LineReader, Source};
 use std::alloc::{AllocError, Global};
+use std::process::Abort;
 use std::test::Fail;
 
 /// Bytes in memory, given in pieces of at most `piece`, where `fails` says that the next read fails.
@@ -68,86 +70,188 @@ fn source_of(bytes: &[u8], piece: usize) -> Pieces<'_> {
     }
 }
 
-// The lines of the source, each followed by '|', its rest, and '!' where a line is too long.
+/// What a turn of a reader comes to.
+#[derive(Clone, Copy, PartialEq)]
+enum Turn {
+    /// A line.
+    Line,
+    /// A line that is too long.
+    Long,
+    /// More bytes.
+    More,
+    /// A read that failed.
+    Failed,
+    /// The end of the bytes, and what lies ahead of it.
+    End,
+}
+
+impl Turn {
+    /// The mark behind what the reader has then.
+    fn mark(self) -> &'static [u8] {
+        match self {
+            Turn::Line => b"|",
+            Turn::Long => b"!",
+            Turn::Failed => b"?",
+            Turn::More | Turn::End => b"",
+        }
+    }
+
+    /// Whether there is no other turn.
+    fn is_last(self) -> bool {
+        match self {
+            Turn::Long | Turn::End => true,
+            _ => false,
+        }
+    }
+}
+
+/// Finds the next line, or reads more where there is none.
+fn take_turn<S: Source>(reader: &mut LineReader, source: &mut S) -> Turn {
+    if reader.find_line() {
+        return Turn::Line;
+    }
+    if reader.is_full() {
+        return Turn::Long;
+    }
+    match reader.read(source) {
+        Ok(0) => {
+            reader.take_rest();
+            Turn::End
+        }
+        Ok(_) => Turn::More,
+        Err(_) => Turn::Failed,
+    }
+}
+
+/// Writes a line and a mark.
+fn note(out: &mut Vec<u8>, line: &[u8], mark: &[u8]) -> Result<(), AllocError> {
+    out.extend_from_slice(line)?;
+    out.extend_from_slice(mark)
+}
+
+/// The lines of the source, each followed by '|', its rest, and '!' where a line is too long.
 fn joined<S: Source>(alloc: Global, source: &mut S) -> Result<Vec<u8>, AllocError> {
     let mut reader = LineReader::new(alloc)?;
     let mut out = Vec::new(alloc);
     for _ in 0..2000 {
-        if reader.find_line() {
-            out.extend_from_slice(reader.line())?;
-            out.push(b'|')?;
-        } else if reader.is_full() {
-            out.push(b'!')?;
-            return Ok(out);
-        } else {
-            match reader.read(source) {
-                Ok(0) => {
-                    reader.take_rest();
-                    out.extend_from_slice(reader.line())?;
-                    return Ok(out);
-                }
-                Ok(_) => {}
-                Err(_) => out.push(b'?')?,
-            }
+        let turn = take_turn(&mut reader, source);
+        note(&mut out, reader.line(), turn.mark())?;
+        if turn.is_last() {
+            break;
         }
     }
     Ok(out)
 }
 
+/// Texts, and what their lines join to.
+const TEXTS: &[(&[u8], &[u8])] = &[
+    (b"", b""),
+    (b"a\nbb\nccc\n", b"a|bb|ccc|"),
+    (b"first\n\nlast", b"first||last"),
+    (b"\n\n", b"||"),
+    (b"\r\n\x00\xff\n", b"\r|\x00\xff|"),
+    (b"no line feed", b"no line feed"),
+    // Lines of 31, 32 and 33 bytes, then one of 3.
+    (
+        b"1234567890123456789012345678901\n12345678901234567890123456789012\n123456789012345678901234567890123\nend\n",
+        b"1234567890123456789012345678901|12345678901234567890123456789012|123456789012345678901234567890123|end|",
+    ),
+];
+
+/// Asserts what the lines of a text join to, of which a read gives at most `piece` bytes.
+fn joins(
+    rt: &impl Abort,
+    alloc: Global,
+    text: &[u8],
+    piece: usize,
+    wanted: &[u8],
+) -> Result<(), AllocError> {
+    let found = joined(alloc, &mut source_of(text, piece))?;
+    same_in(rt, piece, found.as_slice(), wanted);
+    Ok(())
+}
+
+/// Asserts the same of each of the texts.
+fn joins_each(rt: &impl Abort, alloc: Global, piece: usize) -> Result<(), AllocError> {
+    for (text, wanted) in TEXTS {
+        joins(rt, alloc, text, piece, wanted)?;
+    }
+    Ok(())
+}
+
 #[test]
 fn gives_each_line_of_pieces_of_any_size(rt: HostRuntime) -> Result<(), Fail> {
-    let cases: [(&[u8], &[u8]); 7] = [
-        (b"", b""),
-        (b"a\nbb\nccc\n", b"a|bb|ccc|"),
-        (b"first\n\nlast", b"first||last"),
-        (b"\n\n", b"||"),
-        (b"\r\n\x00\xff\n", b"\r|\x00\xff|"),
-        (b"no line feed", b"no line feed"),
-        // Lines of 31, 32 and 33 bytes, then one of 3.
-        (
-            b"1234567890123456789012345678901\n12345678901234567890123456789012\n123456789012345678901234567890123\nend\n",
-            b"1234567890123456789012345678901|12345678901234567890123456789012|123456789012345678901234567890123|end|",
-        ),
-    ];
-    for (text, want) in cases {
-        for piece in [1, 2, 3, 5, 300] {
-            let got = joined(rt.alloc(), &mut source_of(text, piece))?;
-            assert_eq!(rt; got.as_slice(), want, "pieces of {piece}");
-        }
+    for piece in [1, 2, 3, 5, 300] {
+        joins_each(&rt, rt.alloc(), piece)?;
+    }
+    Ok(())
+}
+
+/// A line of so many bytes, with its line feed.
+fn line_of(alloc: Global, len: usize) -> Result<Vec<u8>, AllocError> {
+    let mut text = vec![in alloc; b'x'; len]?;
+    text.push(b'\n')?;
+    Ok(text)
+}
+
+/// How many bytes a text joins to, the last of them, and how many bytes of the text were read.
+fn taken(
+    alloc: Global,
+    text: &[u8],
+    piece: usize,
+) -> Result<(usize, Option<u8>, usize), AllocError> {
+    let mut source = source_of(text, piece);
+    let found = joined(alloc, &mut source)?;
+    Ok((found.len(), found.last().copied(), source.at))
+}
+
+/// Asserts what a line of so many bytes joins to, which is read up to its 257th byte.
+fn takes(
+    rt: &impl Abort,
+    alloc: Global,
+    len: usize,
+    wanted: (usize, Option<u8>, usize),
+) -> Result<(), AllocError> {
+    let text = line_of(alloc, len)?;
+    for piece in [1, 300] {
+        same_in(rt, len, taken(alloc, text.as_slice(), piece), Ok(wanted));
     }
     Ok(())
 }
 
 #[test]
 fn takes_a_line_of_256_bytes_and_no_longer_one(rt: HostRuntime) -> Result<(), Fail> {
-    for (len, want_len, want_last) in [(256, 257, b'|'), (257, 1, b'!'), (300, 1, b'!')] {
-        let mut text = vec![in rt.alloc(); b'x'; len]?;
-        text.push(b'\n')?;
-        for piece in [1, 300] {
-            let mut source = source_of(text.as_slice(), piece);
-            let got = joined(rt.alloc(), &mut source)?;
-            assert_eq!(rt; got.len(), want_len, "a line of {len} bytes");
-            assert_eq!(rt; got.last(), Some(&want_last), "a line of {len} bytes");
-            assert_eq!(rt; source.at, 257, "a line of {len} bytes");
-        }
-    }
-    Ok(())
+    takes(&rt, rt.alloc(), 256, (257, Some(b'|'), 257))?;
+    takes(&rt, rt.alloc(), 257, (1, Some(b'!'), 257))?;
+    Ok(takes(&rt, rt.alloc(), 300, (1, Some(b'!'), 257))?)
+}
+
+/// Asserts what a read comes to that has room, and how many bytes lie ahead then.
+fn reads<S: Source>(
+    rt: &impl Abort,
+    reader: &mut LineReader,
+    source: &mut S,
+    wanted: (Result<usize, Failed>, usize),
+) {
+    assert!(rt; !reader.is_full());
+    let answer = reader.read(source);
+    same(rt, (answer, reader.ahead_len()), wanted);
+}
+
+/// Asserts that the reader finds this line, or none, and how many bytes lie ahead then.
+fn finds(rt: &impl Abort, reader: &mut LineReader, wanted: (bool, &[u8], usize)) {
+    let found = reader.find_line();
+    same(rt, (found, reader.line(), reader.ahead_len()), wanted);
 }
 
 #[test]
 fn finds_several_lines_of_one_read(rt: HostRuntime) -> Result<(), Fail> {
     let mut source = source_of(b"a\nbb\nc", 300);
     let mut reader = LineReader::new(rt.alloc())?;
-    assert!(rt; !reader.is_full());
-    assert_eq!(rt; reader.read(&mut source), Ok(6));
-    assert_eq!(rt; reader.ahead_len(), 6);
-    assert!(rt; reader.find_line());
-    assert_eq!(rt; reader.line(), b"a".as_slice());
-    assert!(rt; reader.find_line());
-    assert_eq!(rt; reader.line(), b"bb".as_slice());
-    assert!(rt; !reader.find_line());
-    assert_eq!(rt; reader.line(), b"".as_slice());
-    assert_eq!(rt; reader.ahead_len(), 1);
+    reads(&rt, &mut reader, &mut source, (Ok(6), 6));
+    finds(&rt, &mut reader, (true, b"a", 4));
+    finds(&rt, &mut reader, (true, b"bb", 1));
+    finds(&rt, &mut reader, (false, b"", 1));
     Ok(())
 }
 
@@ -155,18 +259,17 @@ fn finds_several_lines_of_one_read(rt: HostRuntime) -> Result<(), Fail> {
 fn keeps_what_lies_ahead_over_a_failed_read(rt: HostRuntime) -> Result<(), Fail> {
     let mut source = source_of(b"one\ntwo", 5);
     let mut reader = LineReader::new(rt.alloc())?;
-    assert!(rt; !reader.is_full());
-    assert_eq!(rt; reader.read(&mut source), Ok(5));
-    assert!(rt; reader.find_line());
+    reads(&rt, &mut reader, &mut source, (Ok(5), 5));
+    finds(&rt, &mut reader, (true, b"one", 1));
     source.fails = true;
-    assert!(rt; !reader.is_full());
-    assert_eq!(rt; reader.read(&mut source), Err(Failed));
-    assert_eq!(rt; source.faults(), 1);
-    assert_eq!(rt; reader.ahead_len(), 1);
-    assert!(rt; !reader.is_full());
-    assert_eq!(rt; reader.read(&mut source), Ok(2));
+    reads(&rt, &mut reader, &mut source, (Err(Failed), 1));
+    same(&rt, source.faults(), 1);
+    reads(&rt, &mut reader, &mut source, (Ok(2), 3));
     reader.take_rest();
-    assert_eq!(rt; reader.line(), b"two".as_slice());
-    assert_eq!(rt; reader.ahead_len(), 0);
+    same(
+        &rt,
+        (reader.line(), reader.ahead_len()),
+        (b"two".as_slice(), 0),
+    );
     Ok(())
 }

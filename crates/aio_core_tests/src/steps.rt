@@ -1,31 +1,15 @@
-//! Steps of the language: two that the rows of a table make, whether a line can spell a step, and a line that
-//! is written and read back.
+//! Steps of the language: whether a line can spell a step, and a line that is written and read back.
 
 ghost use Rattle.std.specs.Prelude.{◌≡◌, ◌↔◌, IsTrue, IfOk, Ok};
 ghost use Rattle.aio_base.specs.Lines.{HasSpelling, IsInRange};
-ghost use Rattle.aio_base.specs.declared.steps.Step.TheVariants as step;
 
-use aio_base::{Dir, Event, Interest, Key, LineFault, OutOfMemory, Step, Waker};
+use aio_base::{LineFault, OutOfMemory, Step};
 use aio_trace::laws::a_written_line_reads_as_its_step_alone;
 use aio_trace::{read_line, write_line};
 use std::alloc::Global;
 
 /// The longest limit of a wait and the longest period, in nanoseconds.
 const LONGEST: u64 = 1_000_000_000_000_000_000;
-
-/// A poll of the source of this key, in this direction, by the task of this waker.
-pub fn poll(key: u32, direction: Dir, waker: u32) -> Step
-    ensures { result ≡ step.Poll (record { 0 = key }) direction (record { 0 = waker }) }
-{
-    Step::Poll(Key(key), direction, Waker(waker))
-}
-
-/// A note that the source of this key is ready in these directions.
-pub fn event(key: u32, on: Interest) -> Step
-    ensures { result ≡ step.Note (record { key = record { 0 = key }; on = on }) }
-{
-    Step::Note(Event { key: Key(key), on })
-}
 
 /// Whether the period or the limit of a step, if it has one, is one that a line can spell, as
 /// `write_line` asks.

@@ -7,13 +7,13 @@ ghost use Rattle.aio_base.specs.ClockBounds.{IsWithin};
 ghost use Rattle.aio_base.specs.Devices.{ArmCall, ArmOf, Armed, Awaited, Arms, Becomes, PollerStep, RunOf, clear_interests, raised, with_interest};
 ghost use Rattle.aio_base.specs.Waits.{IsCountOf};
 
-use crate::asserts::moment;
+use crate::asserts::{moment, same, same_in};
 use aio_base::{
     Arm, Clock, Cx, Draws, Event, EventWait, Failed, Faults, Interest, Key, Moment, OutOfMemory,
-    Poller, Waited,
+    Poller, Waited, Waker,
 };
 use aio_devices::MemClock;
-use std::alloc::Global;
+use std::alloc::{AllocError, Global};
 use std::test::Fail;
 
 const READABLE: Event = Event {
@@ -160,24 +160,23 @@ impl Poller for SilentPoller {
 
 #[test]
 fn a_poller_that_tells_nothing_is_called_through_the_bounds(rt: HostRuntime) -> Result<(), Fail> {
+    let mut out = Vec::with_capacity(rt.alloc(), 2)?;
     let mut poller = SilentPoller {
         faults: 0,
         waits: 0,
     };
-    let mut out = Vec::with_capacity(rt.alloc(), 2)?;
     let answers = arm_then_wait(&mut poller, Key(3), Interest::READ, &mut out, 2, Some(5));
-    assert_eq!(rt; answers, (Err(Failed), Ok(Waited::Given(1))));
-    assert_eq!(rt; out.as_slice(), [READABLE].as_slice());
-    assert_eq!(rt; poller.faults(), 1);
+    same(&rt, answers, (Err(Failed), Ok(Waited::Given(1))));
+    same(&rt, out.as_slice(), [READABLE].as_slice());
+    same(&rt, poller.faults(), 1);
     let answers = arm_twice(&mut poller, Key(3), Key(4), Interest::READ);
-    assert_eq!(rt; answers, (Err(Failed), Err(Failed)));
-    assert_eq!(rt; poller.faults(), 3);
-    assert_eq!(rt; poller.waits(), 1);
+    same(&rt, answers, (Err(Failed), Err(Failed)));
+    same(&rt, (poller.faults(), poller.waits()), (3, 1));
     Ok(())
 }
 
 /// A clock of two moments.
-fn clock_of(alloc: Global, first: Moment, last: Moment) -> Result<MemClock, Fail>
+fn clock_of(alloc: Global, first: Moment, last: Moment) -> Result<MemClock, AllocError>
     requires { first ≤ last }
 {
     Ok(MemClock::new(vec![in alloc; first, last]?))
@@ -199,25 +198,21 @@ fn twin_of<C: Clock>(clock: &C) -> Result<C, OutOfMemory> {
 
 #[test]
 fn a_clock_never_goes_back(rt: HostRuntime) -> Result<(), Fail> {
-    let mut clock = clock_of(rt.alloc(), moment(&rt, 5), moment(&rt, 8))?;
+    let (five, eight) = (moment(&rt, 5), moment(&rt, 8));
+    let mut clock = clock_of(rt.alloc(), five, eight)?;
     let mut twin = twin_of(&clock)?;
-    let (first, second) = look_twice(&mut clock);
-    assert_eq!(rt; first.get(), 5);
-    assert_eq!(rt; second.get(), 8);
-    let (first, _) = look_twice(&mut twin);
-    assert_eq!(rt; first.get(), 5);
+    same(&rt, look_twice(&mut clock), (five, eight));
+    same(&rt, look_twice(&mut twin).0, five);
     Ok(())
 }
 
+/// The last moment.
+const LAST: u64 = 1_000_000_000_000_000_000;
+
 #[test]
 fn a_moment_is_at_most_the_last(rt: HostRuntime) {
-    let last = 1_000_000_000_000_000_000;
-    for (nanoseconds, moment) in [(0, Some(0)), (last, Some(last)), (last + 1, None)] {
-        assert_eq!(rt;
-            Moment::new(nanoseconds).map(Moment::get),
-            moment,
-            "at {nanoseconds}"
-        );
+    for (nanoseconds, moment) in [(0, Some(0)), (LAST, Some(LAST)), (LAST + 1, None)] {
+        same(&rt, Moment::new(nanoseconds).map(Moment::get), moment);
     }
 }
 
@@ -225,25 +220,26 @@ fn a_moment_is_at_most_the_last(rt: HostRuntime) {
 fn numbers_are_drawn_from_their_seed(rt: HostRuntime) {
     let mut draws = Draws::new(0);
     for number in [0, 4_232_237, 178_803_790, 758_674_372, 1_565_954_732] {
-        assert_eq!(rt; draws.draw(), number);
+        same(&rt, draws.draw(), number);
     }
 }
 
+/// The number of a parker, its mask, and the number of the waker of the mask's lowest slot.
+const OWN_WAKERS: [(u32, u64, u32); 7] = [
+    (0, 1, 0),
+    (2, 0b1000, 131),
+    (2, (1 << 63) | (1 << 40), 168),
+    (2, 1 << 63, 191),
+    (2, 0, 128),
+    (67_108_863, u64::MAX, 4_294_967_232),
+    (67_108_864, 2, 1),
+];
+
 #[test]
 fn own_waker_is_of_the_lowest_slot(rt: HostRuntime) {
-    let wanted = [
-        (0, 1, 0),
-        (2, 0b1000, 131),
-        (2, (1 << 63) | (1 << 40), 168),
-        (2, 1 << 63, 191),
-        (2, 0, 128),
-        (67_108_863, u64::MAX, 4_294_967_232),
-        (67_108_864, 2, 1),
-    ];
-    for (parker, mask, number) in wanted {
-        match Moment::new(0) {
-            Some(now) => assert_eq!(rt; Cx { parker, mask, now }.own_waker().0, number),
-            None => unreachable!(),
-        }
+    let now = moment(&rt, 0);
+    for (parker, mask, number) in OWN_WAKERS {
+        let own = Cx { parker, mask, now }.own_waker();
+        same_in(&rt, parker, own, Waker(number));
     }
 }

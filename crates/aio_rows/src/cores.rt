@@ -1,6 +1,8 @@
 //! What no clause says: that the replay of a trace, called through its bounds, ends and hands back the
 //! core that ran it, where memory is left.
 
+use crate::asserts::same;
+use crate::traces::{ORDINARY, ORDINARY_ANSWERS};
 use aio_base::Key;
 use aio_bytes::{MemSink, MemSource, Sink, Source};
 use aio_replay::{ReplayEnd, replay};
@@ -25,12 +27,10 @@ fn ended_with<S: Source, K: Sink>(
 #[test]
 fn a_replay_hands_back_the_core_that_ran_it(rt: HostRuntime) -> Result<(), Fail> {
     let alloc = rt.alloc();
-    let trace = b"trace 1\nadd\npoll 0 r 7\nevent 0 r\nreact\npoll 0 r 7\n".to_vec(alloc)?;
-    let mut input = MemSource::new(trace, 7, Vec::new(alloc));
+    let mut input = MemSource::new(ORDINARY.to_vec(alloc)?, 7, Vec::new(alloc));
     let mut out = MemSink::new(alloc, Vec::new(alloc));
     let ended = ended_with(alloc, &mut input, &mut out, Key(0));
-    assert_eq!(rt; ended, (ReplayEnd::Done, Some((1, true))));
-    let answers = b"key 0\npending\nnoted\nround 1 events 1 ok\nwake 7\nready\n".as_slice();
-    assert_eq!(rt; out.bytes(), answers);
+    same(&rt, ended, (ReplayEnd::Done, Some((1, true))));
+    same(&rt, out.bytes(), ORDINARY_ANSWERS);
     Ok(())
 }

@@ -2,13 +2,11 @@
 //! left, and which steps and counts the definitions give. The counts of long runs are those of a plain
 //! model that was written apart from this program.
 
-use crate::traces::{
-    FIRST_FAULT, Failing, NOTHING_FAILS, Ran, assert_exit, assert_out, assert_told, assert_why,
-    run_over,
-};
-use aio_base::OutOfMemory;
+use crate::asserts::same;
+use crate::traces::{FIRST_FAULT, Failing, NOTHING_FAILS, Ran, ends, run_over};
 use aio_replay::{Summary, summary};
-use aio_run::Why;
+use aio_run::{Status, Why};
+use std::alloc::AllocError;
 use std::process::Abort;
 use std::sync::Wait;
 use std::test::Fail;
@@ -53,16 +51,17 @@ fn write_row<R: Wait + Threads + Sync + Send + Copy + AllocGlobal + Abort>(
     rt: &R,
     words: &[&str],
     out: &[u8],
-) -> Result<(), Fail> {
+) -> Result<(), AllocError> {
     let failing = Failing {
         reads: &[1],
         ..NOTHING_FAILS
     };
-    let ran = run_over(rt, words, b"trace 1\n", 1, failing)?;
-    assert_exit(rt, &ran, 0, words);
-    assert_why(rt, &ran, Why::Done, words);
-    assert_out(rt, &ran, out, words);
-    assert_told(rt, &ran, b"", words);
+    let wanted = (out, b"".as_slice(), 0);
+    same(
+        rt,
+        ends(rt, words, b"trace 1\n", 1, failing, wanted)?,
+        Why::Done,
+    );
     Ok(())
 }
 
@@ -74,40 +73,51 @@ fn a_trace_is_made_and_summed_without_the_input(rt: HostRuntime) -> Result<(), F
     Ok(())
 }
 
-fn assert_counted(rt: &impl Abort, found: Result<Summary, OutOfMemory>, wanted: Summary) {
-    assert_eq!(rt; found, Ok(wanted));
-}
+/// The number of steps, a seed, and what a run of its steps counts to.
+const COUNTED: [(u32, u64, Summary); 3] = [
+    (
+        2,
+        0,
+        Summary {
+            steps: 2,
+            ready: 0,
+            pending: 0,
+            wakes: 0,
+            rounds: 0,
+            refused: 0,
+        },
+    ),
+    (
+        1000,
+        1,
+        Summary {
+            steps: 1000,
+            ready: 81,
+            pending: 207,
+            wakes: 181,
+            rounds: 136,
+            refused: 149,
+        },
+    ),
+    (
+        1000,
+        0,
+        Summary {
+            steps: 1000,
+            ready: 68,
+            pending: 197,
+            wakes: 174,
+            rounds: 124,
+            refused: 177,
+        },
+    ),
+];
 
 #[test]
-fn a_run_is_counted(rt: HostRuntime) -> Result<(), Fail> {
-    let short = Summary {
-        steps: 2,
-        ready: 0,
-        pending: 0,
-        wakes: 0,
-        rounds: 0,
-        refused: 0,
-    };
-    assert_counted(&rt, summary(rt.alloc(), 2, 0), short);
-    let counted = Summary {
-        steps: 1000,
-        ready: 81,
-        pending: 207,
-        wakes: 181,
-        rounds: 136,
-        refused: 149,
-    };
-    assert_counted(&rt, summary(rt.alloc(), 1000, 1), counted);
-    let other = Summary {
-        steps: 1000,
-        ready: 68,
-        pending: 197,
-        wakes: 174,
-        rounds: 124,
-        refused: 177,
-    };
-    assert_counted(&rt, summary(rt.alloc(), 1000, 0), other);
-    Ok(())
+fn a_run_is_counted(rt: HostRuntime) {
+    for (count, seed, counted) in COUNTED {
+        same(&rt, summary(rt.alloc(), count, seed), Ok(counted));
+    }
 }
 
 /// The words that make the trace.
@@ -118,31 +128,39 @@ fn make_front<R: Wait + Threads + Sync + Send + Copy + AllocGlobal + Abort>(
     rt: &R,
     trace: &[u8],
     writes: &'static [u64],
-) -> Result<(), Fail> {
+) -> Result<(), AllocError> {
     let failing = Failing {
         writes,
         ..NOTHING_FAILS
     };
     let ran = run_over(rt, MADE, b"", 1, failing)?;
-    assert_exit(rt, &ran, 4, writes);
-    assert_why(rt, &ran, Why::WriteFault(FIRST_FAULT), writes);
-    assert_front(rt, &ran, trace);
-    assert_told(rt, &ran, b"write fault\n", writes);
+    same(rt, is_front(&ran, trace), true);
+    same(
+        rt,
+        (ran.status, ran.err.bytes()),
+        (NOT_WRITTEN, b"write fault\n"),
+    );
     Ok(())
 }
 
-/// Asserts that a front of the trace was written, and not all of it.
-fn assert_front(rt: &impl Abort, ran: &Ran, trace: &[u8]) {
-    assert!(rt; trace.starts_with(ran.out.bytes()) && trace != ran.out.bytes());
+/// The status of a run whose first fault was that of a write.
+const NOT_WRITTEN: Status = Status {
+    exit: 4,
+    why: Why::WriteFault(FIRST_FAULT),
+};
+
+/// Whether a front of the trace was written, and not all of it.
+fn is_front(ran: &Ran, trace: &[u8]) -> bool {
+    trace.starts_with(ran.out.bytes()) && trace != ran.out.bytes()
 }
 
 /// Asserts that the trace is replayed to its end.
 fn replay_made<R: Wait + Threads + Sync + Send + Copy + AllocGlobal + Abort>(
     rt: &R,
     trace: &[u8],
-) -> Result<(), Fail> {
+) -> Result<(), AllocError> {
     let replayed = run_over(rt, &["replay"], trace, 4096, NOTHING_FAILS)?;
-    assert_exit(rt, &replayed, 0, MADE);
+    same(rt, replayed.status.exit, 0);
     Ok(())
 }
 
@@ -153,5 +171,5 @@ fn a_made_trace_is_replayed_or_left_at_its_front(rt: HostRuntime) -> Result<(), 
     replay_made(&rt, trace)?;
     make_front(&rt, trace, &[1])?;
     make_front(&rt, trace, &[2])?;
-    make_front(&rt, trace, &[3])
+    Ok(make_front(&rt, trace, &[3])?)
 }

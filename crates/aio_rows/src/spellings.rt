@@ -1,10 +1,8 @@
 //! In which spellings a line is read, and why a line that reads as no step is refused.
 
-use crate::traces::{
-    NOTHING_FAILS, assert_exit, assert_out, assert_told, replay_rows, run_from, run_over,
-};
+use crate::traces::{NOTHING_FAILS, Wrote, assert_ran, ends, replay_rows, run_from};
 use aio_bytes::{MemSource, Source};
-use std::alloc::Global;
+use std::alloc::{AllocError, Global};
 use std::process::Abort;
 use std::sync::Wait;
 use std::test::Fail;
@@ -108,7 +106,7 @@ const REFUSED: &[(&[u8], &[u8], &[u8])] = &[
 #[test]
 fn a_line_is_read_in_each_of_its_spellings(rt: HostRuntime) -> Result<(), Fail> {
     replay_rows(&rt, READ, 1)?;
-    replay_rows(&rt, READ, 4096)
+    Ok(replay_rows(&rt, READ, 4096)?)
 }
 
 /// Replays each refused trace, of which a read gives at most `piece` bytes, and asserts what is told.
@@ -116,7 +114,7 @@ fn refuse_rows<R: Wait + Threads + Sync + Send + Copy + AllocGlobal + Abort>(
     rt: &R,
     rows: &[(&[u8], &[u8], &[u8])],
     piece: usize,
-) -> Result<(), Fail> {
+) -> Result<(), AllocError> {
     for (trace, out, err) in rows {
         refuse_row(rt, trace, out, err, piece)?;
     }
@@ -129,31 +127,34 @@ fn refuse_row<R: Wait + Threads + Sync + Send + Copy + AllocGlobal + Abort>(
     out: &[u8],
     err: &[u8],
     piece: usize,
-) -> Result<(), Fail> {
-    let ran = run_over(rt, &["replay"], trace, piece, NOTHING_FAILS)?;
-    assert_out(rt, &ran, out, trace);
-    assert_told(rt, &ran, err, trace);
-    assert_exit(rt, &ran, 2, trace);
+) -> Result<(), AllocError> {
+    ends(rt, &["replay"], trace, piece, NOTHING_FAILS, (out, err, 2))?;
     Ok(())
 }
 
 #[test]
 fn the_first_refused_line_is_told_with_its_reason(rt: HostRuntime) -> Result<(), Fail> {
     refuse_rows(&rt, REFUSED, 1)?;
-    refuse_rows(&rt, REFUSED, 4096)
+    Ok(refuse_rows(&rt, REFUSED, 4096)?)
 }
 
-/// Lines of so many bytes, blanks with `add` in front of them, and what is told.
-const LENGTHS: &[(usize, &[u8], &[u8])] = &[
-    (255, b"key 0\n", b""),
-    (256, b"key 0\n", b""),
-    (257, b"", b"line 2: long\n"),
-    (258, b"", b"line 2: long\n"),
-    (100_000, b"", b"line 2: long\n"),
+/// The line is read.
+const IS_READ: Wrote<'static> = (b"key 0\n", b"", 0);
+
+/// The line is refused.
+const IS_LONG: Wrote<'static> = (b"", b"line 2: long\n", 2);
+
+/// Lines of so many bytes, blanks with `add` in front of them, and what a replay writes and tells.
+const LENGTHS: &[(usize, Wrote<'static>)] = &[
+    (255, IS_READ),
+    (256, IS_READ),
+    (257, IS_LONG),
+    (258, IS_LONG),
+    (100_000, IS_LONG),
 ];
 
 /// A trace with one line `add`, which blanks and this last byte make so many bytes long.
-fn long_line(alloc: Global, len: usize, last: u8) -> Result<Vec<u8>, Fail> {
+fn long_line(alloc: Global, len: usize, last: u8) -> Result<Vec<u8>, AllocError> {
     let mut trace = b"trace 1\nadd".to_vec(alloc)?;
     for _ in 4..len {
         trace.push(b' ')?;
@@ -162,30 +163,37 @@ fn long_line(alloc: Global, len: usize, last: u8) -> Result<Vec<u8>, Fail> {
     Ok(trace)
 }
 
+/// Replays a trace, and asserts what that writes and tells.
+fn replay_so<R: Wait + Threads + Sync + Send + Copy + AllocGlobal + Abort>(
+    rt: &R,
+    trace: &[u8],
+    wanted: Wrote<'_>,
+) -> Result<(), AllocError> {
+    ends(rt, &["replay"], trace, 4096, NOTHING_FAILS, wanted)?;
+    Ok(())
+}
+
 fn read_long_line<R: Wait + Threads + Sync + Send + Copy + AllocGlobal + Abort>(
     rt: &R,
-    row: &(usize, &[u8], &[u8]),
+    len: usize,
     last: u8,
-) -> Result<(), Fail> {
-    let (len, out, err) = *row;
+    wanted: Wrote<'_>,
+) -> Result<(), AllocError> {
     let trace = long_line(rt.alloc(), len, last)?;
-    let ran = run_over(rt, &["replay"], trace.as_slice(), 4096, NOTHING_FAILS)?;
-    assert_out(rt, &ran, out, len);
-    assert_told(rt, &ran, err, len);
-    Ok(())
+    replay_so(rt, trace.as_slice(), wanted)
 }
 
 #[test]
 fn a_line_has_at_most_256_bytes(rt: HostRuntime) -> Result<(), Fail> {
-    for row in LENGTHS {
-        read_long_line(&rt, row, b' ')?;
-        read_long_line(&rt, row, b'\r')?;
+    for (len, wanted) in LENGTHS {
+        read_long_line(&rt, *len, b' ', *wanted)?;
+        read_long_line(&rt, *len, b'\r', *wanted)?;
     }
     Ok(())
 }
 
 /// A header that blanks make so many bytes long, and a line behind it.
-fn long_header(alloc: Global, len: usize) -> Result<Vec<u8>, Fail> {
+fn long_header(alloc: Global, len: usize) -> Result<Vec<u8>, AllocError> {
     let mut trace = b"trace 1".to_vec(alloc)?;
     for _ in 7..len {
         trace.push(b' ')?;
@@ -194,29 +202,30 @@ fn long_header(alloc: Global, len: usize) -> Result<Vec<u8>, Fail> {
     Ok(trace)
 }
 
+/// Replays a trace with a header of so many bytes.
+fn read_long_header<R: Wait + Threads + Sync + Send + Copy + AllocGlobal + Abort>(
+    rt: &R,
+    len: usize,
+    wanted: Wrote<'_>,
+) -> Result<(), AllocError> {
+    let trace = long_header(rt.alloc(), len)?;
+    replay_so(rt, trace.as_slice(), wanted)
+}
+
+/// The first line is no header.
+const IS_NO_HEADER: Wrote<'static> = (b"", b"line 1: header\n", 2);
+
 #[test]
 fn a_header_has_at_most_256_bytes(rt: HostRuntime) -> Result<(), Fail> {
-    let read = long_header(rt.alloc(), 256)?;
-    let ran = run_over(&rt, &["replay"], read.as_slice(), 4096, NOTHING_FAILS)?;
-    assert_out(&rt, &ran, b"key 0\n", "256 bytes");
-    assert_told(&rt, &ran, b"", "256 bytes");
-    let refused = long_header(rt.alloc(), 257)?;
-    let ran = run_over(&rt, &["replay"], refused.as_slice(), 4096, NOTHING_FAILS)?;
-    assert_exit(&rt, &ran, 2, "257 bytes");
-    assert_out(&rt, &ran, b"", "257 bytes");
-    assert_told(&rt, &ran, b"line 1: header\n", "257 bytes");
-    Ok(())
+    read_long_header(&rt, 256, IS_READ)?;
+    Ok(read_long_header(&rt, 257, IS_NO_HEADER)?)
 }
 
 #[test]
 fn a_long_line_of_other_bytes_is_long(rt: HostRuntime) -> Result<(), Fail> {
     let mut trace = b"trace 1\n".to_vec(rt.alloc())?;
-    for _ in 0..257 {
-        trace.push(0)?;
-    }
-    let ran = run_over(&rt, &["replay"], trace.as_slice(), 4096, NOTHING_FAILS)?;
-    assert_told(&rt, &ran, b"line 2: long\n", "257 zeros");
-    Ok(())
+    trace.extend_from_slice(&[0; 257])?;
+    Ok(replay_so(&rt, trace.as_slice(), IS_LONG)?)
 }
 
 #[test]
@@ -224,8 +233,7 @@ fn a_first_line_without_end_is_refused_by_its_first_257_bytes(rt: HostRuntime) -
     let alloc = rt.alloc();
     let mut source = MemSource::new([b'a'; 300].to_vec(alloc)?, 4096, Vec::new(alloc));
     let ran = run_from(&rt, &["replay"], &mut source, NOTHING_FAILS)?;
-    assert_exit(&rt, &ran, 2, "no end");
-    assert_told(&rt, &ran, b"line 1: header\n", "no end");
+    assert_ran(&rt, &ran, IS_NO_HEADER, "no end");
     assert_left(&rt, &mut source, 43);
     Ok(())
 }

@@ -3,6 +3,7 @@
 
 ghost use Rattle.std.specs.Prelude.{None, false};
 
+use crate::asserts::{same, same_in};
 use crate::devices::Torn;
 use aio_base::{CountFault, Failed, Faults, Reason};
 use aio_bytes::{MemSink, MemSource, Source};
@@ -18,10 +19,11 @@ const USAGE: &[u8] =
     b"usage: replay; gen N SEED; sum N SEED; relay PORT WORKERS IDLE PAIRS; stress CALLS SEED\n";
 
 /// A trace in which a task waits for a source and is woken.
-const ORDINARY: &[u8] = b"trace 1\nadd\npoll 0 r 7\nevent 0 r\nreact\npoll 0 r 7\n";
+pub(crate) const ORDINARY: &[u8] = b"trace 1\nadd\npoll 0 r 7\nevent 0 r\nreact\npoll 0 r 7\n";
 
 /// The answers to that trace.
-const ORDINARY_ANSWERS: &[u8] = b"key 0\npending\nnoted\nround 1 events 1 ok\nwake 7\nready\n";
+pub(crate) const ORDINARY_ANSWERS: &[u8] =
+    b"key 0\npending\nnoted\nround 1 events 1 ok\nwake 7\nready\n";
 
 /// What a call answered, and what it wrote.
 #[derive(Drop)]
@@ -90,26 +92,28 @@ fn texts_of(alloc: Global, words: &[&str]) -> Result<Vec<String>, AllocError> {
     Ok(texts)
 }
 
-// Each assertion is a call: what stands in the body of a test makes its proof longer by the square.
+/// What a command writes to the output, what it tells the user, and its exit status.
+pub(crate) type Wrote<'a> = (&'a [u8], &'a [u8], u8);
 
-/// Asserts what was written to the output, naming the input or the words where it differs.
-pub(crate) fn assert_out<T: Debug + Drop>(rt: &impl Abort, ran: &Ran, out: &[u8], of: T) {
-    assert_eq!(rt; ran.out.bytes(), out, "output of {of:?}");
+/// Asserts what a call wrote and told, and its exit status, naming what it was a call of where they differ.
+pub(crate) fn assert_ran<T: Debug + Drop>(rt: &impl Abort, ran: &Ran, wanted: Wrote<'_>, of: T) {
+    let wrote = (ran.out.bytes(), ran.err.bytes(), ran.status.exit);
+    same_in(rt, of, wrote, wanted);
 }
 
-/// Asserts what the user was told, in the same way.
-pub(crate) fn assert_told<T: Debug + Drop>(rt: &impl Abort, ran: &Ran, err: &[u8], of: T) {
-    assert_eq!(rt; ran.err.bytes(), err, "text for {of:?}");
-}
-
-/// Asserts the exit status, in the same way.
-pub(crate) fn assert_exit<T: Debug + Drop>(rt: &impl Abort, ran: &Ran, exit: u8, of: T) {
-    assert_eq!(rt; ran.status.exit, exit, "exit of {of:?}");
-}
-
-/// Asserts why the call ended, in the same way.
-pub(crate) fn assert_why<T: Debug + Drop>(rt: &impl Abort, ran: &Ran, why: Why, of: T) {
-    assert_eq!(rt; ran.status.why, why, "cause of {of:?}");
+/// Runs the command of these words over an input in memory, in the same way, and asserts what it wrote and told,
+/// and its exit status. Why it ended.
+pub(crate) fn ends<R: Wait + Threads + Sync + Send + Copy + AllocGlobal + Abort>(
+    rt: &R,
+    words: &[&str],
+    input: &[u8],
+    piece: usize,
+    failing: Failing,
+    wanted: Wrote<'_>,
+) -> Result<Why, AllocError> {
+    let ran = run_over(rt, words, input, piece, failing)?;
+    assert_ran(rt, &ran, wanted, (words, input));
+    Ok(ran.status.why)
 }
 
 /// Traces, and the answers to each; all lines of each are read.
@@ -274,7 +278,7 @@ pub(crate) fn replay_rows<R: Wait + Threads + Sync + Send + Copy + AllocGlobal +
     rt: &R,
     rows: &[(&[u8], &[u8])],
     piece: usize,
-) -> Result<(), Fail> {
+) -> Result<(), AllocError> {
     for (trace, out) in rows {
         replay_row(rt, trace, out, piece)?;
     }
@@ -286,11 +290,9 @@ fn replay_row<R: Wait + Threads + Sync + Send + Copy + AllocGlobal + Abort>(
     trace: &[u8],
     out: &[u8],
     piece: usize,
-) -> Result<(), Fail> {
-    let ran = run_over(rt, &["replay"], trace, piece, NOTHING_FAILS)?;
-    assert_out(rt, &ran, out, trace);
-    assert_told(rt, &ran, b"", trace);
-    assert_exit(rt, &ran, 0, trace);
+) -> Result<(), AllocError> {
+    let wanted = (out, b"".as_slice(), 0);
+    ends(rt, &["replay"], trace, piece, NOTHING_FAILS, wanted)?;
     Ok(())
 }
 
@@ -298,19 +300,19 @@ fn replay_row<R: Wait + Threads + Sync + Send + Copy + AllocGlobal + Abort>(
 fn traces_are_answered_however_they_are_read(rt: HostRuntime) -> Result<(), Fail> {
     replay_rows(&rt, TRACES, 1)?;
     replay_rows(&rt, TRACES, 7)?;
-    replay_rows(&rt, TRACES, 4096)
+    Ok(replay_rows(&rt, TRACES, 4096)?)
 }
 
 #[test]
 fn timers_fire_in_order_and_once(rt: HostRuntime) -> Result<(), Fail> {
     replay_rows(&rt, TIMER_TRACES, 1)?;
-    replay_rows(&rt, TIMER_TRACES, 4096)
+    Ok(replay_rows(&rt, TIMER_TRACES, 4096)?)
 }
 
 #[test]
 fn rounds_are_answered_section_by_section(rt: HostRuntime) -> Result<(), Fail> {
     replay_rows(&rt, SECTION_TRACES, 1)?;
-    replay_rows(&rt, SECTION_TRACES, 4096)
+    Ok(replay_rows(&rt, SECTION_TRACES, 4096)?)
 }
 
 /// Words that are no command.
@@ -346,12 +348,10 @@ const OTHER_WORDS: &[&[&str]] = &[
 fn refuse_words<R: Wait + Threads + Sync + Send + Copy + AllocGlobal + Abort>(
     rt: &R,
     words: &[&str],
-) -> Result<(), Fail> {
-    let ran = run_over(rt, words, ORDINARY, 4096, NOTHING_FAILS)?;
-    assert_exit(rt, &ran, 1, words);
-    assert_why(rt, &ran, Why::Usage, words);
-    assert_told(rt, &ran, USAGE, words);
-    assert_out(rt, &ran, b"", words);
+) -> Result<(), AllocError> {
+    let wanted = (b"".as_slice(), USAGE, 1);
+    let why = ends(rt, words, ORDINARY, 4096, NOTHING_FAILS, wanted)?;
+    same(rt, why, Why::Usage);
     Ok(())
 }
 
@@ -382,16 +382,14 @@ fn fail_read<R: Wait + Threads + Sync + Send + Copy + AllocGlobal + Abort>(
     rt: &R,
     reads: &'static [u64],
     out: &[u8],
-) -> Result<(), Fail> {
+) -> Result<(), AllocError> {
     let failing = Failing {
         reads,
         ..NOTHING_FAILS
     };
-    let ran = run_over(rt, &["replay"], ORDINARY, 1, failing)?;
-    assert_exit(rt, &ran, 3, reads);
-    assert_why(rt, &ran, Why::ReadFault(FIRST_FAULT), reads);
-    assert_out(rt, &ran, out, reads);
-    assert_told(rt, &ran, b"read fault\n", reads);
+    let wanted = (out, b"read fault\n".as_slice(), 3);
+    let why = ends(rt, &["replay"], ORDINARY, 1, failing, wanted)?;
+    same(rt, why, Why::ReadFault(FIRST_FAULT));
     Ok(())
 }
 
@@ -405,7 +403,7 @@ fn a_failing_read_leaves_the_answers_before_it(rt: HostRuntime) -> Result<(), Fa
 
 /// A trace whose first 257 bytes, which one read gives, end in the middle of its last line; and the
 /// answers to the lines before that.
-fn adds_across_a_read(alloc: Global) -> Result<(Vec<u8>, Vec<u8>), Fail> {
+fn adds_across_a_read(alloc: Global) -> Result<(Vec<u8>, Vec<u8>), AllocError> {
     let (mut trace, answers) = adds(alloc, 62)?;
     trace.extend_from_slice(b"add\n")?;
     Ok((trace, answers))
@@ -417,16 +415,14 @@ fn fail_second_read<R: Wait + Threads + Sync + Send + Copy + AllocGlobal + Abort
     trace: &[u8],
     writes: &'static [u64],
     out: &[u8],
-) -> Result<(), Fail> {
+) -> Result<(), AllocError> {
     let failing = Failing {
         writes,
         ..NOTHING_FAILS
     };
     let mut source = Torn::new(trace.to_vec(rt.alloc())?);
     let ran = run_from(rt, &["replay"], &mut source, failing)?;
-    assert_exit(rt, &ran, 3, writes);
-    assert_out(rt, &ran, out, writes);
-    assert_told(rt, &ran, b"read fault\n", writes);
+    assert_ran(rt, &ran, (out, b"read fault\n", 3), writes);
     Ok(())
 }
 
@@ -434,7 +430,7 @@ fn fail_second_read<R: Wait + Threads + Sync + Send + Copy + AllocGlobal + Abort
 fn answers_gathered_before_a_failing_read_are_sent(rt: HostRuntime) -> Result<(), Fail> {
     let (trace, answers) = adds_across_a_read(rt.alloc())?;
     fail_second_read(&rt, trace.as_slice(), &[], answers.as_slice())?;
-    fail_second_read(&rt, trace.as_slice(), &[1], b"")
+    Ok(fail_second_read(&rt, trace.as_slice(), &[1], b"")?)
 }
 
 /// The write of the answers to the ordinary trace that fails, where each line is read alone, and what
@@ -453,16 +449,14 @@ fn fail_write<R: Wait + Threads + Sync + Send + Copy + AllocGlobal + Abort>(
     rt: &R,
     writes: &'static [u64],
     out: &[u8],
-) -> Result<(), Fail> {
+) -> Result<(), AllocError> {
     let failing = Failing {
         writes,
         ..NOTHING_FAILS
     };
-    let ran = run_over(rt, &["replay"], ORDINARY, 1, failing)?;
-    assert_exit(rt, &ran, 4, writes);
-    assert_why(rt, &ran, Why::WriteFault(FIRST_FAULT), writes);
-    assert_out(rt, &ran, out, writes);
-    assert_told(rt, &ran, b"write fault\n", writes);
+    let wanted = (out, b"write fault\n".as_slice(), 4);
+    let why = ends(rt, &["replay"], ORDINARY, 1, failing, wanted)?;
+    same(rt, why, Why::WriteFault(FIRST_FAULT));
     Ok(())
 }
 
@@ -480,15 +474,12 @@ fn a_user_who_cannot_be_told_changes_no_status(rt: HostRuntime) -> Result<(), Fa
         tells: &[1],
         ..NOTHING_FAILS
     };
-    let ran = run_over(&rt, &["replay"], b"", 4096, failing)?;
-    let why = Why::Refused {
+    let why = ends(&rt, &["replay"], b"", 4096, failing, (b"", b"", 2))?;
+    let header = Why::Refused {
         line: 1,
         reason: Reason::Header,
     };
-    assert_exit(&rt, &ran, 2, "no line");
-    assert_why(&rt, &ran, why, "no line");
-    assert_out(&rt, &ran, b"", "no line");
-    assert_told(&rt, &ran, b"", "no line");
+    same(&rt, why, header);
     Ok(())
 }
 
@@ -498,15 +489,15 @@ fn replay_whole<R: Wait + Threads + Sync + Send + Copy + AllocGlobal + Abort>(
     rt: &R,
     trace: &[u8],
     answers: &[u8],
-) -> Result<(), Fail> {
+) -> Result<(), AllocError> {
     let ran = run_over(rt, &["replay"], trace, 4096, NOTHING_FAILS)?;
-    assert_exit(rt, &ran, 0, "a long trace");
-    assert!(rt; ran.out.bytes() == answers);
+    let wrote = (ran.status.exit, ran.out.bytes() == answers);
+    same(rt, wrote, (0, true));
     Ok(())
 }
 
 /// The header and so many lines `add`, and their answers.
-fn adds(alloc: Global, count: u32) -> Result<(Vec<u8>, Vec<u8>), Fail> {
+fn adds(alloc: Global, count: u32) -> Result<(Vec<u8>, Vec<u8>), AllocError> {
     let mut trace = b"trace 1\n".to_vec(alloc)?;
     let mut answers = Vec::new(alloc);
     for key in 0..count {
@@ -521,11 +512,11 @@ fn a_reactor_holds_4096_sources(rt: HostRuntime) -> Result<(), Fail> {
     let (mut trace, mut answers) = adds(rt.alloc(), 4096)?;
     trace.extend_from_slice(b"add\ndel 7\nadd\n")?;
     answers.extend_from_slice(b"full\ngone\nkey 7\n")?;
-    replay_whole(&rt, trace.as_slice(), answers.as_slice())
+    Ok(replay_whole(&rt, trace.as_slice(), answers.as_slice())?)
 }
 
 /// A trace in which so many listeners and as many timers wait, and its answers.
-fn waiting(alloc: Global, count: u32) -> Result<(Vec<u8>, Vec<u8>), Fail> {
+fn waiting(alloc: Global, count: u32) -> Result<(Vec<u8>, Vec<u8>), AllocError> {
     let mut trace = b"trace 1\nadd\n".to_vec(alloc)?;
     let mut answers = b"key 0\n".to_vec(alloc)?;
     for n in 1..=count {
@@ -545,16 +536,20 @@ fn listeners_and_timers_are_as_many_as_memory_holds(rt: HostRuntime) -> Result<(
     for _ in 0..2000 {
         answers.extend_from_slice(b"wake 5\nwake 5\n")?;
     }
-    replay_whole(&rt, trace.as_slice(), answers.as_slice())
+    Ok(replay_whole(&rt, trace.as_slice(), answers.as_slice())?)
 }
 
-/// A trace that never ends: its header, and then the line `react` again and again.
+/// A trace that is longer than memory would hold well: a few lines, and then one line again and again, up to so
+/// many bytes.
 #[derive(Drop)]
-struct Endless {
+struct Long {
+    head: &'static [u8],
+    line: &'static [u8],
     given: u64,
+    end: u64,
 }
 
-impl Faults for Endless {
+impl Faults for Long {
     ghost fault_count = { λ _. 0 };
 
     ghost is_sure = { λ _. false };
@@ -570,7 +565,7 @@ impl Faults for Endless {
     ghost each_sure = { λ s sure. sure };
 }
 
-impl Source for Endless {
+impl Source for Long {
     ghost remaining = { λ _. None };
 
     ghost in_hand = { λ _. 0 };
@@ -582,62 +577,111 @@ impl Source for Endless {
     }
 
     fn read(&mut self, buf: &mut [u8]) -> Result<usize, Failed> {
-        for byte in buf.iter_mut() {
-            *byte = endless_byte(self.given);
+        let left = self.end.saturating_sub(self.given);
+        let count = if (buf.len() as u64) < left {
+            buf.len()
+        } else {
+            left as usize
+        };
+        for byte in buf[..count].iter_mut() {
+            *byte = byte_at(self.head, self.line, self.given);
             self.given = self.given.saturating_add(1);
         }
-        Ok(buf.len())
+        Ok(count)
     }
 }
 
-/// The byte at this place of the trace that never ends.
-fn endless_byte(place: u64) -> u8 {
-    if place < 8 {
-        b"trace 1\n"[place as usize]
-    } else {
-        b"react\n"[((place - 8) % 6) as usize]
+/// The byte at this place of a few lines with another one behind them again and again. 0 where that is empty.
+fn byte_at(head: &[u8], line: &[u8], place: u64) -> u8 {
+    let place = place as usize;
+    if place < head.len() {
+        return head[place];
     }
+    if line.is_empty() {
+        return 0;
+    }
+    line[(place - head.len()) % line.len()]
 }
 
 #[test]
 fn a_trace_without_end_is_refused_past_its_millionth_line(rt: HostRuntime) -> Result<(), Fail> {
-    let mut source = Endless { given: 0 };
-    let ran = run_from(&rt, &["replay"], &mut source, NOTHING_FAILS)?;
-    let why = Why::Refused {
-        line: 1_000_001,
-        reason: Reason::Lines,
+    let mut source = Long {
+        head: b"trace 1\n",
+        line: b"react\n",
+        given: 0,
+        end: u64::MAX,
     };
-    assert_exit(&rt, &ran, 2, "no end");
-    assert_why(&rt, &ran, why, "no end");
-    assert_told(&rt, &ran, b"line 1000001: lines\n", "no end");
-    assert_rounds(&rt, ran.out.bytes(), 999_999);
+    let ran = run_from(&rt, &["replay"], &mut source, NOTHING_FAILS)?;
+    let told = b"line 1000001: lines\n".as_slice();
+    same(
+        &rt,
+        (ran.status, ran.err.bytes()),
+        (PAST_THE_MILLIONTH, told),
+    );
+    assert_counted(&rt, ran.out.bytes(), ROUNDS, 999_999);
     assert!(rt; source.given <= 257_000_257, "{}", source.given);
     Ok(())
 }
 
-/// Asserts that the answers are those of so many rounds without events, and nothing else.
-fn assert_rounds(rt: &impl Abort, answers: &[u8], rounds: u32) {
+/// The status of a run that was refused past its millionth line.
+const PAST_THE_MILLIONTH: Status = Status {
+    exit: 2,
+    why: Why::Refused {
+        line: 1_000_001,
+        reason: Reason::Lines,
+    },
+};
+
+/// How the answer of a round without events begins and ends.
+const ROUNDS: (&[u8], &[u8]) = (b"round ", b" events 0 ok\n");
+
+/// How the answer of a new listener begins and ends.
+const LISTENERS: (&[u8], &[u8]) = (b"listener ", b"\n");
+
+/// A trace of a million lines, of which all but the first two ask for a new listener.
+fn listeners_to_the_last_line() -> Long {
+    Long {
+        head: b"trace 1\nadd\n",
+        line: b"new 0 r\n",
+        given: 0,
+        end: 12 + 8 * 999_998,
+    }
+}
+
+/// What comes behind the answer to `add`, or nothing where that does not come first.
+fn past_add(answers: &[u8]) -> &[u8] {
+    answers.strip_prefix(b"key 0\n").unwrap_or(b"")
+}
+
+#[test]
+fn listeners_come_up_to_the_millionth_line(rt: HostRuntime) -> Result<(), Fail> {
+    let mut source = listeners_to_the_last_line();
+    let ran = run_from(&rt, &["replay"], &mut source, NOTHING_FAILS)?;
+    same(&rt, ran.status.exit, 0);
+    assert_counted(&rt, past_add(ran.out.bytes()), LISTENERS, 999_998);
+    Ok(())
+}
+
+/// Asserts that the answers are so many, each with the next number from 1 on between this beginning and this
+/// end, and nothing else.
+fn assert_counted(rt: &impl Abort, answers: &[u8], between: (&[u8], &[u8]), count: u32) {
     let mut rest = answers;
-    for round in 0..rounds {
-        match past_round(rest, round as u64 + 1) {
+    for number in 0..count {
+        match past_answer(rest, between, number as u64 + 1) {
             Some(more) => rest = more,
-            None => assert_eq!(rt;
-                round,
-                rounds,
-                "rounds that were answered one after the other"
-            ),
+            None => assert_eq!(rt; number, count, "answers that came one after the other"),
         }
     }
     assert!(rt; rest.is_empty());
 }
 
-/// What comes behind the answer of the round with this number, where that comes first.
-fn past_round(answers: &[u8], round: u64) -> Option<&[u8]> {
-    let (number, rest) = past_number(answers.strip_prefix(b"round ")?);
-    if number != round {
+/// What comes behind the answer with this number, where that comes first.
+fn past_answer<'a>(answers: &'a [u8], between: (&[u8], &[u8]), number: u64) -> Option<&'a [u8]> {
+    let (found, rest) = past_number(answers.strip_prefix(between.0)?);
+    if found != number {
         return None;
     }
-    rest.strip_prefix(b" events 0 ok\n")
+    rest.strip_prefix(between.1)
 }
 
 /// A number of at most six digits, without leading zeros, and what comes behind it. 0 where there is none.

@@ -4,8 +4,10 @@
 use crate::asserts::{moment, same};
 use crate::hosts::insert;
 use crate::reactors::new_core;
-use aio_base::{Moment, Poller, Waited, Waker};
+use aio_base::{Dir, Event, Interest, Key, Moment, Poll, Poller, Waited, Waker};
 use aio_react::{Core, CoreRefusal, Handled, Reacted, RoundFault};
+use aio_script::ScriptPoller;
+use std::alloc::Global;
 use std::process::Abort;
 use std::test::Fail;
 
@@ -82,5 +84,65 @@ fn a_whole_round_wakes_what_is_due_and_locks_out_no_later_one(rt: HostRuntime) -
     assert_reacts(&rt, &mut core, now, 2);
     assert!(rt; core.woken().is_empty());
     assert_locks(&rt, &mut core, now);
+    Ok(())
+}
+
+/// Has so many listeners of the source wait for its read direction. How many do.
+fn listen_times<P: Poller>(core: &mut Core<P>, times: u32) -> usize {
+    let mut waiting: usize = 0;
+    for _ in 0..times {
+        if listen_and_wait(core) {
+            waiting = waiting.saturating_add(1);
+        }
+    }
+    waiting
+}
+
+/// Has one more listener of the source wait. Whether it does.
+fn listen_and_wait<P: Poller>(core: &mut Core<P>) -> bool {
+    match core.listen(Key(0), Dir::Read) {
+        Ok(listener) => core.step(listener, Waker(3)) == Ok(Poll::Pending),
+        Err(_) => false,
+    }
+}
+
+/// Makes a round. Where memory ran out in it, its event is handled then and the round is ended: the answer is the
+/// first fault of the round.
+fn react_to_the_end<P: Poller>(
+    core: &mut Core<P>,
+    now: Moment,
+) -> Result<Option<RoundFault>, CoreRefusal> {
+    match core.react(now, Some(0)) {
+        Ok(reacted) => Ok(reacted.fault),
+        Err(CoreRefusal::OutOfMemory) => {
+            core.handle()?;
+            core.finish(now)
+        }
+        Err(refusal) => Err(refusal),
+    }
+}
+
+/// A core with one source, of which the poller has noted an event.
+fn noted_core(rt: &impl Abort, alloc: Global) -> Result<Core<ScriptPoller>, Fail> {
+    let mut core = new_core(alloc)?;
+    same(rt, core.add(), Ok(Key(0)));
+    let event = Event {
+        key: Key(0),
+        on: Interest::READ,
+    };
+    same(rt, core.poller().give(event), Ok(()));
+    Ok(core)
+}
+
+/// A round takes more wakers than it has room for. Where there is no memory for them, its event stays in hand,
+/// and goes on from there. Whether memory was there, the run of the test decides.
+#[test]
+fn an_event_without_memory_is_handled_later(rt: HostRuntime) -> Result<(), Fail> {
+    let mut core = noted_core(&rt, rt.alloc())?;
+    let now = moment(&rt, 10);
+    let waiting = listen_times(&mut core, 3_000);
+    same(&rt, react_to_the_end(&mut core, now), Ok(None));
+    same(&rt, core.woken().len(), waiting);
+    same(&rt, (waiting, core.ticker()), (3_000, 1));
     Ok(())
 }

@@ -1,5 +1,4 @@
-//! Tests of calls that cross crates: hosts of timers, timers, rounds and cores through their bounds, and a
-//! source over the poller in memory.
+//! Tests of calls that cross crates: hosts of timers, timers, rounds and cores through their bounds.
 //!
 //! They stand above every crate that they use, so that none of those is proved a second time for its
 //! tests. Of other code there is a host of the tests' own, with code over any host: it has contracts, so
@@ -12,6 +11,8 @@ mod asserts;
 mod core_rounds;
 #[cfg(test)]
 mod host_tests;
+#[cfg(test)]
+mod hosted;
 pub mod hosts;
 #[cfg(test)]
 mod listeners;
@@ -21,7 +22,5 @@ mod polls;
 mod reactors;
 #[cfg(test)]
 mod rounds;
-#[cfg(test)]
-mod sources;
 #[cfg(test)]
 mod timers;

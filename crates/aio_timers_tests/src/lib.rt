@@ -10,4 +10,6 @@ mod asserts;
 mod books;
 pub mod calls;
 #[cfg(test)]
+mod played;
+#[cfg(test)]
 mod tests;
