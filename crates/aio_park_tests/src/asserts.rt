@@ -1,8 +1,6 @@
 //! Assertions as calls: what stands in the body of a test makes its proof longer by the square, and an
 //! assertion is long.
 
-ghost use Rattle.std.specs.Prelude.{◌≡◌};
-
 use aio_base::Moment;
 use std::fmt::Debug;
 use std::process::Abort;
@@ -13,8 +11,6 @@ pub(crate) fn same<T: Debug + Drop + PartialEq>(rt: &impl Abort, found: T, wante
 }
 
 /// The moment of so many nanoseconds.
-pub(crate) fn moment(rt: &impl Abort, nanoseconds: u64) -> Moment
-    ensures { result ≡ nanoseconds }
-{
+pub(crate) fn moment(rt: &impl Abort, nanoseconds: u64) -> Moment {
     Moment::new(nanoseconds).expect(rt, "the moment is at most 10^18")
 }

@@ -1,181 +1,109 @@
 //! What no clause says of a thread that blocks on a task: that it makes rounds, and that a task is polled
-//! where it was woken and nowhere else.
+//! where it was woken and nowhere else; and of one that makes rounds alone.
 
-use crate::asserts::{moment, same};
-use crate::tasks::{Never, Wakes};
-use crate::threads::{Undisturbed, end_never, waits};
+ghost use Rattle.std.specs.Prelude.{◌≤◌};
+
+use crate::acts::Act::{Count, Drive, Never, Sleep, WakeItself};
+use crate::acts::Came::{Ended, Events, Failed, Stopped, Waits};
+use crate::acts::{Act, Came};
+use crate::readers::plays;
 use crate::waits::PromptWait;
-use aio_base::{Arm, EventWait, Notify};
-use aio_devices::{FailingWait, MemClock, MemNotify, MemWait, SureArm, clock_until, fault_after};
-use aio_future::Sleep;
-use aio_park::{BlockFault, Group, Thread, drive};
-use std::sync::Wait;
+use aio_base::CountFault;
+use aio_devices::{FailingWait, MemNotify, MemWait, SureArm};
+use aio_park::BlockFault;
 use std::test::Fail;
+
+/// Devices that never fail, whose waits give an event of each of so many keys.
+fn sure(keys: u32) -> (MemNotify, SureArm, MemWait)
+    requires { keys ≤ 1024 }
+{
+    (MemNotify::new(), SureArm::new(7), MemWait::new(keys))
+}
+
+/// What a wait that fails for the first time comes to.
+const FIRST_FAULT: BlockFault = BlockFault::Wait(CountFault {
+    before: 0,
+    after: 1,
+});
+
+// The clock is looked at before a poll, and before and after each wait that gave no event. So it is the first
+// pass of the second round that finds the timer due.
+const SLEEPS: [(Act, Came); 2] = [(Sleep(5), Ended(5, 2)), (Count, Waits(2))];
 
 #[test]
 fn a_thread_reacts_until_its_timer_fires(rt: HostRuntime) -> Result<(), Fail> {
-    let clock = clock_until(rt.alloc(), 3, moment(&rt, 5))?;
-    let wait = MemWait::new(0);
-    let mut thread: Undisturbed<_, _> = Thread::new(
-        rt.alloc(),
-        &rt,
-        1,
-        wait,
-        MemNotify::new(),
-        clock,
-    )?;
-    let mut task = Sleep::until(moment(&rt, 5));
-    same(&rt, thread.run(&mut task), Ok(Ok(moment(&rt, 5))));
-    same(&rt, task.polls, 2);
-    same(&rt, waits(&mut thread) > Some(0), true);
-    Ok(())
+    plays(&rt, rt.alloc(), sure(0), (3, 5), &SLEEPS)
 }
+
+const WAKES_ITSELF: [(Act, Came); 2] = [(WakeItself(4), Ended(0, 4)), (Count, Waits(3))];
 
 #[test]
 fn a_task_that_wakes_itself_is_polled_once_for_each_wake(rt: HostRuntime) -> Result<(), Fail> {
-    let clock = clock_until(rt.alloc(), 1, moment(&rt, 0))?;
-    let wait = MemWait::new(0);
-    let mut thread: Undisturbed<_, _> = Thread::new(
-        rt.alloc(),
-        &rt,
-        1,
-        wait,
-        MemNotify::new(),
-        clock,
-    )?;
-    let mut task = Wakes::until(4, 9);
-    same(&rt, thread.run(&mut task), Ok(9));
-    same(&rt, task.polls, 4);
-    same(&rt, waits(&mut thread), Some(3));
-    Ok(())
+    plays(&rt, rt.alloc(), sure(0), (1, 0), &WAKES_ITSELF)
 }
+
+const WAKES_ITSELF_A_THOUSAND_TIMES: [(Act, Came); 2] = [
+    (WakeItself(1001), Ended(0, 1001)),
+    (Count, Waits(1000)),
+];
 
 #[test]
-fn a_round_waits_only_where_the_task_was_not_woken(rt: HostRuntime) -> Result<(), Fail> {
-    let clock = clock_until(rt.alloc(), 1, moment(&rt, 0))?;
-    let wait = PromptWait::new();
-    let mut thread: Thread<_, _, SureArm, _, _> = Thread::new(
-        rt.alloc(),
+fn a_task_is_woken_a_thousand_times(rt: HostRuntime) -> Result<(), Fail> {
+    plays(
         &rt,
-        1,
-        wait,
-        MemNotify::new(),
-        clock,
-    )?;
-    same(&rt, thread.run(&mut Wakes::until(4, 9)), Ok(9));
-    same(&rt, waits(&mut thread), Some(3));
-    let mut silent = Never { polls: 0 };
-    let fault = BlockFault::Wait(fault_after(0));
-    same(&rt, end_never(&mut thread, &mut silent), fault);
-    same(&rt, silent.polls, 1);
-    same(&rt, waits(&mut thread), Some(4));
-    Ok(())
-}
-
-#[test]
-fn a_failed_wait_is_told_and_the_cell_goes_back(rt: HostRuntime) -> Result<(), Fail> {
-    let clock = clock_until(rt.alloc(), 1, moment(&rt, 0))?;
-    let wait = FailingWait::new(0, vec![in rt.alloc(); 1]?);
-    let mut thread: Thread<_, _, SureArm, _, _> = Thread::new(
         rt.alloc(),
-        &rt,
-        1,
-        wait,
-        MemNotify::new(),
-        clock,
-    )?;
-    let mut task = Never { polls: 0 };
-    let fault = BlockFault::Wait(fault_after(0));
-    same(&rt, end_never(&mut thread, &mut task), fault);
-    same(&rt, waits(&mut thread), Some(1));
-    same(&rt, task.polls, 1);
-    Ok(())
-}
-
-/// Drives so many rounds.
-fn drive_thread<R: Wait + Copy, N: Notify, A: Arm, W: EventWait>(
-    thread: &mut Thread<R, N, A, W, MemClock>,
-    rounds: u32,
-) -> Result<u64, BlockFault> {
-    let host = &mut thread.host;
-    drive(
-        &host.rt,
-        &host.shared,
-        &mut host.member,
-        &mut thread.clock,
-        rounds,
+        sure(0),
+        (1, 0),
+        &WAKES_ITSELF_A_THOUSAND_TIMES,
     )
 }
 
+// Each wait that is to last fails.
+const WAITS_ONCE: [(Act, Came); 4] = [
+    (WakeItself(4), Ended(0, 4)),
+    (Count, Waits(3)),
+    (Never, Failed(FIRST_FAULT, 1)),
+    (Count, Waits(4)),
+];
+
+#[test]
+fn a_round_waits_only_where_the_task_was_not_woken(rt: HostRuntime) -> Result<(), Fail> {
+    let devices = (MemNotify::new(), SureArm::new(7), PromptWait::new());
+    plays(&rt, rt.alloc(), devices, (1, 0), &WAITS_ONCE)
+}
+
+const WAIT_FAILS: [(Act, Came); 2] = [(Never, Failed(FIRST_FAULT, 1)), (Count, Waits(1))];
+
+#[test]
+fn a_failed_wait_is_told_and_the_cell_goes_back(rt: HostRuntime) -> Result<(), Fail> {
+    let wait = FailingWait::new(0, vec![in rt.alloc(); 1]?);
+    let devices = (MemNotify::new(), SureArm::new(7), wait);
+    plays(&rt, rt.alloc(), devices, (1, 0), &WAIT_FAILS)
+}
+
+const DRIVES: [(Act, Came); 3] = [
+    (Drive(3), Events(6)),
+    (Count, Waits(3)),
+    (Drive(0), Events(0)),
+];
+
 #[test]
 fn a_driver_sums_up_the_events_of_its_rounds(rt: HostRuntime) -> Result<(), Fail> {
-    let clock = clock_until(rt.alloc(), 1, moment(&rt, 0))?;
-    let wait = MemWait::new(2);
-    let mut thread: Undisturbed<_, _> = Thread::new(
-        rt.alloc(),
-        &rt,
-        1,
-        wait,
-        MemNotify::new(),
-        clock,
-    )?;
-    same(&rt, drive_thread(&mut thread, 3), Ok(6));
-    same(&rt, waits(&mut thread), Some(3));
-    same(&rt, drive_thread(&mut thread, 0), Ok(0));
-    Ok(())
+    plays(&rt, rt.alloc(), sure(2), (1, 0), &DRIVES)
 }
+
+const DRIVES_ON: [(Act, Came); 2] = [(Drive(1000), Events(2000)), (Count, Waits(1000))];
 
 #[test]
 fn a_driver_makes_a_thousand_rounds(rt: HostRuntime) -> Result<(), Fail> {
-    let clock = clock_until(rt.alloc(), 1, moment(&rt, 0))?;
-    let wait = MemWait::new(2);
-    let mut thread: Undisturbed<_, _> = Thread::new(
-        rt.alloc(),
-        &rt,
-        1,
-        wait,
-        MemNotify::new(),
-        clock,
-    )?;
-    same(&rt, drive_thread(&mut thread, 1000), Ok(2000));
-    same(&rt, waits(&mut thread), Some(1000));
-    Ok(())
+    plays(&rt, rt.alloc(), sure(2), (1, 0), &DRIVES_ON)
 }
+
+const DRIVER_FAILS: [(Act, Came); 2] = [(Drive(3), Stopped(FIRST_FAULT)), (Count, Waits(2))];
 
 #[test]
 fn a_driver_tells_a_failed_wait_and_gives_the_cell_back(rt: HostRuntime) -> Result<(), Fail> {
-    let clock = clock_until(rt.alloc(), 1, moment(&rt, 0))?;
     let wait = FailingWait::new(2, vec![in rt.alloc(); 2]?);
-    let mut thread: Thread<_, _, SureArm, _, _> = Thread::new(
-        rt.alloc(),
-        &rt,
-        1,
-        wait,
-        MemNotify::new(),
-        clock,
-    )?;
-    let fault = BlockFault::Wait(fault_after(0));
-    same(&rt, drive_thread(&mut thread, 3), Err(fault));
-    same(&rt, waits(&mut thread), Some(2));
-    Ok(())
-}
-
-#[test]
-fn a_group_answers_in_the_order_of_its_slots(rt: HostRuntime) -> Result<(), Fail> {
-    let clock = clock_until(rt.alloc(), 1, moment(&rt, 0))?;
-    let wait = MemWait::new(0);
-    let mut thread: Undisturbed<_, _> = Thread::new(
-        rt.alloc(),
-        &rt,
-        1,
-        wait,
-        MemNotify::new(),
-        clock,
-    )?;
-    let mut group = Group::new(rt.alloc(), 0);
-    same(&rt, group.add(Wakes::until(2, 10)).ok(), Some(0));
-    same(&rt, group.add(Wakes::until(1, 11)).ok(), Some(1));
-    let wanted = vec![in rt.alloc(); 10, 11]?;
-    same(&rt, thread.run(&mut group), Ok(wanted));
-    Ok(())
+    let devices = (MemNotify::new(), SureArm::new(7), wait);
+    plays(&rt, rt.alloc(), devices, (1, 0), &DRIVER_FAILS)
 }

@@ -1,10 +1,10 @@
-//! What no clause says of tasks polled as one: whole runs of a group, over a host of the tests' own.
+//! A group over a host of the tests' own, which carries out the acts of a table.
 
-use crate::asserts::{moment, same};
+use crate::asserts::same;
 use aio_base::{Cx, Later, Moment, Poll, Task};
 use aio_park::{Group, GroupRefusal};
+use std::alloc::Global;
 use std::process::Abort;
-use std::thread::{Threads, join};
 
 /// A host in which each task notes its slot when it is polled: a digit for each poll, which is the slot
 /// counted from one. Each state of it is later than each other.
@@ -28,8 +28,8 @@ impl Later for Log {
 }
 
 /// What a task was told at its last poll, and how many polls it had.
-#[derive(Clone, Copy, Debug, Drop, PartialEq)]
-struct Seen {
+#[derive(Drop)]
+pub(crate) struct Seen {
     parker: u32,
     mask: u64,
     now: u64,
@@ -37,8 +37,8 @@ struct Seen {
 }
 
 /// A task that ends at its first poll at this moment or later, and tells that poll.
-#[derive(Debug, Drop, PartialEq)]
-struct Ending {
+#[derive(Drop)]
+pub(crate) struct Ending {
     end: u64,
     polls: u64,
 }
@@ -55,7 +55,7 @@ impl Task<Log> for Ending {
     ghost poll_count = { λ task. task.polls };
 
     fn poll(&mut self, host: &mut Log, cx: Cx) -> Poll<Seen> {
-        let digit = cx.mask.trailing_zeros() as u64 + 1;
+        let digit = u64::from(cx.mask.trailing_zeros()) + 1;
         host.digits = host.digits.wrapping_mul(10).wrapping_add(digit);
         self.polls = self.polls.saturating_add(1);
         let now = cx.now.get();
@@ -77,181 +77,110 @@ impl Task<Log> for Ending {
     ghost gives_later = { λ task sure a b output later given. tt };
 }
 
-type Endings = Group<Ending, Seen>;
-
-fn ends_at(end: u64) -> Ending {
-    Ending { end, polls: 0 }
+/// What is done with a group. Moments are in nanoseconds.
+#[derive(Clone, Copy)]
+pub(crate) enum Act {
+    /// Adds a task that ends at this moment.
+    Add(u64),
+    /// Polls the group as the task of parker 9, with this mask at this moment.
+    Poll(u64, u64),
+    /// Looks at the answer with this number, of those that the last end gave.
+    Answer(usize),
+    /// Counts the polls of the group.
+    Count,
 }
 
-/// Adds a task that ends at this moment, and looks at its slot.
-fn add(rt: &impl Abort, group: &mut Endings, end: u64, slot: u32) {
-    match group.add(ends_at(end)) {
-        Ok(at) => same(rt, at, slot),
-        Err(_) => same(rt, true, false),
-    }
+/// What comes of it.
+#[derive(Clone, Copy, Debug, PartialEq)]
+pub(crate) enum Came {
+    /// The task has this slot.
+    Slot(u32),
+    /// There are as many tasks as may be: the task that ends at this moment came back, with so many polls.
+    Full(u64, u64),
+    /// The group goes on. The digits tell which tasks were polled, in order.
+    Pending(u64),
+    /// The group has ended, with so many answers. The digits are those of its poll.
+    Ended(u64, usize),
+    /// The task that gave the answer was told this mask, its own parker and this moment, at the last of so many
+    /// polls.
+    Saw(u64, u64, u64),
+    /// The group was polled so often.
+    Polls(u64),
+    /// Something else.
+    Other,
 }
 
-/// Polls the group as the task of parker 9 with this mask at this moment: its answers, once it ends.
-fn poll_in(log: &mut Log, group: &mut Endings, mask: u64, now: Moment) -> Option<Vec<Seen>> {
-    match group.poll(
-        log,
-        Cx {
-            parker: 9,
-            mask,
-            now,
-        },
-    ) {
-        Poll::Ready(answers) => Some(answers),
-        Poll::Pending => None,
-    }
+/// The parker of the groups.
+const PARKER: u32 = 5;
+
+/// A group, and the answers that its last end gave.
+#[derive(Drop)]
+pub(crate) struct Played {
+    group: Group<Ending, Seen>,
+    answers: Vec<Seen>,
 }
 
-/// The same where nobody reads what was noted.
-fn poll_at(group: &mut Endings, mask: u64, now: Moment) -> Option<Vec<Seen>> {
-    poll_in(&mut Log { digits: 0 }, group, mask, now)
-}
-
-fn is_pending(rt: &impl Abort, group: &mut Endings, mask: u64, now: u64) {
-    same(rt, poll_at(group, mask, moment(rt, now)).is_none(), true);
-}
-
-/// Looks at the answers of a group that is to have ended: parker, mask, moment and polls of each.
-fn are(rt: &impl Abort, answers: Option<Vec<Seen>>, wanted: &[Seen]) {
-    match answers {
-        Some(answers) => same(rt, answers.as_slice() == wanted, true),
-        None => same(rt, true, false),
-    }
-}
-
-/// Polls the group, and looks at its answers.
-fn ends_with(rt: &impl Abort, group: &mut Endings, mask: u64, now: u64, wanted: &[Seen]) {
-    are(rt, poll_at(group, mask, moment(rt, now)), wanted);
-}
-
-fn poll_seen(mask: u64, now: u64, polls: u64) -> Seen {
-    Seen {
-        parker: 5,
-        mask,
-        now,
-        polls,
-    }
-}
-
-#[test]
-fn a_group_has_64_slots_and_hands_the_next_task_back(rt: HostRuntime) {
-    let mut group = Group::new(rt.alloc(), 5);
-    for slot in 0..64 {
-        add(&rt, &mut group, slot as u64, slot);
-    }
-    match group.add(ends_at(64)) {
-        Ok(_) => same(&rt, true, false),
-        Err((task, refusal)) => {
-            same(&rt, task, ends_at(64));
-            same(&rt, refusal, GroupRefusal::Full);
+impl Played {
+    /// A group of no task.
+    pub(crate) fn new(alloc: Global) -> Played {
+        Played {
+            group: Group::new(alloc, PARKER),
+            answers: Vec::new(alloc),
         }
     }
-}
 
-#[test]
-fn only_what_was_woken_is_polled(rt: HostRuntime) {
-    let mut group = Group::new(rt.alloc(), 5);
-    for slot in 0..3 {
-        add(&rt, &mut group, 1, slot);
+    /// Adds a task that ends at this moment.
+    fn add(&mut self, end: u64) -> Came {
+        match self.group.add(Ending { end, polls: 0 }) {
+            Ok(slot) => Came::Slot(slot),
+            Err((task, GroupRefusal::Full)) => Came::Full(task.end, task.polls),
+            Err((_, GroupRefusal::OutOfMemory)) => Came::Other,
+        }
     }
-    // slot 1 is woken once, and a bit beyond the slots
-    is_pending(&rt, &mut group, (1 << 40) | 2, 0);
-    let wanted = [poll_seen(1, 1, 1), poll_seen(2, 1, 2), poll_seen(4, 1, 1)];
-    ends_with(&rt, &mut group, u64::MAX, 1, &wanted);
-    same(&rt, Task::<Log>::polls(&group), 2);
-}
 
-#[test]
-fn each_slot_is_told_its_own_bit_and_answers_stand_in_the_order_of_slots(rt: HostRuntime) {
-    let mut group = Group::new(rt.alloc(), 5);
-    add(&rt, &mut group, 7, 0);
-    add(&rt, &mut group, 8, 1);
-    add(&rt, &mut group, 6, 2);
-    is_pending(&rt, &mut group, 4, 6);
-    is_pending(&rt, &mut group, 7, 7);
-    let wanted = [poll_seen(1, 7, 1), poll_seen(2, 8, 2), poll_seen(4, 6, 1)];
-    ends_with(&rt, &mut group, 7, 8, &wanted);
-}
-
-#[test]
-fn the_slots_of_a_mask_are_polled_in_rising_order(rt: HostRuntime) {
-    let mut group = Group::new(rt.alloc(), 5);
-    for slot in 0..6 {
-        add(&rt, &mut group, slot as u64 % 2, slot);
+    /// Polls the group.
+    fn poll(&mut self, mask: u64, now: Moment) -> Came {
+        let mut log = Log { digits: 0 };
+        let parker = 9;
+        match self.group.poll(&mut log, Cx { parker, mask, now }) {
+            Poll::Ready(answers) => {
+                self.answers = answers;
+                Came::Ended(log.digits, self.answers.len())
+            }
+            Poll::Pending => Came::Pending(log.digits),
+        }
     }
-    let mut log = Log { digits: 0 };
-    let pending = poll_in(&mut log, &mut group, 0b11_0110, moment(&rt, 0));
-    same(&rt, (pending.is_none(), log.digits), (true, 2356));
-    // slots 2 and 4 have ended
-    let mut log = Log { digits: 0 };
-    let ended = poll_in(&mut log, &mut group, u64::MAX, moment(&rt, 1));
-    same(&rt, (ended.is_some(), log.digits), (true, 1246));
-}
 
-#[test]
-fn an_empty_group_ends_at_once(rt: HostRuntime) {
-    let mut group: Endings = Group::new(rt.alloc(), 5);
-    ends_with(&rt, &mut group, u64::MAX, 0, &[]);
-    ends_with(&rt, &mut group, 0, 0, &[]);
-}
+    /// Polls the group at a moment of so many nanoseconds.
+    fn poll_at(&mut self, mask: u64, now: u64) -> Came {
+        match Moment::new(now) {
+            Some(now) => self.poll(mask, now),
+            None => Came::Other,
+        }
+    }
 
-#[test]
-fn tasks_added_later_join_and_none_is_left_at_the_end(rt: HostRuntime) {
-    let mut group = Group::new(rt.alloc(), 5);
-    add(&rt, &mut group, 3, 0);
-    is_pending(&rt, &mut group, 3, 0);
-    add(&rt, &mut group, 3, 1);
-    is_pending(&rt, &mut group, 1, 3);
-    let wanted = [poll_seen(1, 3, 2), poll_seen(2, 4, 1)];
-    ends_with(&rt, &mut group, 3, 4, &wanted);
-    add(&rt, &mut group, 5, 0);
-    ends_with(&rt, &mut group, 1, 5, &[poll_seen(1, 5, 1)]);
-    same(&rt, Task::<Log>::polls(&group), 4);
-}
+    /// Looks at an answer.
+    fn answer(&self, at: usize) -> Came {
+        match self.answers.get(at) {
+            Some(seen) if seen.parker == PARKER => Came::Saw(seen.mask, seen.now, seen.polls),
+            _ => Came::Other,
+        }
+    }
 
-/// Takes what may go to another thread and be let go there.
-fn send_away<T: Send + Drop>(_value: T) {}
+    /// Does this.
+    pub(crate) fn act(&mut self, act: Act) -> Came {
+        match act {
+            Act::Add(end) => self.add(end),
+            Act::Poll(mask, now) => self.poll_at(mask, now),
+            Act::Answer(at) => self.answer(at),
+            Act::Count => Came::Polls(Task::<Log>::polls(&self.group)),
+        }
+    }
 
-/// A group may do so wherever its tasks and its answers may.
-fn send_group_away<T: Send + Drop, O: Send + Drop>(group: Group<T, O>) {
-    send_away(group);
-}
-
-/// Polls every slot of the group, which is let go.
-fn answers_of(mut group: Endings, now: Moment) -> Option<Vec<Seen>> {
-    poll_at(&mut group, u64::MAX, now)
-}
-
-/// Polls each group in a thread of its own.
-fn answers_beside<R: Threads>(
-    rt: &R,
-    one: Endings,
-    other: Endings,
-    now: Moment,
-) -> (Option<Vec<Seen>>, Option<Vec<Seen>>) {
-    join(
-        rt,
-        move || answers_of(one, now),
-        move || answers_of(other, now),
-    )
-}
-
-#[test]
-fn a_group_may_go_to_another_thread(rt: HostRuntime) {
-    let mut one = Group::new(rt.alloc(), 5);
-    add(&rt, &mut one, 2, 0);
-    add(&rt, &mut one, 3, 1);
-    is_pending(&rt, &mut one, 1, 2);
-    let mut other = Group::new(rt.alloc(), 5);
-    add(&rt, &mut other, 4, 0);
-    let now = moment(&rt, 3);
-    let (answers, none) = answers_beside(&rt, one, other, now);
-    are(&rt, answers, &[poll_seen(1, 2, 1), poll_seen(2, 3, 1)]);
-    same(&rt, none.is_none(), true);
-    let empty: Endings = Group::new(rt.alloc(), 5);
-    send_group_away(empty);
+    /// Asserts that what these acts come to is what stands beside each.
+    pub(crate) fn plays(&mut self, rt: &impl Abort, rows: &[(Act, Came)]) {
+        for (act, came) in rows {
+            same(rt, self.act(*act), *came);
+        }
+    }
 }

@@ -1,25 +1,30 @@
-//! Tests of threads that poll tasks over a shared reactor, over the devices in memory.
+//! Tests of a thread that blocks on tasks over a reactor, and of groups of tasks, over the devices in memory.
 //!
-//! They stand above that crate, so that it is not proved a second time for its tests. Of other code there
-//! are what these tests are made of: a half of a poller that tells instant waits from others, tasks that
-//! wake themselves or never end, and threads that block on tasks. It has contracts, so that wrong code is
-//! refused: what `block_on` promises of any task is worth what a caller can say of a task of its own.
+//! They stand above that crate, so that it is not proved a second time for its tests, and all of them belong
+//! to the test build. What a thread does is a table of acts with what comes of each (`acts`), which a thread
+//! with a source of its own carries out (`readers`). Of several threads beside each other `aio_thread_tests`
+//! has the tests.
 #![tactic(auto)]
 
 #[cfg(test)]
-mod asleep;
+mod acts;
 #[cfg(test)]
 mod asserts;
 #[cfg(test)]
 mod blocking;
 #[cfg(test)]
+mod group_tables;
+#[cfg(test)]
 mod groups;
 #[cfg(test)]
-mod hand_over;
-#[cfg(test)]
-mod pairs;
-#[cfg(test)]
 mod readable;
-pub mod tasks;
-pub mod threads;
-pub mod waits;
+#[cfg(test)]
+mod readers;
+#[cfg(test)]
+mod runs;
+#[cfg(test)]
+mod sources;
+#[cfg(test)]
+mod tasks;
+#[cfg(test)]
+mod waits;

@@ -71,155 +71,71 @@ fn read_alone<R: Wait + Copy>(
 }
 // end
 
-/// Whether this comes of it to read so on a thread.
-fn reads<R: Wait + Copy, N: Notify, W: EventWait>(
-    thread: &mut Thread<R, N, MemBytes, W, MemClock>,
-    io: MemBytes,
-    at: Moment,
-    wanted: Option<u8>,
-) -> bool {
-    read_in_time(thread, io, at) == Ok(wanted)
-}
-
 /// Whether this comes of it to read so on a thread of a new reactor.
 fn reads_alone<R: Wait + Copy>(
     rt: R,
     alloc: Global,
     clock: MemClock,
     io: MemBytes,
-    at: Moment,
+    until: Moment,
     wanted: Option<u8>,
 ) -> bool {
-    read_alone(rt, alloc, clock, io, at) == Ok(wanted)
+    read_alone(rt, alloc, clock, io, until) == Ok(wanted)
 }
 
 mod tests {
-    use super::{reads, reads_alone};
+    use super::{Fault, read_in_time, reads_alone};
     use crate::asserts::{moment, same};
-    use crate::tasks::Readable;
-    use crate::threads::{insert, take, waits};
-    use aio_base::{ArmFault, Dir, Event, Interest, Key, Poll, Waker};
-    use aio_devices::{
-        FailingArm, FailingNotify, MemBytes, MemNotify, MemWait, ScriptedWait, SureArm, WaitAnswer,
-        clock_until, fault_after,
-    };
-    use aio_park::{BlockFault, Thread};
-    use aio_shared::PollFault;
+    use crate::readers::{Alone, alone, waits};
+    use aio_devices::{MemBytes, MemNotify, MemWait, clock_until};
     use std::alloc::Global;
+    use std::process::Abort;
+    use std::sync::Wait;
     use std::test::Fail;
+
+    /// When a read gives up, in nanoseconds.
+    const TIMEOUT: u64 = 1000;
+
+    /// What comes of it to read.
+    type Read = Result<Option<u8>, Fault>;
 
     #[test]
     fn a_byte_that_comes_is_read_before_the_timeout(rt: HostRuntime) -> Result<(), Fail> {
-        let at = moment(&rt, 1000);
-        let clock = clock_until(rt.alloc(), 3, at)?;
+        let until = moment(&rt, TIMEOUT);
+        let clock = clock_until(rt.alloc(), 3, until)?;
         let io = MemBytes::new(2, 7);
-        same(
-            &rt,
-            reads_alone(&rt, rt.alloc(), clock, io, at, Some(7)),
-            true,
-        );
+        let reads = reads_alone(&rt, rt.alloc(), clock, io, until, Some(7));
+        same(&rt, reads, true);
         Ok(())
+    }
+
+    /// Reads of a connection of which so many reads would block, over a wait that gives no event. The time-out
+    /// comes after so many looks at the clock. How many waits there were.
+    fn read_silent<R: Wait + Copy + Abort>(
+        rt: R,
+        alloc: Global,
+        looks: usize,
+        blocks: u32,
+    ) -> Result<(Read, Option<u64>), Fail> {
+        let devices = (MemNotify::new(), MemWait::new(0));
+        let mut thread: Alone<_, _, MemBytes, _> = alone(rt, alloc, devices, (looks, TIMEOUT))?;
+        let until = moment(&rt, TIMEOUT);
+        let read = read_in_time(&mut thread, MemBytes::new(blocks, 7), until);
+        Ok((read, waits(&mut thread)))
     }
 
     #[test]
     fn a_byte_that_is_there_is_read_without_a_round(rt: HostRuntime) -> Result<(), Fail> {
-        let at = moment(&rt, 1000);
-        let clock = clock_until(rt.alloc(), 0, at)?;
-        let wait = MemWait::new(0);
-        let mut thread = Thread::new(rt.alloc(), &rt, 1, wait, MemNotify::new(), clock)?;
-        let io = MemBytes::new(0, 7);
-        same(&rt, reads(&mut thread, io, at, Some(7)), true);
-        same(&rt, waits(&mut thread), Some(0));
+        let read = read_silent(&rt, rt.alloc(), 0, 0)?;
+        same(&rt, read, (Ok(Some(7)), Some(0)));
         Ok(())
     }
 
+    // The first pass of the second round finds the timer due, as it does for a task that sleeps.
     #[test]
     fn a_connection_that_stays_silent_runs_into_its_timeout(rt: HostRuntime) -> Result<(), Fail> {
-        let at = moment(&rt, 1000);
-        let clock = clock_until(rt.alloc(), 3, at)?;
-        let wait = MemWait::new(0);
-        let mut thread = Thread::new(rt.alloc(), &rt, 1, wait, MemNotify::new(), clock)?;
-        let io = MemBytes::new(9, 7);
-        same(&rt, reads(&mut thread, io, at, None), true);
-        Ok(())
-    }
-
-    #[test]
-    fn the_waker_that_another_one_replaced_is_woken(rt: HostRuntime) -> Result<(), Fail> {
-        let clock = clock_until(rt.alloc(), 0, moment(&rt, 0))?;
-        let wait = MemWait::new(0);
-        let mut thread = Thread::new(rt.alloc(), &rt, 1, wait, MemNotify::new(), clock)?;
-        let mut source = insert(&thread.host, SureArm::new(7))?;
-        let host = &mut thread.host;
-        let first = host.poll_source(&mut source, Dir::Read, Waker(3));
-        let second = host.poll_source(&mut source, Dir::Read, Waker(5));
-        same(&rt, (first, second), (Poll::Pending, Poll::Pending));
-        same(&rt, take(&mut thread), 0b1000);
-        Ok(())
-    }
-
-    #[test]
-    fn a_failed_arm_is_told_by_the_poll_that_met_it(rt: HostRuntime) -> Result<(), Fail> {
-        let clock = clock_until(rt.alloc(), 0, moment(&rt, 0))?;
-        let wait = MemWait::new(0);
-        let mut thread = Thread::new(rt.alloc(), &rt, 1, wait, MemNotify::new(), clock)?;
-        let io = FailingArm::new(7, vec![in rt.alloc(); 2]?);
-        let mut source = insert(&thread.host, io)?;
-        let host = &mut thread.host;
-        let fault = ArmFault {
-            key: Key(0),
-            before: 0,
-            after: 1,
-        };
-        let first = host.poll_source(&mut source, Dir::Read, Waker(3));
-        same(&rt, first, Poll::Ready(Err(PollFault::Arm(fault))));
-        let second = host.poll_source(&mut source, Dir::Read, Waker(3));
-        same(&rt, second, Poll::Pending);
-        Ok(())
-    }
-
-    /// A wait that gives one event of the read direction for key 0.
-    fn readable_once(alloc: Global) -> Result<ScriptedWait, Fail> {
-        let event = Event {
-            key: Key(0),
-            on: Interest::READ,
-        };
-        let answer = WaitAnswer::Gives(vec![in alloc; event]?);
-        Ok(ScriptedWait::new(vec![in alloc; answer]?))
-    }
-
-    #[test]
-    fn a_failed_arm_of_a_round_is_handed_on_and_the_task_goes_on(
-        rt: HostRuntime,
-    ) -> Result<(), Fail> {
-        let clock = clock_until(rt.alloc(), 1, moment(&rt, 0))?;
-        let wait = readable_once(rt.alloc())?;
-        let mut thread = Thread::new(rt.alloc(), &rt, 1, wait, MemNotify::new(), clock)?;
-        let io = FailingArm::new(7, vec![in rt.alloc(); 4]?);
-        let mut source = insert(&thread.host, io)?;
-        let polled = thread.host.poll_source(&mut source, Dir::Write, Waker(1));
-        same(&rt, polled, Poll::Pending);
-        let mut task = Readable::of(source);
-        let fault = ArmFault {
-            key: Key(0),
-            before: 0,
-            after: 1,
-        };
-        same(&rt, thread.run(&mut task), Err(BlockFault::Arm(fault)));
-        same(&rt, thread.run(&mut task), Ok(Ok(())));
-        Ok(())
-    }
-
-    #[test]
-    fn a_failed_notifier_of_a_round_is_handed_on(rt: HostRuntime) -> Result<(), Fail> {
-        let clock = clock_until(rt.alloc(), 1, moment(&rt, 0))?;
-        let wait = MemWait::new(1);
-        let mut thread = Thread::new(rt.alloc(), &rt, 1, wait, FailingNotify::new(), clock)?;
-        let source = insert(&thread.host, SureArm::new(7))?;
-        let mut task = Readable::of(source);
-        let fault = BlockFault::Notify(fault_after(0));
-        same(&rt, thread.run(&mut task), Err(fault));
-        same(&rt, waits(&mut thread), Some(1));
+        let read = read_silent(&rt, rt.alloc(), 3, 9)?;
+        same(&rt, read, (Ok(None), Some(2)));
         Ok(())
     }
 }

@@ -1,29 +1,24 @@
-//! Tasks that end at one of their polls, once a source is readable, or never.
+//! Tasks that end at one of their polls, once a source is readable, or never, and the links of a chain.
 
 ghost use Rattle.std.specs.Prelude.{◌≡◌, false};
 
-use aio_base::{Arm, Cx, Dir, EventWait, Later, Notify, Poll, Task};
+use aio_base::{Arm, Cx, Dir, EventWait, Later, Notify, Poll, Task, Waker};
 use aio_react::Host;
 use aio_shared::{Inside, PollFault, SourceRef};
 use std::sync::Wait;
 
-/// A task that ends at one of its polls with its answer, and wakes itself at each poll before.
+/// A task that wakes itself at each poll, and ends at the poll with this number, with this answer.
 #[derive(Drop)]
-pub struct Wakes {
-    /// The number of the poll at which it ends.
-    pub last: u64,
-    /// What it answers then.
-    pub answer: u64,
+pub(crate) struct WakesItself {
+    last: u64,
+    answer: u64,
     /// How often it was polled.
-    pub polls: u64,
+    pub(crate) polls: u64,
 }
 
-impl Wakes {
-    /// A task that was not polled yet.
-    pub fn until(last: u64, answer: u64) -> Wakes
-        ensures { result ≡ record { last = last; answer = answer; polls = 0 } }
-    {
-        Wakes {
+impl WakesItself {
+    pub(crate) fn until(last: u64, answer: u64) -> WakesItself {
+        WakesItself {
             last,
             answer,
             polls: 0,
@@ -31,19 +26,16 @@ impl Wakes {
     }
 }
 
-impl<H: Host> Task<H> for Wakes {
-    ghost use Rattle.std.specs.Prelude.{◌≡◌};
-    ghost use Rattle.aio_base.specs.Devices.{raised};
-    ghost use Rattle.aio_park_tests.specs.Tasks.{ended_at};
+impl<H: Host> Task<H> for WakesItself {
+    ghost use Rattle.std.specs.Prelude.{⊤};
 
     type Output = u64;
 
-    ghost gives = { λ t sure moment output. output ≡ t.answer };
+    ghost gives = { λ task sure moment output. ⊤ };
 
-    ghost poll_step = { λ old host cx answer new left. (answer ≡ ended_at old.last old.answer new.polls)
-        × (new ≡ record old { polls = raised old.polls }) };
+    ghost poll_step = { λ old host cx answer new left. ⊤ };
 
-    ghost poll_count = { λ t. t.polls };
+    ghost poll_count = { λ task. task.polls };
 
     fn poll(&mut self, host: &mut H, cx: Cx) -> Poll<u64> {
         self.polls = self.polls.saturating_add(1);
@@ -58,29 +50,26 @@ impl<H: Host> Task<H> for Wakes {
         self.polls
     }
 
-    ghost gives_later = { λ t sure a b output later given. given };
+    ghost gives_later = { λ task sure a b output later given. tt };
 }
 
 /// A task that never ends, and waits for nothing.
 #[derive(Drop)]
-pub struct Never {
+pub(crate) struct Never {
     /// How often it was polled.
-    pub polls: u64,
+    pub(crate) polls: u64,
 }
 
 impl<H: Later> Task<H> for Never {
-    ghost use Rattle.std.specs.Prelude.{◌≡◌};
-    ghost use Rattle.aio_base.specs.Devices.{raised};
-    ghost use Rattle.aio_base.specs.declared.outcomes.Poll.TheVariants.{Pending};
+    ghost use Rattle.std.specs.Prelude.{⊤};
 
     type Output = u64;
 
-    ghost gives = { λ t sure moment output. ⊥ };
+    ghost gives = { λ task sure moment output. ⊤ };
 
-    ghost poll_step = { λ old host cx answer new left. (answer ≡ Pending)
-        × (new.polls ≡ raised old.polls) };
+    ghost poll_step = { λ old host cx answer new left. ⊤ };
 
-    ghost poll_count = { λ t. t.polls };
+    ghost poll_count = { λ task. task.polls };
 
     fn poll(&mut self, _host: &mut H, _cx: Cx) -> Poll<u64> {
         self.polls = self.polls.saturating_add(1);
@@ -91,24 +80,78 @@ impl<H: Later> Task<H> for Never {
         self.polls
     }
 
-    ghost gives_later = { λ t sure a b output later given. given };
+    ghost gives_later = { λ task sure a b output later given. tt };
+}
+
+/// A task of a group that ends at its second poll, answers its slot, and wakes the slot after its own then.
+/// That of slot 0 wakes itself at its first poll.
+#[derive(Drop)]
+pub(crate) struct Link {
+    polls: u64,
+}
+
+impl Link {
+    pub(crate) fn new() -> Link {
+        Link { polls: 0 }
+    }
+}
+
+/// The waker of the next slot, where this is not the last one of its parker.
+fn next_waker(waker: Waker) -> Option<Waker> {
+    if waker.0 % 64 == 63 {
+        return None;
+    }
+    Some(Waker(waker.0.wrapping_add(1)))
+}
+
+/// Wakes this, where there is one.
+fn wake_next<H: Host>(host: &mut H, waker: Option<Waker>)
+    ensures { H.is_later host.old host.new }
+{
+    if let Some(waker) = waker {
+        let _told = host.wake(waker);
+    }
+}
+
+impl<H: Host> Task<H> for Link {
+    ghost use Rattle.std.specs.Prelude.{⊤};
+
+    type Output = u64;
+
+    ghost gives = { λ task sure moment output. ⊤ };
+
+    ghost poll_step = { λ old host cx answer new left. ⊤ };
+
+    ghost poll_count = { λ task. task.polls };
+
+    fn poll(&mut self, host: &mut H, cx: Cx) -> Poll<u64> {
+        self.polls = self.polls.saturating_add(1);
+        let own = cx.own_waker();
+        if self.polls > 1 {
+            wake_next(host, next_waker(own));
+            return Poll::Ready(u64::from(own.0 % 64));
+        }
+        if own.0 % 64 == 0 {
+            wake_next(host, Some(own));
+        }
+        Poll::Pending
+    }
+
+    fn polls(&self) -> u64 {
+        self.polls
+    }
+
+    ghost gives_later = { λ task sure a b output later given. tt };
 }
 
 /// A task that ends once its source is readable, or with the fault of a poll.
 #[derive(Drop)]
-pub struct Readable<A: Arm> {
-    source: SourceRef<A>,
-    polls: u64,
+pub(crate) struct Readable<A: Arm> {
+    /// The source, which is outside.
+    pub(crate) source: SourceRef<A>,
+    /// How often it was polled.
+    pub(crate) polls: u64,
     ghost outside: { source.inside ≡ false },
-}
-
-impl<A: Arm> Readable<A> {
-    /// A task over this source, which is outside.
-    pub fn of(source: SourceRef<A>) -> Readable<A>
-        requires { source.inside ≡ false }
-    {
-        Readable { source, polls: 0 }
-    }
 }
 
 impl<R: Wait, N: Notify, A: Arm, W: EventWait> Task<Inside<R, N, A, W>> for Readable<A> {
@@ -116,11 +159,11 @@ impl<R: Wait, N: Notify, A: Arm, W: EventWait> Task<Inside<R, N, A, W>> for Read
 
     type Output = Result<(), PollFault>;
 
-    ghost gives = { λ t sure moment output. ⊤ };
+    ghost gives = { λ task sure moment output. ⊤ };
 
     ghost poll_step = { λ old host cx answer new left. ⊤ };
 
-    ghost poll_count = { λ t. t.polls };
+    ghost poll_count = { λ task. task.polls };
 
     fn poll(&mut self, host: &mut Inside<R, N, A, W>, cx: Cx) -> Poll<Result<(), PollFault>> {
         self.polls = self.polls.saturating_add(1);
@@ -131,5 +174,5 @@ impl<R: Wait, N: Notify, A: Arm, W: EventWait> Task<Inside<R, N, A, W>> for Read
         self.polls
     }
 
-    ghost gives_later = { λ t sure a b output later given. given };
+    ghost gives_later = { λ task sure a b output later given. tt };
 }

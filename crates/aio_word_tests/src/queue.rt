@@ -1,11 +1,13 @@
 //! What no clause says: that calls succeed while there is room, and the queue on two threads.
 
-ghost use Rattle.std.specs.Prelude.{◌≡◌};
+ghost use Rattle.std.specs.Prelude.{◌≡◌, IfOk};
 
-use crate::asserts::moment;
-use aio_base::{Moment, TimerId, Waker};
+use crate::asserts::{moment, same};
+use aio_base::{Moment, OutOfMemory, TimerId, Waker};
 use aio_ops::{OpPass, Ops, PassRefusal};
 use aio_timers::{TimerBook, TimerOp};
+use std::alloc::Global;
+use std::process::Abort;
 use std::sync::Wait;
 use std::test::Fail;
 use std::thread::{Threads, join};
@@ -24,94 +26,225 @@ fn remove(at: Moment) -> TimerOp {
     TimerOp::Remove(at, TimerId(1))
 }
 
-/// Pushes the same operation so many times. The answer is how often the queue took it.
+/// A queue with its first pass, the book into which that pass drains it, and the deadline of the one timer of
+/// all operations.
+#[derive(Drop)]
+struct Drainer {
+    ops: Ops,
+    pass: OpPass,
+    book: TimerBook,
+    at: Moment,
+    ghost belongs: { pass.queue ≡ ops },
+    ghost first: { pass.number ≡ 0 },
+}
+
+/// What is done with it.
+#[derive(Clone, Copy)]
+enum Act {
+    /// Puts the registration into the queue.
+    Insert,
+    /// Puts it into the queue so many times.
+    InsertTimes(u32),
+    /// Puts the removal into the queue.
+    Remove,
+    /// Drains the queue into the book, which has room.
+    DrainInto,
+    /// Makes room in the book and drains the queue.
+    Drain,
+    /// Drains the queue, and applies the registration.
+    ApplyInsert,
+    /// Drains the queue, and applies the removal.
+    ApplyRemove,
+    /// Counts the timers of the book.
+    Count,
+}
+
+/// What comes of it.
+#[derive(Clone, Copy, Debug, PartialEq)]
+enum Came {
+    /// Nothing was refused.
+    Done,
+    /// The operation came back.
+    Back,
+    /// So many were taken, by the queue or out of it.
+    Taken(u32),
+    /// So many timers are registered.
+    Timers(usize),
+    /// Something else.
+    Other,
+}
+
+/// What a push came to.
+fn pushed(op: TimerOp, answer: Result<(), TimerOp>) -> Came {
+    match answer {
+        Ok(()) => Came::Done,
+        Err(back) => { if back == op { Came::Back } else { Came::Other } }
+    }
+}
+
+/// What an operation that was applied came to.
+fn applied(answer: Result<(), OutOfMemory>) -> Came {
+    match answer {
+        Ok(()) => Came::Done,
+        Err(_) => Came::Other,
+    }
+}
+
+/// What a drain came to.
+fn drained(answer: Result<u32, OutOfMemory>) -> Came {
+    match answer {
+        Ok(count) => Came::Taken(count),
+        Err(_) => Came::Other,
+    }
+}
+
+/// Pushes the registration so many times. The answer is how often the queue took it.
 fn push_times<R: Wait>(rt: &R, ops: &Ops, p: &mut OpPass, at: Moment, times: u32) -> u32
     requires { p.old.queue ≡ ops.now }
-    ensures { p.new.queue ≡ ops.now }
+    ensures queue { p.new.queue ≡ p.old.queue }
+    ensures number { p.new.number ≡ p.old.number }
 {
-    let mut taken = 0;
+    let mut taken: u32 = 0;
     for _ in 0..times {
         if ops.push(rt, p, insert(at)).is_ok() {
-            taken += 1;
+            taken = taken.saturating_add(1);
         }
     }
     taken
 }
 
-#[test]
-fn operations_are_applied_in_the_order_of_their_pushes(rt: HostRuntime) -> Result<(), Fail> {
-    let (ops, mut first) = Ops::new(rt.alloc())?;
-    let at = moment(&rt, 30);
-    let mut book = TimerBook::new(rt.alloc());
-    book.reserve(1000)?;
-    assert_eq!(rt; first.number(), 0);
-    assert!(rt; ops.push(&rt, &mut first, insert(at)).is_ok());
-    assert!(rt; ops.push(&rt, &mut first, remove(at)).is_ok());
-    assert_eq!(rt; ops.drain_into(&rt, &mut first, &mut book), 2);
-    assert_eq!(rt; book.len(), 0);
-    assert!(rt; ops.push(&rt, &mut first, remove(at)).is_ok());
-    assert!(rt; ops.push(&rt, &mut first, insert(at)).is_ok());
-    book.reserve(1000)?;
-    assert_eq!(rt; ops.drain_into(&rt, &mut first, &mut book), 2);
-    assert_eq!(rt; book.len(), 1);
-    may_be_shared(&ops);
-    may_be_sent(&first);
+/// Makes room for 1,000 timers in a book and drains a queue into it.
+fn drain_into<R: Wait>(rt: &R, ops: &Ops, p: &mut OpPass, book: &mut TimerBook) -> Came
+    requires { p.old.queue ≡ ops.now }
+    ensures queue { p.new.queue ≡ p.old.queue }
+    ensures number { p.new.number ≡ p.old.number }
+{
+    match book.reserve(1000) {
+        Ok(()) => Came::Taken(ops.drain_into(rt, p, book)),
+        Err(_) => Came::Other,
+    }
+}
+
+impl Drainer {
+    /// A new queue, and an empty book.
+    fn new(alloc: Global, at: Moment) -> Result<Drainer, OutOfMemory> {
+        let (ops, pass) = Ops::new(alloc)?;
+        Ok(Drainer {
+            ops,
+            pass,
+            book: TimerBook::new(alloc),
+            at,
+        })
+    }
+
+    /// Does this.
+    fn act<R: Wait>(&mut self, rt: &R, act: Act) -> Came {
+        let at = self.at;
+        let ops = &self.ops;
+        let p = &mut self.pass;
+        let book = &mut self.book;
+        match act {
+            Act::Insert => pushed(insert(at), ops.push(rt, p, insert(at))),
+            Act::InsertTimes(times) => Came::Taken(push_times(rt, ops, p, at, times)),
+            Act::Remove => pushed(remove(at), ops.push(rt, p, remove(at))),
+            Act::DrainInto => drain_into(rt, ops, p, book),
+            Act::Drain => drained(ops.drain(rt, p, book)),
+            Act::ApplyInsert => applied(ops.apply_after_drain(rt, p, book, insert(at))),
+            Act::ApplyRemove => applied(ops.apply_after_drain(rt, p, book, remove(at))),
+            Act::Count => Came::Timers(book.len()),
+        }
+    }
+
+    /// Asserts that what these acts come to is what stands beside each.
+    fn plays<R: Wait + Abort>(&mut self, rt: &R, rows: &[(Act, Came)]) {
+        for (act, came) in rows {
+            same(rt, self.act(rt, *act), *came);
+        }
+    }
+
+    /// A pass for another thread.
+    fn another<R: Wait>(&mut self, rt: &R) -> Result<OpPass, PassRefusal>
+        ensures ops { self.new.ops ≡ self.old.ops }
+        ensures belongs { IfOk result (λ p. p.queue ≡ self.new.ops) }
+    {
+        self.ops.pass(rt, &mut self.pass)
+    }
+}
+
+/// Asserts that what these acts on a new queue come to is what stands beside each.
+fn plays<R: Wait + Abort>(rt: &R, alloc: Global, rows: &[(Act, Came)]) -> Result<(), Fail> {
+    let mut drainer = Drainer::new(alloc, moment(rt, 30))?;
+    may_be_shared(&drainer.ops);
+    may_be_sent(&drainer.pass);
+    drainer.plays(rt, rows);
     Ok(())
 }
+
+const REMOVED_LAST_AND_FIRST: [(Act, Came); 8] = [
+    (Act::Insert, Came::Done),
+    (Act::Remove, Came::Done),
+    (Act::DrainInto, Came::Taken(2)),
+    (Act::Count, Came::Timers(0)),
+    (Act::Remove, Came::Done),
+    (Act::Insert, Came::Done),
+    (Act::DrainInto, Came::Taken(2)),
+    (Act::Count, Came::Timers(1)),
+];
+
+#[test]
+fn operations_are_applied_in_the_order_of_their_pushes(rt: HostRuntime) -> Result<(), Fail> {
+    plays(&rt, rt.alloc(), &REMOVED_LAST_AND_FIRST)
+}
+
+const ONE_TOO_MANY: [(Act, Came); 5] = [
+    (Act::InsertTimes(1000), Came::Taken(1000)),
+    (Act::Remove, Came::Back),
+    (Act::DrainInto, Came::Taken(1000)),
+    (Act::Count, Came::Timers(1)),
+    (Act::DrainInto, Came::Taken(0)),
+];
 
 #[test]
 fn a_full_queue_hands_the_operation_back(rt: HostRuntime) -> Result<(), Fail> {
-    let (ops, mut first) = Ops::new(rt.alloc())?;
-    let at = moment(&rt, 30);
-    let mut book = TimerBook::new(rt.alloc());
-    book.reserve(1000)?;
-    assert_eq!(rt; push_times(&rt, &ops, &mut first, at, 1000), 1000);
-    assert!(rt; ops.push(&rt, &mut first, remove(at)) == Err(remove(at)));
-    assert_eq!(rt; ops.drain_into(&rt, &mut first, &mut book), 1000);
-    assert_eq!(rt; book.len(), 1);
-    book.reserve(1000)?;
-    assert_eq!(rt; ops.drain_into(&rt, &mut first, &mut book), 0);
-    Ok(())
+    plays(&rt, rt.alloc(), &ONE_TOO_MANY)
 }
+
+const APPLIED_ALONE: [(Act, Came); 3] = [
+    (Act::ApplyInsert, Came::Done),
+    (Act::Drain, Came::Taken(0)),
+    (Act::Count, Came::Timers(1)),
+];
 
 #[test]
 fn an_operation_that_is_kept_out_of_the_queue_is_applied(rt: HostRuntime) -> Result<(), Fail> {
-    let (ops, mut first) = Ops::new(rt.alloc())?;
-    let at = moment(&rt, 5);
-    let mut book = TimerBook::new(rt.alloc());
-    let applied = ops.apply_after_drain(&rt, &mut first, &mut book, insert(at));
-    assert_eq!(rt; applied, Ok(()));
-    assert_eq!(rt; ops.drain(&rt, &mut first, &mut book), Ok(0));
-    assert_eq!(rt; book.len(), 1);
-    Ok(())
+    plays(&rt, rt.alloc(), &APPLIED_ALONE)
 }
+
+const APPLIED_LAST: [(Act, Came); 4] = [
+    (Act::Insert, Came::Done),
+    (Act::ApplyRemove, Came::Done),
+    (Act::Drain, Came::Taken(0)),
+    (Act::Count, Came::Timers(0)),
+];
 
 #[test]
 fn an_operation_is_applied_after_those_that_are_queued(rt: HostRuntime) -> Result<(), Fail> {
-    let (ops, mut first) = Ops::new(rt.alloc())?;
-    let at = moment(&rt, 5);
-    let mut book = TimerBook::new(rt.alloc());
-    assert!(rt; ops.push(&rt, &mut first, insert(at)).is_ok());
-    let applied = ops.apply_after_drain(&rt, &mut first, &mut book, remove(at));
-    assert_eq!(rt; applied, Ok(()));
-    assert_eq!(rt; ops.drain(&rt, &mut first, &mut book), Ok(0));
-    assert_eq!(rt; book.len(), 0);
-    Ok(())
+    plays(&rt, rt.alloc(), &APPLIED_LAST)
+}
+
+/// The numbers of the first three passes of a new queue, and whether no further one can be made.
+fn first_numbers<R: Wait + Abort>(rt: &R, alloc: Global) -> Result<([u32; 3], bool), Fail> {
+    let mut drainer = Drainer::new(alloc, moment(rt, 30))?;
+    let second = drainer.another(rt)?;
+    let third = drainer.another(rt)?;
+    let numbers = [drainer.pass.number(), second.number(), third.number()];
+    Ok((numbers, drainer.pass.is_spent()))
 }
 
 #[test]
 fn passes_are_numbered_in_the_order_in_which_they_are_made(rt: HostRuntime) -> Result<(), Fail> {
-    let (ops, mut first) = Ops::new(rt.alloc())?;
-    let Ok(second) = ops.pass(&rt, &mut first) else {
-        return Err(Fail::from("no second pass"));
-    };
-    assert_eq!(rt; second.number(), 1);
-    let Ok(third) = ops.pass(&rt, &mut first) else {
-        return Err(Fail::from("no third pass"));
-    };
-    assert_eq!(rt; third.number(), 2);
-    assert!(rt; !first.is_spent());
-    assert!(rt; PassRefusal::PassesSpent != PassRefusal::OutOfMemory);
+    let found = first_numbers(&rt, rt.alloc())?;
+    same(&rt, found, ([0, 1, 2], false));
     Ok(())
 }
 
@@ -144,21 +277,26 @@ fn push_on_two_threads<R: Threads + Wait + Sync>(
     )
 }
 
+/// The same by two passes of this queue.
+fn push_beside<R: Threads + Wait + Sync>(
+    rt: &R,
+    drainer: &mut Drainer,
+) -> Result<(u32, u32), PassRefusal> {
+    let one = drainer.another(rt)?;
+    let other = drainer.another(rt)?;
+    Ok(push_on_two_threads(rt, &drainer.ops, one, other, drainer.at))
+}
+
+const ALL_OF_BOTH: [(Act, Came); 2] = [
+    (Act::DrainInto, Came::Taken(800)),
+    (Act::Count, Came::Timers(1)),
+];
+
 #[test]
 fn what_two_threads_push_is_drained_once(rt: HostRuntime) -> Result<(), Fail> {
-    let (ops, mut first) = Ops::new(rt.alloc())?;
-    let at = moment(&rt, 30);
-    let mut book = TimerBook::new(rt.alloc());
-    book.reserve(1000)?;
-    let Ok(one) = ops.pass(&rt, &mut first) else {
-        return Err(Fail::from("no pass"));
-    };
-    let Ok(other) = ops.pass(&rt, &mut first) else {
-        return Err(Fail::from("no other pass"));
-    };
-    let taken = push_on_two_threads(&rt, &ops, one, other, at);
-    assert_eq!(rt; taken, (400, 400));
-    assert_eq!(rt; ops.drain_into(&rt, &mut first, &mut book), 800);
-    assert_eq!(rt; book.len(), 1);
+    let mut drainer = Drainer::new(rt.alloc(), moment(&rt, 30))?;
+    let taken = push_beside(&rt, &mut drainer)?;
+    same(&rt, taken, (400, 400));
+    drainer.plays(&rt, &ALL_OF_BOTH);
     Ok(())
 }

@@ -5,8 +5,9 @@ ghost use Rattle.std.specs.Thread.{IsSync};
 ghost use Rattle.aio_rules.specs.declared.seats.Mode.TheVariants as mode;
 ghost use Rattle.aio_words.specs.Seats.{Belongs};
 
+use crate::asserts::same;
 use aio_base::{CountFault, Notify, OutOfMemory, Waker};
-use aio_devices::{FailingNotify, MemNotify};
+use aio_devices::{FailingNotify, MemNotify, fault_after};
 use aio_words::{Pass, RoundSeat, RoundsSpent, Words};
 use std::sync::Wait;
 use std::sync::atomic::{AtomicU64, Ordering};
@@ -49,34 +50,52 @@ fn goes_to_wait(words: &Words, s: &mut RoundSeat) -> bool
     true
 }
 
+/// Wakes slots 3 and 5 of parker 0 and one of a parker that is not there, and takes the mask twice. Whether no
+/// wake failed, the two masks, and how often the notifier was called.
+fn take_together(words: &Words, p: &mut Pass) -> (bool, [u64; 2], u64)
+    requires { Belongs words.now p.old × (0 < words.now.parkers) }
+{
+    let mut notifier = MemNotify::new();
+    let told = wake_each(words, p, &[3, 64, 5], &mut notifier);
+    let masks = [words.take(p, 0), words.take(p, 0)];
+    (told, masks, notifier.calls())
+}
+
 #[test]
 fn slots_of_a_parker_are_taken_together(rt: HostRuntime) -> Result<(), Fail> {
-    let mut notifier = MemNotify::new();
     let (words, seat, mut pass) = Words::new(rt.alloc(), 1)?;
     works_for_threads(&words, &seat, &pass);
-    // slot 64 is of a parker that is not there
-    let told = wake_each(&words, &mut pass, &[3, 64, 5], &mut notifier);
-    let together = words.take(&mut pass, 0);
-    let left = words.take(&mut pass, 0);
-    assert!(rt; told);
-    assert_eq!(rt; (together, left, notifier.calls()), (40, 0, 0));
+    same(&rt, take_together(&words, &mut pass), (true, [40, 0], 0));
     Ok(())
+}
+
+/// Goes to wait for parker 0, wakes its slot 0, and looks again after the wait. How often the notifier was
+/// called, and what the second look found; `None` where one of the looks found something else.
+fn wake_a_wait(words: &Words, s: &mut RoundSeat, p: &mut Pass) -> Option<(u64, u64)>
+    requires round { Belongs words.now s.old × (s.old.view.mode ≡ mode.Idle) }
+    requires parker { 0 < words.now.parkers }
+    requires pass { Belongs words.now p.old }
+{
+    let mut notifier = MemNotify::new();
+    if !goes_to_wait(words, s) {
+        return None;
+    }
+    wake_each(words, p, &[0], &mut notifier);
+    words.waited(s);
+    match words.take_or_wait(s) {
+        Some(found) => {
+            words.unblock(s);
+            Some((notifier.calls(), found))
+        }
+        None => None,
+    }
 }
 
 #[test]
 fn one_wake_ends_a_wait(rt: HostRuntime) -> Result<(), Fail> {
-    let mut notifier = MemNotify::new();
     let (words, mut round, mut pass) = Words::new(rt.alloc(), 1)?;
-    if goes_to_wait(&words, &mut round) {
-        let told = wake_each(&words, &mut pass, &[0], &mut notifier);
-        words.waited(&mut round);
-        let found = words.take_or_wait(&mut round);
-        assert!(rt; told);
-        assert_eq!(rt; (notifier.calls(), found), (1, Some(1)));
-        words.unblock(&mut round);
-        return Ok(());
-    }
-    assert!(rt; false);
+    let woken = wake_a_wait(&words, &mut round, &mut pass);
+    same(&rt, woken, Some((1, 1)));
     Ok(())
 }
 
@@ -91,57 +110,102 @@ fn notify_times<N: Notify>(words: &Words, p: &mut Pass, times: u32, notifier: &m
     notifier.calls()
 }
 
+/// How often the notifier was called by then: after two notifies; after two wakes in a wait; after one more
+/// notify in it; and after one when it was over. `None` where it did not wait.
+fn tell_a_wait(words: &Words, s: &mut RoundSeat, p: &mut Pass) -> Option<[u64; 4]>
+    requires round { Belongs words.now s.old × (s.old.view.mode ≡ mode.Idle) }
+    requires parker { 0 < words.now.parkers }
+    requires pass { Belongs words.now p.old }
+{
+    let mut notifier = MemNotify::new();
+    let before = notify_times(words, p, 2, &mut notifier);
+    words.waited(s);
+    if !goes_to_wait(words, s) {
+        return None;
+    }
+    wake_each(words, p, &[1, 2], &mut notifier);
+    let woken = notifier.calls();
+    let told_again = notify_times(words, p, 1, &mut notifier);
+    words.waited(s);
+    let after = notify_times(words, p, 1, &mut notifier);
+    Some([before, woken, told_again, after])
+}
+
 #[test]
 fn a_wait_is_told_once(rt: HostRuntime) -> Result<(), Fail> {
-    let mut notifier = MemNotify::new();
     let (words, mut round, mut pass) = Words::new(rt.alloc(), 1)?;
-    assert_eq!(rt; notify_times(&words, &mut pass, 2, &mut notifier), 1);
-    words.waited(&mut round);
-    let waits = goes_to_wait(&words, &mut round);
-    assert!(rt; waits);
-    let told = wake_each(&words, &mut pass, &[1, 2], &mut notifier);
-    assert_eq!(rt; (told, notifier.calls()), (true, 2));
-    assert_eq!(rt; notify_times(&words, &mut pass, 1, &mut notifier), 2);
-    words.waited(&mut round);
-    assert_eq!(rt; notify_times(&words, &mut pass, 1, &mut notifier), 3);
+    let calls = tell_a_wait(&words, &mut round, &mut pass);
+    same(&rt, calls, Some([1, 2, 2, 3]));
     Ok(())
+}
+
+/// Goes to wait, and wakes slot 7 by this notifier. The fault of the wake, and the mask that is taken then;
+/// `None` where it did not wait.
+fn wake_untold<N: Notify>(
+    words: &Words,
+    s: &mut RoundSeat,
+    p: &mut Pass,
+    notifier: &mut N,
+) -> Option<(Option<CountFault>, u64)>
+    requires round { Belongs words.now s.old × (s.old.view.mode ≡ mode.Idle) }
+    requires parker { 0 < words.now.parkers }
+    requires pass { Belongs words.now p.old }
+{
+    if !goes_to_wait(words, s) {
+        return None;
+    }
+    let fault = words.wake(p, Waker(7), notifier).err();
+    Some((fault, words.take(p, 0)))
 }
 
 #[test]
 fn a_failing_notifier_leaves_the_slot_woken(rt: HostRuntime) -> Result<(), Fail> {
     let mut notifier = another(&FailingNotify::new())?;
     let (words, mut round, mut pass) = Words::new(rt.alloc(), 1)?;
-    let waits = goes_to_wait(&words, &mut round);
-    assert!(rt; waits);
-    let fault = words.wake(&mut pass, Waker(7), &mut notifier).err();
-    let (before, after) = (0, 1);
-    assert_eq!(rt; fault, Some(CountFault { before, after }));
-    assert_eq!(rt; words.take(&mut pass, 0), 128);
+    let woken = wake_untold(&words, &mut round, &mut pass, &mut notifier);
+    same(&rt, woken, Some((Some(fault_after(0)), 128)));
     Ok(())
+}
+
+/// Begins two rounds: what that answered; and the numbers of rounds that a first pass found before, that the
+/// round seat and a later pass found afterwards, and that the first one found when it had taken in the later one.
+fn begin_two(
+    words: &Words,
+    s: &mut RoundSeat,
+    first: &mut Pass,
+) -> ([Result<u64, RoundsSpent>; 2], [u64; 4])
+    requires { Belongs words.now s.old × Belongs words.now first.old }
+{
+    let none_yet = words.ticker(first);
+    let begun = [words.bump(s), words.bump(s)];
+    let mut later = words.pass(first);
+    let of_round = words.rounds(s);
+    let of_later = words.ticker(&mut later);
+    words.join(first, later);
+    (begun, [none_yet, of_round, of_later, words.ticker(first)])
 }
 
 #[test]
 fn passes_see_each_round_that_began(rt: HostRuntime) -> Result<(), Fail> {
     let (words, mut round, mut first) = Words::new(rt.alloc(), 1)?;
-    let none_yet = words.ticker(&mut first);
-    let begun = [words.bump(&mut round), words.bump(&mut round)];
-    let mut later = words.pass(&mut first);
-    assert_eq!(rt; begun, [Ok(1), Ok::<u64, RoundsSpent>(2)]);
-    assert_eq!(rt;
-        (none_yet, words.rounds(&mut round), words.ticker(&mut later)),
-        (0, 2, 2)
-    );
-    words.join(&mut first, later);
-    assert_eq!(rt; words.ticker(&mut first), 2);
+    let found = begin_two(&words, &mut round, &mut first);
+    same(&rt, found, ([Ok(1), Ok(2)], [0, 2, 2, 2]));
     Ok(())
+}
+
+/// Wakes slot 40 of parker 1, and then parks there. Whether the wake did not fail, and what was woken.
+fn park_after_a_wake<R: Wait>(rt: &R, words: &Words, p: &mut Pass) -> (bool, u64)
+    requires { Belongs words.now p.old × (1 < words.now.parkers) }
+{
+    let told = wake_each(words, p, &[104], &mut MemNotify::new());
+    (told, words.park(rt, p, 1))
 }
 
 #[test]
 fn a_wake_before_the_park_is_found(rt: HostRuntime) -> Result<(), Fail> {
     let (words, _round, mut pass) = Words::new(rt.alloc(), 2)?;
-    let told = wake_each(&words, &mut pass, &[104], &mut MemNotify::new());
-    let found = words.park(&rt, &mut pass, 1);
-    assert_eq!(rt; (told, found), (true, 1 << 40));
+    let found = park_after_a_wake(&rt, &words, &mut pass);
+    same(&rt, found, (true, 1 << 40));
     Ok(())
 }
 
@@ -182,7 +246,7 @@ fn a_wake_of_a_high_slot_ends_a_sleep(rt: HostRuntime) -> Result<(), Fail> {
     let (words, _seat, mut pass) = Words::new(rt.alloc(), 2)?;
     let mut other = words.pass(&mut pass);
     let found = parked_beside(&rt, &words, &mut pass, &mut other);
-    assert_eq!(rt; found, 1 << 40);
+    same(&rt, found, 1 << 40);
     Ok(())
 }
 
@@ -297,9 +361,7 @@ fn no_wake_of_64_slots_is_lost(rt: HostRuntime) -> Result<(), Fail> {
     let (words, _seat, mut parks) = Words::new(rt.alloc(), 1)?;
     let mut even = words.pass(&mut parks);
     let mut odd = words.pass(&mut even);
-    assert_eq!(rt;
-        wake_from_two(&rt, &words, &mut parks, &mut even, &mut odd),
-        ROUNDS
-    );
+    let whole = wake_from_two(&rt, &words, &mut parks, &mut even, &mut odd);
+    same(&rt, whole, ROUNDS);
     Ok(())
 }

@@ -3,8 +3,8 @@
 ghost use Rattle.std.specs.Prelude.{◌≡◌, false, IfOk};
 
 use crate::asserts::{may_be_sent, may_be_shared, same};
-use crate::reactors::assert_full;
-use aio_base::{Arm, ArmFault, CountFault, EventWait, Key, OutOfMemory};
+use crate::calls::insert;
+use aio_base::{Arm, CountFault, EventWait, Key, OutOfMemory};
 use aio_devices::{FailingArm, MemNotify, MemWait, SureArm, fault_after};
 use aio_shared::{InsertFault, Shared, SourceRef};
 use std::alloc::Global;
@@ -62,16 +62,23 @@ fn a_source_joins_and_leaves(rt: HostRuntime) -> Result<(), Fail> {
     Ok(())
 }
 
+/// The key of one more source. Its token is let go, and the source stays.
+fn next_key<R: Wait>(rt: &R, shared: &Shared<SureArm, MemWait>) -> Option<Key> {
+    match insert(rt, shared, SureArm::new(0)) {
+        Some(token) => Some(token.key()),
+        None => None,
+    }
+}
+
 #[test]
 fn a_new_source_has_the_least_free_key(rt: HostRuntime) -> Result<(), Fail> {
     let shared = shared(rt.alloc())?;
-    let first = join_as(&rt, &shared, SureArm::new(0), 0)?;
+    same(&rt, next_key(&rt, &shared), Some(Key(0)));
     let second = join_as(&rt, &shared, SureArm::new(1), 1)?;
-    join_as(&rt, &shared, SureArm::new(2), 2)?;
+    same(&rt, next_key(&rt, &shared), Some(Key(2)));
     close_as(&rt, &shared, second, Ok(()));
-    join_as(&rt, &shared, SureArm::new(3), 1)?;
-    join_as(&rt, &shared, SureArm::new(4), 3)?;
-    same(&rt, first.key(), Key(0));
+    same(&rt, next_key(&rt, &shared), Some(Key(1)));
+    same(&rt, next_key(&rt, &shared), Some(Key(3)));
     Ok(())
 }
 
@@ -87,6 +94,14 @@ fn insert_times<R: Wait>(
         }
     }
     Ok(())
+}
+
+/// Asserts that a reactor has no room for one more source: a connection comes back.
+pub(crate) fn assert_full<R: Wait + Abort>(rt: &R, shared: &Shared<SureArm, MemWait>) {
+    match shared.sources(rt).insert(SureArm::new(9)) {
+        Ok(_) => assert!(rt; false),
+        Err(refused) => same(rt, refused, (SureArm::new(9), InsertFault::Full)),
+    }
 }
 
 #[test]
@@ -112,50 +127,40 @@ fn assert_fails<R: Wait + Abort>(rt: &R, shared: &Shared<FailingArm, MemWait>, i
     }
 }
 
+/// A connection of this number, of which this call fails and no other.
+fn fails_at(alloc: Global, number: u64, call: u64) -> Result<FailingArm, Fail> {
+    Ok(FailingArm::new(number, vec![in alloc; call]?))
+}
+
+/// Asserts that a connection joins under key 0, and what its closing answers.
+fn assert_closes<R: Wait + Abort>(
+    rt: &R,
+    shared: &Shared<FailingArm, MemWait>,
+    io: FailingArm,
+    answer: Result<(), CountFault>,
+) {
+    match join_as(rt, shared, io, 0) {
+        Ok(token) => close_as(rt, shared, token, answer),
+        Err(_) => assert!(rt; false),
+    }
+}
+
 #[test]
-fn faults_of_a_connection_are_told(rt: HostRuntime) -> Result<(), Fail> {
+fn a_failed_add_is_told_and_leaves_the_key_free(rt: HostRuntime) -> Result<(), Fail> {
     let shared = shared(rt.alloc())?;
-    let first_fails = FailingArm::new(5, vec![in rt.alloc(); 1]?);
-    let second_fails = FailingArm::new(6, vec![in rt.alloc(); 2]?);
-    let none_fails = FailingArm::new(7, Vec::new(rt.alloc()));
+    let first_fails = fails_at(rt.alloc(), 5, 1)?;
     assert_fails(&rt, &shared, first_fails);
-    let token = join_as(&rt, &shared, second_fails, 0)?;
-    close_as(&rt, &shared, token, Err(fault_after(0)));
-    join_as(&rt, &shared, none_fails, 0)?;
+    let none_fails = FailingArm::new(7, Vec::new(rt.alloc()));
+    assert_closes(&rt, &shared, none_fails, Ok(()));
     Ok(())
 }
 
-/// The keys of the sources with which a reactor started, and the faults.
-fn keys_of<A: Arm + Drop>(
-    alloc: Global,
-    sources: Vec<Result<SourceRef<A>, ArmFault>>,
-) -> Result<Vec<Result<Key, ArmFault>>, Fail> {
-    let mut keys = Vec::new(alloc);
-    for source in sources {
-        keys.push(source.map(|token| token.key()))?;
-    }
-    Ok(keys)
-}
-
-/// The keys of a reactor that starts with a connection whose first call fails and one of which none does.
-fn start_two(alloc: Global) -> Result<Vec<Result<Key, ArmFault>>, Fail> {
-    let first_fails = FailingArm::new(1, vec![in alloc; 1]?);
-    let none_fails = FailingArm::new(2, Vec::new(alloc));
-    let ios = vec![in alloc; first_fails, none_fails]?;
-    match Shared::start(alloc, 1, MemWait::new(1), MemNotify::new(), ios) {
-        Ok(started) => keys_of(alloc, started.sources),
-        Err(_) => Err(Fail::from("no reactor")),
-    }
-}
-
 #[test]
-fn a_failed_connection_leaves_its_key_to_the_next(rt: HostRuntime) -> Result<(), Fail> {
-    let keys = start_two(rt.alloc())?;
-    let fault = ArmFault {
-        key: Key(0),
-        before: 0,
-        after: 1,
-    };
-    same(&rt, keys.as_slice(), [Err(fault), Ok(Key(0))].as_slice());
+fn a_failed_remove_is_told_and_leaves_the_key_free(rt: HostRuntime) -> Result<(), Fail> {
+    let shared = shared(rt.alloc())?;
+    let second_fails = fails_at(rt.alloc(), 6, 2)?;
+    assert_closes(&rt, &shared, second_fails, Err(fault_after(0)));
+    let none_fails = FailingArm::new(7, Vec::new(rt.alloc()));
+    assert_closes(&rt, &shared, none_fails, Ok(()));
     Ok(())
 }

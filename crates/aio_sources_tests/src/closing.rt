@@ -2,13 +2,13 @@
 //! once its `remove` was made, and that nobody waits for ever.
 
 ghost use Rattle.std.specs.Prelude.{◌≡◌, false, IfSome};
+ghost use Rattle.aio_shared.specs.Members.{IsMemberOf};
 
-use crate::acts::Reaction;
 use crate::asserts::same;
-use crate::hosts::{Quiet, two_callers};
+use crate::calls::{clock, insert, react};
 use aio_base::{Arm, Dir, Failed, Faults, Interest, Key, Waker};
-use aio_devices::{MemNotify, MemWait, SureArm};
-use aio_shared::{Shared, SourceRef};
+use aio_devices::{MemClock, MemNotify, MemWait, SureArm};
+use aio_shared::{Member, ReactFault, ReactedIn, Shared, SourceRef};
 use aio_source::SourceCell;
 use std::alloc::{AllocError, Global};
 use std::sync::{Mutex, Wait};
@@ -120,10 +120,7 @@ fn join_and_arm<'a, R: Wait>(
     ensures belongs { IfSome result (λ s. s.words ≡ shared.now.words.identity) }
     ensures outside { IfSome result (λ s. s.inside ≡ false) }
 {
-    let mut token = match shared.sources(rt).insert(KeyedArm { rt, interests }) {
-        Ok(token) => token,
-        Err(_) => return None,
-    };
+    let mut token = insert(rt, shared, KeyedArm { rt, interests })?;
     let mut cell = shared.enter(rt, &mut token);
     poll_reads(&mut cell);
     shared.leave(&mut token, cell);
@@ -190,34 +187,48 @@ fn a_source_that_stays_is_armed_though_others_go(rt: HostRuntime) -> Result<(), 
     Ok(())
 }
 
+/// A reactor whose connections never fail.
+type Sure = Shared<SureArm, MemWait>;
+
+/// The member of one that has a single thread which makes rounds.
+type SureMember = Member<MemNotify, MemWait>;
+
 /// So many sources come and go. How many they were.
-fn close_times<R: Wait>(caller: &Quiet<R>, times: u32) -> u32 {
-    let host = &caller.host;
+fn close_times<R: Wait>(rt: &R, shared: &Sure, times: u32) -> u32 {
     let mut done: u32 = 0;
     for _ in 0..times {
-        let Ok(token) = host.insert_source(SureArm::new(0)) else {
+        let Some(token) = insert(rt, shared, SureArm::new(0)) else {
             return done;
         };
-        if host.shared.close_source(&host.rt, token).is_ok() {
+        if shared.close_source(rt, token).is_ok() {
             done = done.saturating_add(1);
         }
     }
     done
 }
 
-/// How many events a reaction handled.
-fn events_in(reaction: Reaction) -> u32 {
-    match reaction {
-        Some(Ok(reacted)) => reacted.events,
-        _ => 0,
+/// How many events a round handled.
+fn events_in(answer: Result<ReactedIn, ReactFault>) -> u32 {
+    match answer {
+        Ok(reacted) => reacted.events,
+        Err(_) => 0,
     }
 }
 
 /// Makes so many rounds. How many events they handled.
-fn react_times<R: Wait + Copy>(mut caller: Quiet<R>, times: u32) -> u32 {
+fn react_times<R: Wait>(
+    rt: &R,
+    shared: &Sure,
+    mut m: SureMember,
+    mut clock: MemClock,
+    times: u32,
+) -> u32
+    requires { IsMemberOf shared.now m }
+{
     let mut events: u32 = 0;
     for _ in 0..times {
-        events = events.saturating_add(events_in(caller.react()));
+        let answer = react(rt, shared, &mut m, &mut clock, Some(0));
+        events = events.saturating_add(events_in(answer));
     }
     events
 }
@@ -225,19 +236,28 @@ fn react_times<R: Wait + Copy>(mut caller: Quiet<R>, times: u32) -> u32 {
 /// The sources of one thread come and go, while another makes rounds that name their key.
 fn close_beside_rounds<R: Threads + Wait + Sync>(
     rt: &R,
-    one: Quiet<&R>,
-    other: Quiet<&R>,
-) -> (u32, u32) {
+    shared: &Sure,
+    m: SureMember,
+    clock: MemClock,
+) -> (u32, u32)
+    requires { IsMemberOf shared.now m }
+{
     join(
         rt,
-        move || close_times(&one, 500),
-        move || react_times(other, 500),
+        || close_times(rt, shared, 500),
+        move || -> u32
+            requires { IsMemberOf shared.now m }
+        { react_times(rt, shared, m, clock, 500) },
     )
 }
 
 #[test]
 fn sources_are_closed_beside_rounds_that_visit_them(rt: HostRuntime) -> Result<(), Fail> {
-    let (one, other) = two_callers(&rt, rt.alloc(), MemWait::new(1), 5)?;
-    same(&rt, close_beside_rounds(&rt, one, other), (500, 500));
+    let clock = clock(rt.alloc(), 5)?;
+    let Ok((shared, member)) = Shared::new(rt.alloc(), 1, MemWait::new(1), MemNotify::new()) else {
+        return Err(Fail::from("no reactor"));
+    };
+    let came = close_beside_rounds(&rt, &shared, member, clock);
+    same(&rt, came, (500, 500));
     Ok(())
 }

@@ -1,0 +1,89 @@
+//! What no clause says of a thread that blocks on a group: that the group ends, also with as many tasks as it
+//! may have.
+
+use crate::asserts::same;
+use crate::readers::{Alone, alone, waits};
+use crate::tasks::{Link, WakesItself};
+use aio_base::Task;
+use aio_devices::{MemNotify, MemWait, SureArm};
+use aio_park::Group;
+use aio_shared::Inside;
+use std::alloc::Global;
+use std::process::Abort;
+use std::sync::Wait;
+use std::test::Fail;
+
+/// A thread over devices that never fail, and give no event.
+type Undisturbed<R> = Alone<R, MemNotify, SureArm, MemWait>;
+
+/// Blocks on a group. Its answers, and how many waits there were then.
+fn answers_of<
+    R: Wait + Copy + Abort,
+    T: Task<Inside<R, MemNotify, SureArm, MemWait>, Output = u64> + Drop,
+>(rt: R, alloc: Global, mut group: Group<T, u64>) -> Result<(Vec<u64>, Option<u64>), Fail> {
+    let devices = (MemNotify::new(), MemWait::new(0));
+    let mut thread: Undisturbed<R> = alone(rt, alloc, devices, (1, 0))?;
+    match thread.run(&mut group) {
+        Ok(answers) => Ok((answers, waits(&mut thread))),
+        Err(_) => Err(Fail::from("no answers")),
+    }
+}
+
+/// A group of tasks that wake themselves, and end at these polls with the answers beside them.
+fn waking(alloc: Global, tasks: &[(u64, u64)]) -> Result<Group<WakesItself, u64>, Fail> {
+    let mut group = Group::new(alloc, 0);
+    for (last, answer) in tasks {
+        if group.add(WakesItself::until(*last, *answer)).is_err() {
+            return Err(Fail::from("no room"));
+        }
+    }
+    Ok(group)
+}
+
+/// A group of so many links of a chain.
+fn chain(alloc: Global, length: u32) -> Result<Group<Link, u64>, Fail> {
+    let mut group = Group::new(alloc, 0);
+    for _ in 0..length {
+        if group.add(Link::new()).is_err() {
+            return Err(Fail::from("no room"));
+        }
+    }
+    Ok(group)
+}
+
+#[test]
+fn a_group_answers_in_the_order_of_its_slots(rt: HostRuntime) -> Result<(), Fail> {
+    let group = waking(rt.alloc(), &[(2, 10), (1, 11)])?;
+    let (answers, waits) = answers_of(&rt, rt.alloc(), group)?;
+    same(
+        &rt,
+        (answers.as_slice() == [10, 11].as_slice(), waits),
+        (true, Some(1)),
+    );
+    Ok(())
+}
+
+/// Whether these are the slots from 0 on, so many.
+fn are_slots(answers: &[u64], count: usize) -> bool {
+    let mut next: u64 = 0;
+    for answer in answers {
+        if *answer != next {
+            return false;
+        }
+        next = next.saturating_add(1);
+    }
+    answers.len() == count
+}
+
+// Each wake is in a mask of its own, and before each poll there is a round.
+#[test]
+fn each_of_64_slots_is_woken_in_turn(rt: HostRuntime) -> Result<(), Fail> {
+    let group = chain(rt.alloc(), 64)?;
+    let (answers, waits) = answers_of(&rt, rt.alloc(), group)?;
+    same(
+        &rt,
+        (are_slots(answers.as_slice(), 64), waits),
+        (true, Some(64)),
+    );
+    Ok(())
+}

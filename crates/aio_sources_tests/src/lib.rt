@@ -1,0 +1,19 @@
+//! Tests of the sources of a reactor that threads share, over the devices in memory: that they join it, start
+//! with it, and are closed beside other threads.
+//!
+//! They stand above that crate, so that it is not proved a second time for its tests, and all of them belong
+//! to the test build.
+#![tactic(auto)]
+
+#[cfg(test)]
+mod asserts;
+#[cfg(test)]
+mod calls;
+#[cfg(test)]
+mod closing;
+#[cfg(test)]
+mod sources;
+#[cfg(test)]
+mod starting;
+#[cfg(test)]
+mod waiting;

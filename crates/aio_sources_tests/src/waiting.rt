@@ -1,0 +1,97 @@
+//! What no clause says of a thread that waits in a round: that it leaves the table of sources to the other threads
+//! as long as its wait lasts.
+
+ghost use Rattle.std.specs.Prelude.{IfOk};
+ghost use Rattle.aio_shared.specs.Members.{IsMemberOf};
+
+use crate::asserts::same;
+use crate::calls::{clock, insert, react};
+use aio_base::Notify;
+use aio_devices::{BlockingNotify, BlockingWait, SureArm, blocking_pair};
+use aio_shared::{Member, ReactFault, ReactedIn, Shared};
+use std::alloc::Global;
+use std::sync::Wait;
+use std::test::Fail;
+use std::thread::{Threads, join, sleep};
+use std::time::{Clock, Duration};
+
+/// How often a wait looks before it fails. A thread that would have to wait for its end meets the failure.
+const MOST_LOOKS: u64 = 5_000_000;
+
+/// A reactor whose waits last until they are told to end.
+type Blocking<R> = Shared<SureArm, BlockingWait<R>>;
+
+/// A source joins and is closed. Whether nothing was refused.
+fn join_and_close<R: Wait + Copy>(rt: R, shared: &Blocking<R>) -> bool {
+    match insert(&rt, shared, SureArm::new(7)) {
+        Some(token) => shared.close_source(&rt, token).is_ok(),
+        None => false,
+    }
+}
+
+/// Sleeps for so many microseconds, lets a source join and be closed, and only then ends the wait of the other
+/// thread. Whether nothing was refused.
+fn use_the_table<R: Wait + Clock + Copy>(
+    rt: R,
+    shared: &Blocking<R>,
+    mut notifier: BlockingNotify<R>,
+    pause: u64,
+) -> bool {
+    sleep(&rt, Duration::from_micros(pause));
+    let came_and_went = join_and_close(rt, shared);
+    notifier.notify().is_ok() && came_and_went
+}
+
+/// The member of the thread that waits.
+type Waiter<R> = Member<BlockingNotify<R>, BlockingWait<R>>;
+
+/// Such a reactor, its member, and a notifier for another thread.
+fn blocking<R: Wait + Copy>(
+    rt: R,
+    alloc: Global,
+) -> Result<(Blocking<R>, Waiter<R>, BlockingNotify<R>), Fail>
+    ensures { IfOk result (λ made. IsMemberOf made.0 made.1) }
+{
+    let (wait, notifier) = blocking_pair(rt, alloc, MOST_LOOKS)?;
+    let of_other = notifier.twin()?;
+    match Shared::new(alloc, 1, wait, notifier) {
+        Ok((shared, member)) => Ok((shared, member, of_other)),
+        Err(_) => Err(Fail::from("no reactor")),
+    }
+}
+
+/// One thread makes a round without a limit, and another one uses the table after so many microseconds.
+fn wait_beside_a_use<R: Threads + Wait + Clock + Sync>(
+    rt: &R,
+    alloc: Global,
+    pause: u64,
+) -> Result<(Result<ReactedIn, ReactFault>, bool), Fail> {
+    let mut clock = clock(alloc, 5)?;
+    let (shared, mut member, of_other) = blocking(rt, alloc)?;
+    let shared = &shared;
+    Ok(join(
+        rt,
+        move || -> Result<ReactedIn, ReactFault>
+            requires { IsMemberOf shared.now member }
+        { react(rt, shared, &mut member, &mut clock, None) },
+        move || use_the_table(rt, shared, of_other, pause),
+    ))
+}
+
+/// What a round without events and timers answers.
+const NOTHING_CAME: ReactedIn = ReactedIn {
+    resumed: false,
+    events: 0,
+    woken: 0,
+};
+
+// The longer the pause, the surer the round waits by then.
+#[test]
+fn sources_join_and_leave_while_a_thread_waits(rt: HostRuntime) -> Result<(), Fail> {
+    for step in 0..12 {
+        let (answer, used) = wait_beside_a_use(&rt, rt.alloc(), step * 500)?;
+        same(&rt, answer, Ok(NOTHING_CAME));
+        same(&rt, used, true);
+    }
+    Ok(())
+}

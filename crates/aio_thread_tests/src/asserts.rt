@@ -1,0 +1,16 @@
+//! Assertions as calls: what stands in the body of a test makes its proof longer by the square, and an
+//! assertion is long.
+
+use aio_base::Moment;
+use std::fmt::Debug;
+use std::process::Abort;
+
+/// Asserts that what was found is what was wanted.
+pub(crate) fn same<T: Debug + Drop + PartialEq>(rt: &impl Abort, found: T, wanted: T) {
+    assert_eq!(rt; found, wanted);
+}
+
+/// The moment of so many nanoseconds.
+pub(crate) fn moment(rt: &impl Abort, nanoseconds: u64) -> Moment {
+    Moment::new(nanoseconds).expect(rt, "the moment is at most 10^18")
+}

@@ -1,0 +1,63 @@
+//! A clock that several threads share.
+
+use aio_base::{Clock, Moment, OutOfMemory};
+use std::alloc::Global;
+use std::sync::{Arc, Mutex, Wait};
+use std::test::Fail;
+
+/// A clock that several threads share: each look is one nanosecond after the one before.
+#[derive(Drop)]
+pub(crate) struct SharedClock<R: Wait> {
+    rt: R,
+    time: Arc<Mutex<u64>, Global>,
+    last: Moment,
+}
+
+impl<R: Wait> SharedClock<R> {
+    /// The number of the look.
+    fn look(&self) -> u64 {
+        let mut time = self.time.lock(&self.rt);
+        *time = time.saturating_add(1);
+        *time
+    }
+}
+
+impl<R: Wait + Copy> Clock for SharedClock<R> {
+    ghost use Rattle.std.specs.Prelude.{None};
+
+    ghost latest = { λ c. c.last };
+
+    ghost bounds = { λ c. record { least = None; greatest = None } };
+
+    fn now(&mut self) -> Moment {
+        if let Some(now) = Moment::new(self.look()) {
+            if now > self.last {
+                self.last = now;
+            }
+        }
+        self.last
+    }
+
+    fn twin(&self) -> Result<SharedClock<R>, OutOfMemory> {
+        match Arc::try_clone(&self.time) {
+            Ok(time) => Ok(SharedClock {
+                rt: self.rt,
+                time,
+                last: self.last,
+            }),
+            Err(_) => Err(OutOfMemory),
+        }
+    }
+}
+
+/// Two clocks that agree, and begin at this moment.
+pub(crate) fn shared_clocks<R: Wait + Copy>(
+    rt: R,
+    alloc: Global,
+    last: Moment,
+) -> Result<(SharedClock<R>, SharedClock<R>), Fail> {
+    let time = Arc::new(alloc, Mutex::new(last.get()))?;
+    let one = SharedClock { rt, time, last };
+    let other = one.twin()?;
+    Ok((one, other))
+}

@@ -1,0 +1,95 @@
+//! What no clause says of two threads that block on timers: that one is served by the rounds of the other,
+//! and that each goes on by itself once it is woken.
+
+use crate::acts::Act::{Await, Follow, HandOver, Hold, Rest, Sleep, Wake, WakeItself};
+use crate::acts::Came::{Done, Ended, Mask};
+use crate::acts::{Act, Came};
+use crate::asserts::moment;
+use crate::teams::{over_blocking, over_instant, play_together};
+use aio_devices::{MemClock, clock_until};
+use std::alloc::Global;
+use std::process::Abort;
+use std::sync::Wait;
+use std::test::Fail;
+use std::thread::Threads;
+
+/// Clocks that stand at 0 for so many looks, and then at 5.
+fn clocks(
+    rt: &impl Abort,
+    alloc: Global,
+    looks: (usize, usize),
+) -> Result<(MemClock, MemClock), Fail> {
+    let clock = clock_until(alloc, looks.0, moment(rt, 5))?;
+    let clock_of_other = clock_until(alloc, looks.1, moment(rt, 5))?;
+    Ok((clock, clock_of_other))
+}
+
+/// Two threads over devices that answer at once carry out these tables at the same time.
+fn play_instant<R: Threads + Wait + Sync + Abort>(
+    rt: &R,
+    alloc: Global,
+    looks: (usize, usize),
+    rows: &[(Act, Came)],
+    rows_of_other: &[(Act, Came)],
+) -> Result<(), Fail> {
+    let (clock, clock_of_other) = clocks(rt, alloc, looks)?;
+    let team = over_instant(rt, alloc, 2, clock)?;
+    let players = team.players(alloc, &clock_of_other, rows, rows_of_other, 0)?;
+    play_together(rt, players)
+}
+
+/// The same over devices that block until they are told.
+fn play_blocking<R: Threads + Wait + Sync + Abort>(
+    rt: &R,
+    alloc: Global,
+    looks: (usize, usize),
+    rows: &[(Act, Came)],
+    rows_of_other: &[(Act, Came)],
+) -> Result<(), Fail> {
+    let (clock, clock_of_other) = clocks(rt, alloc, looks)?;
+    let team = over_blocking(rt, alloc, 2, clock)?;
+    let players = team.players(alloc, &clock_of_other, rows, rows_of_other, 0)?;
+    play_together(rt, players)
+}
+
+// It has the reactor lock until the other wakes it.
+const REACTS_FOR_BOTH: [(Act, Came); 1] = [(Rest(1 << 7), Ended(1 << 7))];
+
+const SLEEPS_AND_WAKES: [(Act, Came); 3] = [(Follow, Done), (Sleep(5), Ended(5)), (Wake(7), Done)];
+
+#[test]
+fn a_parked_thread_is_served_by_the_rounds_of_another(rt: HostRuntime) -> Result<(), Fail> {
+    play_instant(&rt, rt.alloc(), (0, 1), &REACTS_FOR_BOTH, &SLEEPS_AND_WAKES)?;
+    play_blocking(&rt, rt.alloc(), (0, 1), &REACTS_FOR_BOTH, &SLEEPS_AND_WAKES)
+}
+
+// It hands over only where the other has taken the mask that it woke: else both wakes would be in one.
+const HOLDS_THE_CELL: [(Act, Came); 3] = [
+    (Hold(64 + 9, 1000), Done),
+    (Await, Mask(1 << 7)),
+    (HandOver, Done),
+];
+
+const SLEEPS_ONCE_IT_IS_HELD: [(Act, Came); 3] = [
+    (Await, Mask(1 << 9)),
+    (Wake(7), Done),
+    (Sleep(5), Ended(5)),
+];
+
+#[test]
+fn a_parked_thread_reacts_by_itself_once_it_is_woken(rt: HostRuntime) -> Result<(), Fail> {
+    let (rows, rows_of_other) = (&HOLDS_THE_CELL, &SLEEPS_ONCE_IT_IS_HELD);
+    play_instant(&rt, rt.alloc(), (0, 2), rows, rows_of_other)?;
+    play_blocking(&rt, rt.alloc(), (0, 2), rows, rows_of_other)
+}
+
+// By its clock the timer of the other is never due: it ends before.
+const ENDS_FIRST: [(Act, Came); 2] = [(WakeItself(3), Ended(3)), (HandOver, Done)];
+
+const SLEEPS: [(Act, Came); 1] = [(Sleep(5), Ended(5))];
+
+#[test]
+fn a_thread_that_ends_wakes_the_other_which_goes_on(rt: HostRuntime) -> Result<(), Fail> {
+    play_instant(&rt, rt.alloc(), (1000, 3), &ENDS_FIRST, &SLEEPS)?;
+    play_blocking(&rt, rt.alloc(), (1000, 3), &ENDS_FIRST, &SLEEPS)
+}

@@ -1,0 +1,159 @@
+//! What no clause says of threads that wait for one lock: that each of them gets it, though nobody else touches the
+//! lock afterwards, who could call a forgotten sleeper by chance.
+
+ghost use Rattle.std.specs.Prelude.{◌≡◌, []};
+ghost use Rattle.std.specs.Thread.{IsSync};
+ghost use Rattle.aio_rules.specs.SharedLock.{first_owner, second_owner, took_out};
+ghost use Rattle.aio_lock.specs.Tokens.{owner_of};
+
+use crate::asserts::same;
+use aio_base::{Noted, OutOfMemory};
+use aio_lock::{Lock, Owner};
+use std::alloc::Global;
+use std::sync::Wait;
+use std::sync::atomic::{AtomicU64, Ordering};
+use std::test::Fail;
+use std::thread::{Threads, join, sleep};
+use std::time::{Clock, Duration};
+
+/// How often the value was taken. Neither owner has a note of it, so visitors may count too.
+#[derive(Drop)]
+struct Turns {
+    taken: u64,
+}
+
+impl Noted for Turns {
+    ghost use Rattle.std.specs.Prelude.{[]};
+
+    ghost first_note = { λ turns. [] };
+
+    ghost second_note = { λ turns. [] };
+}
+
+impl Turns {
+    fn and_one(self) -> Turns {
+        Turns {
+            taken: self.taken.saturating_add(1),
+        }
+    }
+}
+
+/// Gives the first value, and touches the lock no more.
+fn give_first(lock: &Lock<Turns>, mut owner: Owner)
+    requires { owner ≡ owner_of lock.now (took_out [] [] (first_owner [])) }
+{
+    lock.give(&mut owner, Turns { taken: 0 });
+}
+
+/// Waits for the value by an owner, and gives it back with one turn more.
+fn take_once<R: Wait>(rt: &R, lock: &Lock<Turns>, mut owner: Owner)
+    requires { owner ≡ owner_of lock.now (second_owner []) }
+{
+    let turns = lock.take(rt, &mut owner);
+    lock.give(&mut owner, turns.and_one());
+}
+
+/// Waits for the value without an owner, and gives it back with one turn more.
+fn visit_once<R: Wait>(rt: &R, lock: &Lock<Turns>) {
+    let (turns, visit) = lock.visit(rt);
+    lock.leave(visit, turns.and_one());
+}
+
+/// How often the value was taken.
+fn count_in<R: Wait>(rt: &R, lock: &Lock<Turns>) -> u64 {
+    let (turns, visit) = lock.visit(rt);
+    let taken = turns.taken;
+    lock.leave(visit, turns);
+    taken
+}
+
+/// Turns so often, which takes a little while.
+fn turn(turns: u32) {
+    let turned = AtomicU64::new(0);
+    for _ in 0..turns {
+        turned.fetch_add(1, Ordering::SeqCst);
+    }
+}
+
+/// One thread takes the value while another gives it after so many turns. How often it was taken.
+fn take_beside_a_give<R: Threads + Wait + Sync>(
+    rt: &R,
+    alloc: Global,
+    turns: u32,
+) -> Result<u64, OutOfMemory> {
+    let (lock, first, second) = Lock::vacant(alloc)?;
+    let shared = &lock;
+    join(
+        rt,
+        move || -> ()
+            requires { second ≡ owner_of shared.now (second_owner []) }
+        { take_once(rt, shared, second) },
+        move || -> ()
+            requires { first ≡ owner_of shared.now (took_out [] [] (first_owner [])) }
+        {
+            turn(turns);
+            give_first(shared, first)
+        },
+    );
+    Ok(count_in(rt, &lock))
+}
+
+#[test]
+fn a_take_ends_by_one_give_whenever_that_comes(rt: HostRuntime) -> Result<(), Fail> {
+    for step in 0..100 {
+        let taken = take_beside_a_give(&rt, rt.alloc(), step * 300)?;
+        same(&rt, taken, 1);
+    }
+    Ok(())
+}
+
+/// Two visitors wait.
+fn visit_on_two<R: Threads + Wait + Sync>(rt: &R, lock: &Lock<Turns>) {
+    join(rt, || visit_once(rt, lock), || visit_once(rt, lock));
+}
+
+/// An owner and two visitors wait.
+fn wait_on_three<R: Threads + Wait + Sync>(rt: &R, lock: &Lock<Turns>, owner: Owner)
+    requires { owner ≡ owner_of lock.now (second_owner []) }
+{
+    join(
+        rt,
+        move || -> ()
+            requires { owner ≡ owner_of lock.now (second_owner []) }
+        { take_once(rt, lock, owner) },
+        || visit_on_two(rt, lock),
+    );
+}
+
+/// Three threads wait for the value, which a fourth gives after so many microseconds. How often it was taken.
+fn wait_beside_a_give<R: Threads + Wait + Clock + Sync>(
+    rt: &R,
+    alloc: Global,
+    pause: u64,
+) -> Result<u64, OutOfMemory> {
+    let (lock, first, second) = Lock::vacant(alloc)?;
+    let shared = &lock;
+    join(
+        rt,
+        move || -> ()
+            requires { (second ≡ owner_of shared.now (second_owner [])) × IsSync R.row }
+        { wait_on_three(rt, shared, second) },
+        move || -> ()
+            requires { first ≡ owner_of shared.now (took_out [] [] (first_owner [])) }
+        {
+            sleep(rt, Duration::from_micros(pause));
+            give_first(shared, first)
+        },
+    );
+    Ok(count_in(rt, &lock))
+}
+
+// The longer the pause, the surer all three sleep when the one give comes. Each of them calls the next.
+#[test]
+fn three_that_wait_all_take_it_after_one_give(rt: HostRuntime) -> Result<(), Fail> {
+    for step in 0..25 {
+        let taken = wait_beside_a_give(&rt, rt.alloc(), step * 400)?;
+        same(&rt, taken, 3);
+    }
+    Ok(())
+}
