@@ -1,0 +1,70 @@
+//! What no clause says of a port in memory: which connection comes when.
+
+use crate::asserts::same;
+use crate::peers::{ENDS, Peer};
+use aio_base::{Conn, Did, Failed, Faults, Port};
+use aio_conns::{MemConn, MemPort};
+use std::alloc::Global;
+use std::process::Abort;
+use std::sync::Wait;
+use std::test::Fail;
+
+/// The first byte that a connection gives.
+fn first_byte<C: Conn>(conn: &mut C) -> Option<u8> {
+    let mut buf = [0];
+    match conn.read(&mut buf) {
+        Ok(Did::Bytes(1)) => Some(buf[0]),
+        _ => None,
+    }
+}
+
+/// Takes the next connection of a port. The first byte that it gives, and the faults of the port so far.
+fn accept<R: Wait, P: Port>(rt: &R, port: &mut P) -> (Option<u8>, u64)
+where
+    P::C: Drop,
+{
+    let byte = match port.accept(rt) {
+        Ok(mut conn) => first_byte(&mut conn),
+        Err(Failed) => None,
+    };
+    (byte, port.faults())
+}
+
+/// A connection that gives this text.
+fn giving(alloc: Global, text: &'static str) -> Result<MemConn, Fail> {
+    Peer { then: text, ..ENDS }.connection(alloc)
+}
+
+/// A port of three connections, which give an a, a b and a c.
+fn three(alloc: Global) -> Result<MemPort, Fail> {
+    let a = giving(alloc, "a")?;
+    let b = giving(alloc, "b")?;
+    let c = giving(alloc, "c")?;
+    Ok(MemPort::new(vec![in alloc; a, b, c]?))
+}
+
+/// Asserts that three connections come in order, and then faults alone.
+fn hands_out_three<R: Wait + Abort, P: Port>(rt: &R, port: &mut P)
+where
+    P::C: Drop,
+{
+    let wanted = [
+        (Some(b'a'), 0),
+        (Some(b'b'), 0),
+        (Some(b'c'), 0),
+        (None, 1),
+        (None, 2),
+    ];
+    for answer in wanted {
+        same(rt, accept(rt, port), answer);
+    }
+}
+
+#[test]
+fn a_port_hands_its_three_connections_out_in_order(rt: HostRuntime) -> Result<(), Fail> {
+    let mut port = three(rt.alloc())?;
+    same(&rt, port.bind(0), Ok(4000));
+    same(&rt, port.bind(7), Ok(7));
+    hands_out_three(&rt, &mut port);
+    Ok(())
+}

@@ -1,0 +1,200 @@
+//! A pair over connections in memory with its host, which carries out the acts of a table.
+
+ghost use Rattle.std.specs.Prelude.{◌<◌};
+
+use crate::asserts::same;
+use crate::hosts::{ListHost, Trouble};
+use crate::peers::{Peer, SILENT};
+use aio_base::{Conn, Cx, Key, Moment, Poll, Task};
+use aio_conns::MemConn;
+use aio_react::Host;
+use aio_relay::{MemEnd, Pair, PairEnd, Side};
+use aio_source::{SourceCell, SourceState};
+use std::alloc::Global;
+use std::process::Abort;
+use std::test::Fail;
+
+/// A pair that is to be made.
+#[derive(Clone, Copy)]
+pub(crate) struct Row {
+    /// What the other end of side A does.
+    pub(crate) a: Peer,
+    /// What that of side B does.
+    pub(crate) b: Peer,
+    /// What its host meets.
+    pub(crate) trouble: Trouble,
+    /// Its idle time.
+    pub(crate) idle: u64,
+    /// The moment from which on it counts.
+    pub(crate) start: u64,
+}
+
+/// Two connections over which nothing comes.
+pub(crate) const QUIET: Row = Row {
+    a: SILENT,
+    b: SILENT,
+    trouble: Trouble::Nothing,
+    idle: 1000,
+    start: 0,
+};
+
+/// What is done with a pair.
+#[derive(Clone, Copy)]
+pub(crate) enum Act {
+    /// Polls it at this moment, by slot 0.
+    At(u64),
+    /// Polls it at this moment, by slot 1.
+    BySlotOne(u64),
+    /// Looks which timers are registered.
+    Timers,
+    /// Takes which slots were woken.
+    Woken,
+    /// Looks whether a side was sent this text and no more.
+    Sent(Side, &'static str),
+    /// Counts the bytes that a side was sent.
+    Length(Side),
+}
+
+/// What comes of it.
+#[derive(Clone, Copy, Debug, PartialEq)]
+pub(crate) enum Came {
+    /// The pair waits.
+    Waits,
+    /// It is idle: the moment of the last byte, and that of the poll.
+    Idles(u64, u64),
+    /// It ends otherwise.
+    Ends(PairEnd),
+    /// One timer is registered, for this moment with this waker.
+    One(u64, u32),
+    /// So many timers are registered, not one.
+    Registered(usize),
+    /// The slots, bit by bit.
+    Slots(u64),
+    /// Whether it is so.
+    Is(bool),
+    /// So many bytes.
+    Bytes(usize),
+}
+
+/// An end over a new source of a connection.
+pub(crate) fn end_of<C>(alloc: Global, key: Key, io: C) -> MemEnd<C>
+    requires { key.0 < 4096 }
+{
+    let state = SourceState::new(alloc, key);
+    MemEnd {
+        cell: SourceCell { state, io },
+    }
+}
+
+/// A pair with its host.
+#[derive(Drop)]
+pub(crate) struct Relay {
+    host: ListHost,
+    pair: Pair<MemEnd<MemConn>>,
+}
+
+/// The longest idle time.
+const LONGEST_IDLE: u64 = 1_000_000_000_000_000_000;
+
+/// A pair over two connections, which have the keys 0 and 1.
+pub(crate) fn pair_of<C: Conn + Drop>(
+    alloc: Global,
+    a: C,
+    b: C,
+    idle: u64,
+    start: Moment,
+) -> Option<Pair<MemEnd<C>>> {
+    let a = end_of(alloc, Key(0), a);
+    let b = end_of(alloc, Key(1), b);
+    if idle == 0 || idle > LONGEST_IDLE {
+        return None;
+    }
+    Pair::new(alloc, a, b, idle, start).ok()
+}
+
+impl Relay {
+    /// The pair of a row, with a new host.
+    fn new(alloc: Global, row: &Row, start: Moment) -> Result<Relay, Fail> {
+        let a = row.a.connection(alloc)?;
+        let b = row.b.connection(alloc)?;
+        let host = ListHost::new(alloc, row.trouble);
+        match pair_of(alloc, a, b, row.idle, start) {
+            Some(pair) => Ok(Relay { host, pair }),
+            None => Err(Fail::from("there is no pair")),
+        }
+    }
+
+    /// Polls the pair.
+    fn poll(&mut self, now: Moment, mask: u64) -> Came {
+        let cx = Cx {
+            parker: 0,
+            mask,
+            now,
+        };
+        came_of(poll(&mut self.pair, &mut self.host, cx))
+    }
+
+    /// Which timers are registered.
+    fn timers(&self) -> Came {
+        match self.host.only_timer() {
+            Some((at, waker)) => Came::One(at, waker),
+            None => Came::Registered(self.host.timers()),
+        }
+    }
+
+    /// What a side was sent.
+    fn sent(&self, side: Side) -> &[u8] {
+        self.pair.end(side).cell.io.sent()
+    }
+
+    /// Does this.
+    fn act(&mut self, rt: &impl Abort, act: Act) -> Came {
+        match act {
+            Act::At(now) => self.poll(moment(rt, now), 1),
+            Act::BySlotOne(now) => self.poll(moment(rt, now), 2),
+            Act::Timers => self.timers(),
+            Act::Woken => Came::Slots(self.host.take_woken()),
+            Act::Sent(side, text) => Came::Is(self.sent(side) == text.as_bytes()),
+            Act::Length(side) => Came::Bytes(self.sent(side).len()),
+        }
+    }
+
+    /// Asserts that what these acts come to is what stands beside each.
+    fn plays(&mut self, rt: &impl Abort, rows: &[(Act, Came)]) {
+        for (act, came) in rows {
+            same(rt, self.act(rt, *act), *came);
+        }
+    }
+}
+
+/// Polls a task, through the bound alone.
+pub(crate) fn poll<H: Host, T: Task<H>>(task: &mut T, host: &mut H, cx: Cx) -> Poll<T::Output> {
+    task.poll(host, cx)
+}
+
+/// What the answer to a poll comes to.
+fn came_of(answer: Poll<PairEnd>) -> Came {
+    match &answer {
+        Poll::Pending => Came::Waits,
+        Poll::Ready(PairEnd::Idle { last, now }) => Came::Idles(last.get(), now.get()),
+        Poll::Ready(end) => Came::Ends(*end),
+    }
+}
+
+/// The moment so many nanoseconds after the clock's start.
+pub(crate) fn moment(rt: &impl Abort, nanoseconds: u64) -> Moment {
+    Moment::new(nanoseconds).expect(rt, "the moment is at most 10^18")
+}
+
+/// Makes the pair of a row, and asserts that what these acts come to is what stands beside each.
+pub(crate) fn plays(
+    rt: &impl Abort,
+    alloc: Global,
+    row: Row,
+    rows: &[(Act, Came)],
+) -> Result<(), Fail> {
+    let start = moment(rt, row.start);
+    let mut relay = Relay::new(alloc, &row, start)?;
+    relay.plays(rt, rows);
+    Ok(())
+}
