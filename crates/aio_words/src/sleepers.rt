@@ -4,6 +4,10 @@
 //! woken slot. Whoever sets the first bit raises the count and ends the sleeps after that, and before it looks
 //! at the blocked flag. So no wake is slept through. Each of these steps takes a value that only the step
 //! before it makes.
+//!
+//! Beside it stands how many threads are on their way to a sleep. A thread counts itself before it reads the
+//! count of wakes, and whoever raises that one looks at the number afterwards: where it finds none, each
+//! thread that comes later reads the raised count and finds the woken slot, so the system need not be called.
 
 ghost use Rattle.std.specs.Prelude.{◌≡◌, ◌≢◌, ◌<◌, IfOk, IfErr};
 ghost use Rattle.aio_rules.specs.SharedWords.{after};
@@ -25,6 +29,8 @@ use std::sync::atomic::{AtomicU64, Ordering};
 pub struct WakeCount {
     parker: u32,
     wakes: AtomicU64,
+    /// How many threads have read the count, and neither found a woken slot nor slept since.
+    sleepy: AtomicU64,
 }
 
 impl Model for WakeCount {
@@ -107,6 +113,7 @@ impl Sleepers {
             let count = WakeCount {
                 parker,
                 wakes: AtomicU64::new(0),
+                sleepy: AtomicU64::new(0),
             };
             if counts.push(count).is_err() {
                 return Err(OutOfMemory);
@@ -132,16 +139,19 @@ impl WakeCount {
         ensures { result ≡ self.now }
     {
         self.wakes.fetch_add(1, Ordering::SeqCst);
-        self.wakes.wake_all();
+        if self.sleepy.load(Ordering::SeqCst) != 0 {
+            self.wakes.wake_all();
+        }
         Told {
             parker: self.parker,
         }
     }
 
-    /// Reads the count.
+    /// Reads the count, for a look at the mask and a sleep.
     pub fn read(&self) -> Reading<'_>
         ensures { result.parker ≡ self.now }
     {
+        self.sleepy.fetch_add(1, Ordering::SeqCst);
         Reading {
             count: self,
             found: self.wakes.load(Ordering::SeqCst),
@@ -162,6 +172,7 @@ impl<'a> Reading<'a> {
         let count = self.count;
         let slots = words.take(p, count.parker);
         if slots != 0 {
+            count.sleepy.fetch_sub(1, Ordering::SeqCst);
             return Ok(slots);
         }
         Err(Unwoken { before: self })
@@ -173,5 +184,6 @@ impl Unwoken<'_> {
     pub fn sleep<R: Wait>(self, rt: &R) {
         let Reading { count, found } = self.before;
         count.wakes.park(rt, (found & 0xffff_ffff) as u32);
+        count.sleepy.fetch_sub(1, Ordering::SeqCst);
     }
 }
