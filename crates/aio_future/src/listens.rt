@@ -1,7 +1,7 @@
 //! The calls of a listener on the source in a cell, which lend it the object beside it.
 
 ghost use Rattle.std.specs.Prelude.{◌≡◌};
-ghost use Rattle.aio_listen.specs.Listening.{Holds};
+ghost use Rattle.aio_listen.specs.Listening.{Holds, has_ticket};
 ghost use Rattle.aio_source.specs.Rules.{direction_of, unlistened};
 ghost use Rattle.aio_future.specs.Listens.{Listens, ListensAgain};
 
@@ -35,6 +35,14 @@ pub(crate) fn listen_again<C: Arm>(
     ensures key { cell.new.state.key ≡ cell.old.state.key }
 {
     cell.state.listen_again(&mut cell.io, dir, l, w)
+}
+
+/// Whether a listener of the direction has this ticket.
+pub(crate) fn is_listed<C>(cell: &SourceCell<C>, dir: Dir, l: Listened) -> bool
+    ensures { result ≡ has_ticket (direction_of cell.now.state.directions dir).listeners.entries
+        l.ticket }
+{
+    cell.state.holds(dir, l.ticket)
 }
 
 /// Takes a listener out.

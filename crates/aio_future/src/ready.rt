@@ -1,12 +1,12 @@
 //! A listener of an entered source.
 
-ghost use Rattle.std.specs.Prelude.{◌≡◌, IfSome, None};
+ghost use Rattle.std.specs.Prelude.{◌≡◌, ◌↔◌, IsTrue, IsSome, IfSome, None};
 ghost use Rattle.aio_listen.specs.Listening.{Holds};
 ghost use Rattle.aio_source.specs.Rules.{direction_of};
 ghost use Rattle.aio_future.specs.Listens.{ClosesListener, ReadyPolls};
 
 use crate::entered::Async;
-use crate::listens::{first_listen, listen_again, unlisten};
+use crate::listens::{first_listen, is_listed, listen_again, unlisten};
 use aio_base::{Arm, Dir, Poll, Waker};
 use aio_source::{ListenRefusal, Listened};
 
@@ -30,8 +30,30 @@ impl Ready {
         }
     }
 
+    /// What its listener remembers of its first poll, once that has made one.
+    pub fn listened(&self) -> Option<Listened>
+        ensures { result ≡ self.now.listened }
+    {
+        self.listened
+    }
+
+    /// Whether it was polled, and a listener of its direction with its ticket stands in this source, in
+    /// constant time. Then it may be polled again over the source, or closed. Two sources can give equal
+    /// tickets: this is asked of the source that the first poll was over.
+    pub fn is_held<C>(&self, a: &Async<'_, C>) -> bool
+        ensures { IsTrue result ↔ IsSome self.now.listened
+            × IfSome self.now.listened (λ l. Holds (direction_of
+            a.now.cell.now.state.directions self.now.dir).listeners.entries l.ticket) }
+    {
+        match self.listened {
+            None => false,
+            Some(listened) => is_listed(a.cell, self.dir, listened),
+        }
+    }
+
     /// Whether an event of the direction was handled. The first poll makes a listener of the source,
-    /// and is pending; from then on it is polled over the same source.
+    /// and is pending; from then on it is polled over the same source, in which its listener stands
+    /// (`is_held`).
     ///
     /// `ArmFault` only where the connection's count of faults rose; the listener stays, also of the
     /// first poll. `TicketsSpent` exactly where 2^64 - 1 tickets of the direction were drawn, and
@@ -75,7 +97,7 @@ impl Ready {
         }
     }
 
-    /// Takes the listener out, where it was made. It takes no memory.
+    /// Takes the listener out, where it was made, of the source in which it stands. It takes no memory.
     pub fn close<C: Arm>(self, a: &mut Async<'_, C>)
         requires { IfSome self.listened (λ l. Holds (direction_of
             a.old.cell.now.state.directions self.dir).listeners.entries l.ticket) }

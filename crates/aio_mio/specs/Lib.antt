@@ -1,4 +1,6 @@
 pub mod Answers
 pub mod Names
+pub mod Values
+pub mod Looks
 pub mod Waits
 pub mod Arms

@@ -3,6 +3,7 @@
 ghost use Rattle.std.specs.Prelude.{◌≡◌, ◌≤◌, IfOk};
 
 use aio_base::{Clock, Moment, OutOfMemory};
+use std::marker::Model;
 use std::time;
 use std::time::Instant;
 
@@ -11,11 +12,24 @@ const LAST: u64 = 1_000_000_000_000_000_000;
 
 /// The machine's clock, which counts nanoseconds from its first look on, up to 10^18. Making it is a look.
 /// Where the machine's clock cannot be read, it answers its last moment again.
+///
+/// Contracts see what the machine's clock showed at the first look, in nanoseconds, once there was
+/// one, and the latest moment that it answered.
 #[derive(Drop)]
 pub struct RealClock<R: time::Clock + Copy> {
     rt: R,
     start: Option<Instant>,
     last: Moment,
+}
+
+impl<R: time::Clock + Copy> Model for RealClock<R> {
+    ghost use Rattle.std.specs.Prelude.{option_map};
+    ghost use Rattle.std.specs.Time.{instant_nanos};
+    ghost use Rattle.aio_mio.specs.Values.{ClockValue};
+
+    ghost Value = { ClockValue };
+
+    ghost view = { λ c. record { start = option_map instant_nanos c.start; latest = c.last } };
 }
 
 /// The moment so many nanoseconds after the start, up to 10^18, and not before `last`.
@@ -42,7 +56,7 @@ fn first() -> Moment
 impl<R: time::Clock + Copy> RealClock<R> {
     /// A clock that stands at 0. It takes no memory.
     pub fn new(rt: &R) -> RealClock<R>
-        ensures { result.last ≡ 0 }
+        ensures { result.latest ≡ 0 }
     {
         RealClock {
             rt: *rt,
@@ -54,7 +68,7 @@ impl<R: time::Clock + Copy> RealClock<R> {
     /// The nanoseconds since the first look, which is this one where there was none; `None` where the
     /// machine's clock cannot be read.
     fn elapsed(&mut self) -> Option<u128>
-        ensures { self.new.last ≡ self.old.last }
+        ensures { self.new.latest ≡ self.old.latest }
     {
         match self.start {
             Some(start) => Some(start.elapsed(&self.rt).ok()?.as_nanos()),
@@ -70,7 +84,7 @@ impl<R: time::Clock + Copy> Clock for RealClock<R> {
     ghost use Rattle.std.specs.Prelude.{None};
     ghost use Rattle.aio_base.specs.ClockBounds.{ClockBounds};
 
-    ghost latest = { λ c. c.last };
+    ghost latest = { λ c. c.latest };
 
     ghost bounds = { λ c. record { least = None; greatest = None } };
 
@@ -85,8 +99,7 @@ impl<R: time::Clock + Copy> Clock for RealClock<R> {
 
     /// A clock that counts from the same start, where this one has one.
     fn twin(&self) -> Result<RealClock<R>, OutOfMemory>
-        ensures start { IfOk result (λ twin. twin.start ≡ self.now.start) }
-        ensures last { IfOk result (λ twin. twin.last ≡ self.now.last) }
+        ensures { IfOk result (λ twin. twin ≡ self.now) }
     {
         Ok(RealClock {
             rt: self.rt,

@@ -13,6 +13,7 @@ use aio_base::{Arm, Conn, Did, Dir, Failed, Faults, Interest, Key, Tells};
 use mio::net::TcpStream;
 use std::alloc::Global;
 use std::io::{self, ErrorKind, Read, Write};
+use std::marker::Model;
 use std::sync::Arc;
 
 /// How often a call that a signal interrupts is tried.
@@ -21,6 +22,8 @@ const TRIES: u32 = 1_000;
 /// A connection that a `MioPort` accepted (`async-io` 2, `lib.rs`, `Async<TcpStream>`). It tells neither
 /// its bytes nor its interests, and is never sure or prompt. One thread at a time makes calls of it; its
 /// events come to the `MioWait` that was made with the port.
+///
+/// Contracts see its key, the directions that the system watches, and its count of faults.
 #[derive(Drop)]
 pub struct MioConn {
     stream: TcpStream,
@@ -29,6 +32,14 @@ pub struct MioConn {
     // What the system watches for; no direction exactly while the stream is not registered.
     watched: Interest,
     faults: u64,
+}
+
+impl Model for MioConn {
+    ghost use Rattle.aio_mio.specs.Values.{ConnValue};
+
+    ghost Value = { ConnValue };
+
+    ghost view = { λ c. record { key = c.key; watched = c.watched; faults = c.faults } };
 }
 
 /// One read, tried again where a signal interrupts it. A read of 0 bytes is the end.

@@ -14,6 +14,7 @@
 mod answers;
 mod clock;
 mod connections;
+mod looks;
 mod names;
 mod notify;
 mod parts;

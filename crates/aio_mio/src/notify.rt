@@ -6,10 +6,13 @@ use crate::answers::counted;
 use crate::selector::Selector;
 use aio_base::{Failed, Faults, Notify, OutOfMemory};
 use std::alloc::Global;
+use std::marker::Model;
 use std::sync::Arc;
 
 /// What ends the wait of a `MioWait`, or the next one (`polling` 3, `lib.rs`, `Poller::notify`). It is
 /// never sure. Its twins end the same waits.
+///
+/// Contracts see the counts of its notifies and of its faults.
 #[derive(Drop)]
 pub struct MioNotify {
     selector: Arc<Selector, Global>,
@@ -17,10 +20,18 @@ pub struct MioNotify {
     faults: u64,
 }
 
+impl Model for MioNotify {
+    ghost use Rattle.aio_mio.specs.Values.{NotifyValue};
+
+    ghost Value = { NotifyValue };
+
+    ghost view = { λ n. record { calls = n.calls; faults = n.faults } };
+}
+
 impl MioNotify {
     /// A notifier that was not called yet.
     pub(crate) fn new(selector: Arc<Selector, Global>) -> MioNotify
-        ensures { (result.calls ≡ 0) × (result.faults ≡ 0) }
+        ensures { result ≡ record { calls = 0; faults = 0 } }
     {
         MioNotify {
             selector,
@@ -67,7 +78,7 @@ impl Notify for MioNotify {
     /// A notifier that was not called yet, of the same waits.
     fn twin(&self) -> Result<MioNotify, OutOfMemory>
         ensures sure { IsTrue false → IfOk result (λ twin. IsTrue false) }
-        ensures anew { IfOk result (λ twin. (twin.calls ≡ 0) × (twin.faults ≡ 0)) }
+        ensures anew { IfOk result (λ twin. twin ≡ record { calls = 0; faults = 0 }) }
     {
         match Arc::try_clone(&self.selector) {
             Ok(selector) => Ok(MioNotify::new(selector)),

@@ -1,7 +1,6 @@
 //! The devices over one poll of the machine.
 
 ghost use Rattle.std.specs.Prelude.{◌≡◌, [], IfOk};
-ghost use Rattle.aio_mio.specs.Waits.{left_over};
 
 use crate::names::WAKER;
 use crate::notify::MioNotify;
@@ -17,16 +16,24 @@ use std::io;
 use std::net::Net;
 use std::sync::Arc;
 
-/// Why the devices were not made.
+/// Why the devices were not made. No clause says when the system refuses: that is of the outside.
 #[derive(Clone, Copy, Debug, PartialEq, Eq)]
 pub enum MioRefusal {
-    /// The system refused a descriptor.
+    /// The system refused one of five calls: `epoll_create1` for the poll of the connections and for
+    /// that of the listener, `fcntl` (`F_DUPFD_CLOEXEC`) for a second owner of the registrations,
+    /// `eventfd` for the waker, and `epoll_ctl` to watch it. Each of them fails where a limit of the
+    /// system is reached, of descriptors, of watches or of its own memory.
     System,
-    /// Memory ran out.
+    /// Memory ran out for what the devices share or for the events of a look.
     OutOfMemory,
 }
 
 impl From<OutOfMemory> for MioRefusal {
+    ghost use Rattle.std.specs.Prelude.{◌≡◌};
+    ghost use Rattle.aio_mio.specs.declared.parts.MioRefusal.TheVariants as refusal;
+
+    ghost from_gives = { λ out refused. refused ≡ refusal.OutOfMemory };
+
     fn from(_: OutOfMemory) -> MioRefusal {
         MioRefusal::OutOfMemory
     }
@@ -46,15 +53,15 @@ fn polls<R: Net>(rt: &R) -> io::Result<(Poll, mio::Registry, Waker, Poll)> {
 ///
 /// # Errors
 ///
-/// `System` where the system refused, `OutOfMemory` where memory ran out.
+/// `System` where the system refused a descriptor, `OutOfMemory` where memory ran out.
 pub fn mio_parts<R: Net + Copy>(
     alloc: Global,
     rt: &R,
 ) -> Result<(MioPort<R>, MioWait, MioNotify), MioRefusal>
     ensures port { IfOk result (λ parts. parts.0.faults ≡ 0) }
-    ensures left { IfOk result (λ parts. left_over parts.1 ≡ []) }
-    ensures wait { IfOk result (λ parts. (parts.1.waits ≡ 0) × (parts.1.faults ≡ 0)) }
-    ensures notify { IfOk result (λ parts. (parts.2.calls ≡ 0) × (parts.2.faults ≡ 0)) }
+    ensures wait { IfOk result (λ parts.
+        parts.1 ≡ record { left = []; waits = 0; faults = 0 }) }
+    ensures notify { IfOk result (λ parts. parts.2 ≡ record { calls = 0; faults = 0 }) }
 {
     let Ok((poll, registry, waker, of_listener)) = polls(rt) else {
         return Err(MioRefusal::System);

@@ -10,6 +10,7 @@ use mio::net::TcpListener;
 use mio::{Events, Interest, Poll, Token};
 use std::alloc::Global;
 use std::io::{self, ErrorKind};
+use std::marker::Model;
 use std::net::{Ipv4Addr, Net, SocketAddr};
 use std::sync::{Arc, Wait};
 
@@ -24,6 +25,8 @@ const EVENTS: usize = 1;
 ///
 /// Its listener has a poll of its own, so that an accept can wait while nothing else is waited for. What it
 /// accepts sends small pieces without delay.
+///
+/// Contracts see its count of faults.
 #[derive(Drop)]
 pub struct MioPort<R: Net + Copy> {
     rt: R,
@@ -32,6 +35,14 @@ pub struct MioPort<R: Net + Copy> {
     listener: Option<TcpListener>,
     selector: Arc<Selector, Global>,
     faults: u64,
+}
+
+impl<R: Net + Copy> Model for MioPort<R> {
+    ghost use Rattle.aio_mio.specs.Values.{PortValue};
+
+    ghost Value = { PortValue };
+
+    ghost view = { λ p. record { faults = p.faults } };
 }
 
 impl<R: Net + Copy> MioPort<R> {
@@ -76,27 +87,18 @@ impl<R: Net + Copy> MioPort<R> {
         Ok(used)
     }
 
-    /// The next connection, or none where none is there yet. An error where nothing listens, or where the
-    /// system refused.
-    fn try_accept(&self) -> io::Result<Option<MioConn>> {
+    /// The connection that came first of those that nobody took. An error where there is none, where
+    /// nothing listens, or where the system refused.
+    fn try_accept(&self) -> io::Result<MioConn> {
         let Some(listener) = &self.listener else {
             return Err(io::Error::from(ErrorKind::NotConnected));
         };
-        match listener.accept() {
-            Ok((stream, _)) => {
-                let Ok(selector) = Arc::try_clone(&self.selector) else {
-                    return Err(io::Error::from(ErrorKind::OutOfMemory));
-                };
-                let _ = stream.set_nodelay(true);
-                Ok(Some(MioConn::new(stream, selector)))
-            }
-            Err(error) => match error.kind() {
-                ErrorKind::WouldBlock | ErrorKind::Interrupted | ErrorKind::ConnectionAborted => {
-                    Ok(None)
-                }
-                _ => Err(error),
-            },
-        }
+        let (stream, _) = listener.accept()?;
+        let Ok(selector) = Arc::try_clone(&self.selector) else {
+            return Err(io::Error::from(ErrorKind::OutOfMemory));
+        };
+        let _ = stream.set_nodelay(true);
+        Ok(MioConn::new(stream, selector))
     }
 
     /// The next connection, for which it waits without a limit. An error after the last turn too.
@@ -104,10 +106,15 @@ impl<R: Net + Copy> MioPort<R> {
         ensures faults { self.new.faults ≡ self.old.faults }
     {
         for _ in 0..TURNS {
-            if let Some(conn) = self.try_accept()? {
-                return Ok(conn);
+            match self.try_accept() {
+                Ok(conn) => return Ok(conn),
+                Err(error) => match error.kind() {
+                    ErrorKind::WouldBlock => self.poll.poll(&mut self.events, None)?,
+                    // Others may stand behind it, of which no event comes any more.
+                    ErrorKind::Interrupted | ErrorKind::ConnectionAborted => {}
+                    _ => return Err(error),
+                },
             }
-            self.poll.poll(&mut self.events, None)?;
         }
         Err(io::Error::from(ErrorKind::TimedOut))
     }

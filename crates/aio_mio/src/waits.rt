@@ -1,156 +1,51 @@
 //! The half of a poller that waits.
 
-ghost use Rattle.std.specs.Prelude.{◌≡◌, ◌≢◌, ◌+◌, ◌≤◌, [], ◌++◌, length, take, drop, min, false, IfOk, OnErr, vec_len, vec_capacity};
-ghost use Rattle.mio.specs.Events.{items, capacity as events_capacity};
-ghost use Rattle.aio_mio.specs.Names.{source_events};
+ghost use Rattle.std.specs.Prelude.{◌≡◌, [], false, IfOk};
 
 use crate::answers::counted;
-use crate::names::source_event;
+use crate::looks::Looks;
 use crate::selector::Selector;
-use crate::wakes::passes_over;
 use aio_base::{Event, EventWait, Failed, Faults, OutOfMemory, Waited};
-use mio::{Events, Poll};
+use mio::Poll;
 use std::alloc::Global;
-use std::io::{self, ErrorKind};
+use std::io::ErrorKind;
+use std::marker::Model;
 use std::sync::Arc;
-use std::time::Duration;
-
-/// How many events one look at the system gives at most, the waker's among them.
-const EVENTS: usize = 1_024;
 
 /// The half of a poller that waits for the events of a port's connections (`polling` 3, `lib.rs`,
 /// `Poller::wait`). It is never sure. Events that a wait has no room for are given by the next.
+///
+/// Contracts see those events, and the counts of its waits and of its faults.
 #[derive(Drop)]
 pub struct MioWait {
-    poll: Poll,
-    events: Events,
-    // The events of sources that the last look gave, and how many of them were given on.
-    came: Vec<Event>,
-    given: usize,
-    selector: Arc<Selector, Global>,
-    // Whether the last wait ended without a look.
-    passed: bool,
+    looks: Looks,
     waits: u64,
     faults: u64,
-    ghost room: { events_capacity events ≤ vec_capacity came },
-    ghost bound: { given ≤ vec_len came },
 }
 
-/// The events of sources among those that the system gave, in order.
-fn gather(events: &Events, came: &mut Vec<Event>)
-    requires empty { came.old.items ≡ [] }
-    requires room { length (items events.now) ≤ vec_capacity came.old }
-    ensures events { came.new.items ≡ source_events (items events.now) }
-    ensures capacity { vec_capacity came.new ≡ vec_capacity came.old }
-{
-    for event in events.iter() {
-        if let Some(event) = source_event(event) {
-            came.push_reserved(event);
-        }
-    }
-}
+impl Model for MioWait {
+    ghost use Rattle.aio_mio.specs.Looks.{left_over};
+    ghost use Rattle.aio_mio.specs.Values.{WaitValue};
 
-/// Adds the first events, as many as there is room for. How many it added.
-fn give(events: &[Event], out: &mut Vec<Event>, room: u32) -> u32
-    requires { vec_len out.old + room ≤ vec_capacity out.old }
-    ensures count { result ≡ min room (length events.now) }
-    ensures added { out.new.items ≡ out.old.items ++ take room events.now }
-    ensures capacity { vec_capacity out.old ≤ vec_capacity out.new }
-{
-    let count = events.len().min(room as usize);
-    out.extend_from_slice(&events[..count]).unwrap();
-    count as u32
+    ghost Value = { WaitValue };
+
+    ghost view = { λ w. record { left = left_over w.looks; waits = w.waits; faults = w.faults } };
 }
 
 impl MioWait {
-    ghost use Rattle.aio_mio.specs.Waits.{left_over};
-
     /// A half that has not waited yet. `OutOfMemory` where memory ran out.
     pub(crate) fn new(
         alloc: Global,
         poll: Poll,
         selector: Arc<Selector, Global>,
     ) -> Result<MioWait, OutOfMemory>
-        ensures left { IfOk result (λ wait. left_over wait ≡ []) }
-        ensures waits { IfOk result (λ wait. wait.waits ≡ 0) }
-        ensures faults { IfOk result (λ wait. wait.faults ≡ 0) }
+        ensures { IfOk result (λ wait. wait ≡ record { left = []; waits = 0; faults = 0 }) }
     {
-        let Ok(events) = Events::with_capacity(alloc, EVENTS) else {
-            return Err(OutOfMemory);
-        };
-        let Ok(came) = Vec::with_capacity(alloc, EVENTS) else {
-            return Err(OutOfMemory);
-        };
         Ok(MioWait {
-            poll,
-            events,
-            came,
-            given: 0,
-            selector,
-            passed: false,
+            looks: Looks::new(alloc, poll, selector)?,
             waits: 0,
             faults: 0,
         })
-    }
-
-    /// Looks, where no event is left over. After an error none is.
-    #[tactic(auto, using(crate::proofs::LeftOver::nothing_is_left))]
-    fn refill(&mut self, limit: Option<u64>) -> io::Result<()>
-        ensures kept { left_over self.old ≢ [] → left_over self.new ≡ left_over self.old }
-        ensures none { OnErr result ((left_over self.old ≡ []) × (left_over self.new ≡ [])) }
-        ensures waits { self.new.waits ≡ self.old.waits }
-        ensures faults { self.new.faults ≡ self.old.faults }
-    {
-        if self.given < self.came.len() {
-            return Ok(());
-        }
-        self.look(limit)
-    }
-
-    /// Gives on the first events that are left over, as many as there is room for. How many they are.
-    #[tactic(auto, using(crate::proofs::LeftOver::left_after_giving))]
-    fn give_on(&mut self, out: &mut Vec<Event>, room: u32) -> u32
-        requires { vec_len out.old + room ≤ vec_capacity out.old }
-        ensures count { result ≡ min room (length (left_over self.old)) }
-        ensures added { out.new.items ≡ out.old.items ++ take room (left_over self.old) }
-        ensures left { left_over self.new ≡ drop room (left_over self.old) }
-        ensures capacity { vec_capacity out.old ≤ vec_capacity out.new }
-        ensures waits { self.new.waits ≡ self.old.waits }
-        ensures faults { self.new.faults ≡ self.old.faults }
-    {
-        let count = give(&self.came[self.given..], out, room);
-        self.given += count as usize;
-        count
-    }
-
-    /// One look at the system, for at most `limit` nanoseconds, or none where the wait is passed over; then
-    /// each direction that an event names may be ready. An error is that of the system, and nothing came.
-    fn look(&mut self, limit: Option<u64>) -> io::Result<()>
-        ensures given { self.new.given ≡ 0 }
-        ensures came { self.new.passed ≡ false
-            → self.new.came.items ≡ source_events (items self.new.events) }
-        ensures none { OnErr result (self.new.came.items ≡ []) }
-        ensures waits { self.new.waits ≡ self.old.waits }
-        ensures faults { self.new.faults ≡ self.old.faults }
-    {
-        self.given = 0;
-        self.came.clear();
-        let told = self.selector.wakes.begin();
-        self.passed = passes_over(told, self.passed, limit);
-        if self.passed {
-            self.selector.wakes.end();
-            return Ok(());
-        }
-        let limit = if told { Some(0) } else { limit };
-        let looked = self
-            .poll
-            .poll(&mut self.events, limit.map(Duration::from_nanos));
-        self.selector.wakes.end();
-        gather(&self.events, &mut self.came);
-        for event in &self.came {
-            self.selector.readiness.set_all(event.key, event.on);
-        }
-        looked
     }
 }
 
@@ -186,13 +81,13 @@ impl EventWait for MioWait {
         limit: Option<u64>,
     ) -> Result<Waited, Failed> {
         self.waits = self.waits.saturating_add(1);
-        if let Err(error) = self.refill(limit) {
+        if let Err(error) = self.looks.refill(limit) {
             if error.kind() == ErrorKind::Interrupted {
                 return Ok(Waited::Interrupted);
             }
             return counted(Err(error), &mut self.faults);
         }
-        let count = self.give_on(out, room);
+        let count = self.looks.give_on(out, room);
         Ok(Waited::Given(count))
     }
 

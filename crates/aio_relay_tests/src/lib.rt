@@ -17,6 +17,8 @@ mod hosts;
 #[cfg(test)]
 mod lines;
 #[cfg(test)]
+mod listening;
+#[cfg(test)]
 mod peers;
 #[cfg(test)]
 mod ports;

@@ -34,7 +34,7 @@ enum Act {
 
 /// What comes of it.
 #[derive(Clone, Copy, Debug, PartialEq)]
-enum Came {
+pub(crate) enum Came {
     /// So many bytes went over.
     Went(usize),
     /// It waits, in place of this waker if of any.
@@ -87,18 +87,24 @@ fn write(source: &mut Async<'_, MemConn>, text: &str, waker: u32) -> Came {
     tried(source.write_with(text, Waker(waker)))
 }
 
-/// Polls a new listener. Letting it go leaves it in the source.
-fn listen(source: &mut Async<'_, MemConn>, waker: u32) -> Came {
-    let mut ready = aio_future::Ready::new(Dir::Read);
-    match ready.poll(source, Waker(waker)) {
-        Poll::Pending => Waits(None),
+/// What a poll of a listener comes to.
+pub(crate) fn listened(answer: Poll<Result<(), ListenRefusal>>) -> Came {
+    match answer {
+        Poll::Ready(Ok(())) => Ready,
         Poll::Ready(Err(ListenRefusal::ArmFault { fault, .. })) => Failed(TryFault::Arm(fault)),
-        Poll::Ready(_) => Other,
+        Poll::Ready(Err(_)) => Other,
+        Poll::Pending => Waits(None),
     }
 }
 
+/// Polls a new listener. Letting it go leaves it in the source.
+fn listen(source: &mut Async<'_, MemConn>, waker: u32) -> Came {
+    let mut ready = aio_future::Ready::new(Dir::Read);
+    listened(ready.poll(source, Waker(waker)))
+}
+
 /// Handles an event of a source in round 1.
-fn handle(cell: &mut SourceCell<MemConn>, on: Interest, taken: &mut Vec<Waker>) -> Came {
+pub(crate) fn handle(cell: &mut SourceCell<MemConn>, on: Interest, taken: &mut Vec<Waker>) -> Came {
     taken.clear();
     let reads = cell.state.waiting(Dir::Read);
     let waiting = cell.state.waiting(Dir::Write).saturating_add(reads);

@@ -2,7 +2,7 @@ use Rattle.std.proofs.Common.{◌≡◌, ◌+◌, ◌≤◌, ◌++◌, length, v
 use Rattle.std.specs.Slice.Iter.{iter_rest}
 use Rattle.mio.specs.Events.{items}
 use Rattle.aio_mio.specs.Names.{source_events}
-use Rattle.aio_mio.proofs.waits.gather.Given as goal
+use Rattle.aio_mio.proofs.looks.gather.Given as goal
 
 abbrev pub invariant-loop-event : goal.invariant-loop-event
 invariant-loop-event l =

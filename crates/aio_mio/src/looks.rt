@@ -1,0 +1,141 @@
+//! The looks of a wait at the system, and the events that they bring.
+
+ghost use Rattle.std.specs.Prelude.{◌≡◌, ◌≢◌, ◌+◌, ◌≤◌, [], ◌++◌, length, take, drop, min, false, IfOk, OnErr, vec_len, vec_capacity};
+ghost use Rattle.mio.specs.Events.{items, capacity as events_capacity};
+ghost use Rattle.aio_mio.specs.Names.{source_events};
+
+use crate::names::source_event;
+use crate::selector::Selector;
+use crate::wakes::passes_over;
+use aio_base::{Event, OutOfMemory};
+use mio::{Events, Poll};
+use std::alloc::Global;
+use std::io;
+use std::sync::Arc;
+use std::time::Duration;
+
+/// How many events one look at the system gives at most, the waker's among them.
+const EVENTS: usize = 1_024;
+
+/// What looks at the system, with the events of its last look.
+#[derive(Drop)]
+pub(crate) struct Looks {
+    poll: Poll,
+    events: Events,
+    // The events of sources that the last look gave, and how many of them were given on.
+    came: Vec<Event>,
+    given: usize,
+    selector: Arc<Selector, Global>,
+    // Whether the last wait ended without a look.
+    passed: bool,
+    ghost room: { events_capacity events ≤ vec_capacity came },
+    ghost bound: { given ≤ vec_len came },
+}
+
+/// The events of sources among those that the system gave, in order.
+fn gather(events: &Events, came: &mut Vec<Event>)
+    requires empty { came.old.items ≡ [] }
+    requires room { length (items events.now) ≤ vec_capacity came.old }
+    ensures events { came.new.items ≡ source_events (items events.now) }
+    ensures capacity { vec_capacity came.new ≡ vec_capacity came.old }
+{
+    for event in events.iter() {
+        if let Some(event) = source_event(event) {
+            came.push_reserved(event);
+        }
+    }
+}
+
+/// Adds the first events, as many as there is room for. How many it added.
+fn give(events: &[Event], out: &mut Vec<Event>, room: u32) -> u32
+    requires { vec_len out.old + room ≤ vec_capacity out.old }
+    ensures count { result ≡ min room (length events.now) }
+    ensures added { out.new.items ≡ out.old.items ++ take room events.now }
+    ensures capacity { vec_capacity out.old ≤ vec_capacity out.new }
+{
+    let count = events.len().min(room as usize);
+    out.extend_from_slice(&events[..count]).unwrap();
+    count as u32
+}
+
+impl Looks {
+    ghost use Rattle.aio_mio.specs.Looks.{left_over};
+
+    /// No look was made yet. `OutOfMemory` where memory ran out.
+    pub(crate) fn new(
+        alloc: Global,
+        poll: Poll,
+        selector: Arc<Selector, Global>,
+    ) -> Result<Looks, OutOfMemory>
+        ensures { IfOk result (λ looks. left_over looks ≡ []) }
+    {
+        let Ok(events) = Events::with_capacity(alloc, EVENTS) else {
+            return Err(OutOfMemory);
+        };
+        let Ok(came) = Vec::with_capacity(alloc, EVENTS) else {
+            return Err(OutOfMemory);
+        };
+        Ok(Looks {
+            poll,
+            events,
+            came,
+            given: 0,
+            selector,
+            passed: false,
+        })
+    }
+
+    /// Looks, where no event is left over. After an error none is.
+    #[tactic(auto, using(crate::proofs::LeftOver::nothing_is_left))]
+    pub(crate) fn refill(&mut self, limit: Option<u64>) -> io::Result<()>
+        ensures kept { left_over self.old ≢ [] → left_over self.new ≡ left_over self.old }
+        ensures none { OnErr result ((left_over self.old ≡ []) × (left_over self.new ≡ [])) }
+    {
+        if self.given < self.came.len() {
+            return Ok(());
+        }
+        self.look(limit)
+    }
+
+    /// Gives on the first events that are left over, as many as there is room for. How many they are.
+    #[tactic(auto, using(crate::proofs::LeftOver::left_after_giving))]
+    pub(crate) fn give_on(&mut self, out: &mut Vec<Event>, room: u32) -> u32
+        requires { vec_len out.old + room ≤ vec_capacity out.old }
+        ensures count { result ≡ min room (length (left_over self.old)) }
+        ensures added { out.new.items ≡ out.old.items ++ take room (left_over self.old) }
+        ensures left { left_over self.new ≡ drop room (left_over self.old) }
+        ensures capacity { vec_capacity out.old ≤ vec_capacity out.new }
+    {
+        let count = give(&self.came[self.given..], out, room);
+        self.given += count as usize;
+        count
+    }
+
+    /// One look at the system, for at most `limit` nanoseconds, or none where the wait is passed over; then
+    /// each direction that an event names may be ready. An error is that of the system, and nothing came.
+    fn look(&mut self, limit: Option<u64>) -> io::Result<()>
+        ensures given { self.new.given ≡ 0 }
+        ensures came { self.new.passed ≡ false
+            → self.new.came.items ≡ source_events (items self.new.events) }
+        ensures none { OnErr result (self.new.came.items ≡ []) }
+    {
+        self.given = 0;
+        self.came.clear();
+        let told = self.selector.wakes.begin();
+        self.passed = passes_over(told, self.passed, limit);
+        if self.passed {
+            self.selector.wakes.end();
+            return Ok(());
+        }
+        let limit = if told { Some(0) } else { limit };
+        let looked = self
+            .poll
+            .poll(&mut self.events, limit.map(Duration::from_nanos));
+        self.selector.wakes.end();
+        gather(&self.events, &mut self.came);
+        for event in &self.came {
+            self.selector.readiness.set_all(event.key, event.on);
+        }
+        looked
+    }
+}
