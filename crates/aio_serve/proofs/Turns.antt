@@ -1,6 +1,6 @@
 -- Rows that give their items in turn.
-use Rattle.std.proofs.Common.{◌≡◌, ◌+◌, ◌<◌, List, [], ◌∷◌, ◌++◌, map, refl, sym, ap, ◌∙◌, subst, arith}
-use Rattle.std.specs.Prelude.{⊤}
+use Rattle.std.proofs.Common.{◌≡◌, ◌+◌, ◌<◌, List, [], ◌∷◌, ◌++◌, map, length, refl, sym, ap, ◌∙◌, subst, arith}
+use Rattle.std.specs.Prelude.{⊤, suc}
 use Rattle.std.specs.List.{AllZip}
 use Rattle.std.proofs.lemmas.List.{map-append}
 use Rattle.aio_serve.specs.Dealing.{GivesInTurn, IsAtTurn, IsOver, count_all}
@@ -87,3 +87,15 @@ pub over_from : {X : Type 0} (rows : List (List X)) → HaveNone rows → IsOver
 over_from [] none = tt
 over_from ([] ∷ rows) none = tt
 over_from ((x ∷ row) ∷ rows) none = elim none [ ]
+
+-- ## One row alone
+
+pub alone_has_all : {X : Type 0} (row xs : List X) → GivesInTurn (row ∷ []) xs → length row ≡ length xs
+alone_has_all [] [] given = refl
+alone_has_all [] (x ∷ xs) given = elim given [ ]
+alone_has_all (y ∷ row) [] given = elim given [ ]
+alone_has_all (y ∷ row) (x ∷ xs) given = ap suc (alone_has_all row xs given.1)
+
+pub only_row : {X : Type 0} (rows left : List (List X)) (row : List X) → rows ≡ row ∷ left → length rows ≡ 1 → rows ≡ row ∷ []
+only_row rows [] row is one = is
+only_row rows (other ∷ left) row is one = let none : ⊥ = omega (arith, ap length is, one) in elim none [ ]

@@ -102,7 +102,13 @@ call_from told (Writes piece w tried) = Writes piece w (tried_from told tried)
 
 -- ## Its calls
 
--- A call entered the source, whose connection had the rest that the end knew, tried it as an entered source is tried, and left it.
+-- what a call answered
+abbrev pub answer_of : EndCall → Poll (Result ℕ TryFault)
+answer_of (Reads room w tried bytes) = tried.answer
+answer_of (Writes piece w tried) = tried.answer
+
+-- A call entered the source, whose connection had the rest that the end knew, tried it as an entered source is tried, and left it. The end then knows
+-- the rest that was left, and the greatest count of faults that it has told.
 pub record EntersShared {C : Type 0} (conn_step : C → ConnMove → C → Type 0) (arm_step : C → ArmCall → Result (Unit {0}) Failed → C → Type 0)
     (interests : C → Option Interests) (rest_of : C → List ℕ) (count : C → ℕ) (sure : C → Bool)
     (before : SourceEndValue) (call : EndCall) (after : SourceEndValue) : Type 0 where
@@ -115,4 +121,4 @@ pub record EntersShared {C : Type 0} (conn_step : C → ConnMove → C → Type 
   pub key : source.key.0 ≡ before.key
   pub tries : Enters conn_step arm_step interests rest_of count sure source conn made source_after conn_after
   pub told : call ≡ call_from before.told made
-  pub left : after ≡ record before { rest = rest_of conn_after; told = after.told }
+  pub left : after ≡ record before { rest = rest_of conn_after; told = last_told before.told (answer_of call) }

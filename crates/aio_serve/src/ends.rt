@@ -1,32 +1,38 @@
 //! The ends of a pair over sources of a shared reactor.
 
-ghost use Rattle.std.specs.Prelude.{◌≡◌, ◌<◌, ◌≤◌, false, length, take, IsSome, IsTrue, Ok};
+ghost use Rattle.std.specs.Prelude.{◌≡◌, ◌<◌, ◌≤◌, false, length, take, IfErr, IsSome, IsTrue, Ok};
+ghost use Rattle.std.specs.Arc.{arc_value};
 ghost use Rattle.aio_base.specs.Connections.{ReadTells, WriteTells, sure_read};
 ghost use Rattle.aio_base.specs.declared.outcomes.Poll.TheVariants.{Ready, Pending};
 ghost use Rattle.aio_future.specs.Tries.{FaultsWithin, IsReadAnswer, IsWriteAnswer, MovesWithin, bytes_over, counts_in, fault_counts};
 ghost use Rattle.aio_pairs.specs.Calls.{Enters, Reads, Writes};
+ghost use Rattle.aio_sources.specs.Sources.{IsUnsure, Removes};
 ghost use Rattle.aio_serve.specs.SourceEnds.{IsRestOf, fault_from, last_told, told_from, tried_from};
 
 use aio_base::{ArmFault, Conn, CountFault, EventWait, Faults, Notify, Poll, Tells, Waker};
 use aio_future::{Async, Tried, TryFault};
 use aio_pairs::End;
 use aio_react::Host;
-use aio_shared::{Inside, SourceRef};
+use aio_shared::{Inside, Shared, SourceRef};
 use aio_source::SourceCell;
+use std::alloc::Global;
 use std::marker::Model;
-use std::sync::Wait;
+use std::sync::{Arc, Wait};
 
-/// One connection of a pair, as a source of a shared reactor: each call enters the source, tries the
-/// connection, and leaves the source again. It keeps the token of the source, which is outside between
-/// its calls, and tells of the connection what the token knows.
+/// One connection of a pair, as a source of a shared reactor: each call enters the source, tries
+/// the connection, and leaves the source again. It keeps the token of the source, which is outside
+/// between its calls, and tells of the connection what the token knows. It holds the reactor, so
+/// that whoever has the end can close it.
 #[derive(Drop)]
-pub struct SourceEnd<C: Conn> {
+pub struct SourceEnd<C: Conn, W: EventWait> {
+    shared: Arc<Shared<C, W>, Global>,
     token: SourceRef<C>,
     told: u64,
 }
 
-impl<C: Conn> Model for SourceEnd<C> {
+impl<C: Conn, W: EventWait> Model for SourceEnd<C, W> {
     ghost use Rattle.std.specs.Prelude.{◌≡◌, IsTrue, false};
+    ghost use Rattle.std.specs.Arc.{arc_value};
     ghost use Rattle.aio_base.specs.Connections.{sure_read};
     ghost use Rattle.aio_serve.specs.SourceEnds.{IsRestOf, SourceEndValue};
 
@@ -40,19 +46,27 @@ impl<C: Conn> Model for SourceEnd<C> {
     } };
 
     ghost invariant = { λ end. (end.token.inside ≡ false) × IsRestOf C.rest end.token.rest
-        × (IsTrue (sure_read end.token.rest) → end.told ≡ 0) };
+        × (IsTrue (sure_read end.token.rest) → end.told ≡ 0)
+        × (end.token.words ≡ (arc_value end.shared).words.identity) };
 }
 
-impl<C: Conn> SourceEnd<C> {
-    /// The end of the connection whose source has this token. No fault was told.
-    pub fn new(token: SourceRef<C>) -> SourceEnd<C>
+impl<C: Conn, W: EventWait> SourceEnd<C, W> {
+    /// The end of the connection whose source has this token, in this reactor. No fault was told.
+    pub fn new(shared: Arc<Shared<C, W>, Global>, token: SourceRef<C>) -> SourceEnd<C, W>
+        requires belongs { token.words ≡ (arc_value shared).words.identity }
         requires outside { token.inside ≡ false }
         requires rest { IsRestOf C.rest token.rest }
         ensures { result ≡ record { words = token.words; key = token.key; rest = token.rest; told = 0 } }
     {
-        SourceEnd { token, told: 0 }
+        SourceEnd {
+            shared,
+            token,
+            told: 0,
+        }
     }
+}
 
+impl<C: Conn + Drop, W: EventWait + Drop> SourceEnd<C, W> {
     /// The token of the source.
     pub fn into_token(self) -> SourceRef<C>
         ensures { result ≡ record {
@@ -64,9 +78,24 @@ impl<C: Conn> SourceEnd<C> {
     {
         self.token
     }
+
+    /// Takes the source out of its reactor, and then tells the connection by one `remove`. The
+    /// connection is let go. `CountFault` only where its count of faults rose, and not all
+    /// connections of its type are sure; the source is gone all the same. May wait. Takes no memory.
+    pub fn close<R: Wait>(self, rt: &R) -> Result<(), CountFault>
+        ensures removed { Removes C.arm_step C.rest C.fault_count self.key self.rest result }
+        ensures fault { IfErr result (λ fault. IsUnsure C.all_sure fault) }
+    {
+        let SourceEnd {
+            shared,
+            token,
+            told: _,
+        } = self;
+        shared.close_source(rt, token)
+    }
 }
 
-impl<C: Conn> Faults for SourceEnd<C> {
+impl<C: Conn, W: EventWait> Faults for SourceEnd<C, W> {
     ghost use Rattle.aio_serve.specs.SourceEnds.{is_sure_end, not_all_are, sure_has_told_none};
 
     ghost fault_count = { λ end. end.told };
@@ -84,7 +113,7 @@ impl<C: Conn> Faults for SourceEnd<C> {
     }
 }
 
-impl<C: Conn> Tells for SourceEnd<C> {
+impl<C: Conn, W: EventWait> Tells for SourceEnd<C, W> {
     ghost use Rattle.aio_base.specs.Connections.{telling_read};
     ghost use Rattle.aio_serve.specs.SourceEnds.{is_bounded, told_by};
 
@@ -93,7 +122,7 @@ impl<C: Conn> Tells for SourceEnd<C> {
     ghost left_is_bounded = { λ end. is_bounded (telling_read end.rest).left };
 }
 
-impl<R: Wait, N: Notify, C: Conn, W: EventWait> End<Inside<R, N, C, W>> for SourceEnd<C> {
+impl<R: Wait, N: Notify, C: Conn, W: EventWait> End<Inside<R, N, C, W>> for SourceEnd<C, W> {
     ghost use Rattle.aio_serve.specs.SourceEnds.{EntersShared};
 
     ghost end_step = { EntersShared C.conn_step C.arm_step C.interests C.rest C.fault_count C.is_sure };
@@ -199,7 +228,7 @@ fn last_count(fault: TryFault) -> u64
     }
 }
 
-impl<C: Conn> SourceEnd<C> {
+impl<C: Conn, W: EventWait> SourceEnd<C, W> {
     /// Tells what a try came to, its counts of faults from the greatest one on that was told before.
     fn tell(&mut self, tried: Tried) -> Tried
         requires { IsSome (fault_counts tried.answer) → ¬ IsTrue (sure_read self.old.rest) }

@@ -1,4 +1,5 @@
-//! A gate that holds nothing back.
+//! A gate that holds nothing back. What one costs that does hold a pair is told at the pair in its
+//! slot: the idle time runs on, and the other pairs of the worker wait with it.
 
 ghost use Rattle.std.specs.Prelude.{◌≡◌, true};
 

@@ -39,3 +39,40 @@ pub(crate) fn fails(alloc: Global, text: &str, fails: &[u64]) -> Result<MemConn,
     numbers.extend_from_slice(fails)?;
     Ok(MemConn::new(alloc, pieces, true, 4096, u32::MAX, numbers)?)
 }
+
+/// Sends a text, then nothing for once, and then another text, and ends; its calls of these numbers fail.
+pub(crate) fn halts(
+    alloc: Global,
+    first: &str,
+    then: &str,
+    fails: &[u64],
+) -> Result<MemConn, Fail> {
+    let first = bytes(alloc, first)?;
+    let then = bytes(alloc, then)?;
+    let pieces = pieces(alloc, first, then)?;
+    let mut numbers = Vec::new(alloc);
+    numbers.extend_from_slice(fails)?;
+    Ok(MemConn::new(alloc, pieces, true, 4096, u32::MAX, numbers)?)
+}
+
+/// One text.
+fn one_piece(alloc: Global, text: Vec<u8>) -> Result<Vec<Piece>, Fail>
+    ensures { IfOk result (λ pieces. total_bytes pieces.items < 2 ^ 64) }
+{
+    let text = Piece::Bytes(text);
+    Ok(vec![in alloc; text]?)
+}
+
+/// Sends a text without a halt, and ends. It never fails.
+pub(crate) fn sends_at_once(alloc: Global, text: &str) -> Result<SureConn, Fail> {
+    let text = bytes(alloc, text)?;
+    let pieces = one_piece(alloc, text)?;
+    Ok(SureConn::new(alloc, pieces, true, 4096, u32::MAX)?)
+}
+
+/// Sends a text without a halt, and ends.
+pub(crate) fn goes_on(alloc: Global, text: &str) -> Result<MemConn, Fail> {
+    let text = bytes(alloc, text)?;
+    let pieces = one_piece(alloc, text)?;
+    Ok(MemConn::new(alloc, pieces, true, 4096, u32::MAX, Vec::new(alloc))?)
+}

@@ -3,7 +3,7 @@
 
 use crate::asserts::same;
 use crate::connections::{fails, sends};
-use aio_base::{Conn, CountFault, Moment};
+use aio_base::{Conn, CountFault, Key, Moment};
 use aio_conns::SureConn;
 use aio_devices::{MemClock, MemNotify, MemWait, clock_until};
 use aio_park::Thread;
@@ -11,22 +11,25 @@ use aio_relay::{Pair, PairEnd};
 use aio_serve::SourceEnd;
 use std::alloc::Global;
 use std::process::Abort;
-use std::sync::Wait;
+use std::sync::{Arc, Wait};
 use std::test::Fail;
 
 /// A thread of a reactor of its own, whose sources have connections of this type.
-type Server<R, C> = Thread<R, MemNotify, C, MemWait, MemClock>;
+pub(crate) type Server<R, C> = Thread<R, MemNotify, C, MemWait, MemClock>;
+
+/// An end over a source of such a reactor.
+pub(crate) type End<C> = SourceEnd<C, MemWait>;
 
 /// The idle time of the pairs.
-const IDLE: u64 = 1000;
+pub(crate) const IDLE: u64 = 1000;
 
 /// The moment so many nanoseconds after the clock's start.
-fn moment(nanoseconds: u64) -> Result<Moment, Fail> {
+pub(crate) fn moment(nanoseconds: u64) -> Result<Moment, Fail> {
     Ok(Moment::new(nanoseconds).ok_or("no moment")?)
 }
 
 /// A thread whose clock stands at 0 for so many looks, and then at the idle time.
-fn server<R: Wait + Copy + Abort, C: Conn + Drop>(
+pub(crate) fn server<R: Wait + Copy + Abort, C: Conn + Drop>(
     rt: R,
     alloc: Global,
     looks: usize,
@@ -36,12 +39,13 @@ fn server<R: Wait + Copy + Abort, C: Conn + Drop>(
 }
 
 /// An end over a new source of the thread's reactor.
-fn end_over<R: Wait + Copy, C: Conn + Drop>(
+pub(crate) fn end_over<R: Wait + Copy, C: Conn + Drop>(
     server: &Server<R, C>,
     conn: C,
-) -> Result<SourceEnd<C>, Fail> {
+) -> Result<End<C>, Fail> {
+    let shared = Arc::try_clone(&server.host.shared)?;
     match server.host.insert_source(conn) {
-        Ok(token) => Ok(SourceEnd::new(token)),
+        Ok(token) => Ok(SourceEnd::new(shared, token)),
         Err(_) => Err(Fail::from("no source")),
     }
 }
@@ -51,7 +55,7 @@ fn pair_over<R: Wait + Copy, C: Conn + Drop>(
     server: &Server<R, C>,
     alloc: Global,
     sides: (C, C),
-) -> Result<Pair<SourceEnd<C>>, Fail> {
+) -> Result<Pair<End<C>>, Fail> {
     let a = end_over(server, sides.0)?;
     let b = end_over(server, sides.1)?;
     match Pair::new(alloc, a, b, IDLE, moment(0)?) {
@@ -63,8 +67,8 @@ fn pair_over<R: Wait + Copy, C: Conn + Drop>(
 /// Serves a pair to its end. Its end, and its two ends over the sources.
 fn served<R: Wait + Copy, C: Conn + Drop>(
     server: &mut Server<R, C>,
-    mut pair: Pair<SourceEnd<C>>,
-) -> Result<(PairEnd, SourceEnd<C>), Fail> {
+    mut pair: Pair<End<C>>,
+) -> Result<(PairEnd, End<C>), Fail> {
     let ended = server.run(&mut pair);
     let (_a, b) = pair.into_ends();
     match ended {
@@ -74,11 +78,7 @@ fn served<R: Wait + Copy, C: Conn + Drop>(
 }
 
 /// Whether a side was sent just this text.
-fn was_sent<R: Wait + Copy>(
-    server: &Server<R, SureConn>,
-    end: SourceEnd<SureConn>,
-    text: &str,
-) -> bool {
+fn was_sent<R: Wait + Copy>(server: &Server<R, SureConn>, end: End<SureConn>, text: &str) -> bool {
     let mut token = end.into_token();
     let cell = token.take(&server.host.rt);
     let sent = cell.io.sent() == text.as_bytes();
@@ -141,5 +141,17 @@ fn a_failed_read_ends_its_pair(rt: HostRuntime) -> Result<(), Fail> {
         after: 1,
     };
     same(&rt, end, PairEnd::ReadFault(fault));
+    Ok(())
+}
+
+#[test]
+fn the_key_of_an_end_that_was_closed_is_free_again(rt: HostRuntime) -> Result<(), Fail> {
+    let server = server(&rt, rt.alloc(), 1)?;
+    let first = end_over(&server, sends(rt.alloc(), "", "", true)?)?;
+    let second = end_over(&server, sends(rt.alloc(), "", "", true)?)?;
+    same(&rt, first.close(&&rt), Ok(()));
+    let third = end_over(&server, sends(rt.alloc(), "", "", true)?)?;
+    let keys = (second.into_token().key(), third.into_token().key());
+    same(&rt, keys, (Key(1), Key(0)));
     Ok(())
 }

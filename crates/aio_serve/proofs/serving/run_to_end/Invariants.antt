@@ -1,0 +1,15 @@
+use Rattle.std.proofs.Common.{◌≡◌, ℕ}
+use Rattle.aio_park.specs.Blocking.{IsPast}
+use Rattle.aio_shared.specs.Inside.{IsLaterInside}
+use Rattle.aio_serve.proofs.serving.run_to_end.Given as goal
+
+-- the task allows nothing by now that it did not allow at first
+abbrev pub invariant-loop : goal.invariant-loop
+invariant-loop g l = record {
+  allowed : (moment : ℕ) (output : _) → IsPast (g.C.Clock.bounds l.initial.thread.clock) moment
+      → g.T.Task.gives l.task (g.N.Faults.is_sure l.initial.thread.host.member.notifier) moment output
+      → g.T.Task.gives l.initial.task (g.N.Faults.is_sure l.initial.thread.host.member.notifier) moment output;
+  later : IsLaterInside g.N.Faults.fault_count g.N.Faults.is_sure l.initial.thread.host l.thread.host;
+  parker : l.thread.parker ≡ l.initial.thread.parker;
+  bounds : g.C.Clock.bounds l.thread.clock ≡ g.C.Clock.bounds l.initial.thread.clock;
+}

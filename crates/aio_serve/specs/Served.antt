@@ -1,0 +1,73 @@
+-- A pair while a worker serves it.
+use Rattle.std.specs.Prelude.{◌≡◌, ℕ, ◌≤◌, Bool, List, Result, Ok, Err}
+use Rattle.aio_base.specs.declared.outcomes.CountFault.{CountFault}
+use Rattle.aio_base.specs.declared.outcomes.Poll.{Poll}
+use Rattle.aio_base.specs.declared.outcomes.Poll.TheVariants.{Ready, Pending}
+use Rattle.aio_base.specs.declared.tasks.Cx.{Cx}
+use Rattle.aio_pairs.specs.Fits.{to_give}
+use Rattle.aio_pairs.specs.declared.outcomes.PairEnd.{PairEnd}
+use Rattle.aio_pairs.specs.declared.outcomes.PairEnd.TheVariants as pair
+use Rattle.aio_park.specs.declared.group.Slot.{Slot}
+use Rattle.aio_park.specs.declared.group.Slot.TheVariants.{Running, Ended}
+use Rattle.aio_relay.specs.Pairs.{PairState, fits-longer, fresh_pair, may_come_to}
+use Rattle.aio_serve.specs.Places.{PlaceValue}
+use Rattle.aio_serve.specs.SourceEnds.{SourceEndValue, is_sure_end, told_by}
+use Rattle.aio_serve.specs.declared.served.Stage.{Stage}
+use Rattle.aio_serve.specs.declared.served.Stage.TheVariants.{Open, Refused, Over}
+
+-- The two connections are served; or the pair has only its fault to tell; or it told its end.
+abbrev pub StageValue : Type 0
+StageValue = Stage (PairState SourceEndValue)
+
+pub record ServedValue : Type 0 where
+  pub stage : StageValue
+  pub polls : ℕ
+
+-- what stands in the slot of a place before its first poll
+abbrev pub first_stage : (idle start : ℕ) → PlaceValue → StageValue
+first_stage idle start (Ok ends) = Open (fresh_pair ends.0 ends.1 idle start)
+first_stage idle start (Err fault) = Refused fault
+
+-- what it may come to at a moment
+abbrev pub stage_gives : StageValue → (notifier_sure : Bool) → (moment : ℕ) → PairEnd → Type 0
+stage_gives (Open p) notifier_sure moment end =
+    may_come_to (λ (e : SourceEndValue). told_by e.rest) (λ (e : SourceEndValue). is_sure_end e.rest e.told) p notifier_sure moment end
+stage_gives (Refused fault) notifier_sure moment end = end ≡ pair.ArmFault fault
+stage_gives Over notifier_sure moment end = ⊥
+
+pub stage_gives_later : (stage : StageValue) (notifier_sure : Bool) (early late : ℕ) (end : PairEnd) → early ≤ late
+    → stage_gives stage notifier_sure early end → stage_gives stage notifier_sure late end
+stage_gives_later (Open p) notifier_sure early late end order gives = fits-longer
+    (to_give p.from_a (told_by p.a.rest) (is_sure_end p.a.rest p.a.told)) (to_give p.from_b (told_by p.b.rest) (is_sure_end p.b.rest p.b.told))
+    p.last p.idle notifier_sure early late end order gives
+stage_gives_later (Refused fault) notifier_sure early late end order gives = gives
+stage_gives_later Over notifier_sure early late end order gives = gives
+
+-- Both ends of a pair were closed: for each, one `remove` of its key was made on a connection with its rest, and had some answer.
+pub record ClosesBoth (removes : (key : ℕ) → (rest : List ℕ) → Result (Unit {0}) CountFault → Type 0) (p : PairState SourceEndValue) : Type 0 where
+  pub answer_a : Result (Unit {0}) CountFault
+  pub answer_b : Result (Unit {0}) CountFault
+  pub a : removes p.a.key p.a.rest answer_a
+  pub b : removes p.b.key p.b.rest answer_b
+
+-- A poll of what stands in a slot. An open pair is polled once, and its answer is the answer; it stays open while that is Pending, and both its ends are
+-- closed as the poll left them where it is not. A fault is told at once.
+module _ {H : Type 0} (polls_pair : PairState SourceEndValue → H → Cx → Poll PairEnd → PairState SourceEndValue → H → Type 0)
+    (removes : (key : ℕ) → (rest : List ℕ) → Result (Unit {0}) CountFault → Type 0) where
+  abbrev pub PollsOpen : PairState SourceEndValue → H → Cx → Poll PairEnd → StageValue → H → Type 0
+  PollsOpen p host cx Pending stage left = (after : PairState SourceEndValue) × polls_pair p host cx Pending after left × (stage ≡ Open after)
+  PollsOpen p host cx (Ready end) stage left =
+      (after : PairState SourceEndValue) × polls_pair p host cx (Ready end) after left × ClosesBoth removes after × (stage ≡ Over)
+
+  abbrev pub PollsStage : StageValue → H → Cx → Poll PairEnd → StageValue → H → Type 0
+  PollsStage (Open p) host cx answer stage left = PollsOpen p host cx answer stage left
+  PollsStage (Refused fault) host cx answer stage left = (answer ≡ Ready (pair.ArmFault fault)) × (stage ≡ Over) × (left ≡ host)
+  PollsStage Over host cx answer stage left = (answer ≡ Pending) × (stage ≡ Over) × (left ≡ host)
+
+  abbrev pub PollsServed : ServedValue → H → Cx → Poll PairEnd → ServedValue → H → Type 0
+  PollsServed old host cx answer new left = PollsStage old.stage host cx answer new.stage left
+
+-- a slot stands for a place of a pair that was not polled yet
+abbrev pub IsSeated : (idle start : ℕ) → PlaceValue → Slot ServedValue PairEnd → Type 0
+IsSeated idle start place (Running served) = served ≡ record { stage = first_stage idle start place; polls = 0 }
+IsSeated idle start place (Ended end) = ⊥

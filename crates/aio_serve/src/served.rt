@@ -1,0 +1,191 @@
+//! A pair while a worker serves it: what stands in its slot of the worker's group.
+
+ghost use Rattle.std.specs.Prelude.{◌≡◌, ◌<◌, ◌≤◌, ◌^◌, ℕ, IfOk};
+ghost use Rattle.aio_base.specs.Polls.{IfReady, WhilePending};
+ghost use Rattle.aio_pairs.specs.declared.outcomes.PairEnd.{PairEnd};
+ghost use Rattle.aio_relay.specs.Pairs.{may_come_to};
+ghost use Rattle.aio_serve.specs.Served.{ClosesBoth, PollsOpen, first_stage, stage_gives};
+ghost use Rattle.aio_serve.specs.declared.served.Stage.TheVariants.{Open, Over};
+ghost use Rattle.aio_shared.specs.Inside.{IsLaterInside};
+ghost use Rattle.aio_sources.specs.Sources.{Removes};
+
+use crate::ends::SourceEnd;
+use aio_base::{ArmFault, Conn, Cx, EventWait, Gate, Moment, Notify, OutOfMemory, Poll, Task};
+use aio_pairs::PairEnd;
+use aio_relay::Pair;
+use aio_shared::Inside;
+use std::alloc::Global;
+use std::marker::Model;
+use std::mem;
+use std::sync::Wait;
+use std::thread::Threads;
+
+/// The place of a pair, before a worker serves it.
+#[derive(Drop)]
+pub struct Place<C: Conn, W: EventWait> {
+    /// The number of the pair, from 1.
+    pub number: u32,
+    /// Its two ends, that of side A first; or the fault of a connection that could not join the reactor.
+    pub sides: Result<(SourceEnd<C, W>, SourceEnd<C, W>), ArmFault>,
+}
+
+impl<C: Conn, W: EventWait> Model for Place<C, W> {
+    ghost use Rattle.aio_serve.specs.Places.{PlaceValue};
+
+    ghost Value = { PlaceValue };
+
+    ghost view = { λ place. place.sides };
+}
+
+/// How far a pair is.
+#[derive(Drop)]
+pub enum Stage<P> {
+    /// It is polled.
+    Open(P),
+    /// It ends with this fault, without a poll.
+    Refused(ArmFault),
+    /// It has told its end.
+    Over,
+}
+
+/// A pair in its slot. The gate may hold it before its first poll, and is told once it has ended; its
+/// sources are closed by then. A pair of which a connection could not join the reactor is not held, and
+/// ends at the first poll with the fault of that.
+///
+/// The idle time of a pair runs from the moment at which its worker begins, also while the gate holds
+/// it. The worker polls none of its pairs meanwhile: a gate that waits there for what another pair of
+/// the same worker has yet to do, as for a later one to come to the gate, waits for ever.
+#[derive(Drop)]
+pub struct Served<'g, C: Conn, W: EventWait, G> {
+    stage: Stage<Pair<SourceEnd<C, W>>>,
+    gate: &'g G,
+    number: u32,
+    polls: u64,
+}
+
+impl<'g, C: Conn, W: EventWait, G> Model for Served<'g, C, W, G> {
+    ghost use Rattle.aio_serve.specs.Served.{ServedValue};
+
+    ghost Value = { ServedValue };
+
+    ghost view = { λ served. record { stage = served.stage; polls = served.polls } };
+}
+
+impl<'g, C: Conn + Drop, W: EventWait + Drop, G> Served<'g, C, W, G> {
+    /// What stands in the slot of a place. The pair is idle once no byte went over for `idle`
+    /// nanoseconds, 1 to 10^18, from `start` on. `OutOfMemory` where there was no memory for what the
+    /// pair keeps of its sides; it is let go then, and its sources stay in the reactor.
+    pub fn new(
+        alloc: Global,
+        place: Place<C, W>,
+        idle: u64,
+        start: Moment,
+        gate: &'g G,
+    ) -> Result<Served<'g, C, W, G>, OutOfMemory>
+        requires some { 0 < idle }
+        requires bound { idle ≤ 10 ^ 18 }
+        ensures { IfOk result (λ served. served
+            ≡ record { stage = first_stage idle start place; polls = 0 }) }
+    {
+        let Place { number, sides } = place;
+        let stage = match sides {
+            Err(fault) => Stage::Refused(fault),
+            Ok((a, b)) => match Pair::new(alloc, a, b, idle, start) {
+                Ok(pair) => Stage::Open(pair),
+                Err(_) => return Err(OutOfMemory),
+            },
+        };
+        Ok(Served {
+            stage,
+            gate,
+            number,
+            polls: 0,
+        })
+    }
+}
+
+impl<C: Conn + Drop, W: EventWait + Drop, G: Gate> Served<'_, C, W, G> {
+    // Polls a pair once. One that ends is over; any other is as open as before.
+    fn poll_open<R: Wait, N: Notify>(
+        &mut self,
+        mut pair: Pair<SourceEnd<C, W>>,
+        host: &mut Inside<R, N, C, W>,
+        cx: Cx,
+    ) -> Poll<PairEnd>
+        requires { self.old.stage ≡ Over }
+        ensures ready { IfReady result (λ end. stage_gives (Open pair)
+            (N.is_sure host.old.member.notifier) cx.now end) }
+        ensures pending { WhilePending result ((moment : ℕ) (end : PairEnd) → cx.now ≤ moment
+            → stage_gives self.new.stage (N.is_sure host.old.member.notifier) moment end
+            → stage_gives (Open pair) (N.is_sure host.old.member.notifier) moment end) }
+        ensures step { PollsOpen
+            ⟦<Pair<SourceEnd<C, W>> as Task<Inside<R, N, C, W>>>⟧.poll_step
+            (Removes C.arm_step C.rest C.fault_count)
+            pair host.old cx result self.new.stage host.new }
+        ensures polls { self.new.polls ≡ self.old.polls }
+        ensures later { IsLaterInside N.fault_count N.is_sure host.old host.new }
+    {
+        if let Poll::Ready(end) = pair.poll(host, cx) {
+            self.close(pair, &host.rt);
+            return Poll::Ready(end);
+        }
+        self.stage = Stage::Open(pair);
+        Poll::Pending
+    }
+
+    // Closes both ends of a pair that has ended, and tells the gate. A fault of a close is passed over: the
+    // source is gone all the same, and the pair has its end.
+    fn close<R: Wait>(&self, pair: Pair<SourceEnd<C, W>>, rt: &R)
+        ensures both { ClosesBoth (Removes C.arm_step C.rest C.fault_count) pair }
+    {
+        let (a, b) = pair.into_ends();
+        let _passed_over = a.close(rt);
+        let _passed_over = b.close(rt);
+        self.gate.passed(self.number);
+    }
+}
+
+impl<
+    R: Wait + Threads + Sync + Send + Copy,
+    N: Notify,
+    C: Conn + Drop,
+    W: EventWait + Drop,
+    G: Gate,
+> Task<Inside<R, N, C, W>> for Served<'_, C, W, G> {
+    ghost use Rattle.aio_serve.specs.Served.{PollsServed, stage_gives, stage_gives_later};
+    ghost use Rattle.aio_sources.specs.Sources.{Removes};
+
+    type Output = PairEnd;
+
+    ghost gives = { λ served sure moment end. stage_gives served.stage sure moment end };
+
+    ghost poll_step = { PollsServed
+        ⟦<Pair<SourceEnd<C, W>> as Task<Inside<R, N, C, W>>>⟧.poll_step
+        (Removes C.arm_step C.rest C.fault_count) };
+
+    ghost poll_count = { λ served. served.polls };
+
+    fn poll(&mut self, host: &mut Inside<R, N, C, W>, cx: Cx) -> Poll<PairEnd> {
+        let is_first = self.polls == 0;
+        self.polls = self.polls.saturating_add(1);
+        match mem::replace(&mut self.stage, Stage::Over) {
+            Stage::Open(pair) => {
+                if is_first {
+                    let _passed_over = self.gate.hold(&host.rt, self.number);
+                }
+                self.poll_open(pair, host, cx)
+            }
+            Stage::Refused(fault) => {
+                self.gate.passed(self.number);
+                Poll::Ready(PairEnd::ArmFault(fault))
+            }
+            Stage::Over => Poll::Pending,
+        }
+    }
+
+    fn polls(&self) -> u64 {
+        self.polls
+    }
+
+    ghost gives_later = { λ served. stage_gives_later served.stage };
+}

@@ -1,0 +1,139 @@
+//! A task that a thread serves to its end, whatever its rounds fault.
+
+ghost use Rattle.std.specs.Prelude.{◌≡◌, false, ℕ, Ok, IfOk, IfErr};
+ghost use Rattle.aio_base.specs.Devices.{Rose};
+ghost use Rattle.aio_park.specs.Blocking.{IsPast};
+ghost use Rattle.aio_shared.specs.Inside.{IsLaterInside};
+ghost use Rattle.aio_serve.specs.Places.{StopsFor};
+
+use aio_base::{Arm, Clock, CountFault, Cx, EventWait, Notify, OutOfMemory, Poll, Task};
+use aio_park::Thread;
+use aio_shared::{Inside, ReactFault};
+use std::sync::Wait;
+
+/// Why a worker stops before its pairs have ended.
+#[derive(Clone, Copy, Debug, PartialEq, Eq)]
+pub enum WorkerFault {
+    /// A wait of the reactor failed, between these two counts of its faults.
+    Wait(CountFault),
+    /// The worker's notifier failed, between these two counts of its faults.
+    Notify(CountFault),
+    /// Memory ran out.
+    OutOfMemory,
+}
+
+/// Runs a task to its end as `run_to_end` does, where there was memory for it.
+///
+/// # Errors
+///
+/// Those of `run_to_end`; and `OutOfMemory` where there was none for the task.
+pub(crate) fn run_seated<
+    R: Wait + Copy,
+    N: Notify,
+    C: Clock,
+    A: Arm,
+    W: EventWait,
+    T: Task<Inside<R, N, A, W>> + Drop,
+>(
+    thread: &mut Thread<R, N, A, W, C>,
+    seated: Result<T, OutOfMemory>,
+) -> Result<T::Output, WorkerFault>
+    ensures output { IfOk result (λ output. (task : T) × (seated ≡ Ok task)
+        × ((moment : ℕ) → IsPast (C.bounds thread.old.clock) moment
+        → T.gives task (N.is_sure thread.old.host.member.notifier) moment output)) }
+    ensures cause { IfErr result (StopsFor thread.old.host.member.claim.sure_of_wait
+        (N.is_sure thread.old.host.member.notifier)) }
+    ensures later { IsLaterInside N.fault_count N.is_sure thread.old.host thread.new.host }
+    ensures parker { thread.new.parker ≡ thread.old.parker }
+{
+    match seated {
+        Err(_) => Err(WorkerFault::OutOfMemory),
+        Ok(mut task) => run_to_end(thread, &mut task),
+    }
+}
+
+/// Runs a task to its end. After the fault of an arm every slot is woken, so that each task polls
+/// its sources again, and the thread goes on. Once no round can begin any more, it hands over to
+/// the other parkers and polls the task over and over.
+///
+/// # Errors
+///
+/// The fault of a wait, or of the thread's notifier, and want of memory: these end it. The task is
+/// as its last poll left it.
+pub(crate) fn run_to_end<
+    R: Wait + Copy,
+    N: Notify,
+    C: Clock,
+    A: Arm,
+    W: EventWait,
+    T: Task<Inside<R, N, A, W>>,
+>(thread: &mut Thread<R, N, A, W, C>, task: &mut T) -> Result<T::Output, WorkerFault>
+    ensures output { IfOk result (λ output.
+        (moment : ℕ) → IsPast (C.bounds thread.old.clock) moment
+        → T.gives task.old (N.is_sure thread.old.host.member.notifier) moment output) }
+    ensures cause { IfErr result (StopsFor thread.old.host.member.claim.sure_of_wait
+        (N.is_sure thread.old.host.member.notifier)) }
+    ensures later { IsLaterInside N.fault_count N.is_sure thread.old.host thread.new.host }
+    ensures parker { thread.new.parker ≡ thread.old.parker }
+{
+    let rt = thread.host.rt;
+    for _ in rt.forever() {
+        match thread.run(task) {
+            Ok(output) => return Ok(output),
+            Err(ReactFault::Wait(fault)) => return Err(WorkerFault::Wait(fault)),
+            Err(ReactFault::Notify(fault)) => return Err(WorkerFault::Notify(fault)),
+            Err(ReactFault::OutOfMemory) => return Err(WorkerFault::OutOfMemory),
+            Err(ReactFault::RoundsSpent) => {
+                let _passed_over = thread.hand_over();
+                return Ok(poll_over_and_over(thread, task));
+            }
+            Err(ReactFault::Arm(_)) => match wake_all(&mut thread.host) {
+                Ok(()) => {}
+                Err(fault) => return Err(WorkerFault::Notify(fault)),
+            },
+        }
+    }
+    unreachable!()
+}
+
+/// Wakes every slot of every parker. `Err` is the first fault of the notifier.
+fn wake_all<R: Wait, N: Notify, A: Arm, W: EventWait>(
+    host: &mut Inside<R, N, A, W>,
+) -> Result<(), CountFault>
+    ensures later { IsLaterInside N.fault_count N.is_sure host.old host.new }
+    ensures cause { IfErr result (λ fault. (N.is_sure host.old.member.notifier ≡ false)
+        × Rose fault.before fault.after) }
+{
+    host.shared.wake_all_slots(&mut host.member)
+}
+
+/// Polls a task until it ends, each time with a mask of all ones, without a wait in between.
+fn poll_over_and_over<
+    R: Wait + Copy,
+    N: Notify,
+    C: Clock,
+    A: Arm,
+    W: EventWait,
+    T: Task<Inside<R, N, A, W>>,
+>(thread: &mut Thread<R, N, A, W, C>, task: &mut T) -> T::Output
+    ensures output { (moment : ℕ) → IsPast (C.bounds thread.old.clock) moment
+        → T.gives task.old (N.is_sure thread.old.host.member.notifier) moment result }
+    ensures later { IsLaterInside N.fault_count N.is_sure thread.old.host thread.new.host }
+    ensures parker { thread.new.parker ≡ thread.old.parker }
+{
+    let rt = thread.host.rt;
+    for _ in rt.forever() {
+        let now = thread.clock.now();
+        let _bound = now.get();
+        let cx = Cx {
+            parker: thread.parker,
+            mask: u64::MAX,
+            now,
+        };
+        match task.poll(&mut thread.host, cx) {
+            Poll::Ready(output) => return output,
+            Poll::Pending => {}
+        }
+    }
+    unreachable!()
+}

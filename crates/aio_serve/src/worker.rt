@@ -1,0 +1,172 @@
+//! A worker: one thread of a server's reactor, and the places of the pairs that it serves.
+
+ghost use Rattle.std.specs.Prelude.{◌≡◌, ◌<◌, ◌≤◌, ◌^◌, IfOk};
+ghost use Rattle.std.specs.List.{AllZip};
+ghost use Rattle.std.specs.VecDeque.{deque_len};
+ghost use Rattle.std.specs.Arc.{arc_value};
+ghost use Rattle.aio_shared.specs.Members.{IsMemberOf};
+ghost use Rattle.aio_serve.specs.Places.{WorkerEnds};
+ghost use Rattle.aio_serve.specs.Served.{IsSeated};
+
+use crate::seats::Seats;
+use crate::served::{Place, Served};
+use crate::serving::{WorkerFault, run_seated};
+use aio_base::{Clock, Conn, EventWait, Gate, Job, Moment, Notify, OutOfMemory};
+use aio_pairs::PairEnd;
+use aio_park::{Group, GroupRefusal, Thread};
+use aio_shared::{Inside, Member, Shared};
+use std::alloc::Global;
+use std::collections::VecDeque;
+use std::marker::Model;
+use std::sync::{Arc, Wait};
+use std::thread::Threads;
+
+/// One thread's part of a server: its way into the reactor, its clock and its parker, and up to 64
+/// places of pairs, in their order. Contracts see under which terms it serves, whether its reactor
+/// is sure of its wait, and the places.
+#[derive(Drop)]
+pub struct Worker<'g, N: Notify, C: Clock, A: Conn, W: EventWait, G> {
+    shared: Arc<Shared<A, W>, Global>,
+    member: Member<N, W>,
+    clock: C,
+    parker: u32,
+    places: VecDeque<Place<A, W>>,
+    idle: u64,
+    gate: &'g G,
+    alloc: Global,
+}
+
+impl<'g, N: Notify, C: Clock, A: Conn, W: EventWait, G> Model for Worker<'g, N, C, A, W, G> {
+    ghost use Rattle.std.specs.Prelude.{◌<◌, ◌≤◌, ◌^◌};
+    ghost use Rattle.std.specs.Arc.{arc_value};
+    ghost use Rattle.std.specs.VecDeque.{deque_len};
+    ghost use Rattle.aio_shared.specs.Members.{IsMemberOf};
+    ghost use Rattle.aio_serve.specs.Places.{WorkerValue};
+
+    ghost Value = { WorkerValue };
+
+    ghost view = { λ w. record {
+      terms = record {
+        bounds = C.bounds w.clock;
+        idle = w.idle;
+        is_sure = N.is_sure w.member.notifier;
+      };
+      sure_of_wait = w.member.claim.sure_of_wait;
+      places = w.places.items;
+    } };
+
+    ghost invariant = { λ w. IsMemberOf (arc_value w.shared) w.member
+        × (w.parker < (arc_value w.shared).words.parkers) × (w.parker < 16)
+        × (deque_len w.places ≤ 64) × (0 < w.idle) × (w.idle ≤ 10 ^ 18) };
+}
+
+impl<'g, N: Notify, C: Clock, A: Conn, W: EventWait, G> Worker<'g, N, C, A, W, G> {
+    /// A worker by this member of a reactor, with this clock and this parker, which no other thread
+    /// uses at the same time. It serves 64 places at most. A pair is idle once no byte went over
+    /// for `idle` nanoseconds, 1 to 10^18.
+    pub fn new(
+        shared: Arc<Shared<A, W>, Global>,
+        member: Member<N, W>,
+        clock: C,
+        parker: u32,
+        places: VecDeque<Place<A, W>>,
+        idle: u64,
+        gate: &'g G,
+        alloc: Global,
+    ) -> Worker<'g, N, C, A, W, G>
+        requires belongs { IsMemberOf (arc_value shared) member }
+        requires parker { parker < (arc_value shared).words.parkers }
+        requires small { parker < 16 }
+        requires few { deque_len places ≤ 64 }
+        requires some { 0 < idle }
+        requires bound { idle ≤ 10 ^ 18 }
+        ensures { result ≡ record {
+          terms = record {
+            bounds = C.bounds clock;
+            idle = idle;
+            is_sure = N.is_sure member.notifier;
+          };
+          sure_of_wait = member.claim.sure_of_wait;
+          places = places.items;
+        } }
+    {
+        Worker {
+            shared,
+            member,
+            clock,
+            parker,
+            places,
+            idle,
+            gate,
+            alloc,
+        }
+    }
+}
+
+/// A worker ends with an end for each of its places, in their order, or with its fault. Right
+/// before that it wakes a slot of each other parker, so that one of them makes rounds in its place.
+impl<'g, N: Notify + Drop, C: Clock + Drop, A: Conn + Drop, W: EventWait + Drop, G: Gate> Job
+    for Worker<'g, N, C, A, W, G> {
+    type End = Result<Vec<PairEnd>, WorkerFault>;
+
+    ghost may_end = { WorkerEnds };
+
+    fn run<R: Wait + Threads + Sync + Send + Copy>(
+        self,
+        rt: &R,
+    ) -> Result<Vec<PairEnd>, WorkerFault> {
+        let Worker {
+            shared,
+            member,
+            mut clock,
+            parker,
+            places,
+            idle,
+            gate,
+            alloc,
+        } = self;
+        let start = clock.now();
+        let host = Inside {
+            rt: *rt,
+            shared,
+            member,
+        };
+        let mut thread = Thread {
+            host,
+            clock,
+            parker,
+        };
+        let seated = seat_all(alloc, parker, places, idle, start, gate);
+        let ended = run_seated(&mut thread, seated);
+        let _passed_over = thread.hand_over();
+        ended
+    }
+}
+
+/// The places, each in a slot of a group, in their order.
+fn seat_all<'g, A: Conn + Drop, W: EventWait + Drop, G>(
+    alloc: Global,
+    parker: u32,
+    places: VecDeque<Place<A, W>>,
+    idle: u64,
+    start: Moment,
+    gate: &'g G,
+) -> Result<Seats<'g, A, W, G>, OutOfMemory>
+    requires small { parker < 16 }
+    requires few { deque_len places ≤ 64 }
+    requires some { 0 < idle }
+    requires bound { idle ≤ 10 ^ 18 }
+    ensures { IfOk result (λ seats. AllZip (IsSeated idle start) places.items seats.slots) }
+{
+    let mut group = Group::new(alloc, parker);
+    let mut left = places;
+    while let Some(place) = left.pop_front() {
+        let served = Served::new(alloc, place, idle, start, gate)?;
+        match group.add(served) {
+            Ok(_) => {}
+            Err((_, GroupRefusal::Full)) => unreachable!(),
+            Err((_, GroupRefusal::OutOfMemory)) => return Err(OutOfMemory),
+        }
+    }
+    Ok(Seats { group, gate })
+}
