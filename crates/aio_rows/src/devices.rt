@@ -1,14 +1,17 @@
-//! A source of the tests' own: all of its bytes are in hand, and a read of them fails.
+//! Devices of the tests' own: a source whose bytes are all in hand and of which a read fails, and a port
+//! that cannot be bound.
 
 ghost use Rattle.std.specs.Prelude.{◌≡◌, ◌<◌, ◌≤◌, drop, false, length, min, take, IfOk, IsErr, Some};
 ghost use Rattle.std.specs.Io.KnownBytes.{ReadConsumes};
-ghost use Rattle.aio_base.specs.Devices.{HasCause};
+ghost use Rattle.aio_base.specs.Devices.{HasCause, raised};
 ghost use Rattle.aio_bytes.specs.Held.{GivesInHand, with_bytes};
 ghost use Rattle.aio_rows.specs.Devices.{TornReads, TornSource};
 
-use aio_base::{Failed, Faults};
+use aio_base::{Failed, Faults, Port};
 use aio_bytes::Source;
+use aio_conns::MemConn;
 use std::marker::Model;
+use std::sync::Wait;
 
 /// Bytes that are all in hand, and of which the second read fails, taking none.
 #[derive(Drop)]
@@ -105,4 +108,65 @@ fn copy_front(from: &[u8], to: &mut [u8]) -> usize
     let count = to.len().min(from.len());
     to[..count].copy_from_slice(&from[..count]);
     count
+}
+
+/// A port of which each call fails.
+#[derive(Drop)]
+pub struct ClosedPort {
+    failed: u64,
+}
+
+impl ClosedPort {
+    /// A port of which no call was made.
+    pub fn new() -> ClosedPort
+        ensures { result ≡ record { failed = 0 } }
+    {
+        ClosedPort { failed: 0 }
+    }
+
+    /// Counts a call that fails.
+    fn fail(&mut self)
+        ensures counted { self.new.failed ≡ raised self.old.failed }
+        ensures later { self.old.failed ≤ self.new.failed }
+    {
+        self.failed = self.failed.saturating_add(1);
+    }
+}
+
+impl Faults for ClosedPort {
+    ghost fault_count = { λ p. p.failed };
+
+    ghost is_sure = { λ _. false };
+
+    ghost all_sure = { false };
+
+    fn faults(&self) -> u64 {
+        self.failed
+    }
+
+    ghost sure_below_top = { λ p sure. Prim.cc };
+
+    ghost each_sure = { λ p sure. Prim.cc };
+}
+
+impl Port for ClosedPort {
+    ghost use Rattle.std.specs.Prelude.{None};
+
+    type C = MemConn;
+
+    ghost waiting = { λ _. None };
+
+    ghost own_port = { λ _. None };
+
+    /// Always `Failed`.
+    fn bind(&mut self, _port: u16) -> Result<u16, Failed> {
+        self.fail();
+        Err(Failed)
+    }
+
+    /// Always `Failed`.
+    fn accept<R: Wait>(&mut self, _rt: &R) -> Result<MemConn, Failed> {
+        self.fail();
+        Err(Failed)
+    }
 }

@@ -2,7 +2,8 @@
 //! a line is read, traces that a number describes, and a replay with its core.
 //!
 //! They stand above every crate that they use, so that none of those is proved a second time for its
-//! tests. Of other code there is a source that fails. It has contracts, so that wrong ones are refused.
+//! tests. Of other code there is a source that fails, and a port. They have contracts, so that wrong ones are
+//! refused.
 #![tactic(auto)]
 
 #[cfg(test)]
@@ -12,6 +13,10 @@ mod cores;
 pub mod devices;
 #[cfg(test)]
 mod generated;
+#[cfg(test)]
+mod kits;
+#[cfg(test)]
+mod relays;
 #[cfg(test)]
 mod spellings;
 #[cfg(test)]

@@ -5,8 +5,10 @@ ghost use Rattle.std.specs.Prelude.{None, false};
 
 use crate::asserts::{same, same_in};
 use crate::devices::Torn;
-use aio_base::{CountFault, Failed, Faults, Reason};
+use crate::kits::{MemKit, kit_of};
+use aio_base::{CountFault, Failed, Faults, Port, Reason};
 use aio_bytes::{MemSink, MemSource, Source};
+use aio_conns::MemPort;
 use aio_run::{Status, Why, run};
 use std::alloc::{AllocError, Global};
 use std::fmt::Debug;
@@ -77,10 +79,26 @@ pub(crate) fn run_from<R: Wait + Threads + Sync + Send + Copy + AllocGlobal, S: 
     failing: Failing,
 ) -> Result<Ran, AllocError> {
     let alloc = rt.alloc();
+    let mut kit = kit_of(alloc, MemPort::new(Vec::new(alloc)), 0)?;
+    run_with(rt, words, source, failing, &mut kit)
+}
+
+/// The same over these devices.
+pub(crate) fn run_with<R: Wait + Threads + Sync + Send + Copy + AllocGlobal, S: Source, P: Port>(
+    rt: &R,
+    words: &[&str],
+    source: &mut S,
+    failing: Failing,
+    kit: &mut MemKit<P>,
+) -> Result<Ran, AllocError>
+where
+    P::C: Send + Drop,
+{
+    let alloc = rt.alloc();
     let texts = texts_of(alloc, words)?;
     let mut out = MemSink::new(alloc, failing.writes.to_vec(alloc)?);
     let mut err = MemSink::new(alloc, failing.tells.to_vec(alloc)?);
-    let status = run(rt, alloc, texts.as_slice(), source, &mut out, &mut err);
+    let status = run(rt, alloc, texts.as_slice(), source, &mut out, &mut err, kit);
     Ok(Ran { status, out, err })
 }
 
@@ -341,7 +359,18 @@ const OTHER_WORDS: &[&[&str]] = &[
     &["sum", " 0", "1"],
     &["sum", "1000000", "1"],
     &["sum", "replay"],
-    &["relay", "4000", "1", "1", "1"],
+    &["relay"],
+    &["relay", "0", "1", "1"],
+    &["relay", "0", "1", "1", "1", "1"],
+    &["relay", "65536", "1", "1", "1"],
+    &["relay", "0", "0", "1000", "1"],
+    &["relay", "0", "2", "1000", "2"],
+    &["relay", "0", "1", "0", "1"],
+    &["relay", "0", "1", "1000000000000000001", "1"],
+    &["relay", "0", "1", "1000", "0"],
+    &["relay", "0", "1", "1000", "65"],
+    &["relay", "+0", "1", "1000", "1"],
+    &["Relay", "0", "1", "1000", "1"],
     &["stress", "1", "1"],
 ];
 

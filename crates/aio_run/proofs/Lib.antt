@@ -1,5 +1,5 @@
 pub mod Causes
 pub mod Naming
-pub mod Numbers
+pub mod RelayEnds
 pub mod Telling
 pub mod TraceTexts

@@ -1,9 +1,11 @@
 -- Which command words name: one at most; and words that name none.
-use Rattle.std.proofs.Common.{◌≡◌, ◌≢◌, ℕ, ◌-◌, ◌^◌, List, [], ◌∷◌, length, map, get_or, sym, ap, ◌∙◌, refl, arith}
-use Rattle.std.specs.Prelude.{codes}
+use Rattle.std.proofs.Common.{◌≡◌, ◌≢◌, ℕ, ◌-◌, ◌^◌, List, [], ◌∷◌, length, map, get_or, Option, None, Some, sym, ap, ◌∙◌, refl, arith}
+use Rattle.std.specs.Prelude.{MatchOption, codes}
+use Rattle.aio_line.specs.declared.words.RelayOrder.{RelayOrder}
+use Rattle.aio_line.specs.Words.{IsRelay, SpellsUpTo}
 use Rattle.aio_run.specs.declared.commands.Command.{Command}
 use Rattle.aio_run.specs.declared.commands.Command.TheVariants as command
-use Rattle.aio_run.specs.Commands.{IsGen, IsOfSteps, IsReplay, IsSum, Names, SpellsUpTo}
+use Rattle.aio_run.specs.Commands.{IsGen, IsOfSteps, IsReplay, IsSum, Names}
 
 -- ## The words as a list
 
@@ -25,24 +27,36 @@ three_words f (a ∷ b ∷ c ∷ d ∷ xs) x y z three first second third = absu
 no_replay : (a b : List ℕ) (words : List (List ℕ)) → IsReplay (a ∷ b ∷ words) → ⊥
 no_replay a b words is = absurd cc
 
--- so many words name no command
-pub no_such_count : (words : List (List ℕ)) → length words ≢ 1 → length words ≢ 3 → (c : Command) → Names c words → ⊥
-no_such_count [] one three command.Replay is = absurd cc
-no_such_count [] one three (command.Gen n seed) is = is
-no_such_count [] one three (command.Sum n seed) is = is
-no_such_count (a ∷ []) one three c is = one refl
-no_such_count (a ∷ b ∷ []) one three command.Replay is = no_replay a b [] is
-no_such_count (a ∷ b ∷ []) one three (command.Gen n seed) is = is
-no_such_count (a ∷ b ∷ []) one three (command.Sum n seed) is = is
-no_such_count (a ∷ b ∷ c ∷ []) one three d is = three refl
-no_such_count (a ∷ b ∷ c ∷ d ∷ words) one three command.Replay is = no_replay a b (c ∷ d ∷ words) is
-no_such_count (a ∷ b ∷ c ∷ d ∷ words) one three (command.Gen n seed) is = is
-no_such_count (a ∷ b ∷ c ∷ d ∷ words) one three (command.Sum n seed) is = is
+-- so many words name no command but that of a relay
+pub no_such_count : (words : List (List ℕ)) → length words ≢ 1 → length words ≢ 3 → ((order : RelayOrder) → IsRelay order words → ⊥) → (c : Command) → Names c words → ⊥
+no_such_count words one three none (command.Relay order) is = none order is
+no_such_count [] one three none command.Replay is = absurd cc
+no_such_count [] one three none (command.Gen n seed) is = is
+no_such_count [] one three none (command.Sum n seed) is = is
+no_such_count (a ∷ []) one three none command.Replay is = one refl
+no_such_count (a ∷ []) one three none (command.Gen n seed) is = one refl
+no_such_count (a ∷ []) one three none (command.Sum n seed) is = one refl
+no_such_count (a ∷ b ∷ []) one three none command.Replay is = no_replay a b [] is
+no_such_count (a ∷ b ∷ []) one three none (command.Gen n seed) is = is
+no_such_count (a ∷ b ∷ []) one three none (command.Sum n seed) is = is
+no_such_count (a ∷ b ∷ c ∷ []) one three none command.Replay is = three refl
+no_such_count (a ∷ b ∷ c ∷ []) one three none (command.Gen n seed) is = three refl
+no_such_count (a ∷ b ∷ c ∷ []) one three none (command.Sum n seed) is = three refl
+no_such_count (a ∷ b ∷ c ∷ d ∷ words) one three none command.Replay is = no_replay a b (c ∷ d ∷ words) is
+no_such_count (a ∷ b ∷ c ∷ d ∷ words) one three none (command.Gen n seed) is = is
+no_such_count (a ∷ b ∷ c ∷ d ∷ words) one three none (command.Sum n seed) is = is
+
+-- so they name what they ask for as those of a relay, or nothing
+pub relay_or_none : (words : List (List ℕ)) → length words ≢ 1 → length words ≢ 3 → (o : Option Command)
+    → MatchOption o ((order : RelayOrder) → IsRelay order words → ⊥) (λ c. Names c words) → MatchOption o ((c : Command) → Names c words → ⊥) (λ c. Names c words)
+relay_or_none words one three None none = no_such_count words one three none
+relay_or_none words one three (Some c) names = names
 
 pub not_alone : (a : List ℕ) → a ≢ codes "replay" → (c : Command) → Names c (a ∷ []) → ⊥
 not_alone a other command.Replay is = other (ap (λ words. get_or words 0 a) is)
 not_alone a other (command.Gen n seed) is = is
 not_alone a other (command.Sum n seed) is = is
+not_alone a other (command.Relay order) is = is
 
 module _ (a steps from : List ℕ) where
   -- the second word spells no number of steps
@@ -50,18 +64,21 @@ module _ (a steps from : List ℕ) where
   no_steps none command.Replay is = no_replay a steps (from ∷ []) is
   no_steps none (command.Gen n seed) is = none n is.1
   no_steps none (command.Sum n seed) is = none n is.1
+  no_steps none (command.Relay order) is = is
 
   -- the third word spells no seed
   pub no_seed : ((seed : ℕ) → SpellsUpTo (2 ^ 48 - 1) seed from → ⊥) → (c : Command) → Names c (a ∷ steps ∷ from ∷ []) → ⊥
   no_seed none command.Replay is = no_replay a steps (from ∷ []) is
   no_seed none (command.Gen n seed) is = none seed is.2
   no_seed none (command.Sum n seed) is = none seed is.2
+  no_seed none (command.Relay order) is = is
 
   -- the first word is the name of neither
   pub no_name : a ≢ codes "gen" → a ≢ codes "sum" → (c : Command) → Names c (a ∷ steps ∷ from ∷ []) → ⊥
   no_name gen sum command.Replay is = no_replay a steps (from ∷ []) is
   no_name gen sum (command.Gen n seed) is = gen is.0
   no_name gen sum (command.Sum n seed) is = sum is.0
+  no_name gen sum (command.Relay order) is = is
 
 -- ## One command at most
 
@@ -89,3 +106,42 @@ pub gen_no_sum : (n seed m from : ℕ) (words : List (List ℕ)) → IsGen n see
 gen_no_sum n seed m from words p q =
     let first : 103 ≡ 115 = ap (λ name. get_or name 0 0) (same_numbers (codes "gen") (codes "sum") n seed m from words p q).0 in
     absurd (omega (arith, first))
+
+-- ## A relay
+
+-- words that are five are those of no other command
+pub relay_no_replay : (order : RelayOrder) (words : List (List ℕ)) → IsRelay order words → IsReplay words → ⊥
+relay_no_replay order [] p is = p
+relay_no_replay order (a ∷ []) p is = p
+relay_no_replay order (a ∷ b ∷ []) p is = p
+relay_no_replay order (a ∷ b ∷ c ∷ []) p is = p
+relay_no_replay order (a ∷ b ∷ c ∷ d ∷ []) p is = p
+relay_no_replay order (a ∷ b ∷ c ∷ d ∷ e ∷ []) p is = no_replay a b (c ∷ d ∷ e ∷ []) is
+relay_no_replay order (a ∷ b ∷ c ∷ d ∷ e ∷ f ∷ words) p is = p
+
+pub relay_no_steps : (order : RelayOrder) (name : List ℕ) (n seed : ℕ) (words : List (List ℕ)) → IsRelay order words → IsOfSteps name n seed words → ⊥
+relay_no_steps order name n seed [] p is = p
+relay_no_steps order name n seed (a ∷ []) p is = p
+relay_no_steps order name n seed (a ∷ b ∷ []) p is = p
+relay_no_steps order name n seed (a ∷ b ∷ c ∷ []) p is = p
+relay_no_steps order name n seed (a ∷ b ∷ c ∷ d ∷ []) p is = p
+relay_no_steps order name n seed (a ∷ b ∷ c ∷ d ∷ e ∷ []) p is = is
+relay_no_steps order name n seed (a ∷ b ∷ c ∷ d ∷ e ∷ f ∷ words) p is = p
+
+one_number : (most other m n : ℕ) (word : List ℕ) → SpellsUpTo most m word → SpellsUpTo other n word → m ≡ n
+one_number most other m n word first second = let a = first.0 in let b = second.0 in cc
+
+-- words ask for one relay at most
+pub same_order : (x y : RelayOrder) (words : List (List ℕ)) → IsRelay x words → IsRelay y words → x ≡ y
+same_order x y [] p q = absurd p
+same_order x y (a ∷ []) p q = absurd p
+same_order x y (a ∷ b ∷ []) p q = absurd p
+same_order x y (a ∷ b ∷ c ∷ []) p q = absurd p
+same_order x y (a ∷ b ∷ c ∷ d ∷ []) p q = absurd p
+same_order x y (a ∷ b ∷ c ∷ d ∷ e ∷ []) p q =
+    let port = one_number _ _ x.port y.port b p.1 q.1 in
+    let workers = one_number _ _ x.workers y.workers c p.2.0 q.2.0 in
+    let idle = one_number _ _ x.idle y.idle d p.3.0 q.3.0 in
+    let pairs = one_number _ _ x.pairs y.pairs e p.4.0 q.4.0 in
+    λ j. record { port = port j; workers = workers j; idle = idle j; pairs = pairs j }
+same_order x y (a ∷ b ∷ c ∷ d ∷ e ∷ f ∷ words) p q = absurd p

@@ -1,17 +1,18 @@
 -- Which words name a command; and what a status says: its number, its text, and what became of input and output.
-use Rattle.std.specs.Prelude.{◌≡◌, ℕ, ◌-◌, ◌^◌, ◌≤◌, Bool, false, List, [], ◌∷◌, ◌++◌, flat_map, Option, None, Some, MatchOption, Result, Ok, Err, IfErr, codes, decimal, ⊤}
+use Rattle.std.specs.Prelude.{◌≡◌, ℕ, ◌-◌, ◌^◌, Bool, false, List, [], ◌∷◌, ◌++◌, flat_map, Option, None, Some, MatchOption, Result, Ok, Err, IfErr, codes, decimal, ⊤}
 use Rattle.std.specs.Io.KnownBytes.{Appends}
 use Rattle.std.specs.Option.{option_map_or}
 use Rattle.aio_base.specs.declared.outcomes.CountFault.{CountFault}
 use Rattle.aio_base.specs.declared.steps.Step.{Step}
 use Rattle.aio_base.specs.Generated.{counts_line, run_counts}
-use Rattle.aio_base.specs.Lines.{numeral, written_line}
+use Rattle.aio_base.specs.Lines.{written_line}
 use Rattle.aio_base.specs.declared.steps.Reason.{Reason}
 use Rattle.aio_base.specs.Text.{ended_line, reason_text}
 use Rattle.aio_base.specs.Devices.{TellsFaults}
 use Rattle.aio_bytes.specs.Sinks.{AppendsPart, HasFailed, RefusedBy, Writes}
 use Rattle.aio_bytes.specs.declared.traits.SinkRefusal.{SinkRefusal}
 use Rattle.aio_bytes.specs.declared.traits.SinkRefusal.TheVariants as refused
+use Rattle.aio_line.specs.Words.{IsRelay, SpellsUpTo}
 use Rattle.aio_run.specs.declared.commands.Command.{Command}
 use Rattle.aio_run.specs.declared.commands.Command.TheVariants as command
 use Rattle.aio_run.specs.declared.status.Why.{Why}
@@ -26,10 +27,6 @@ use Rattle.aio_replay.specs.Ends.{Replayed, tells_read_fault, tells_write_fault}
 -- the words of the command that replays a trace
 abbrev pub IsReplay : List (List ℕ) → Type 0
 IsReplay words = words ≡ codes "replay" ∷ []
-
--- a word spells this number, in decimal digits, and the number is at most so great
-abbrev pub SpellsUpTo : ℕ → ℕ → List ℕ → Type 0
-SpellsUpTo most n word = (numeral word ≡ Some n) × (n ≤ most)
 
 -- the words are a name, a number of steps and a seed
 abbrev pub IsOfSteps : List ℕ → ℕ → ℕ → List (List ℕ) → Type 0
@@ -49,6 +46,7 @@ abbrev pub Names : Command → List (List ℕ) → Type 0
 Names command.Replay words = IsReplay words
 Names (command.Gen n seed) words = IsGen n seed words
 Names (command.Sum n seed) words = IsSum n seed words
+Names (command.Relay order) words = IsRelay order words
 
 -- ## The ends of the program
 

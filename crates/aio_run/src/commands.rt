@@ -1,8 +1,12 @@
 //! The commands of the program, read from its words.
 
-ghost use Rattle.std.specs.Prelude.{◌≡◌, ◌==◌, ℕ, [], ◌∷◌, MatchOption, map, slice_index, string_bytes};
-ghost use Rattle.aio_run.specs.Commands.{Names, SpellsUpTo};
+ghost use Rattle.std.specs.Prelude.{◌≡◌, ℕ, [], ◌∷◌, MatchOption, map, string_bytes};
+ghost use Rattle.aio_line.specs.Words.{IsRelay};
+ghost use Rattle.aio_line.specs.declared.words.RelayOrder.{RelayOrder};
+ghost use Rattle.aio_run.specs.Commands.{Names};
 ghost use Rattle.aio_run.specs.declared.commands.Command.{Command};
+
+use aio_line::{RelayOrder, number_up_to, relay_order};
 
 /// The most steps of a trace that a number describes.
 const MOST_STEPS: u64 = 999_999;
@@ -20,6 +24,8 @@ pub enum Command {
     Gen { n: u32, seed: u64 },
     /// `sum N SEED`: runs these steps, and writes what they came to.
     Sum { n: u32, seed: u64 },
+    /// `relay PORT WORKERS IDLE PAIRS`: serves pairs of connections, and writes what each came to.
+    Relay(RelayOrder),
 }
 
 /// The command that the words name; `None` where they name none that is built.
@@ -31,7 +37,20 @@ pub(crate) fn command_of(words: &[String]) -> Option<Command>
     match words {
         [name] => named_alone(name.as_str()),
         [name, steps, seed] => named_with_steps(name.as_str(), steps.as_str(), seed.as_str()),
+        [_, _, _, _, _] => named_relay(words),
         _ => None,
+    }
+}
+
+/// The relay that the words ask for.
+fn named_relay(words: &[String]) -> Option<Command>
+    ensures { MatchOption result
+        ((order : RelayOrder) → IsRelay order (map string_bytes words.now) → ⊥)
+        (λ command. Names command (map string_bytes words.now)) }
+{
+    match relay_order(words) {
+        Some(order) => Some(Command::Relay(order)),
+        None => None,
     }
 }
 
@@ -61,26 +80,4 @@ fn named_with_steps(name: &str, steps: &str, seed: &str) -> Option<Command>
         "sum" => Some(Command::Sum { n, seed }),
         _ => None,
     }
-}
-
-/// The number that a word spells, where it is at most `most`.
-fn number_up_to(word: &str, most: u64) -> Option<u64>
-    ensures { MatchOption result ((n : ℕ) → SpellsUpTo most n word.now → ⊥)
-        (λ n. SpellsUpTo most n word.now) }
-{
-    // `parse` would take a plus before the digits.
-    if has_plus(word) {
-        return None;
-    }
-    match word.parse::<u64>() {
-        Ok(number) if number <= most => Some(number),
-        _ => None,
-    }
-}
-
-/// Whether a word begins with a plus.
-fn has_plus(word: &str) -> bool
-    ensures { result ≡ (slice_index word.now 0 == 43) }
-{
-    word.as_bytes().first() == Some(&b'+')
 }

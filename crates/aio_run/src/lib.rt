@@ -2,13 +2,14 @@
 //!
 //! It stands on `aio_replay`, which reads a trace and runs its steps, on `aio_trace`, which writes
 //! steps, on `aio_generator`, which gives those that a number describes, on `aio_bytes`, and on `aio_laws`
-//! for what holds between two steps. It promises, for every list of bytes that the source has left, that the output of a replay is that of
+//! for what holds between two steps; and on `aio_line` for a relay. It promises, for every list of bytes that the source has left, that the output of a replay is that of
 //! the machine run over the steps of these bytes; for all numbers, that the trace which they describe
 //! is written, or the counts of its run; and of each other end its cause and what was written by then.
 #![tactic(auto)]
 
 pub mod commands;
 pub mod program;
+mod relaying;
 pub mod status;
 mod texts;
 

@@ -6,20 +6,26 @@ ghost use Rattle.aio_base.specs.Generated.{generated_steps};
 ghost use Rattle.aio_base.specs.Trace.{trace_of};
 ghost use Rattle.aio_base.specs.Devices.{TellsFaults};
 ghost use Rattle.aio_bytes.specs.Sinks.{HasFailed, RefusedBy, Writes};
+ghost use Rattle.aio_line.specs.Relays.{MayEndSo, TakesAfterFirst, terms_of};
+ghost use Rattle.aio_line.specs.Words.{IsRelay};
+ghost use Rattle.aio_line.specs.declared.words.RelayOrder.{RelayOrder};
 ghost use Rattle.aio_replay.specs.Driving.{Causes, LeavesAllBut};
 ghost use Rattle.aio_run.specs.Commands.{IsGen, IsReplay, IsSum, WritesCause, Names, exit_of};
 ghost use Rattle.aio_run.specs.Commands.{text_of, refusal_text, summary_text, trace_text};
 ghost use Rattle.aio_run.specs.Commands.{Replays, TellsCounts, WritesText, bytes_taken, why_of};
 ghost use Rattle.aio_run.specs.Commands.{why_written};
 ghost use Rattle.aio_run.specs.Commands.{is_read_fault, is_write_fault};
+ghost use Rattle.aio_run.specs.Relaying.{Relayed};
 ghost use Rattle.aio_run.specs.declared.commands.Command.{Command};
 ghost use Rattle.aio_base.specs.Text.{ended_line, reason_text};
 
 use crate::commands::{Command, command_of};
+use crate::relaying::run_relay;
 use crate::status::{Status, Why};
 use crate::texts::{write_summary, write_trace};
-use aio_base::{CountFault, Reason};
+use aio_base::{CountFault, Port, Reason};
 use aio_bytes::{Sink, SinkRefusal, Source, write_all};
+use aio_line::Devices;
 use aio_replay::{ReplayEnd, replay};
 use itoa::Buffer;
 use std::alloc::Global;
@@ -30,8 +36,8 @@ use std::thread::Threads;
 const USAGE: &[u8] =
     b"usage: replay; gen N SEED; sum N SEED; relay PORT WORKERS IDLE PAIRS; stress CALLS SEED\n";
 
-/// Runs the command that the words name, over an input, an output and a sink for what is told to the
-/// user.
+/// Runs the command that the words name, over an input, an output, a sink for what is told to the user
+/// and six devices.
 ///
 /// - `replay` reads a trace from `input` and writes the answers and wakes of its steps to `out`.
 /// - `gen N SEED` writes the trace of the first N steps that SEED gives to `out`, the header before
@@ -41,6 +47,11 @@ const USAGE: &[u8] =
 ///   how many there were, how many answers told ready and how many pending, how many wakers were
 ///   woken, how many whole rounds were run and how many steps were refused. The line is the same each
 ///   time. It reads nothing of `input`.
+/// - `relay PORT WORKERS IDLE PAIRS` binds PORT of 127.0.0.1, writes `listening P` with the port in use to
+///   `out`, takes two connections for each pair, serves the pairs by WORKERS workers until each has ended,
+///   and writes a line for each pair. PORT is 0 to 65,535, 0 for a port of the device's own choice,
+///   WORKERS 1, IDLE 1 to 10^18 nanoseconds and PAIRS 1 to 64 for each worker. It reads nothing of
+///   `input`, and may wait. No other command touches a device.
 ///
 /// How it ends:
 ///
@@ -53,6 +64,9 @@ const USAGE: &[u8] =
 ///   `Choice`; the first line where it is no header, and the one past the millionth, whatever it holds.
 /// - `Why::ReadFault`, of `replay` alone, `Why::WriteFault`: only where the count of faults of `input`, or
 ///   of `out`, rose in this call, by the two counts. `out` grew by a front part of the output.
+/// - `Why::DeviceFault`, of `relay` alone: the port, only where its count of faults rose in this call; the
+///   wait or the notifier, only where it isn't sure and the two counts differ or stand at 2^64 - 1. `out`
+///   is as it was where the port was not bound, and else has the first line.
 /// - `Why::OutOfMemory`: at any time. `out` grew by a front part of the output.
 ///
 /// The text for the user is written to `err` as far as that takes it; a refusal of `err` changes no
@@ -61,18 +75,20 @@ const USAGE: &[u8] =
 /// bytes, behind the lines before it.
 ///
 /// The parts below that are handed no runtime are proved to return. Of this call itself no clause
-/// says so, since what is handed a runtime may wait: it is seen from its body, which makes no use of
-/// it.
-pub fn run<R: Wait + Threads + Sync + Send + Copy, S: Source, K: Sink, E: Sink>(
-    _rt: &R,
+/// says so, since what is handed a runtime may wait: it is seen from its body, which hands it to a relay
+/// alone.
+pub fn run<R: Wait + Threads + Sync + Send + Copy, S: Source, K: Sink, E: Sink, D: Devices>(
+    rt: &R,
     alloc: Global,
     words: &[String],
     input: &mut S,
     out: &mut K,
     err: &mut E,
+    devices: &mut D,
 ) -> Status
+where
+    <D::P as Port>::C: Send + Drop,
     ensures exit { result.exit ≡ exit_of result.why }
-    ensures no_device { result.exit < 6 }
 
     // The words are refused exactly where they name no command.
     ensures usage { (result.why ≡ Why.Usage)
@@ -86,6 +102,30 @@ pub fn run<R: Wait + Threads + Sync + Send + Copy, S: Source, K: Sink, E: Sink>(
         → LeavesAllBut (bytes_taken result.why bytes) (S.remaining input.new) bytes }
     ensures most { (bytes : List ℕ) → S.remaining input.old ≡ Some bytes
         → LeavesAllBut 257000257 (S.remaining input.new) bytes }
+
+    // A relay writes the port in use and an end for each pair, which its connections may come to; each
+    // other end of it has its cause, and says what was written by then.
+    ensures relays { (order : RelayOrder) → IsRelay order (map string_bytes words.now)
+        → Relayed K.contents (D.P.own_port (D.six devices.old).port) order.port
+        (MayEndSo D.P.C.telling D.P.C.is_sure
+        (terms_of (D.C.bounds (D.six devices.old).clock) order.idle
+        (D.N.is_sure (D.six devices.old).notify))
+        (D.P.waiting (D.six devices.old).port) order.pairs)
+        (D.P.fault_count (D.six devices.old).port) (D.P.fault_count (D.six devices.new).port)
+        (D.W.is_sure (D.six devices.old).wait) (D.N.is_sure (D.six devices.old).notify)
+        (K.fault_count out.old) (K.fault_count out.new) result.why out.old out.new }
+
+    // No connection is taken before that line is out.
+    ensures order { (order : RelayOrder) → IsRelay order (map string_bytes words.now)
+        → TakesAfterFirst (D.P.waiting (D.six devices.old).port)
+        (D.P.waiting (D.six devices.new).port) (D.P.own_port (D.six devices.old).port)
+        order.port (K.contents out.old) (K.contents out.new) }
+
+    // Only a relay touches a device, or ends for one.
+    ensures idle_devices { ((order : RelayOrder) → IsRelay order (map string_bytes words.now) → ⊥)
+        → devices.new ≡ devices.old }
+    ensures no_device { ((order : RelayOrder) → IsRelay order (map string_bytes words.now) → ⊥)
+        → result.exit < 6 }
 
     // For all numbers, the trace that they describe is written, or what its run comes to.
     ensures generates { (n seed : ℕ) → IsGen n seed (map string_bytes words.now)
@@ -114,6 +154,7 @@ pub fn run<R: Wait + Threads + Sync + Send + Copy, S: Source, K: Sink, E: Sink>(
         Some(Command::Replay) => run_replay(alloc, input, out),
         Some(Command::Gen { n, seed }) => run_gen(alloc, n, seed, out),
         Some(Command::Sum { n, seed }) => run_sum(alloc, n, seed, out),
+        Some(Command::Relay(order)) => run_relay(rt, alloc, order, out, devices),
         None => Why::Usage,
     };
     let _ = tell(err, why);

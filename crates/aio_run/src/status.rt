@@ -25,7 +25,7 @@ pub enum Why {
     WriteFault(CountFault),
     /// Memory ran out.
     OutOfMemory,
-    /// A device of a running command failed. No command that is built answers so.
+    /// A device of a relay failed, between these two counts of its faults.
     DeviceFault { which: Which6, fault: CountFault },
 }
 

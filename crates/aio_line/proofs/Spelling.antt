@@ -5,7 +5,7 @@ use Rattle.std.specs.Str.Parse.{IsNumeral, ParsesUnsigned, digits_value}
 use Rattle.std.proofs.lemmas.Str.Parse.{without_leading_plus_none, digit_at}
 use Rattle.aio_base.specs.Lines.{numeral}
 use Rattle.aio_trace.proofs.LineNumbers.{numeral_digits, numeral_of_digits, numerals}
-use Rattle.aio_run.specs.Commands.{SpellsUpTo}
+use Rattle.aio_line.specs.Words.{SpellsUpTo}
 
 plain : {E : Type 0} (word : List ℕ) (r : Result ℕ E) → get_or word 0 0 ≢ 43 → ParsesUnsigned 64 10 word r
     → OkIff r (IsNumeral 10 word × (digits_value 10 word < 2 ^ 64)) (digits_value 10 word)

@@ -1,7 +1,7 @@
 use Rattle.std.proofs.Common.{◌∙◌, get_or, sym}
 use Rattle.std.proofs.lemmas.Bool.{eqb-false, eqb-true}
-use Rattle.aio_run.proofs.Numbers.{spells, spells_no_plus, spells_none}
-use Rattle.aio_run.proofs.commands.number_up_to.Goals as goal
+use Rattle.aio_line.proofs.Spelling.{spells, spells_no_plus, spells_none}
+use Rattle.aio_line.proofs.numbers.number_up_to.Goals as goal
 
 pub returns-then-has_plus : goal.returns-then-has_plus
 returns-then-has_plus c = spells_no_plus c.args.word.now c.args.most (eqb-true (get_or c.args.word.now 0 0) 43 (sym c.has_plus.ensures ∙ c.if-has_plus.true))

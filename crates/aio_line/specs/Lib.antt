@@ -1,0 +1,4 @@
+pub mod Lending
+pub mod Words
+pub mod Texts
+pub mod Relays
