@@ -1,6 +1,6 @@
 //! A reactor over connections in memory: its timers, its members and its sources.
 
-ghost use Rattle.std.specs.Prelude.{◌≡◌, ◌<◌, IfOk, OnOk};
+ghost use Rattle.std.specs.Prelude.{◌≡◌, ◌<◌, ◌≤◌, IfOk, OnOk};
 
 use crate::asserts::same;
 use crate::connections::sends;
@@ -18,6 +18,7 @@ type Way<R> = Inside<R, MemNotify, SureConn, MemWait>;
 
 /// The way of the first thread into a new reactor of one parker, whose waits give events of so many keys.
 fn enter<R: Wait + Copy>(rt: R, alloc: Global, keys: u32) -> Result<Way<R>, Fail>
+    requires { keys ≤ 1024 }
     ensures parkers { IfOk result (λ host. host.shared.words.parkers ≡ 1) }
     ensures first { IfOk result (λ host. host.member.ops.number ≡ 0) }
 {
