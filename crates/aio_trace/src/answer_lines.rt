@@ -199,10 +199,21 @@ fn push_begin(out: &mut Vec<u8>, number: u64, limit: Option<u64>) -> Result<(), 
 {
     out.extend_from_slice(b"begin ")?;
     push_number(out, number)?;
-    out.extend_from_slice(b" wait ")?;
+    push_wait(out, limit)
+}
+
+/// Writes the end of that line: how long the round may wait.
+fn push_wait(out: &mut Vec<u8>, limit: Option<u64>) -> Result<(), AllocError>
+    ensures ok { OnOk result (out.new.items ≡ out.old.items ++ ended_line (codes " wait "
+        ++ limit_text limit)) }
+    ensures kept { OnErr result (KeepsFront out.old.items out.new.items) }
+    ensures full { OnErr result (LacksRoom (vec_capacity out.old) out.old.items
+        (ended_line (codes " wait " ++ limit_text limit))) }
+    ensures grown { vec_capacity out.old ≤ vec_capacity out.new }
+{
     match limit {
-        None => out.extend_from_slice(b"none\n"),
-        Some(limit) => push_numbered(out, b"", limit),
+        None => out.extend_from_slice(b" wait none\n"),
+        Some(limit) => push_numbered(out, b" wait ", limit),
     }
 }
 

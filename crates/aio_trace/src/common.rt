@@ -5,7 +5,7 @@
 ghost use Rattle.std.specs.Prelude.{◌≡◌, ◌<◌, ◌≤◌, ◌+◌, ◌^◌, ℕ, [], None, Ok, Some, IfSome, OnSome, length};
 ghost use Rattle.aio_base.specs.World.{last_moment};
 ghost use Rattle.aio_base.specs.Lines.{last_number, words_in};
-ghost use Rattle.aio_trace.specs.Reading.{begin_of, event_of, fault_line_of, listener_poll_of, new_of, poll_of, set_of, step_of_words, take_direction, take_flags, take_limit, take_number, take_period, tick_of, timer_of};
+ghost use Rattle.aio_trace.specs.Reading.{begin_of, event_of, fault_line_of, listener_poll_of, new_of, poll_of, set_every_of, set_of, step_of_words, take_direction, take_flags, take_limit, take_number, take_period, tick_of, timer_of};
 
 use crate::reading::moment_at;
 use aio_base::{Dir, Event, Interest, Key, Moment, Step, Waker, Which};
@@ -45,11 +45,33 @@ fn rarer_step(line: &[u8]) -> Option<Step>
         b"wait" => Some(Step::Wait),
         b"finish" => Some(Step::Finish),
         b"interrupt" => Some(Step::Interrupt),
+        _ => short_command_step(line),
+    }
+}
+
+/// The same of the commands of three or four letters that have places.
+#[inline(always)]
+fn short_command_step(line: &[u8]) -> Option<Step>
+    ensures read { IfSome result (λ s. step_of_words (words_in line.now) ≡ Ok s) }
+    ensures short { OnSome result (length line.now ≤ 256) }
+{
+    match line {
         [b'n', b'e', b'w', b' ', places @ ..] => new_step(places),
         [b'n', b'o', b'w', b' ', places @ ..] => Some(Step::Now(whole_moment(places)?)),
         [b'd', b'r', b'o', b'p', b' ', places @ ..] => Some(Step::DropEar(whole_number(places)?)),
         [b'd', b'e', b'l', b' ', places @ ..] => Some(Step::Del(Key(whole_number(places)?))),
         [b'e', b'n', b'd', b' ', places @ ..] => Some(Step::End(whole_number(places)?)),
+        _ => rarest_step(line),
+    }
+}
+
+/// The same of the commands that set timers, begin a round or let a call fail.
+#[inline(always)]
+fn rarest_step(line: &[u8]) -> Option<Step>
+    ensures read { IfSome result (λ s. step_of_words (words_in line.now) ≡ Ok s) }
+    ensures short { OnSome result (length line.now ≤ 256) }
+{
+    match line {
         [b't', b'i', b'm', b'e', b'r', b' ', choice @ ..] => timer_step(choice),
         [b's', b'e', b't', b' ', places @ ..] => set_step(places),
         [b'b', b'e', b'g', b'i', b'n', b' ', places @ ..] => begin_step(places),
@@ -142,13 +164,20 @@ fn set_step(places: &[u8]) -> Option<Step>
     let (timer, choice) = first_number(places)?;
     match choice {
         [b'a', b't', b' ', places @ ..] => Some(Step::SetAt(timer, whole_moment(places)?)),
-        [b'e', b'v', b'e', b'r', b'y', b' ', places @ ..] => {
-            let (first, rest) = first_nanoseconds(places)?;
-            let period = whole_period(rest)?;
-            Some(Step::SetEvery(timer, moment_at(first), period))
-        }
+        [b'e', b'v', b'e', b'r', b'y', b' ', places @ ..] => set_every_step(timer, places),
         _ => None,
     }
+}
+
+/// The step of a line `set N every T P`, read behind its choice.
+#[inline(always)]
+fn set_every_step(timer: u32, places: &[u8]) -> Option<Step>
+    ensures read { IfSome result (λ s. set_every_of timer (words_in places.now) ≡ Ok s) }
+    ensures short { OnSome result (length places.now ≤ 38) }
+{
+    let (first, rest) = first_nanoseconds(places)?;
+    let period = whole_period(rest)?;
+    Some(Step::SetEvery(timer, moment_at(first), period))
 }
 
 /// The step of a line `begin L`, read behind its command.

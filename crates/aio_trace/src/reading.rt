@@ -8,7 +8,7 @@ ghost use Rattle.aio_base.specs.Lines.{Reads, body_of, fault_of, is_allowed, las
 ghost use Rattle.aio_base.specs.Trace.{is_header};
 ghost use Rattle.aio_base.specs.declared.steps.LineFault.{LineFault};
 ghost use Rattle.aio_base.specs.declared.steps.Step.{Step};
-ghost use Rattle.aio_trace.specs.Reading.{begin_of, command_named, del_of, dir_of, drop_of, end_of, event_of, fault_chosen, fault_line_of, flags_of_word, limit_of, line_read, listener_poll_of, new_of, now_of, poll_of, set_chosen, set_of, step_of, step_of_words, take_direction, take_flags, take_limit, take_number, take_period, tick_of, timer_chosen, timer_of};
+ghost use Rattle.aio_trace.specs.Reading.{begin_of, command_named, del_of, dir_of, drop_of, end_of, event_of, fault_chosen, fault_line_of, flags_of_word, limit_of, line_read, listener_poll_of, new_of, now_of, poll_of, set_at_of, set_chosen, set_every_of, set_of, step_of, step_of_words, take_direction, take_flags, take_limit, take_number, take_period, tick_of, timer_at_of, timer_chosen, timer_every_of, timer_of};
 
 use crate::common::common_step;
 use crate::words::{ended, next_number, next_word};
@@ -270,18 +270,28 @@ fn read_timer_chosen(choice: &[u8], text: &[u8]) -> Result<Step, LineFault>
     ensures { result ≡ timer_chosen choice.now (words_in text.now) }
 {
     match choice {
-        b"at" => {
-            let (moment, rest) = take_moment(text)?;
-            ended(Step::TimerAt(moment_at(moment)), rest)
-        }
-        b"every" => {
-            let (moment, rest) = take_moment(text)?;
-            let (period, rest) = take_period(rest)?;
-            ended(Step::TimerEvery(moment_at(moment), period), rest)
-        }
+        b"at" => read_timer_at(text),
+        b"every" => read_timer_every(text),
         b"never" => ended(Step::TimerNever, text),
         _ => Err(LineFault::Choice),
     }
+}
+
+/// A line `timer at T`, read behind its choice.
+fn read_timer_at(text: &[u8]) -> Result<Step, LineFault>
+    ensures { result ≡ timer_at_of (words_in text.now) }
+{
+    let (moment, rest) = take_moment(text)?;
+    ended(Step::TimerAt(moment_at(moment)), rest)
+}
+
+/// A line `timer every T P`, read behind its choice.
+fn read_timer_every(text: &[u8]) -> Result<Step, LineFault>
+    ensures { result ≡ timer_every_of (words_in text.now) }
+{
+    let (moment, rest) = take_moment(text)?;
+    let (period, rest) = take_period(rest)?;
+    ended(Step::TimerEvery(moment_at(moment), period), rest)
 }
 
 /// A line `set N at T` or `set N every T P`, read behind its command.
@@ -300,17 +310,27 @@ fn read_set_chosen(timer: u32, choice: &[u8], text: &[u8]) -> Result<Step, LineF
     ensures { result ≡ set_chosen timer choice.now (words_in text.now) }
 {
     match choice {
-        b"at" => {
-            let (moment, rest) = take_moment(text)?;
-            ended(Step::SetAt(timer, moment_at(moment)), rest)
-        }
-        b"every" => {
-            let (moment, rest) = take_moment(text)?;
-            let (period, rest) = take_period(rest)?;
-            ended(Step::SetEvery(timer, moment_at(moment), period), rest)
-        }
+        b"at" => read_set_at(timer, text),
+        b"every" => read_set_every(timer, text),
         _ => Err(LineFault::Choice),
     }
+}
+
+/// A line `set N at T`, read behind its choice.
+fn read_set_at(timer: u32, text: &[u8]) -> Result<Step, LineFault>
+    ensures { result ≡ set_at_of timer (words_in text.now) }
+{
+    let (moment, rest) = take_moment(text)?;
+    ended(Step::SetAt(timer, moment_at(moment)), rest)
+}
+
+/// A line `set N every T P`, read behind its choice.
+fn read_set_every(timer: u32, text: &[u8]) -> Result<Step, LineFault>
+    ensures { result ≡ set_every_of timer (words_in text.now) }
+{
+    let (moment, rest) = take_moment(text)?;
+    let (period, rest) = take_period(rest)?;
+    ended(Step::SetEvery(timer, moment_at(moment), period), rest)
 }
 
 /// A line `end N`, read behind its command.

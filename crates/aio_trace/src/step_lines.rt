@@ -24,14 +24,16 @@ pub(crate) fn push_step(step: &Step, out: &mut Vec<u8>) -> Result<(), AllocError
         Step::Del(key) => push_numbered(out, b"del ", u64::from(key.0)),
         Step::Poll(key, direction, waker) => push_poll(out, key, direction, waker),
         Step::New(key, direction) => push_new(out, key, direction),
-        Step::StepEar(listener, waker) => push_two(out, b"step ", listener, waker),
+        Step::StepEar(listener, waker) => {
+            push_two(out, b"step ", u64::from(listener), u64::from(waker.0))
+        }
         Step::DropEar(listener) => push_numbered(out, b"drop ", u64::from(listener)),
         Step::TimerAt(deadline) => push_numbered(out, b"timer at ", deadline.get()),
         Step::TimerEvery(deadline, period) => {
-            push_every(out, b"timer every ", deadline.get(), period)
+            push_two(out, b"timer every ", deadline.get(), period)
         }
         Step::TimerNever => out.extend_from_slice(b"timer never\n"),
-        Step::Tick(timer, waker) => push_two(out, b"tick ", timer, waker),
+        Step::Tick(timer, waker) => push_two(out, b"tick ", u64::from(timer), u64::from(waker.0)),
         Step::SetAt(timer, deadline) => push_set_at(out, timer, deadline),
         Step::SetEvery(timer, deadline, period) => push_set_every(out, timer, deadline, period),
         Step::End(timer) => push_numbered(out, b"end ", u64::from(timer)),
@@ -59,11 +61,22 @@ fn push_poll(out: &mut Vec<u8>, key: Key, direction: Dir, waker: Waker) -> Resul
 {
     out.extend_from_slice(b"poll ")?;
     push_number(out, u64::from(key.0))?;
-    out.extend_from_slice(match direction {
-        Dir::Read => b" r ",
-        Dir::Write => b" w ",
-    })?;
-    push_numbered(out, b"", u64::from(waker.0))
+    push_poller(out, direction, waker)
+}
+
+/// Writes the end of the line of a poll: its direction and its waker.
+fn push_poller(out: &mut Vec<u8>, direction: Dir, waker: Waker) -> Result<(), AllocError>
+    ensures ok { OnOk result (out.new.items ≡ out.old.items ++ ended_line (codes " "
+        ++ dir_text direction ++ codes " " ++ decimal waker.0)) }
+    ensures kept { OnErr result (KeepsFront out.old.items out.new.items) }
+    ensures full { OnErr result (LacksRoom (vec_capacity out.old) out.old.items
+        (ended_line (codes " " ++ dir_text direction ++ codes " " ++ decimal waker.0))) }
+    ensures grown { vec_capacity out.old ≤ vec_capacity out.new }
+{
+    match direction {
+        Dir::Read => push_numbered(out, b" r ", u64::from(waker.0)),
+        Dir::Write => push_numbered(out, b" w ", u64::from(waker.0)),
+    }
 }
 
 /// Writes the line of a new listener.
@@ -83,32 +96,18 @@ fn push_new(out: &mut Vec<u8>, key: Key, direction: Dir) -> Result<(), AllocErro
     })
 }
 
-/// Writes a line of a word, a number and a waker.
-fn push_two(out: &mut Vec<u8>, word: &[u8], number: u32, waker: Waker) -> Result<(), AllocError>
-    ensures ok { OnOk result (out.new.items ≡ out.old.items ++ ended_line (word.now
-        ++ decimal number ++ codes " " ++ decimal waker.0)) }
-    ensures kept { OnErr result (KeepsFront out.old.items out.new.items) }
-    ensures full { OnErr result (LacksRoom (vec_capacity out.old) out.old.items
-        (ended_line (word.now ++ decimal number ++ codes " " ++ decimal waker.0))) }
-    ensures grown { vec_capacity out.old ≤ vec_capacity out.new }
-{
-    out.extend_from_slice(word)?;
-    push_number(out, u64::from(number))?;
-    push_numbered(out, b" ", u64::from(waker.0))
-}
-
-/// Writes a line of words, a deadline and a period.
-fn push_every(out: &mut Vec<u8>, words: &[u8], deadline: u64, period: u64) -> Result<(), AllocError>
+/// Writes a line of words and two numbers.
+fn push_two(out: &mut Vec<u8>, words: &[u8], first: u64, second: u64) -> Result<(), AllocError>
     ensures ok { OnOk result (out.new.items ≡ out.old.items ++ ended_line (words.now
-        ++ decimal deadline ++ codes " " ++ decimal period)) }
+        ++ decimal first ++ codes " " ++ decimal second)) }
     ensures kept { OnErr result (KeepsFront out.old.items out.new.items) }
     ensures full { OnErr result (LacksRoom (vec_capacity out.old) out.old.items
-        (ended_line (words.now ++ decimal deadline ++ codes " " ++ decimal period))) }
+        (ended_line (words.now ++ decimal first ++ codes " " ++ decimal second))) }
     ensures grown { vec_capacity out.old ≤ vec_capacity out.new }
 {
     out.extend_from_slice(words)?;
-    push_number(out, deadline)?;
-    push_numbered(out, b" ", period)
+    push_number(out, first)?;
+    push_numbered(out, b" ", second)
 }
 
 /// Writes the line that sets a timer to a deadline.
@@ -142,7 +141,7 @@ fn push_set_every(
 {
     out.extend_from_slice(b"set ")?;
     push_number(out, u64::from(timer))?;
-    push_every(out, b" every ", deadline.get(), period)
+    push_two(out, b" every ", deadline.get(), period)
 }
 
 /// Writes the line of an event.

@@ -28,3 +28,6 @@ returns-in-Stopped-Write-clause-core g c = λ bytes told.
 
 pub returns-in-Stopped-clause-replays : goal.returns-in-Stopped-clause-replays
 returns-in-Stopped-clause-replays g c = λ bytes told. stopped_part _ _ bytes _ _ _ (c.in-Stopped.ensures.ends bytes told).says
+
+pub returns-in-Stopped-Read-clause-counts : goal.returns-in-Stopped-Read-clause-counts
+returns-in-Stopped-Read-clause-counts g c = search rules
