@@ -1,1 +1,3 @@
+pub mod Removals
+pub mod Steps
 pub mod TakeLemmas

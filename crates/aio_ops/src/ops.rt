@@ -1,10 +1,12 @@
-//! The queue of operations and its seats.
+//! The queue of operations and its passes.
 
 ghost use Rattle.std.specs.Prelude.{◌≡◌, ◌==◌, ◌↔◌, ℕ, ◌+◌, ◌<◌, ◌≤◌, ◌^◌, [], IfOk, IfErr, OnOk, OnErr, Err};
+ghost use Rattle.aio_rules.specs.Operations.{queue_limit};
 ghost use Rattle.aio_ops.specs.Passes.{Drained, Drains, DrainsAndApplies, FindsFull, Pops, new_pass, pass_limit, pushed};
 
-use crate::queue::{Entry, NewPass, OpQueue, Pop, Push, QueueSeat};
+use crate::queue::{Entry, NewPass, OpQueue, Pop, Push, Seat};
 use aio_base::OutOfMemory;
+use aio_rules::OpEntry;
 use aio_timers::{TimerBook, TimerOp};
 use crossbeam_queue::Pass;
 use std::alloc::Global;
@@ -17,11 +19,11 @@ const CAPACITY: usize = 1_000;
 /// How many operations a drain takes at most.
 const DRAINED: u32 = 1_000;
 
-/// How many seats of a queue there are at most.
+/// How many passes of a queue there are at most.
 const PASSES: u32 = 1 << 24;
 
 /// A queue of at most 1,000 operations on registered timers, for any number of threads, each of which
-/// has a seat of its own. Contracts see which queue it is; what it holds no clause can say, since
+/// has a pass of its own. Contracts see which queue it is; what it holds no clause can say, since
 /// other threads may change it at any moment.
 #[derive(Drop)]
 pub struct Ops {
@@ -32,19 +34,20 @@ impl Model for Ops {
     ghost use Rattle.std.specs.Prelude.{◌≡◌};
     ghost use Rattle.atomic_table.specs.Seated.{TableId};
     ghost use Rattle.crossbeam_queue.specs.Passes.{ruled_capacity};
+    ghost use Rattle.aio_rules.specs.Operations.{queue_limit};
 
     ghost Value = { TableId };
 
     ghost view = { λ ops. ops.queue.table.shared.table_id };
 
-    ghost invariant = { λ ops. ruled_capacity ops.queue ≡ 1000 };
+    ghost invariant = { λ ops. ruled_capacity ops.queue ≡ queue_limit };
 }
 
 /// What one thread may do with a queue of operations, and what it did: the entries that it pushed and
-/// popped, and how often it found the queue full and empty.
+/// popped, and how often it found the queue full and empty. Those of a pass that is let go stay queued.
 #[derive(Drop)]
 pub struct OpPass {
-    pass: Pass<Entry, QueueSeat>,
+    pass: Pass<Entry, Seat>,
     number: u32,
     pushes: u64,
     fulls: u64,
@@ -54,6 +57,7 @@ pub struct OpPass {
 
 impl Model for OpPass {
     ghost use Rattle.std.specs.Prelude.{◌≡◌, ◌<◌, ◌≤◌, ◌^◌, [], length};
+    ghost use Rattle.aio_rules.specs.OperationLaws.{KnowsItsPast};
     ghost use Rattle.aio_ops.specs.Passes.{PassView};
 
     ghost Value = { PassView };
@@ -71,21 +75,23 @@ impl Model for OpPass {
     ghost invariant = { λ p. (p.pass.me.1 ≡ [])
         × (length p.pass.me.0.client.own ≡ p.pushes)
         × (p.number < 2 ^ 24) × (p.splits ≤ 2 ^ 24)
-        × (p.pass.me.0.client.number ≡ p.number) × (p.pass.me.0.client.splits ≡ p.splits) };
+        × (p.pass.me.0.client.number ≡ p.number) × (p.pass.me.0.client.splits ≡ p.splits)
+        × KnowsItsPast (record { seat = p.pass.me.0.client; fulls = p.fulls; empties = p.empties }) };
 }
 
-/// Why no further seat was made.
+/// Why no further pass was made.
 #[derive(Clone, Copy, Debug, PartialEq, Eq)]
 pub enum PassRefusal {
-    /// 2^24 seats were made.
+    /// 2^24 passes were made.
     PassesSpent,
     /// Memory ran out.
     OutOfMemory,
 }
 
 impl Ops {
-    /// A queue that holds nothing, and its first seat, with the number 0. Takes all the memory that
+    /// A queue that holds nothing, and its first pass, with the number 0. Takes all the memory that
     /// the queue ever takes; `OutOfMemory` where it is not there.
+    #[tactic(auto, using(crate::proofs::Steps::past_new))]
     pub fn new(alloc: Global) -> Result<(Ops, OpPass), OutOfMemory>
         ensures { IfOk result (λ made. made.1 ≡ new_pass made.0 0 1) }
     {
@@ -105,12 +111,13 @@ impl Ops {
         }
     }
 
-    /// A further seat, for another thread, made by the first seat, which counts it. Its number is how
+    /// A further pass, for another thread, made by the first pass, which counts it. Its number is how
     /// many were made before.
     ///
     /// # Errors
     ///
-    /// `PassesSpent` exactly where 2^24 seats were made; then nothing changes.
+    /// `PassesSpent` exactly where 2^24 passes were made; then nothing changes.
+    #[tactic(auto, using(crate::proofs::Steps::past_new, crate::proofs::Steps::past_split))]
     pub fn pass<R: Wait>(&self, _rt: &R, from: &mut OpPass) -> Result<OpPass, PassRefusal>
         requires belongs { from.old.queue ≡ self.now }
         requires first { from.old.number ≡ 0 }
@@ -134,12 +141,13 @@ impl Ops {
         })
     }
 
-    /// Puts an operation at the end of the queue, as the next entry of the seat. It takes no memory.
+    /// Puts an operation at the end of the queue, as the next entry of the pass. It takes no memory.
     ///
     /// # Errors
     ///
     /// The operation comes back only where the queue held 1,000 operations at a step of this call,
-    /// which the seat counts once.
+    /// which the pass counts once.
+    #[tactic(auto, using(crate::proofs::Steps::past_pushed, crate::proofs::Steps::past_full))]
     pub fn push<R: Wait>(&self, rt: &R, p: &mut OpPass, op: TimerOp) -> Result<(), TimerOp>
         requires belongs { p.old.queue ≡ self.now }
         ensures pushed { OnOk result (p.new ≡ pushed op p.old) }
@@ -149,7 +157,7 @@ impl Ops {
         let number = next_number(rt, p.pushes);
         let pass = p.number;
         let empties = p.empties;
-        let entry = Entry {
+        let entry = OpEntry {
             pass,
             number,
             empties,
@@ -169,12 +177,15 @@ impl Ops {
 
     /// Takes at most 1,000 operations out of the queue and applies each to the book, in the order in
     /// which it takes them. The answer is how many. It ends after 1,000 of them, or where it finds the
-    /// queue empty, which the seat counts. It takes no memory.
+    /// queue empty, which the pass counts; either way nothing is queued any longer that the pass had
+    /// pushed. It takes no memory.
     pub fn drain_into<R: Wait>(&self, rt: &R, p: &mut OpPass, book: &mut TimerBook) -> u32
         requires belongs { p.old.queue ≡ self.now }
-        requires room { 1000 ≤ book.old.spare }
+        requires room { queue_limit ≤ book.old.spare }
         ensures { Drains result p.old p.new book.old book.new }
     {
+        // By this the proof knows of the pass what its type keeps.
+        let _ = &p.number;
         let mut count = 0;
         while count < DRAINED {
             match self.pop(rt, p) {
@@ -227,14 +238,15 @@ impl Ops {
     }
 
     /// Takes the first operation out of the queue; `None` only where the queue was empty at a step of
-    /// this call, which the seat counts.
+    /// this call, which the pass counts.
+    #[tactic(auto, using(crate::proofs::Steps::past_popped, crate::proofs::Steps::past_emptied))]
     fn pop<R: Wait>(&self, rt: &R, p: &mut OpPass) -> Option<TimerOp>
         requires belongs { p.old.queue ≡ self.now }
         ensures { Pops result p.old p.new }
     {
         match self.queue.pop_as::<Pop, R>(rt, &mut p.pass) {
             None => {
-                p.empties = p.empties.saturating_add(1);
+                p.empties = next_number(rt, p.empties);
                 None
             }
             Some(entry) => Some(entry.op),
@@ -242,21 +254,21 @@ impl Ops {
     }
 }
 
-/// The number of the next entry of a seat that has pushed so many. The kit's queue takes fewer than
-/// 2^64 in all, so it waits for ever where there is no further number.
-fn next_number<R: Wait>(rt: &R, pushes: u64) -> u64
-    ensures { result ≡ pushes + 1 }
+/// The number after this one, of the pushes of a pass or of its pops that found none. After 2^64 - 1 of
+/// them it waits for ever: no thread gets there.
+fn next_number<R: Wait>(rt: &R, number: u64) -> u64
+    ensures { result ≡ number + 1 }
 {
     for _ in rt.forever() {
-        if pushes < u64::MAX {
-            return pushes + 1;
+        if number < u64::MAX {
+            return number + 1;
         }
     }
     unreachable!()
 }
 
 impl OpPass {
-    /// The number of the seat, from 0 in the order in which the seats of its queue were made.
+    /// The number of the pass, from 0 in the order in which the passes of its queue were made.
     pub fn number(&self) -> u32
         ensures value { result ≡ self.now.number }
         ensures bound { result < pass_limit }
@@ -264,7 +276,7 @@ impl OpPass {
         self.number
     }
 
-    /// Whether no further seat can be made, as far as this seat has counted them: it counts 2^24.
+    /// Whether no further pass can be made, as far as this pass has counted them: it counts 2^24.
     pub fn is_spent(&self) -> bool
         ensures { result ≡ (self.now.splits == pass_limit) }
     {

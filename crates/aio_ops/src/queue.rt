@@ -1,61 +1,34 @@
-//! The queue under a rule of the kit's: what an entry is, and what a seat keeps of its calls.
+//! The queue under the rule of operations: what each kind of call makes of a pass's seat.
 
+use aio_rules::{OpEntry, QueueSeat};
 use aio_timers::TimerOp;
 use crossbeam_queue::RuledArrayQueue;
 use crossbeam_queue::protocol::{Lesson, Outcome, Protocol, Split};
-use std::collections::LinkedList;
 
-/// An operation in the queue: the number of the seat that pushed it, its own number among the entries
-/// of that seat, from 1, and how many pops of the seat had found the queue empty by then.
-#[derive(Clone, Copy, Debug, PartialEq, Eq)]
-pub struct Entry {
-    pub pass: u32,
-    pub number: u64,
-    pub empties: u64,
-    pub op: TimerOp,
-}
+/// An operation on timers, as it lies in the queue.
+pub(crate) type Entry = OpEntry<TimerOp>;
 
-/// An entry of the seat that pushed it, with how many entries that seat had popped by then.
-#[derive(Clone, Copy, Debug, PartialEq, Eq)]
-pub struct Pushed {
-    pub entry: Entry,
-    pub pulled: u64,
-}
+/// What a pass pushed and popped.
+pub(crate) type Seat = QueueSeat<TimerOp>;
 
-/// What a seat has pushed and popped, its number, and how many seats were made: of the first seat,
-/// itself among them; of any other, by it. No value of it is made.
-pub struct QueueSeat {
-    pub own: LinkedList<Pushed>,
-    pub pulled: LinkedList<Entry>,
-    pub number: u32,
-    pub splits: u32,
-}
+/// The rule of the queue, which holds after each step of any thread.
+pub struct InOrder;
 
-/// The rule of the queue, which asks nothing of what it holds.
-pub struct AnyOrder;
+impl Protocol<OpEntry<TimerOp>, QueueSeat<TimerOp>> for InOrder {
+    ghost use Rattle.aio_rules.specs.Operations.{SeatsRule, new_seat};
 
-impl Protocol<Entry, QueueSeat> for AnyOrder {
-    ghost use Rattle.std.specs.Prelude.{⊤};
-    ghost use Rattle.aio_ops.specs.Queue.{new_seat};
-
-    ghost holds = { λ items views. ⊤ };
+    ghost holds = { SeatsRule };
 
     ghost first = { new_seat 0 1 };
 }
 
-impl Lesson<Entry, QueueSeat> for AnyOrder {
-    ghost use Rattle.std.specs.Prelude.{⊤};
-
-    ghost fact = { λ h items. ⊤ };
-}
-
-/// A new seat beside one, which counts it.
+/// A new pass, made by the first one, which counts it.
 pub struct NewPass;
 
-impl Split<QueueSeat> for NewPass {
-    ghost use Rattle.aio_ops.specs.Queue.{new_seat, split_queue_seat};
+impl Split<QueueSeat<TimerOp>> for NewPass {
+    ghost use Rattle.aio_rules.specs.Operations.{new_seat, with_split};
 
-    ghost left = { split_queue_seat };
+    ghost left = { with_split };
 
     ghost right = { λ h. new_seat h.splits 0 };
 }
@@ -63,14 +36,14 @@ impl Split<QueueSeat> for NewPass {
 /// A push that succeeds.
 pub struct Push;
 
-impl Outcome<Entry, QueueSeat> for Push {
+impl Outcome<OpEntry<TimerOp>, QueueSeat<TimerOp>> for Push {
     ghost use Rattle.std.specs.Prelude.{◌≡◌};
-    ghost use Rattle.aio_ops.specs.Queue.{with_push};
+    ghost use Rattle.aio_rules.specs.Operations.{with_push};
 
-    ghost then = { λ h entry after. after ≡ with_push h entry };
+    ghost then = { λ h entry after. after ≡ with_push entry h };
 }
 
-impl Lesson<Entry, QueueSeat> for Push {
+impl Lesson<OpEntry<TimerOp>, QueueSeat<TimerOp>> for Push {
     ghost use Rattle.std.specs.Prelude.{⊤};
 
     ghost fact = { λ h items. ⊤ };
@@ -79,18 +52,18 @@ impl Lesson<Entry, QueueSeat> for Push {
 /// A pop that gives.
 pub struct Pop;
 
-impl Outcome<Entry, QueueSeat> for Pop {
+impl Outcome<OpEntry<TimerOp>, QueueSeat<TimerOp>> for Pop {
     ghost use Rattle.std.specs.Prelude.{◌≡◌};
-    ghost use Rattle.aio_ops.specs.Queue.{with_pop};
+    ghost use Rattle.aio_rules.specs.Operations.{with_pop};
 
-    ghost then = { λ h entry after. after ≡ with_pop h entry };
+    ghost then = { λ h entry after. after ≡ with_pop entry h };
 }
 
-impl Lesson<Entry, QueueSeat> for Pop {
+impl Lesson<OpEntry<TimerOp>, QueueSeat<TimerOp>> for Pop {
     ghost use Rattle.std.specs.Prelude.{⊤};
 
     ghost fact = { λ h items. ⊤ };
 }
 
 /// The kit's bounded queue under this rule.
-pub type OpQueue = RuledArrayQueue<Entry, QueueSeat, AnyOrder>;
+pub(crate) type OpQueue = RuledArrayQueue<OpEntry<TimerOp>, QueueSeat<TimerOp>, InOrder>;

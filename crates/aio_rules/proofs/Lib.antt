@@ -1,7 +1,13 @@
 pub mod LockSeats
 pub mod LockSteps
+pub mod OperationLists
+pub mod OperationOrder
+pub mod OperationParts
+pub mod OperationRules
+pub mod OperationSteps
 mod RefusedLocks
 mod RefusedClaims
+mod RefusedOperations
 pub mod RoundLockSteps
 pub mod SeatLists
 pub mod WordBits

@@ -5,3 +5,5 @@ pub mod SharedLock
 pub mod LockLaws
 pub mod RoundLock
 pub mod RoundLockLaws
+pub mod Operations
+pub mod OperationLaws

@@ -4,6 +4,7 @@ pub mod Trying
 pub mod WakingEach
 pub mod HandingOver
 pub mod Rounding
+pub mod SeatOnly
 pub mod Notifying
 pub mod DrainedOnly
 pub mod InTurn

@@ -7,7 +7,7 @@ use Rattle.aio_base.specs.declared.outcomes.Failed.{Failed}
 use Rattle.aio_base.specs.declared.outcomes.OutOfMemory.{OutOfMemory}
 use Rattle.aio_timers.specs.declared.op.TimerOp.{TimerOp}
 use Rattle.aio_timers.specs.declared.op.TimerOp.TheVariants as timer_op
-use Rattle.aio_ops.specs.declared.queue.Entry.{Entry}
+use Rattle.aio_rules.specs.declared.operations.OpEntry.{OpEntry}
 use Rattle.aio_timers.specs.Room.{Book}
 use Rattle.aio_ops.specs.Passes.{PassView, Drained, Drains, FindsFull, RoseBy, pushed}
 use Rattle.aio_react.specs.declared.hosts.InsertRefusal.{InsertRefusal}
@@ -20,7 +20,7 @@ use Rattle.aio_shared.specs.Members.{Extends, MemberValue}
 
 -- A seat that pushed nothing in between: it took these entries out of the queue, and may have found it full and empty.
 pub record PushedNothing (before after : PassView) : Type 0 where
-  pub entries : List Entry
+  pub entries : List (OpEntry TimerOp)
   pub pass : after ≡ record before { pulled = before.pulled ++ entries; fulls = after.fulls; empties = after.empties }
   pub fulls : before.fulls ≤ after.fulls
   pub empties : before.empties ≤ after.empties
@@ -60,7 +60,7 @@ pub record Queued (operation : TimerOp) (before after : PassView) : Type 0 where
   pub pushed : after ≡ pushed operation last
 
 -- An operation was kept out of the queue: its first push found it full, and so did that of each of 1,000 tries more, and then the seat drained it
--- once more. It is left to the call to apply the operation to the book itself.
+-- once more, so that nothing which it had pushed is queued any longer. It is left to the call to apply the operation to the book itself.
 pub record KeptOut (before after : PassView) : Type 0 where
   pub last : PassView
   pub full : FoundFull 1000 before last

@@ -1,9 +1,11 @@
 //! A round of a shared reactor, by the member that holds its cell.
 
-ghost use Rattle.std.specs.Prelude.{◌≡◌, ◌↔◌, ◌+◌, ◌-◌, ◌^◌, ◌<◌, ◌≤◌, [], true, false, Err, OnOk, OnErr, IfErr};
+ghost use Rattle.std.specs.Prelude.{◌≡◌, ◌↔◌, ℕ, ◌+◌, ◌-◌, ◌^◌, ◌<◌, ◌≤◌, [], true, false, Err, OnOk, OnErr, IfErr};
 ghost use Rattle.aio_base.specs.Devices.{TellsFaults};
-ghost use Rattle.aio_rules.specs.SharedWords.{blocking};
+ghost use Rattle.aio_rules.specs.SharedWords.{after, blocking};
+ghost use Rattle.aio_rules.specs.declared.seats.WordStep.TheVariants as word_step;
 ghost use Rattle.aio_words.specs.Seats.{Belongs, IsIdleOrWaits, is_waiting};
+ghost use Rattle.aio_shared.specs.Cells.{Awaits, EndsInRise};
 ghost use Rattle.aio_shared.specs.Notifying.{NotifiesAsWon};
 ghost use Rattle.aio_shared.specs.Members.{IsLaterMember, IsMemberOf};
 ghost use Rattle.aio_shared.specs.OneCell.{IsCellOf};
@@ -16,6 +18,7 @@ ghost use Rattle.aio_shared.specs.TimerCalls.{PushedNothing};
 use crate::cell::RoundCell;
 use crate::members::Member;
 use crate::shared::Shared;
+use crate::waiting::CellWait;
 use crate::waking::wake_each;
 use aio_base::{Arm, ArmFault, Clock, CountFault, EventWait, Notify, OutOfMemory};
 use aio_ops::OpPass;
@@ -167,14 +170,34 @@ impl<A: Arm, W: EventWait> Shared<A, W> {
                     return Err(fault);
                 }
                 Ok(()) => {
-                    cell.wait.await_events(&cell.seat, &mut cell.round);
-                    self.words.waited(&mut cell.seat);
+                    self.wait_for_events(&mut cell.seat, &mut cell.round, &mut cell.wait);
                     return Ok(());
                 }
             }
         }
         self.settle(&mut cell.seat);
         Ok(())
+    }
+
+    /// Makes the wait of a round that has begun, and then clears `notified`: a seat that waited blocks
+    /// again.
+    fn wait_for_events(&self, seat: &mut RoundSeat, round: &mut Round, wait: &mut CellWait<W>)
+        requires words { Belongs self.now.words seat.old }
+        requires mode { IsIdleOrWaits seat.old }
+        requires risen { EndsInRise seat.old.view }
+        requires number { round.old.number ≡ seat.old.view.seen }
+        requires runs { round.old.running ≡ true }
+        requires empty { round.old.hand ≡ [] }
+        ensures awaits { Awaits W.wait_step round.old round.new wait.old wait.new
+            (W.wait_count wait.old) (W.fault_count wait.old)
+            (W.wait_count wait.new) (W.fault_count wait.new) (W.is_sure wait.old) }
+        ensures stays { W.is_sure wait.new ≡ W.is_sure wait.old }
+        ensures words { seat.new.words ≡ seat.old.words }
+        ensures cleared { (found : ℕ)
+            × (seat.new.view ≡ after (word_step.SwapNotified found) seat.old.view) }
+    {
+        wait.await_events(seat, round);
+        self.words.waited(seat);
     }
 
     /// Looks at the ticker, begins a round after a drain, and raises the ticker to its number.
@@ -335,7 +358,7 @@ impl<A: Arm, W: EventWait> Shared<A, W> {
         }
         let now = clock.now();
         match round.finish(book, now) {
-            Err(refused) => Err(refused),
+            Err(no_room) => Err(no_room),
             Ok(_) => Ok(()),
         }
     }
