@@ -2,16 +2,29 @@
 
 use aio_base::{CountFault, Dir, OutOfMemory, Poll, TimerId};
 use aio_react::InsertRefusal;
-use aio_shared::{ReactFault, ReactedIn};
+use aio_shared::{PollFault, ReactFault, ReactedIn};
 
 /// What a try to react comes to: nothing where another thread has the round cell.
 pub(crate) type Reaction = Option<Result<ReactedIn, ReactFault>>;
+
+/// What polls of a source answer.
+pub(crate) type Answer = Poll<Result<(), PollFault>>;
+
+/// The first fault of a device.
+pub(crate) const FIRST_FAULT: CountFault = CountFault {
+    before: 0,
+    after: 1,
+};
 
 /// What a thread does.
 #[derive(Clone, Copy)]
 pub(crate) enum Act {
     /// Registers a timer at this moment, in nanoseconds, with this waker.
     Insert(u64, u32),
+    /// Registers a timer at this moment with waker 0, so many times.
+    InsertTimes(u64, u32),
+    /// Registers a timer at this moment with waker 0 and takes it out again, so many times.
+    InsertAndRemove(u64, u32),
     /// Takes the timer of this moment with this id out again.
     Remove(u64, u64),
     /// Counts the rounds, and wakes the task of this waker.
@@ -20,8 +33,14 @@ pub(crate) enum Act {
     WakeApart(u32),
     /// Polls a direction of the thread's source with this waker.
     Poll(Dir, u32),
+    /// Polls the source's read direction with wakers 3 and 5 in turn while the parker is blocked.
+    PollBlocking,
+    /// Listens to that direction with waker 3, so many times.
+    Listen(u32),
     /// Reacts without waiting.
     React,
+    /// Reacts without waiting, once more where memory ran out.
+    ReactAgain,
     /// Reacts where the round seat waits for the parker.
     ReactWaiting,
     /// Takes the mask of the parker.
@@ -41,8 +60,12 @@ pub(crate) enum Came {
     Done,
     /// So many rounds had begun, and nothing failed.
     Rounds(u64),
+    /// Nothing failed so many times.
+    Times(u32),
     /// A waker waits.
     Pending,
+    /// A waker waits and took the place of one whose wake met this.
+    Replaced(PollFault),
     /// A round was begun, handled so many events and woke so many wakers.
     Round(u32, u64),
     /// A round met this.
@@ -84,6 +107,29 @@ pub(crate) fn polled<F>(answer: &Poll<Result<(), F>>) -> Came {
     match answer {
         Poll::Pending => Came::Pending,
         Poll::Ready(_) => Came::Other,
+    }
+}
+
+/// What two polls in a row came to.
+pub(crate) fn replaced(first: Answer, second: Answer) -> Came {
+    match (first, second) {
+        (Poll::Pending, Poll::Ready(Err(fault))) => Came::Replaced(fault),
+        _ => Came::Other,
+    }
+}
+
+/// What a round came to that handles one event: where memory ran out in its first call, so many events were in
+/// hand then, and the answer is that of the second call, which goes on with it.
+pub(crate) fn resumed(in_hand: usize, answer: Result<ReactedIn, ReactFault>) -> Came {
+    match answer {
+        Ok(reacted) => {
+            if in_hand <= 1 && reacted.resumed == (in_hand > 0) {
+                Came::Round(reacted.events, reacted.woken)
+            } else {
+                Came::Other
+            }
+        }
+        Err(fault) => Came::Failed(fault),
     }
 }
 

@@ -9,8 +9,8 @@ pub(crate) fn same<T: Debug + Drop + PartialEq>(rt: &impl Abort, found: T, wante
     assert_eq!(rt; found, wanted);
 }
 
-/// Takes what threads may share.
-pub(crate) fn may_be_shared<T: Send + Sync>(_value: &T) {}
+/// Takes a type of which threads may share a value.
+pub(crate) fn may_be_shared<T: Send + Sync>() {}
 
-/// Takes what may go to another thread.
-pub(crate) fn may_be_sent<T: Send>(_value: &T) {}
+/// Takes a type of which a value may go to another thread.
+pub(crate) fn may_be_sent<T: Send>() {}

@@ -1,12 +1,14 @@
 //! A thread's way into a reactor, as these tests use it.
 
 ghost use Rattle.std.specs.Prelude.{◌≡◌, ◌<◌, IfOk};
+ghost use Rattle.aio_shared.specs.Cells.{IsIdle};
+ghost use Rattle.aio_shared.specs.OneCell.{IsCellOf};
 
-use crate::acts::Reaction;
+use crate::acts::{Came, Reaction, resumed};
 use aio_base::{Arm, CountFault, EventWait, Moment, Notify, OutOfMemory, TimerId, Waker};
-use aio_devices::{MemClock, MemNotify, MemWait, SureArm, clock_at};
+use aio_devices::{MemClock, MemNotify, SureArm, clock_at};
 use aio_react::{Host, InsertRefusal, TimerHost};
-use aio_shared::{Inside, Shared};
+use aio_shared::{Inside, ReactFault, ReactedIn, RoundCell, Shared};
 use std::alloc::Global;
 use std::sync::{Arc, Wait};
 
@@ -20,11 +22,11 @@ pub(crate) struct Caller<R: Wait, N: Notify, A: Arm, W: EventWait> {
     ghost parker: { 0 < host.shared.words.parkers },
 }
 
-/// A way into a reactor whose devices never fail, and give no event.
-pub(crate) type Quiet<R> = Caller<R, MemNotify, SureArm, MemWait>;
+/// A way into a reactor whose notifier and connections never fail.
+pub(crate) type Quiet<R, W> = Caller<R, MemNotify, SureArm, W>;
 
 /// A clock that stands at so many nanoseconds.
-pub(crate) fn clock(alloc: Global, now: u64) -> Result<MemClock, OutOfMemory> {
+fn clock(alloc: Global, now: u64) -> Result<MemClock, OutOfMemory> {
     let Some(now) = Moment::new(now) else {
         return Err(OutOfMemory);
     };
@@ -34,20 +36,24 @@ pub(crate) fn clock(alloc: Global, now: u64) -> Result<MemClock, OutOfMemory> {
     }
 }
 
-/// The first way into a new reactor of one parker over this wait, with this notifier.
+/// The first way into a new reactor of one parker over this wait, with this notifier and a clock at this moment.
 pub(crate) fn enter<R: Wait + Copy, N: Notify + Drop, A: Arm + Drop, W: EventWait + Drop>(
     rt: R,
     alloc: Global,
     wait: W,
     notifier: N,
-    clock: MemClock,
+    now: u64,
 ) -> Result<Caller<R, N, A, W>, OutOfMemory>
     ensures { IfOk result (λ made. made.host.member.ops.number ≡ 0) }
 {
+    let clock = clock(alloc, now)?;
     let Ok((shared, member)) = Shared::new(alloc, 1, wait, notifier) else {
+        drop(clock);
         return Err(OutOfMemory);
     };
     let Ok(shared) = Arc::new(alloc, shared) else {
+        drop(member);
+        drop(clock);
         return Err(OutOfMemory);
     };
     Ok(Caller {
@@ -56,39 +62,30 @@ pub(crate) fn enter<R: Wait + Copy, N: Notify + Drop, A: Arm + Drop, W: EventWai
     })
 }
 
-/// The way of another thread into the same reactor, by the first one.
+/// The way of another thread into the same reactor, by the first one, with a clock at this moment.
 pub(crate) fn another<R: Wait + Copy, N: Notify + Drop, A: Arm + Drop, W: EventWait + Drop>(
     first: &mut Caller<R, N, A, W>,
-    clock: MemClock,
+    alloc: Global,
+    now: u64,
 ) -> Result<Caller<R, N, A, W>, OutOfMemory>
     requires { first.old.host.member.ops.number ≡ 0 }
     ensures { first.new.host.member.ops.number ≡ 0 }
 {
+    let clock = clock(alloc, now)?;
     let rt = first.host.rt;
     let Ok(member) = first.host.shared.member(&rt, &mut first.host.member) else {
+        drop(clock);
         return Err(OutOfMemory);
     };
     let Ok(shared) = Arc::try_clone(&first.host.shared) else {
+        drop(member);
+        drop(clock);
         return Err(OutOfMemory);
     };
     Ok(Caller {
         host: Inside { rt, shared, member },
         clock,
     })
-}
-
-/// Two ways into a new reactor over this wait, with clocks at this moment.
-pub(crate) fn two_callers<R: Wait + Copy>(
-    rt: R,
-    alloc: Global,
-    wait: MemWait,
-    now: u64,
-) -> Result<(Quiet<R>, Quiet<R>), OutOfMemory> {
-    let now_of_other = clock(alloc, now)?;
-    let now = clock(alloc, now)?;
-    let mut first = enter(rt, alloc, wait, MemNotify::new(), now)?;
-    let other = another(&mut first, now_of_other)?;
-    Ok((first, other))
 }
 
 /// Registers a timer, where an id is left. Where none is, the answer is that of a host without memory.
@@ -103,6 +100,38 @@ pub(crate) fn insert<H: TimerHost>(
         Some(at) if host.ids_left() => host.insert_timer(at, Waker(waker)),
         _ => Err(InsertRefusal::OutOfMemory),
     }
+}
+
+/// Registers a timer with waker 0, and takes it out again where it is not to be kept. Whether nothing failed.
+fn insert_once<H: TimerHost>(host: &mut H, at: u64, kept: bool) -> bool
+    ensures { H.is_later host.old host.new }
+{
+    let Ok(id) = insert(host, at, 0) else {
+        return false;
+    };
+    if kept {
+        return true;
+    }
+    remove(host, at, id.0).is_ok()
+}
+
+/// Registers a timer with waker 0, and takes it out again where it is not to be kept, so many times. How
+/// often nothing failed.
+pub(crate) fn insert_times<R: Wait, N: Notify, A: Arm, W: EventWait>(
+    host: &mut Inside<R, N, A, W>,
+    at: u64,
+    times: u32,
+    kept: bool,
+) -> u32
+    ensures { host.new.shared ≡ host.old.shared }
+{
+    let mut done: u32 = 0;
+    for _ in 0..times {
+        if insert_once(host, at, kept) {
+            done = done.saturating_add(1);
+        }
+    }
+    done
 }
 
 /// Takes a timer out again.
@@ -123,40 +152,68 @@ pub(crate) fn count_and_wake<H: Host>(host: &mut H, waker: u32) -> (u64, Result<
     (rounds, host.wake(Waker(waker)))
 }
 
+/// Reacts by a cell that the thread has taken, by this clock, without waiting.
+fn react_by<R: Wait, N: Notify, A: Arm, W: EventWait>(
+    host: &mut Inside<R, N, A, W>,
+    cell: &mut RoundCell<W>,
+    clock: &mut MemClock,
+) -> Result<ReactedIn, ReactFault>
+    requires cell { IsCellOf host.old.member.claim cell.old }
+    requires idle { IsIdle cell.old }
+    ensures shared { host.new.shared ≡ host.old.shared }
+    ensures claim { host.new.member.claim ≡ host.old.member.claim }
+    ensures cell { IsCellOf host.new.member.claim cell.new }
+    ensures idle { IsIdle cell.new }
+{
+    host.shared
+        .react_in(&host.rt, &mut host.member, cell, clock, Some(0))
+}
+
 /// Tries the reactor lock; where the thread has the cell, reacts by this clock without waiting, and gives the
 /// cell back. `None` where another thread has it.
-fn react<R: Wait, N: Notify, A: Arm, W: EventWait>(
+pub(crate) fn react<R: Wait, N: Notify, A: Arm, W: EventWait>(
     host: &mut Inside<R, N, A, W>,
     clock: &mut MemClock,
 ) -> Reaction
     ensures { host.new.shared ≡ host.old.shared }
 {
     let mut cell = host.shared.try_round(&host.rt, &mut host.member)?;
-    let answer = host
-        .shared
-        .react_in(&host.rt, &mut host.member, &mut cell, clock, Some(0));
+    let answer = react_by(host, &mut cell, clock);
     host.shared.give_round(&host.rt, &mut host.member, cell);
     Some(answer)
 }
 
-impl<R: Wait, N: Notify, A: Arm, W: EventWait> Caller<R, N, A, W> {
-    /// Tries to react without waiting.
-    pub(crate) fn react(&mut self) -> Reaction
-        ensures { self.new.host.shared ≡ self.old.host.shared }
-    {
-        react(&mut self.host, &mut self.clock)
+/// Makes a round. Where memory ran out in it, so many events were in hand then, and the answer is that of the
+/// next call, which goes on with it.
+fn react_twice_at_most<R: Wait, N: Notify, A: Arm, W: EventWait>(
+    host: &mut Inside<R, N, A, W>,
+    cell: &mut RoundCell<W>,
+    clock: &mut MemClock,
+) -> (usize, Result<ReactedIn, ReactFault>)
+    requires cell { IsCellOf host.old.member.claim cell.old }
+    requires idle { IsIdle cell.old }
+    ensures shared { host.new.shared ≡ host.old.shared }
+    ensures claim { host.new.member.claim ≡ host.old.member.claim }
+    ensures cell { IsCellOf host.new.member.claim cell.new }
+    ensures idle { IsIdle cell.new }
+{
+    let first = react_by(host, cell, clock);
+    if first != Err(ReactFault::OutOfMemory) {
+        return (0, first);
     }
+    let in_hand = cell.round().in_hand();
+    (in_hand, react_by(host, cell, clock))
 }
 
-impl<R: Wait> Quiet<R> {
-    /// Registers a timer with waker 0 so many times. How often nothing failed.
-    pub(crate) fn insert_times(&mut self, at: u64, times: u32) -> u32 {
-        let mut taken: u32 = 0;
-        for _ in 0..times {
-            if insert(&mut self.host, at, 0).is_ok() {
-                taken = taken.saturating_add(1);
-            }
-        }
-        taken
-    }
+/// Takes the cell, makes a round, by two calls where memory ran out in the first, and gives the cell back.
+pub(crate) fn react_again<R: Wait, N: Notify, A: Arm, W: EventWait>(
+    host: &mut Inside<R, N, A, W>,
+    clock: &mut MemClock,
+) -> Came
+    ensures { host.new.shared ≡ host.old.shared }
+{
+    let mut cell = host.shared.take_round(&host.rt, &mut host.member);
+    let (in_hand, answer) = react_twice_at_most(host, &mut cell, clock);
+    host.shared.give_round(&host.rt, &mut host.member, cell);
+    resumed(in_hand, answer)
 }

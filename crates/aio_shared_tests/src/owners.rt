@@ -1,16 +1,18 @@
 //! A thread with a source of its own, which carries out the acts of a table.
 
-ghost use Rattle.std.specs.Prelude.{◌≡◌, false};
+ghost use Rattle.std.specs.Prelude.{◌≡◌, ◌<◌, false};
 
-use crate::acts::{Act, Came, inserted, polled, reacted, removed, woken};
+use crate::acts::{Act, Came, inserted, polled, reacted, removed, replaced, woken};
 use crate::asserts::same;
-use crate::hosts::{Caller, clock, count_and_wake, enter, insert, remove};
-use crate::seats::{Answer, look, poll_while_blocking, react_waiting, take, wake_apart};
-use aio_base::{Arm, Dir, EventWait, Notify, Poll, Waker};
-use aio_devices::{FailingNotify, MemWait, SureArm};
+use crate::hosts::{
+    Caller, count_and_wake, enter, insert, insert_times, react, react_again, remove,
+};
+use crate::seats::{look, poll_while_blocking, react_waiting, take, wake_apart};
+use aio_base::{Arm, Dir, EventWait, Notify, Waker};
+use aio_devices::SureArm;
 use aio_react::Host;
-use aio_shared::{InsertFault, Shared, SourceRef};
-use aio_source::Polled;
+use aio_shared::{InsertFault, Inside, SourceRef};
+use aio_source::{Polled, SourceCell};
 use std::alloc::Global;
 use std::process::Abort;
 use std::sync::Wait;
@@ -27,27 +29,49 @@ pub(crate) struct Owner<R: Wait, N: Notify, A: Arm, W: EventWait> {
     ghost outside: { source.inside ≡ false },
 }
 
+/// Registers a timer or takes it out again, or wakes a task.
+fn act_on_host<H: Host>(host: &mut H, act: Act) -> Came
+    ensures { H.is_later host.old host.new }
+{
+    match act {
+        Act::Insert(at, waker) => inserted(insert(host, at, waker)),
+        Act::Remove(at, id) => removed(remove(host, at, id)),
+        Act::Wake(waker) => {
+            let (rounds, answer) = count_and_wake(host, waker);
+            woken(rounds, answer)
+        }
+        _ => Came::Other,
+    }
+}
+
+/// Does this, unless it needs a clock or a source.
+fn act_inside<R: Wait, N: Notify, A: Arm, W: EventWait>(
+    host: &mut Inside<R, N, A, W>,
+    act: Act,
+) -> Came
+    requires { 0 < host.old.shared.words.parkers }
+    ensures { host.new.shared ≡ host.old.shared }
+{
+    match act {
+        Act::InsertTimes(at, times) => Came::Times(insert_times(host, at, times, true)),
+        Act::InsertAndRemove(at, times) => Came::Times(insert_times(host, at, times, false)),
+        Act::WakeApart(waker) => wake_apart(host, waker),
+        Act::Take => Came::Mask(take(host)),
+        Act::Look => look(host),
+        act => act_on_host(host, act),
+    }
+}
+
 impl<R: Wait, N: Notify, A: Arm, W: EventWait> Caller<R, N, A, W> {
-    /// Does this, unless it is a poll.
+    /// Does this, unless it is done to a source.
     pub(crate) fn act(&mut self, act: Act) -> Came
         ensures { self.new.host.shared ≡ self.old.host.shared }
     {
-        if let Act::React = act {
-            return reacted(self.react());
-        }
-        let host = &mut self.host;
         match act {
-            Act::Insert(at, waker) => inserted(insert(host, at, waker)),
-            Act::Remove(at, id) => removed(remove(host, at, id)),
-            Act::Wake(waker) => {
-                let (rounds, answer) = count_and_wake(host, waker);
-                woken(rounds, answer)
-            }
-            Act::WakeApart(waker) => wake_apart(host, waker),
-            Act::Poll(..) | Act::React => Came::Other,
-            Act::ReactWaiting => reacted(react_waiting(host, &mut self.clock)),
-            Act::Take => Came::Mask(take(host)),
-            Act::Look => look(host),
+            Act::React => reacted(react(&mut self.host, &mut self.clock)),
+            Act::ReactAgain => react_again(&mut self.host, &mut self.clock),
+            Act::ReactWaiting => reacted(react_waiting(&mut self.host, &mut self.clock)),
+            act => act_inside(&mut self.host, act),
         }
     }
 
@@ -64,7 +88,11 @@ impl<R: Wait + Copy, N: Notify + Drop, A: Arm + Drop, W: EventWait + Drop> Owner
     pub(crate) fn new(caller: Caller<R, N, A, W>, io: A) -> Result<Owner<R, N, A, W>, InsertFault> {
         match caller.host.insert_source(io) {
             Ok(source) => Ok(Owner { caller, source }),
-            Err((_, fault)) => Err(fault),
+            Err((io, fault)) => {
+                drop(io);
+                drop(caller);
+                Err(fault)
+            }
         }
     }
 }
@@ -77,26 +105,63 @@ pub(crate) fn owner_over<R: Wait + Copy, N: Notify + Drop, A: Arm + Drop, W: Eve
     now: u64,
 ) -> Result<Owner<R, N, A, W>, Fail> {
     let (notifier, io, wait) = devices;
-    let clock = clock(alloc, now)?;
-    let caller = enter(rt, alloc, wait, notifier, clock)?;
+    let caller = enter(rt, alloc, wait, notifier, now)?;
     Ok(Owner::new(caller, io)?)
 }
 
+/// Listens to the read direction of a source so many times, with waker 3. How often it did.
+fn listen_each<A: Arm>(cell: &mut SourceCell<A>, ticker: u64, times: u32) -> u32
+    ensures { cell.new.state.key ≡ cell.old.state.key }
+{
+    let mut done: u32 = 0;
+    for _ in 0..times {
+        let listened = cell
+            .state
+            .first_listen(&mut cell.io, Dir::Read, Waker(3), ticker);
+        if listened.is_ok() {
+            done = done.saturating_add(1);
+        }
+    }
+    done
+}
+
+/// Polls a source, or listens to it.
+fn visit<A: Arm>(cell: &mut SourceCell<A>, ticker: u64, act: Act) -> Came
+    ensures { cell.new.state.key ≡ cell.old.state.key }
+{
+    match act {
+        Act::Poll(dir, waker) => {
+            let answer = cell.state.poll_dir(&mut cell.io, dir, Waker(waker), ticker);
+            polled(&answer.answer)
+        }
+        Act::Listen(times) => Came::Times(listen_each(cell, ticker, times)),
+        _ => Came::Other,
+    }
+}
+
 impl<R: Wait, N: Notify, A: Arm, W: EventWait> Owner<R, N, A, W> {
-    /// Enters the source, polls a direction of it, and leaves it.
-    pub(crate) fn poll(&mut self, dir: Dir, waker: u32) -> Polled {
+    /// Enters the source, polls it or listens to it, and leaves it.
+    fn visit(&mut self, act: Act) -> Came {
         let ticker = self.caller.host.ticker();
         let host = &self.caller.host;
         let mut cell = host.shared.enter(&host.rt, &mut self.source);
-        let polled = cell.state.poll_dir(&mut cell.io, dir, Waker(waker), ticker);
+        let came = visit(&mut cell, ticker, act);
         host.shared.leave(&mut self.source, cell);
-        polled
+        came
+    }
+
+    /// Polls the source with two wakers in turn while the parker is blocked.
+    fn poll_blocking(&mut self) -> Came {
+        let caller = &mut self.caller;
+        let (first, second) = poll_while_blocking(&mut caller.host, &mut self.source);
+        replaced(first, second)
     }
 
     /// Does this.
-    fn act(&mut self, act: Act) -> Came {
+    pub(crate) fn act(&mut self, act: Act) -> Came {
         match act {
-            Act::Poll(dir, waker) => polled(&self.poll(dir, waker).answer),
+            Act::Poll(..) | Act::Listen(_) => self.visit(act),
+            Act::PollBlocking => self.poll_blocking(),
             act => self.caller.act(act),
         }
     }
@@ -109,61 +174,34 @@ impl<R: Wait, N: Notify, A: Arm, W: EventWait> Owner<R, N, A, W> {
     }
 }
 
-/// Enters a source, polls its read direction with waker 3, raises its connection's number by one, and leaves it.
-/// Whether the poll was pending.
-fn poll_and_count_in<R: Wait, W: EventWait>(
+/// Makes a new reactor over these devices for a thread whose clock stands at this moment, inserts its
+/// connection, and asserts that what these acts come to is what stands beside each.
+pub(crate) fn plays<R: Wait + Abort, N: Notify + Drop, A: Arm + Drop, W: EventWait + Drop>(
     rt: &R,
-    shared: &Shared<SureArm, W>,
-    token: &mut SourceRef<SureArm>,
-) -> bool
-    requires belongs { token.old.words ≡ shared.now.words.identity }
-    requires outside { token.old.inside ≡ false }
-    ensures belongs { token.new.words ≡ shared.now.words.identity }
-    ensures outside { token.new.inside ≡ false }
-{
-    let mut cell = shared.enter(rt, token);
-    let polled = cell.state.poll_dir(&mut cell.io, Dir::Read, Waker(3), 0);
-    cell.io.number = cell.io.number.saturating_add(1);
-    shared.leave(token, cell);
-    polled.answer == Poll::Pending
-}
-
-/// Enters and leaves a source. The number of its connection.
-fn number_in<R: Wait, W: EventWait>(
-    rt: &R,
-    shared: &Shared<SureArm, W>,
-    token: &mut SourceRef<SureArm>,
-) -> u64
-    requires belongs { token.old.words ≡ shared.now.words.identity }
-    requires outside { token.old.inside ≡ false }
-    ensures token { token.new ≡ token.old }
-{
-    let cell = shared.enter(rt, token);
-    let number = cell.io.number;
-    shared.leave(token, cell);
-    number
+    alloc: Global,
+    devices: (N, A, W),
+    now: u64,
+    rows: &[(Act, Came)],
+) -> Result<(), Fail> {
+    let mut owner = owner_over(rt, alloc, devices, now)?;
+    owner.plays(rt, rows);
+    drop(owner);
+    Ok(())
 }
 
 impl<R: Wait, N: Notify, W: EventWait> Owner<R, N, SureArm, W> {
-    /// Polls the source and raises its connection's number by one. Whether the poll was pending.
-    pub(crate) fn poll_and_count(&mut self) -> bool {
-        let caller = &self.caller;
-        let host = &caller.host;
-        poll_and_count_in(&host.rt, &host.shared, &mut self.source)
-    }
-
-    /// The number of the source's connection.
-    pub(crate) fn number(&mut self) -> u64 {
-        let caller = &self.caller;
-        let host = &caller.host;
-        number_in(&host.rt, &host.shared, &mut self.source)
-    }
-}
-
-impl<R: Wait> Owner<R, FailingNotify, SureArm, MemWait> {
-    /// Polls the source with two wakers in turn while the parker is blocked.
-    pub(crate) fn poll_blocking(&mut self) -> (Answer, Answer) {
-        let caller = &mut self.caller;
-        poll_while_blocking(&mut caller.host, &mut self.source)
+    /// Enters the source, polls its read direction, raises its connection's number by one, and leaves it. The
+    /// answer, and the number then.
+    pub(crate) fn poll_and_count(&mut self, waker: u32) -> (Polled, u64) {
+        let ticker = self.caller.host.ticker();
+        let host = &self.caller.host;
+        let mut cell = host.shared.enter(&host.rt, &mut self.source);
+        let polled = cell
+            .state
+            .poll_dir(&mut cell.io, Dir::Read, Waker(waker), ticker);
+        let number = cell.io.number.saturating_add(1);
+        cell.io.number = number;
+        host.shared.leave(&mut self.source, cell);
+        (polled, number)
     }
 }

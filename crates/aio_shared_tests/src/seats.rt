@@ -7,10 +7,10 @@ ghost use Rattle.aio_shared.specs.Cells.{IsIdle};
 ghost use Rattle.aio_shared.specs.Members.{IsMemberOf};
 ghost use Rattle.aio_shared.specs.OneCell.{IsCellOf};
 
-use crate::acts::{Came, Reaction};
-use aio_base::{Arm, Dir, EventWait, Notify, Poll, Waker};
-use aio_devices::{FailingNotify, MemClock, MemNotify, MemWait, SureArm};
-use aio_shared::{Inside, Member, PollFault, RoundCell, Shared, SourceRef};
+use crate::acts::{Answer, Came, Reaction};
+use aio_base::{Arm, Dir, EventWait, Notify, Waker};
+use aio_devices::{MemClock, MemNotify};
+use aio_shared::{Inside, Member, RoundCell, Shared, SourceRef};
 use aio_words::{RoundSeat, Words};
 use std::sync::Wait;
 
@@ -115,9 +115,6 @@ pub(crate) fn wake_apart<R: Wait, N: Notify, A: Arm, W: EventWait>(
     }
 }
 
-/// What polls of a source answer.
-pub(crate) type Answer = Poll<Result<(), PollFault>>;
-
 /// Blocks parker 0 by the seat of a cell.
 fn block_in<N: Notify, A: Arm, W: EventWait>(
     shared: &Shared<A, W>,
@@ -136,9 +133,9 @@ fn block_in<N: Notify, A: Arm, W: EventWait>(
 
 /// Blocks parker 0, polls the read direction of a source with two wakers in turn, and gives the cell back. The
 /// second waker takes the place of the first, whose wake has to call the notifier.
-pub(crate) fn poll_while_blocking<R: Wait>(
-    host: &mut Inside<R, FailingNotify, SureArm, MemWait>,
-    source: &mut SourceRef<SureArm>,
+pub(crate) fn poll_while_blocking<R: Wait, N: Notify, A: Arm, W: EventWait>(
+    host: &mut Inside<R, N, A, W>,
+    source: &mut SourceRef<A>,
 ) -> (Answer, Answer)
     requires parker { 0 < host.old.shared.words.parkers }
     requires outside { source.old.inside ≡ false }

@@ -1,14 +1,15 @@
 //! What no clause says of a thread's calls: that they succeed with ample memory and go together, and what one
 //! that meets a failing device answers.
 
-ghost use Rattle.std.specs.Prelude.{◌≤◌};
+ghost use Rattle.std.specs.Prelude.{◌≡◌, ◌≤◌};
 
 use crate::acts::Act::{Insert, Look, Poll, React, ReactWaiting, Remove, Take, Wake, WakeApart};
 use crate::acts::Came::{Cell, Done, Failed, Id, Mask, Pending, Refused, Round, Rounds};
-use crate::acts::{Act, Came};
-use crate::hosts::two_callers;
-use crate::owners::owner_over;
-use aio_base::{Arm, ArmFault, CountFault, Dir, Event, EventWait, Interest, Key, Notify, TimerId};
+use crate::acts::{Act, Came, FIRST_FAULT};
+use crate::hosts::{Quiet, another, enter};
+use crate::owners::plays;
+use crate::scripts::one_by_one;
+use aio_base::{ArmFault, CountFault, Dir, Interest, Key, TimerId};
 use aio_devices::{
     FailingArm, FailingNotify, FailingWait, MemNotify, MemWait, ScriptedWait, SureArm, WaitAnswer,
 };
@@ -18,20 +19,6 @@ use std::alloc::Global;
 use std::process::Abort;
 use std::sync::Wait;
 use std::test::Fail;
-
-/// Makes a new reactor over these devices for a thread whose clock stands at this moment, inserts its
-/// connection, and asserts that what these acts come to is what stands beside each.
-fn plays<R: Wait + Abort, N: Notify + Drop, A: Arm + Drop, W: EventWait + Drop>(
-    rt: &R,
-    alloc: Global,
-    devices: (N, A, W),
-    now: u64,
-    rows: &[(Act, Came)],
-) -> Result<(), Fail> {
-    let mut owner = owner_over(rt, alloc, devices, now)?;
-    owner.plays(rt, rows);
-    Ok(())
-}
 
 /// Devices that never fail, whose waits give an event of each of so many keys.
 fn sure(keys: u32) -> (MemNotify, SureArm, MemWait)
@@ -63,12 +50,6 @@ fn a_timer_that_is_taken_out_again_is_not_registered(rt: HostRuntime) -> Result<
 fn a_round_wakes_no_timer_that_was_taken_out(rt: HostRuntime) -> Result<(), Fail> {
     plays(&rt, rt.alloc(), sure(0), 10, &TAKEN_OUT)
 }
-
-/// The first fault of a device.
-const FIRST_FAULT: CountFault = CountFault {
-    before: 0,
-    after: 1,
-};
 
 /// Its second one.
 const SECOND_FAULT: CountFault = CountFault {
@@ -116,18 +97,33 @@ const OTHER_IDS: [(Act, Came); 1] = [(Insert(5, 0), Id((1 << 40) + 1))];
 
 const NEXT_IDS: [(Act, Came); 2] = [(Insert(5, 0), Id(2)), (React, Round(0, 3))];
 
-/// Two members of a new reactor register timers in turn.
-fn insert_by_two<R: Wait + Abort>(rt: &R, alloc: Global) -> Result<(), Fail> {
-    let (mut first, mut second) = two_callers(rt, alloc, MemWait::new(0), 5)?;
+/// Asserts the ids of timers that two members of a reactor register in turn.
+fn insert_by_two<R: Wait + Abort>(
+    rt: &R,
+    alloc: Global,
+    first: &mut Quiet<&R, MemWait>,
+) -> Result<(), Fail>
+    requires { first.old.host.member.ops.number ≡ 0 }
+{
+    let mut second = another(first, alloc, 5)?;
     first.plays(rt, &FIRST_IDS);
     second.plays(rt, &OTHER_IDS);
     first.plays(rt, &NEXT_IDS);
+    drop(second);
     Ok(())
 }
 
+/// The same in a new reactor.
+fn insert_in_new<R: Wait + Abort>(rt: &R, alloc: Global) -> Result<(), Fail> {
+    let mut first = enter(rt, alloc, MemWait::new(0), MemNotify::new(), 5)?;
+    let inserted = insert_by_two(rt, alloc, &mut first);
+    drop(first);
+    inserted
+}
+
 #[test]
-fn ids_of_two_members_differ(rt: HostRuntime) -> Result<(), Fail> {
-    insert_by_two(&rt, rt.alloc())
+fn a_member_comes_beside_the_first_and_draws_other_ids(rt: HostRuntime) -> Result<(), Fail> {
+    insert_in_new(&rt, rt.alloc())
 }
 
 const WAKES_AND_TAKES: [(Act, Came); 3] = [
@@ -207,16 +203,6 @@ fn a_round_handles_1024_events(rt: HostRuntime) -> Result<(), Fail> {
     plays(&rt, rt.alloc(), sure(1024), 5, &MANY_EVENTS)
 }
 
-/// A wait that gives one event of the read direction for key 0.
-fn readable(alloc: Global) -> Result<ScriptedWait, Fail> {
-    let event = Event {
-        key: Key(0),
-        on: Interest::READ,
-    };
-    let answer = WaitAnswer::Gives(vec![in alloc; event]?);
-    Ok(ScriptedWait::new(vec![in alloc; answer]?))
-}
-
 const ARM_FAILS: [(Act, Came); 4] = [
     (Poll(Dir::Read, 3), Pending),
     (Poll(Dir::Write, 4), Pending),
@@ -234,6 +220,7 @@ const ARM_FAILS: [(Act, Came); 4] = [
 #[test]
 fn a_failed_arm_is_told_and_the_taken_are_woken(rt: HostRuntime) -> Result<(), Fail> {
     let io = FailingArm::new(5, vec![in rt.alloc(); 4]?);
-    let devices = (MemNotify::new(), io, readable(rt.alloc())?);
+    let wait = one_by_one(rt.alloc(), &[0], Interest::READ)?;
+    let devices = (MemNotify::new(), io, wait);
     plays(&rt, rt.alloc(), devices, 5, &ARM_FAILS)
 }

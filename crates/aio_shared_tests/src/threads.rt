@@ -3,107 +3,49 @@
 
 ghost use Rattle.std.specs.Prelude.{◌≡◌};
 
-use crate::acts::Act::React;
+use crate::acts::Act::{Insert, InsertAndRemove, InsertTimes, React};
 use crate::acts::Came::Round;
-use crate::acts::{Act, Came, Reaction};
+use crate::acts::{Act, Came};
 use crate::asserts::same;
-use crate::hosts::{Caller, Quiet, another, clock, enter, insert, remove, two_callers};
+use crate::hosts::{Quiet, another, enter};
 use crate::owners::Owner;
-use aio_base::{Dir, Event, Interest, Key, Poll};
-use aio_devices::{MemNotify, MemWait, ScriptedWait, SureArm, WaitAnswer};
+use aio_base::{Event, Interest, Key, Poll};
+use aio_devices::{MemNotify, ScriptedWait, SureArm, WaitAnswer};
 use aio_source::Polled;
 use std::alloc::Global;
-use std::process::Abort;
 use std::sync::Wait;
 use std::test::Fail;
-use std::thread::{Threads, join};
+use std::thread::{Threads, map_vec};
 
-/// Two threads register timers 800 times each; the answers are how often the reactor registered one.
-fn insert_on_two_threads<R: Threads + Wait + Sync>(
-    rt: &R,
-    mut one: Quiet<&R>,
-    mut other: Quiet<&R>,
-) -> (u32, u32) {
-    join(
-        rt,
-        move || one.insert_times(5, 800),
-        move || other.insert_times(5, 800),
-    )
+/// What each of several threads does beside the others.
+#[derive(Clone, Copy)]
+enum Job {
+    /// This, once.
+    Once(Act),
+    /// Timers, a poll and a round, in so many turns.
+    Turns(u32),
 }
 
-const ALL_OF_BOTH: [(Act, Came); 1] = [(React, Round(0, 1600))];
-
-#[test]
-fn timers_of_two_threads_are_all_registered(rt: HostRuntime) -> Result<(), Fail> {
-    let now = clock(rt.alloc(), 5)?;
-    let mut first: Quiet<_> = enter(&rt, rt.alloc(), MemWait::new(0), MemNotify::new(), now)?;
-    let one = another(&mut first, clock(rt.alloc(), 5)?)?;
-    let other = another(&mut first, clock(rt.alloc(), 5)?)?;
-    same(&rt, insert_on_two_threads(&rt, one, other), (800, 800));
-    first.plays(&rt, &ALL_OF_BOTH);
-    Ok(())
+/// A thread before it begins, over a wait with a script.
+#[derive(Drop)]
+struct Worker<R: Wait> {
+    caller: Quiet<R, ScriptedWait>,
+    job: Job,
 }
 
-/// An owner of a source over a wait that gives an event of the first key in each round.
-type Poller<R> = Owner<R, MemNotify, SureArm, MemWait>;
+/// A thread with a source of its own.
+type Poller<R> = Owner<R, MemNotify, SureArm, ScriptedWait>;
 
-/// Polls a source and raises the number of its connection so many times.
-fn poll_times<R: Wait + Copy>(mut owner: Poller<R>, times: u32) -> Poller<R> {
-    for _ in 0..times {
-        owner.poll_and_count();
-    }
-    owner
-}
+/// The number that each connection begins with.
+const FIRST_NUMBER: u64 = 7;
 
-/// How many wakers a reaction woke.
-fn woken_in(reaction: Reaction) -> u64 {
-    match reaction {
-        Some(Ok(reacted)) => reacted.woken,
-        _ => 0,
-    }
-}
-
-/// Makes so many rounds. How many wakers were woken.
-fn react_times<R: Wait + Copy>(mut caller: Quiet<R>, times: u32) -> u64 {
-    let mut woken: u64 = 0;
-    for _ in 0..times {
-        woken = woken.saturating_add(woken_in(caller.react()));
-    }
-    woken
-}
-
-/// One thread polls its source, and another makes rounds, 200 times each.
-fn poll_beside_rounds<'a, R: Threads + Wait + Sync>(
-    rt: &'a R,
-    owner: Poller<&'a R>,
-    caller: Quiet<&'a R>,
-) -> (Poller<&'a R>, u64) {
-    join(
-        rt,
-        move || poll_times(owner, 200),
-        move || react_times(caller, 200),
-    )
-}
-
-#[test]
-fn a_token_knows_its_connection_beside_rounds(rt: HostRuntime) -> Result<(), Fail> {
-    let (first, beside) = two_callers(&rt, rt.alloc(), MemWait::new(1), 30)?;
-    let owner = Owner::new(first, SureArm::new(7))?;
-    let (mut owner, woken) = poll_beside_rounds(&rt, owner, beside);
-    same(&rt, woken <= 200, true);
-    same(&rt, owner.number(), 207);
-    Ok(())
-}
-
-/// How often each thread does its work.
-const TURNS: u32 = 100;
-
-/// How many wakers were stored, in timers that are due and in sources; and how many came, out of a round
-/// or because another one took their place.
+/// How many wakers were stored, in timers and in sources; how many came, out of a round or because another
+/// one took their place; and in how many turns a source's connection had the number that was left there.
 #[derive(Clone, Copy)]
 struct Tally {
     stored: u64,
     came: u64,
+    known: u64,
 }
 
 impl Tally {
@@ -111,106 +53,130 @@ impl Tally {
         Tally {
             stored: self.stored.saturating_add(other.stored),
             came: self.came.saturating_add(other.came),
+            known: self.known.saturating_add(other.known),
         }
     }
 }
 
-const NOTHING: Tally = Tally { stored: 0, came: 0 };
+const NOTHING: Tally = Tally {
+    stored: 0,
+    came: 0,
+    known: 0,
+};
+
+/// What an act comes to.
+fn tally_of(came: Came) -> Tally {
+    let (stored, came) = match came {
+        Came::Id(_) => (1, 0),
+        Came::Times(times) => (u64::from(times), 0),
+        Came::Round(_, woken) => (0, woken),
+        _ => (0, 0),
+    };
+    Tally {
+        stored,
+        came,
+        known: 0,
+    }
+}
 
 fn one_if(holds: bool) -> u64 {
     if holds { 1 } else { 0 }
 }
 
-/// What a poll comes to: one waker is stored where it is pending.
-fn polled_as(polled: Polled) -> Tally {
+/// What the poll of this turn comes to, which left the connection with this number: one waker is stored where
+/// it is pending.
+fn polled_as(polled: Polled, number: u64, turn: u32) -> Tally {
     Tally {
         stored: one_if(polled.answer == Poll::Pending),
         came: one_if(polled.replaced.is_some()),
+        known: one_if(number == FIRST_NUMBER + 1 + u64::from(turn)),
     }
 }
 
-/// Registers a timer that is due; and one that is not due yet, which is taken out again.
-fn set_timers<R: Wait>(caller: &mut Worker<R>, waker: u32) -> Tally
-    ensures { caller.new.host.shared ≡ caller.old.host.shared }
-{
-    let host = &mut caller.host;
-    if let Ok(id) = insert(host, 9, waker) {
-        if remove(host, 9, id.0).is_err() {
-            return NOTHING;
-        }
-    }
-    Tally {
-        stored: one_if(insert(host, 5, waker).is_ok()),
-        came: 0,
-    }
+/// Registers a timer that is not due yet, which is taken out again, and one that is due; polls the source,
+/// each time with another waker than the time before; and tries to react.
+fn take_turn<R: Wait>(owner: &mut Poller<R>, turn: u32) -> Tally {
+    let waker = turn % 2;
+    owner.act(InsertAndRemove(9, 1));
+    let set = owner.act(Insert(5, waker));
+    let (polled, number) = owner.poll_and_count(waker);
+    let reacted = owner.act(React);
+    polled_as(polled, number, turn)
+        .and(tally_of(set))
+        .and(tally_of(reacted))
 }
 
-/// A caller over a wait whose rounds give events of two keys in turn.
-type Worker<R> = Caller<R, MemNotify, SureArm, ScriptedWait>;
-
-/// Tries to react: what came.
-fn react_once<R: Wait>(caller: &mut Worker<R>) -> Tally
-    ensures { caller.new.host.shared ≡ caller.old.host.shared }
-{
-    Tally {
-        stored: 0,
-        came: woken_in(caller.react()),
-    }
-}
-
-/// Sets timers, polls a source, and tries to react.
-fn work_once<R: Wait>(owner: &mut Owner<R, MemNotify, SureArm, ScriptedWait>, waker: u32) -> Tally {
-    let set = set_timers(&mut owner.caller, waker);
-    let polled = owner.poll(Dir::Read, waker);
-    let reacted = react_once(&mut owner.caller);
-    set.and(polled_as(polled)).and(reacted)
-}
-
-/// A thread's work with a source of its own, which it leaves in the table. Each poll has another waker than
-/// the one before.
-fn work<R: Wait + Copy>(caller: Worker<R>) -> Tally {
-    let Ok(mut owner) = Owner::new(caller, SureArm::new(0)) else {
-        return NOTHING;
-    };
+/// Takes so many turns.
+fn take_turns<R: Wait>(owner: &mut Poller<R>, turns: u32) -> Tally {
     let mut tally = NOTHING;
-    for turn in 0..TURNS {
-        tally = tally.and(work_once(&mut owner, turn % 2));
+    for turn in 0..turns {
+        tally = tally.and(take_turn(owner, turn));
     }
     tally
 }
 
-/// Two threads at work.
-fn work_on_two<R: Threads + Wait + Sync>(rt: &R, pair: (Worker<&R>, Worker<&R>)) -> Tally {
-    let (one, other) = pair;
-    let (first, second) = join(rt, move || work(one), move || work(other));
-    first.and(second)
+/// Does this job.
+fn do_job<R: Wait>(owner: &mut Poller<R>, job: Job) -> Tally {
+    match job {
+        Job::Once(act) => tally_of(owner.act(act)),
+        Job::Turns(turns) => take_turns(owner, turns),
+    }
 }
 
-/// Four threads at work.
-fn work_on_four<R: Threads + Wait + Sync>(
-    rt: &R,
-    ones: (Worker<&R>, Worker<&R>),
-    others: (Worker<&R>, Worker<&R>),
-) -> Tally {
-    let (first, second) = join(
-        rt,
-        move || work_on_two(rt, ones),
-        move || work_on_two(rt, others),
-    );
-    first.and(second)
+/// A thread's job with a source of its own, which it leaves in the table.
+fn work<R: Wait + Copy>(worker: Worker<R>) -> Tally {
+    let Worker { caller, job } = worker;
+    let Ok(mut owner) = Owner::new(caller, SureArm::new(FIRST_NUMBER)) else {
+        return NOTHING;
+    };
+    let tally = do_job(&mut owner, job);
+    drop(owner);
+    tally
 }
 
-/// Two more threads.
-fn two_more<R: Wait + Copy>(
+/// So many more threads, each with this job and a clock at 5.
+fn workers<R: Wait + Copy>(
     alloc: Global,
-    first: &mut Worker<R>,
-) -> Result<(Worker<R>, Worker<R>), Fail>
+    first: &mut Quiet<R, ScriptedWait>,
+    threads: u32,
+    job: Job,
+) -> Result<Vec<Worker<R>>, Fail>
     requires { first.old.host.member.ops.number ≡ 0 }
-    ensures { first.new.host.member.ops.number ≡ 0 }
 {
-    let one = another(first, clock(alloc, 5)?)?;
-    let other = another(first, clock(alloc, 5)?)?;
-    Ok((one, other))
+    let mut workers = Vec::new(alloc);
+    for _ in 0..threads {
+        let caller = another(first, alloc, 5)?;
+        workers.push(Worker { caller, job })?;
+    }
+    Ok(workers)
+}
+
+/// What these threads come to together, all at the same time.
+fn work_together<R: Threads + Wait + Sync>(
+    rt: &R,
+    workers: Vec<Worker<&R>>,
+) -> Result<Tally, Fail> {
+    let tallies = map_vec(rt, workers, &work)?;
+    let mut sum = NOTHING;
+    for tally in &tallies {
+        sum = sum.and(*tally);
+    }
+    Ok(sum)
+}
+
+/// What so many more threads with this job come to together, and then two rounds of the first.
+fn work_beside<R: Threads + Wait + Sync>(
+    rt: &R,
+    alloc: Global,
+    first: &mut Quiet<&R, ScriptedWait>,
+    threads: u32,
+    job: Job,
+) -> Result<(Tally, (Came, Came)), Fail>
+    requires { first.old.host.member.ops.number ≡ 0 }
+{
+    let workers = workers(alloc, first, threads, job)?;
+    let tally = work_together(rt, workers)?;
+    Ok((tally, (first.act(React), first.act(React))))
 }
 
 /// An event of both directions.
@@ -231,21 +197,55 @@ fn keys_in_turn(alloc: Global, pairs: u32) -> Result<ScriptedWait, Fail> {
     Ok(ScriptedWait::new(answers))
 }
 
-/// Four threads at work beside each other, and then two rounds, which give an event of each of four keys.
-fn work_and_react<R: Threads + Wait + Sync>(rt: &R, alloc: Global) -> Result<Tally, Fail> {
-    let wait = keys_in_turn(alloc, 300)?;
-    let mut first = enter(rt, alloc, wait, MemNotify::new(), clock(alloc, 10)?)?;
-    let ones = two_more(alloc, &mut first)?;
-    let others = two_more(alloc, &mut first)?;
-    let done = work_on_four(rt, ones, others);
-    Ok(done.and(react_once(&mut first)).and(react_once(&mut first)))
+/// The same in a new reactor with a clock at 10, whose rounds give an event of each of four keys in turn.
+fn work_in_new<R: Threads + Wait + Sync>(
+    rt: &R,
+    alloc: Global,
+    pairs: u32,
+    threads: u32,
+    job: Job,
+) -> Result<(Tally, (Came, Came)), Fail> {
+    let wait = keys_in_turn(alloc, pairs)?;
+    let mut first = enter(rt, alloc, wait, MemNotify::new(), 10)?;
+    let worked = work_beside(rt, alloc, &mut first, threads, job);
+    drop(first);
+    worked
+}
+
+/// What two threads do with timers beside each other, how often both of them did, and how many timers fire
+/// in the next round.
+const ON_TWO_THREADS: [(Act, u64, u64); 3] = [
+    (InsertTimes(5, 800), 1600, 1600),
+    (InsertTimes(5, 600), 1200, 1200),
+    (InsertAndRemove(4, 600), 1200, 0),
+];
+
+#[test]
+fn each_timer_of_two_threads_fires_once_unless_it_was_taken_out(
+    rt: HostRuntime,
+) -> Result<(), Fail> {
+    for (act, times, fire) in ON_TWO_THREADS {
+        let (tally, rounds) = work_in_new(&rt, rt.alloc(), 0, 2, Job::Once(act))?;
+        same(&rt, tally.stored, times);
+        same(&rt, rounds, (Round(0, fire), Round(0, 0)));
+    }
+    Ok(())
+}
+
+#[test]
+fn a_token_knows_its_connection_beside_rounds(rt: HostRuntime) -> Result<(), Fail> {
+    let (tally, _) = work_in_new(&rt, rt.alloc(), 300, 2, Job::Turns(200))?;
+    same(&rt, tally.known, 400);
+    same(&rt, tally.came <= tally.stored, true);
+    Ok(())
 }
 
 // Each waker came that was stored, and there were more than 400.
 #[test]
 fn each_waker_of_four_threads_comes_once(rt: HostRuntime) -> Result<(), Fail> {
-    let tally = work_and_react(&rt, rt.alloc())?;
-    same(&rt, tally.came, tally.stored);
-    same(&rt, tally.stored > 400, true);
+    let (tally, rounds) = work_in_new(&rt, rt.alloc(), 300, 4, Job::Turns(100))?;
+    let all = tally.and(tally_of(rounds.0)).and(tally_of(rounds.1));
+    same(&rt, all.came, all.stored);
+    same(&rt, all.stored > 400, true);
     Ok(())
 }

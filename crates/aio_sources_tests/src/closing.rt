@@ -5,10 +5,11 @@ ghost use Rattle.std.specs.Prelude.{◌≡◌, false, IfSome};
 ghost use Rattle.aio_shared.specs.Members.{IsMemberOf};
 
 use crate::asserts::same;
-use crate::calls::{clock, insert, react};
+use crate::calls::{insert, join_and_close, react};
+use crate::sources::{Deed, Sure, SureMember, at_new};
 use aio_base::{Arm, Dir, Failed, Faults, Interest, Key, Waker};
-use aio_devices::{MemClock, MemNotify, MemWait, SureArm};
-use aio_shared::{Member, ReactFault, ReactedIn, Shared, SourceRef};
+use aio_devices::{MemNotify, MemWait, SureArm};
+use aio_shared::{ReactFault, ReactedIn, Shared, SourceRef};
 use aio_source::SourceCell;
 use std::alloc::{AllocError, Global};
 use std::sync::{Mutex, Wait};
@@ -120,42 +121,46 @@ fn join_and_arm<'a, R: Wait>(
     ensures belongs { IfSome result (λ s. s.words ≡ shared.now.words.identity) }
     ensures outside { IfSome result (λ s. s.inside ≡ false) }
 {
-    let mut token = insert(rt, shared, KeyedArm { rt, interests })?;
+    let Ok(mut token) = insert(rt, shared, KeyedArm { rt, interests }) else {
+        return None;
+    };
     let mut cell = shared.enter(rt, &mut token);
     poll_reads(&mut cell);
     shared.leave(&mut token, cell);
     Some(token)
 }
 
-/// So many sources come, are armed and go, one after the other. How many they were.
-fn come_and_go<'a, R: Wait>(
+/// A source comes, is armed, and stays or goes. Whether nothing was refused.
+fn come<'a, R: Wait>(
     rt: &'a R,
     shared: &Keyed<'a, R>,
     interests: &'a Interests,
-    times: u32,
-) -> u32 {
-    let mut done: u32 = 0;
-    for _ in 0..times {
-        let Some(token) = join_and_arm(rt, shared, interests) else {
-            return done;
-        };
-        if shared.close_source(rt, token).is_ok() {
-            done = done.saturating_add(1);
+    stays: bool,
+) -> bool {
+    match join_and_arm(rt, shared, interests) {
+        Some(token) => {
+            if stays {
+                drop(token);
+                true
+            } else {
+                shared.close_source(rt, token).is_ok()
+            }
         }
+        None => false,
     }
-    done
 }
 
-/// So many sources come, are armed and stay. How many they are.
-fn come_and_stay<'a, R: Wait>(
+/// So many sources come, are armed, and stay or go, one after the other. How many they were.
+fn come_times<'a, R: Wait>(
     rt: &'a R,
     shared: &Keyed<'a, R>,
     interests: &'a Interests,
+    stay: bool,
     times: u32,
 ) -> u32 {
     let mut done: u32 = 0;
     for _ in 0..times {
-        if join_and_arm(rt, shared, interests).is_some() {
+        if come(rt, shared, interests, stay) {
             done = done.saturating_add(1);
         }
     }
@@ -170,37 +175,43 @@ fn go_beside_those_that_stay<'a, R: Threads + Wait + Sync>(
 ) -> (u32, u32) {
     join(
         rt,
-        move || come_and_go(rt, shared, interests, 300),
-        move || come_and_stay(rt, shared, interests, 3000),
+        move || come_times(rt, shared, interests, false, 300),
+        move || come_times(rt, shared, interests, true, 3000),
     )
+}
+
+/// The same in a new reactor.
+fn go_in_new<'a, R: Threads + Wait + Sync>(
+    rt: &'a R,
+    alloc: Global,
+    interests: &'a Interests,
+) -> Result<(u32, u32), Fail> {
+    match Shared::new(alloc, 1, MemWait::new(1), MemNotify::new()) {
+        Ok((shared, member)) => {
+            let came = go_beside_those_that_stay(rt, &shared, interests);
+            drop(member);
+            drop(shared);
+            Ok(came)
+        }
+        Err(_) => Err(Fail::from("no reactor")),
+    }
 }
 
 #[test]
 fn a_source_that_stays_is_armed_though_others_go(rt: HostRuntime) -> Result<(), Fail> {
     let interests = Interests::none(rt.alloc(), 4096)?;
-    let Ok((shared, _member)) = Shared::new(rt.alloc(), 1, MemWait::new(1), MemNotify::new()) else {
-        return Err(Fail::from("no reactor"));
-    };
-    let came = go_beside_those_that_stay(&rt, &shared, &interests);
-    same(&rt, came, (300, 3000));
+    let came = go_in_new(&rt, rt.alloc(), &interests);
     same(&rt, interests.count(&rt), 3000);
+    drop(interests);
+    same(&rt, came?, (300, 3000));
     Ok(())
 }
-
-/// A reactor whose connections never fail.
-type Sure = Shared<SureArm, MemWait>;
-
-/// The member of one that has a single thread which makes rounds.
-type SureMember = Member<MemNotify, MemWait>;
 
 /// So many sources come and go. How many they were.
 fn close_times<R: Wait>(rt: &R, shared: &Sure, times: u32) -> u32 {
     let mut done: u32 = 0;
     for _ in 0..times {
-        let Some(token) = insert(rt, shared, SureArm::new(0)) else {
-            return done;
-        };
-        if shared.close_source(rt, token).is_ok() {
+        if join_and_close(rt, shared, SureArm::new(0)) {
             done = done.saturating_add(1);
         }
     }
@@ -216,48 +227,36 @@ fn events_in(answer: Result<ReactedIn, ReactFault>) -> u32 {
 }
 
 /// Makes so many rounds. How many events they handled.
-fn react_times<R: Wait>(
-    rt: &R,
-    shared: &Sure,
-    mut m: SureMember,
-    mut clock: MemClock,
-    times: u32,
-) -> u32
-    requires { IsMemberOf shared.now m }
+fn react_times<R: Wait>(rt: &R, alloc: Global, shared: &Sure, m: &mut SureMember, times: u32) -> u32
+    requires { IsMemberOf shared.now m.old }
 {
     let mut events: u32 = 0;
     for _ in 0..times {
-        let answer = react(rt, shared, &mut m, &mut clock, Some(0));
+        let answer = react(rt, alloc, shared, m, Some(0));
         events = events.saturating_add(events_in(answer));
     }
     events
 }
 
-/// The sources of one thread come and go, while another makes rounds that name their key.
-fn close_beside_rounds<R: Threads + Wait + Sync>(
+/// The sources of one thread come and go, while another makes rounds that name their key: how many of each.
+pub(crate) fn close_beside_rounds<R: Threads + Wait + Sync>(
     rt: &R,
+    alloc: Global,
     shared: &Sure,
-    m: SureMember,
-    clock: MemClock,
+    m: &mut SureMember,
 ) -> (u32, u32)
-    requires { IsMemberOf shared.now m }
+    requires { IsMemberOf shared.now m.old }
 {
     join(
         rt,
         || close_times(rt, shared, 500),
-        move || -> u32
-            requires { IsMemberOf shared.now m }
-        { react_times(rt, shared, m, clock, 500) },
+        || -> u32
+            requires { IsMemberOf shared.now m.now }
+        { react_times(rt, alloc, shared, m, 500) },
     )
 }
 
 #[test]
 fn sources_are_closed_beside_rounds_that_visit_them(rt: HostRuntime) -> Result<(), Fail> {
-    let clock = clock(rt.alloc(), 5)?;
-    let Ok((shared, member)) = Shared::new(rt.alloc(), 1, MemWait::new(1), MemNotify::new()) else {
-        return Err(Fail::from("no reactor"));
-    };
-    let came = close_beside_rounds(&rt, &shared, member, clock);
-    same(&rt, came, (500, 500));
-    Ok(())
+    at_new(&rt, rt.alloc(), Deed::CloseBesideRounds)
 }

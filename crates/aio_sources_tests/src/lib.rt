@@ -3,6 +3,9 @@
 //!
 //! They stand above that crate, so that it is not proved a second time for its tests, and all of them belong
 //! to the test build.
+//!
+//! A body that has a reactor lets go of it by `drop`: that call is proved once for the type, and the end of a
+//! scope in each body.
 #![tactic(auto)]
 
 #[cfg(test)]

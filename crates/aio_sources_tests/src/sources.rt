@@ -1,24 +1,25 @@
 //! What no clause says of sources: that calls succeed with ample memory, and which refusals come.
 
 ghost use Rattle.std.specs.Prelude.{◌≡◌, false, IfOk};
+ghost use Rattle.aio_shared.specs.Members.{IsMemberOf};
 
 use crate::asserts::{may_be_sent, may_be_shared, same};
 use crate::calls::insert;
-use aio_base::{Arm, CountFault, EventWait, Key, OutOfMemory};
+use crate::closing::close_beside_rounds;
+use aio_base::{Arm, CountFault, EventWait, Key};
 use aio_devices::{FailingArm, MemNotify, MemWait, SureArm, fault_after};
-use aio_shared::{InsertFault, Shared, SourceRef};
+use aio_shared::{InsertFault, Member, Shared, SourceRef};
 use std::alloc::Global;
 use std::process::Abort;
 use std::sync::Wait;
 use std::test::Fail;
+use std::thread::Threads;
 
-/// A reactor with no source, and with room for all of them.
-fn shared<A: Arm + Drop>(alloc: Global) -> Result<Shared<A, MemWait>, OutOfMemory> {
-    match Shared::new(alloc, 1, MemWait::new(1), MemNotify::new()) {
-        Ok((shared, _member)) => Ok(shared),
-        Err(_) => Err(OutOfMemory),
-    }
-}
+/// A reactor whose connections never fail, and whose waits give an event of key 0.
+pub(crate) type Sure = Shared<SureArm, MemWait>;
+
+/// The member of such a reactor.
+pub(crate) type SureMember = Member<MemNotify, MemWait>;
 
 /// Asserts that a connection joins under this key.
 fn join_as<A: Arm + Drop, W: EventWait, R: Wait + Abort>(
@@ -30,7 +31,7 @@ fn join_as<A: Arm + Drop, W: EventWait, R: Wait + Abort>(
     ensures belongs { IfOk result (λ s. s.words ≡ shared.now.words.identity) }
     ensures outside { IfOk result (λ s. s.inside ≡ false) }
 {
-    match shared.sources(rt).insert(io) {
+    match insert(rt, shared, io) {
         Ok(token) => {
             same(rt, token.key(), Key(key));
             Ok(token)
@@ -52,76 +53,147 @@ fn close_as<A: Arm + Drop, W: EventWait, R: Wait + Abort>(
     same(rt, shared.close_source(rt, token), answer);
 }
 
-#[test]
-fn a_source_joins_and_leaves(rt: HostRuntime) -> Result<(), Fail> {
-    let shared = shared(rt.alloc())?;
-    let token = join_as(&rt, &shared, SureArm::new(7), 0)?;
-    may_be_shared(&shared);
-    may_be_sent(&token);
-    close_as(&rt, &shared, token, Ok(()));
+/// A source joins and leaves. Both may go to other threads.
+fn join_and_leave<R: Wait + Abort>(rt: &R, shared: &Sure) -> Result<(), InsertFault> {
+    may_be_shared::<Sure>();
+    may_be_sent::<SourceRef<SureArm>>();
+    let token = join_as(rt, shared, SureArm::new(7), 0)?;
+    close_as(rt, shared, token, Ok(()));
     Ok(())
 }
 
 /// The key of one more source. Its token is let go, and the source stays.
-fn next_key<R: Wait>(rt: &R, shared: &Shared<SureArm, MemWait>) -> Option<Key> {
+fn next_key<R: Wait>(rt: &R, shared: &Sure) -> Option<Key> {
     match insert(rt, shared, SureArm::new(0)) {
-        Some(token) => Some(token.key()),
-        None => None,
+        Ok(token) => {
+            let key = token.key();
+            drop(token);
+            Some(key)
+        }
+        Err(_) => None,
     }
 }
 
-#[test]
-fn a_new_source_has_the_least_free_key(rt: HostRuntime) -> Result<(), Fail> {
-    let shared = shared(rt.alloc())?;
-    same(&rt, next_key(&rt, &shared), Some(Key(0)));
-    let second = join_as(&rt, &shared, SureArm::new(1), 1)?;
-    same(&rt, next_key(&rt, &shared), Some(Key(2)));
-    close_as(&rt, &shared, second, Ok(()));
-    same(&rt, next_key(&rt, &shared), Some(Key(1)));
-    same(&rt, next_key(&rt, &shared), Some(Key(3)));
+/// Sources join, one leaves, and more join: each under the least free key.
+fn fill_a_gap<R: Wait + Abort>(rt: &R, shared: &Sure) -> Result<(), InsertFault> {
+    same(rt, next_key(rt, shared), Some(Key(0)));
+    let second = join_as(rt, shared, SureArm::new(1), 1)?;
+    same(rt, next_key(rt, shared), Some(Key(2)));
+    close_as(rt, shared, second, Ok(()));
+    same(rt, next_key(rt, shared), Some(Key(1)));
+    same(rt, next_key(rt, shared), Some(Key(3)));
     Ok(())
 }
 
-/// Inserts so many connections. The tokens are let go, and the sources stay.
-fn insert_times<R: Wait>(
-    rt: &R,
-    shared: &Shared<SureArm, MemWait>,
-    times: u64,
-) -> Result<(), InsertFault> {
-    for number in 0..times {
-        if let Err((_, fault)) = shared.sources(rt).insert(SureArm::new(number)) {
-            return Err(fault);
+/// So many connections join, or as many as there is room for. How many did. Their tokens are let go.
+fn insert_times<R: Wait>(rt: &R, shared: &Sure, times: u32) -> u32 {
+    let mut joined: u32 = 0;
+    for _ in 0..times {
+        if next_key(rt, shared).is_some() {
+            joined = joined.saturating_add(1);
         }
     }
-    Ok(())
+    joined
 }
 
 /// Asserts that a reactor has no room for one more source: a connection comes back.
-pub(crate) fn assert_full<R: Wait + Abort>(rt: &R, shared: &Shared<SureArm, MemWait>) {
-    match shared.sources(rt).insert(SureArm::new(9)) {
-        Ok(_) => assert!(rt; false),
+pub(crate) fn assert_full<R: Wait + Abort>(rt: &R, shared: &Sure) {
+    match insert(rt, shared, SureArm::new(9)) {
+        Ok(token) => {
+            drop(token);
+            assert!(rt; false)
+        }
         Err(refused) => same(rt, refused, (SureArm::new(9), InsertFault::Full)),
     }
 }
 
+/// As many sources join as there may be; then one has to leave before another one joins.
+fn fill_the_table<R: Wait + Abort>(rt: &R, shared: &Sure) -> Result<(), InsertFault> {
+    same(rt, insert_times(rt, shared, 4095), 4095);
+    let token = join_as(rt, shared, SureArm::new(5), 4095)?;
+    assert_full(rt, shared);
+    close_as(rt, shared, token, Ok(()));
+    same(rt, next_key(rt, shared), Some(Key(4095)));
+    Ok(())
+}
+
+/// What is done with the sources of a new reactor.
+#[derive(Clone, Copy)]
+pub(crate) enum Deed {
+    /// One joins and leaves.
+    JoinAndLeave,
+    /// Some join, one of them leaves, and more join.
+    FillAGap,
+    /// As many join as there may be.
+    FillTheTable,
+    /// They come and go, while another thread makes rounds.
+    CloseBesideRounds,
+}
+
+/// Does this at a reactor, and asserts what comes of it.
+fn at<R: Threads + Wait + Sync + Abort>(
+    rt: &R,
+    alloc: Global,
+    shared: &Sure,
+    m: &mut SureMember,
+    deed: Deed,
+) -> Result<(), InsertFault>
+    requires { IsMemberOf shared.now m.old }
+{
+    match deed {
+        Deed::JoinAndLeave => join_and_leave(rt, shared),
+        Deed::FillAGap => fill_a_gap(rt, shared),
+        Deed::FillTheTable => fill_the_table(rt, shared),
+        Deed::CloseBesideRounds => {
+            same(rt, close_beside_rounds(rt, alloc, shared, m), (500, 500));
+            Ok(())
+        }
+    }
+}
+
+/// Does this at a new reactor, and asserts what comes of it.
+pub(crate) fn at_new<R: Threads + Wait + Sync + Abort>(
+    rt: &R,
+    alloc: Global,
+    deed: Deed,
+) -> Result<(), Fail> {
+    match Shared::new(alloc, 1, MemWait::new(1), MemNotify::new()) {
+        Ok((shared, mut member)) => {
+            let done = at(rt, alloc, &shared, &mut member, deed);
+            drop(member);
+            drop(shared);
+            Ok(done?)
+        }
+        Err(_) => Err(Fail::from("no reactor")),
+    }
+}
+
+#[test]
+fn a_source_joins_and_leaves(rt: HostRuntime) -> Result<(), Fail> {
+    at_new(&rt, rt.alloc(), Deed::JoinAndLeave)
+}
+
+#[test]
+fn a_new_source_has_the_least_free_key(rt: HostRuntime) -> Result<(), Fail> {
+    at_new(&rt, rt.alloc(), Deed::FillAGap)
+}
+
 #[test]
 fn a_full_table_hands_the_connection_back(rt: HostRuntime) -> Result<(), Fail> {
-    let shared = shared(rt.alloc())?;
-    insert_times(&rt, &shared, 4095)?;
-    let token = join_as(&rt, &shared, SureArm::new(5), 4095)?;
-    assert_full(&rt, &shared);
-    close_as(&rt, &shared, token, Ok(()));
-    join_as(&rt, &shared, SureArm::new(5), 4095)?;
-    Ok(())
+    at_new(&rt, rt.alloc(), Deed::FillTheTable)
 }
 
 /// Asserts that the first call of a connection fails, which comes back.
 fn assert_fails<R: Wait + Abort>(rt: &R, shared: &Shared<FailingArm, MemWait>, io: FailingArm) {
     let number = io.number();
-    match shared.sources(rt).insert(io) {
-        Ok(_) => assert!(rt; false),
+    match insert(rt, shared, io) {
+        Ok(token) => {
+            drop(token);
+            assert!(rt; false)
+        }
         Err((back, fault)) => {
             same(rt, back.number(), number);
+            drop(back);
             same(rt, fault, InsertFault::AddFault(fault_after(0)));
         }
     }
@@ -145,22 +217,48 @@ fn assert_closes<R: Wait + Abort>(
     }
 }
 
+/// Asserts that a connection whose add or whose remove fails leaves key 0 to the next one.
+fn leaves_the_key<R: Wait + Abort>(
+    rt: &R,
+    shared: &Shared<FailingArm, MemWait>,
+    io: FailingArm,
+    next: FailingArm,
+    joins: bool,
+) {
+    if joins {
+        assert_closes(rt, shared, io, Err(fault_after(0)));
+    } else {
+        assert_fails(rt, shared, io);
+    }
+    assert_closes(rt, shared, next, Ok(()));
+}
+
+/// The same in a new reactor, where this call of the first connection fails, and no call of the next one.
+fn leaves_the_first_key<R: Wait + Abort>(
+    rt: &R,
+    alloc: Global,
+    number: u64,
+    call: u64,
+) -> Result<(), Fail> {
+    let io = fails_at(alloc, number, call)?;
+    match Shared::new(alloc, 1, MemWait::new(1), MemNotify::new()) {
+        Ok((shared, member)) => {
+            let next = FailingArm::new(7, Vec::new(alloc));
+            leaves_the_key(rt, &shared, io, next, call > 1);
+            drop(member);
+            drop(shared);
+            Ok(())
+        }
+        Err(_) => Err(Fail::from("no reactor")),
+    }
+}
+
 #[test]
 fn a_failed_add_is_told_and_leaves_the_key_free(rt: HostRuntime) -> Result<(), Fail> {
-    let shared = shared(rt.alloc())?;
-    let first_fails = fails_at(rt.alloc(), 5, 1)?;
-    assert_fails(&rt, &shared, first_fails);
-    let none_fails = FailingArm::new(7, Vec::new(rt.alloc()));
-    assert_closes(&rt, &shared, none_fails, Ok(()));
-    Ok(())
+    leaves_the_first_key(&rt, rt.alloc(), 5, 1)
 }
 
 #[test]
 fn a_failed_remove_is_told_and_leaves_the_key_free(rt: HostRuntime) -> Result<(), Fail> {
-    let shared = shared(rt.alloc())?;
-    let second_fails = fails_at(rt.alloc(), 6, 2)?;
-    assert_closes(&rt, &shared, second_fails, Err(fault_after(0)));
-    let none_fails = FailingArm::new(7, Vec::new(rt.alloc()));
-    assert_closes(&rt, &shared, none_fails, Ok(()));
-    Ok(())
+    leaves_the_first_key(&rt, rt.alloc(), 6, 2)
 }

@@ -6,56 +6,56 @@ use crate::sources::assert_full;
 use aio_base::{Arm, ArmFault, Key};
 use aio_devices::{FailingArm, MemNotify, MemWait, SureArm};
 use aio_shared::{Shared, SourceRef};
-use std::alloc::Global;
+use std::alloc::{AllocError, Global};
+use std::process::Abort;
+use std::sync::Wait;
 use std::test::Fail;
 
-/// How many sources began under the keys from 0 on, in order.
-fn begun_in_order(sources: Vec<Result<SourceRef<SureArm>, ArmFault>>) -> u32 {
-    let mut next: u32 = 0;
+/// The keys of the sources with which a reactor started, or their faults.
+fn keys_of<A: Arm>(
+    alloc: Global,
+    sources: &[Result<SourceRef<A>, ArmFault>],
+) -> Result<Vec<Result<Key, ArmFault>>, AllocError> {
+    let mut keys = Vec::new(alloc);
     for source in sources {
         match source {
-            Ok(token) => {
-                if token.key() == Key(next) {
-                    next = next.saturating_add(1);
-                }
-            }
-            Err(_) => {}
+            Ok(token) => keys.push(Ok(token.key()))?,
+            Err(fault) => keys.push(Err(*fault))?,
+        }
+    }
+    Ok(keys)
+}
+
+/// How many sources began under the keys from 0 on, in order.
+fn begun_in_order(keys: &[Result<Key, ArmFault>]) -> u32 {
+    let mut next: u32 = 0;
+    for key in keys {
+        if *key == Ok(Key(next)) {
+            next = next.saturating_add(1);
         }
     }
     next
 }
 
-#[test]
-fn a_reactor_starts_with_4096_sources(rt: HostRuntime) -> Result<(), Fail> {
-    let ios = vec![in rt.alloc(); SureArm::new(7); 4096]?;
-    match Shared::start(rt.alloc(), 1, MemWait::new(1), MemNotify::new(), ios) {
+/// Starts a reactor with 4,096 sources, and asserts that there is no room for one more. Their keys.
+fn start_many<R: Wait + Abort>(rt: &R, alloc: Global) -> Result<Vec<Result<Key, ArmFault>>, Fail> {
+    let ios = vec![in alloc; SureArm::new(7); 4096]?;
+    match Shared::start(alloc, 1, MemWait::new(1), MemNotify::new(), ios) {
         Ok(started) => {
-            same(&rt, begun_in_order(started.sources), 4096);
-            assert_full(&rt, &started.shared);
-            Ok(())
+            assert_full(rt, &started.shared);
+            let keys = keys_of(alloc, started.sources.as_slice());
+            drop(started);
+            Ok(keys?)
         }
         Err(_) => Err(Fail::from("no reactor")),
     }
 }
 
-/// The key of a source with which a reactor started, or the fault.
-fn key_of<A: Arm + Drop>(source: Result<SourceRef<A>, ArmFault>) -> Result<Key, ArmFault> {
-    match source {
-        Ok(token) => Ok(token.key()),
-        Err(fault) => Err(fault),
-    }
-}
-
-/// Those of all of them.
-fn keys_of<A: Arm + Drop>(
-    alloc: Global,
-    sources: Vec<Result<SourceRef<A>, ArmFault>>,
-) -> Result<Vec<Result<Key, ArmFault>>, Fail> {
-    let mut keys = Vec::new(alloc);
-    for source in sources {
-        keys.push(key_of(source))?;
-    }
-    Ok(keys)
+#[test]
+fn a_reactor_starts_with_4096_sources(rt: HostRuntime) -> Result<(), Fail> {
+    let keys = start_many(&rt, rt.alloc())?;
+    same(&rt, begun_in_order(keys.as_slice()), 4096);
+    Ok(())
 }
 
 /// The keys of a reactor that starts with a connection whose first call fails and one of which none does.
@@ -64,7 +64,11 @@ fn start_two(alloc: Global) -> Result<Vec<Result<Key, ArmFault>>, Fail> {
     let none_fails = FailingArm::new(2, Vec::new(alloc));
     let ios = vec![in alloc; first_fails, none_fails]?;
     match Shared::start(alloc, 1, MemWait::new(1), MemNotify::new(), ios) {
-        Ok(started) => keys_of(alloc, started.sources),
+        Ok(started) => {
+            let keys = keys_of(alloc, started.sources.as_slice());
+            drop(started);
+            Ok(keys?)
+        }
         Err(_) => Err(Fail::from("no reactor")),
     }
 }

@@ -5,7 +5,7 @@ ghost use Rattle.std.specs.Prelude.{IfOk};
 ghost use Rattle.aio_shared.specs.Members.{IsMemberOf};
 
 use crate::asserts::same;
-use crate::calls::{clock, insert, react};
+use crate::calls::{join_and_close, react};
 use aio_base::Notify;
 use aio_devices::{BlockingNotify, BlockingWait, SureArm, blocking_pair};
 use aio_shared::{Member, ReactFault, ReactedIn, Shared};
@@ -21,24 +21,16 @@ const MOST_LOOKS: u64 = 5_000_000;
 /// A reactor whose waits last until they are told to end.
 type Blocking<R> = Shared<SureArm, BlockingWait<R>>;
 
-/// A source joins and is closed. Whether nothing was refused.
-fn join_and_close<R: Wait + Copy>(rt: R, shared: &Blocking<R>) -> bool {
-    match insert(&rt, shared, SureArm::new(7)) {
-        Some(token) => shared.close_source(&rt, token).is_ok(),
-        None => false,
-    }
-}
-
 /// Sleeps for so many microseconds, lets a source join and be closed, and only then ends the wait of the other
 /// thread. Whether nothing was refused.
 fn use_the_table<R: Wait + Clock + Copy>(
     rt: R,
     shared: &Blocking<R>,
-    mut notifier: BlockingNotify<R>,
+    notifier: &mut BlockingNotify<R>,
     pause: u64,
 ) -> bool {
     sleep(&rt, Duration::from_micros(pause));
-    let came_and_went = join_and_close(rt, shared);
+    let came_and_went = join_and_close(&rt, shared, SureArm::new(7));
     notifier.notify().is_ok() && came_and_went
 }
 
@@ -61,21 +53,34 @@ fn blocking<R: Wait + Copy>(
 }
 
 /// One thread makes a round without a limit, and another one uses the table after so many microseconds.
-fn wait_beside_a_use<R: Threads + Wait + Clock + Sync>(
+fn wait_beside_a_use<'a, R: Threads + Wait + Clock + Sync>(
+    rt: &'a R,
+    alloc: Global,
+    shared: &Blocking<&'a R>,
+    m: &mut Waiter<&'a R>,
+    notifier: &mut BlockingNotify<&'a R>,
+    pause: u64,
+) -> (Result<ReactedIn, ReactFault>, bool)
+    requires { IsMemberOf shared.now m.old }
+{
+    join(
+        rt,
+        || -> Result<ReactedIn, ReactFault>
+            requires { IsMemberOf shared.now m.now }
+        { react(rt, alloc, shared, m, None) },
+        || use_the_table(rt, shared, notifier, pause),
+    )
+}
+
+/// The same in a new reactor.
+fn wait_in_new<R: Threads + Wait + Clock + Sync>(
     rt: &R,
     alloc: Global,
     pause: u64,
 ) -> Result<(Result<ReactedIn, ReactFault>, bool), Fail> {
-    let mut clock = clock(alloc, 5)?;
-    let (shared, mut member, of_other) = blocking(rt, alloc)?;
-    let shared = &shared;
-    Ok(join(
-        rt,
-        move || -> Result<ReactedIn, ReactFault>
-            requires { IsMemberOf shared.now member }
-        { react(rt, shared, &mut member, &mut clock, None) },
-        move || use_the_table(rt, shared, of_other, pause),
-    ))
+    let (shared, mut member, mut of_other) = blocking(rt, alloc)?;
+    let came = wait_beside_a_use(rt, alloc, &shared, &mut member, &mut of_other, pause);
+    Ok(came)
 }
 
 /// What a round without events and timers answers.
@@ -89,9 +94,8 @@ const NOTHING_CAME: ReactedIn = ReactedIn {
 #[test]
 fn sources_join_and_leave_while_a_thread_waits(rt: HostRuntime) -> Result<(), Fail> {
     for step in 0..12 {
-        let (answer, used) = wait_beside_a_use(&rt, rt.alloc(), step * 500)?;
-        same(&rt, answer, Ok(NOTHING_CAME));
-        same(&rt, used, true);
+        let came = wait_in_new(&rt, rt.alloc(), step * 500)?;
+        same(&rt, came, (Ok(NOTHING_CAME), true));
     }
     Ok(())
 }

@@ -1,11 +1,13 @@
 //! What no clause says: that a source in a lock stays its owner's, whatever a visit does to it.
 
-ghost use Rattle.std.specs.Prelude.{◌≡◌};
+ghost use Rattle.std.specs.Prelude.{◌≡◌, []};
+ghost use Rattle.aio_rules.specs.SharedLock.{first_owner, took_out};
 ghost use Rattle.aio_source.specs.Noting.{cell_note};
+ghost use Rattle.aio_lock.specs.Tokens.{owner_of};
 
 use crate::asserts::same;
 use aio_base::{Arm, ArmFault, Dir, Event, Interest, Key, Waker};
-use aio_lock::Lock;
+use aio_lock::{Lock, Owner};
 use aio_script::ScriptPoller;
 use aio_source::{Poll, SourceCell, SourceState};
 use std::alloc::Global;
@@ -70,16 +72,38 @@ fn assert_handled(rt: &impl Abort, cell: &SourceCell<ScriptPoller>) {
     same(rt, cell.io.armed(KEY), Interest::READ);
 }
 
+/// Gives such a cell to a lock, visits it there for an event of the first round, and takes it again by the owner.
+fn give_visit_and_take<R: Wait + Abort>(
+    rt: &R,
+    alloc: Global,
+    lock: &Lock<SourceCell<ScriptPoller>>,
+    owner: &mut Owner,
+    taken: &mut Vec<Waker>,
+) -> Result<(), Fail>
+    requires { owner.old ≡ owner_of lock.now (took_out [] [] (first_owner [])) }
+{
+    lock.give(owner, waited_for(rt, alloc)?);
+    same(rt, handle_in(rt, lock, Interest::READ, 1, taken), Ok(()));
+    let cell = lock.take(rt, owner);
+    assert_handled(rt, &cell);
+    lock.give(owner, cell);
+    Ok(())
+}
+
+/// The same with a new lock.
+fn visit_in_new<R: Wait + Abort>(
+    rt: &R,
+    alloc: Global,
+    taken: &mut Vec<Waker>,
+) -> Result<(), Fail> {
+    let (lock, mut owner, _other) = Lock::vacant(alloc)?;
+    give_visit_and_take(rt, alloc, &lock, &mut owner, taken)
+}
+
 #[test]
 fn a_visit_leaves_the_cell_that_its_owner_gave(rt: HostRuntime) -> Result<(), Fail> {
-    let (lock, mut owner, _other) = Lock::vacant(rt.alloc())?;
-    lock.give(&mut owner, waited_for(&rt, rt.alloc())?);
     let mut taken = Vec::with_capacity(rt.alloc(), 8)?;
-    let handled = handle_in(&rt, &lock, Interest::READ, 1, &mut taken);
-    same(&rt, handled, Ok(()));
+    visit_in_new(&rt, rt.alloc(), &mut taken)?;
     same(&rt, taken.as_slice(), [Waker(11)].as_slice());
-    let cell = lock.take(&rt, &mut owner);
-    assert_handled(&rt, &cell);
-    lock.give(&mut owner, cell);
     Ok(())
 }

@@ -12,6 +12,8 @@ mod cells;
 #[cfg(test)]
 mod clocks;
 #[cfg(test)]
+mod draining;
+#[cfg(test)]
 mod locks;
 #[cfg(test)]
 mod queue;

@@ -85,16 +85,30 @@ fn visit_once<R: Wait>(rt: &R, lock: &Lock<Lists>) {
     lock.leave(visit, lists);
 }
 
-/// The lists of one lock, to each of which its owner added one number, with a visit after both.
-fn add_and_join<R: Wait>(rt: &R, alloc: Global) -> Result<Lists, OutOfMemory> {
-    let (lock, mut zero, mut one) = Lock::vacant(alloc)?;
-    lock.give(&mut zero, Lists::empty(alloc));
-    add_to_zero(rt, &lock, &mut zero, 7)?;
-    add_to_one(rt, &lock, &mut one, 8)?;
-    visit_once(rt, &lock);
+/// Has each owner of a lock add one number to its list, visits the lock after both, and takes the lists by both
+/// owners together.
+fn add_and_join<R: Wait>(
+    rt: &R,
+    lock: &Lock<Lists>,
+    mut zero: Owner,
+    mut one: Owner,
+) -> Result<Lists, OutOfMemory>
+    requires zero { zero ≡ owner_of lock.now (first_owner []) }
+    requires one { one ≡ owner_of lock.now (second_owner []) }
+{
+    add_to_zero(rt, lock, &mut zero, 7)?;
+    add_to_one(rt, lock, &mut one, 8)?;
+    visit_once(rt, lock);
     lock.join(&mut zero, one);
-    works_for_threads(&lock, &zero);
+    works_for_threads(lock, &zero);
     Ok(lock.take(rt, &mut zero))
+}
+
+/// The same with a new lock of empty lists.
+fn add_to_new<R: Wait>(rt: &R, alloc: Global) -> Result<Lists, OutOfMemory> {
+    let (lock, mut zero, one) = Lock::vacant(alloc)?;
+    lock.give(&mut zero, Lists::empty(alloc));
+    add_and_join(rt, &lock, zero, one)
 }
 
 /// Asserts that the lists are these.
@@ -105,7 +119,7 @@ fn assert_lists(rt: &impl Abort, lists: &Lists, zero: &[u64], one: &[u64]) {
 
 #[test]
 fn each_owner_knows_its_list_and_a_visit_changes_none(rt: HostRuntime) -> Result<(), Fail> {
-    let lists = add_and_join(&rt, rt.alloc())?;
+    let lists = add_to_new(&rt, rt.alloc())?;
     assert_lists(&rt, &lists, &[7], &[8]);
     Ok(())
 }
@@ -173,14 +187,15 @@ fn fill_one<R: Wait>(
 /// clause.
 fn fill_beside<R: Threads + Wait + Sync>(
     rt: &R,
-    alloc: Global,
+    shared: &Lock<Lists>,
+    zero: Owner,
+    one: Owner,
 ) -> Result<(Lists, bool), OutOfMemory>
+    requires zero { zero ≡ owner_of shared.now (first_owner []) }
+    requires one { one ≡ owner_of shared.now (second_owner []) }
     ensures zero { IfOk result (λ end. end.0.zero.items ≡ range_with_len 0 300) }
     ensures one { IfOk result (λ end. end.0.one.items ≡ range_with_len 1000 300) }
 {
-    let (lock, mut zero, one) = Lock::vacant(alloc)?;
-    lock.give(&mut zero, Lists::empty(alloc));
-    let shared = &lock;
     let (filled_zero, filled_one) = join(
         rt,
         move || -> Result<(Owner, bool), OutOfMemory>
@@ -196,8 +211,15 @@ fn fill_beside<R: Threads + Wait + Sync>(
     );
     let (mut both, zero_kept) = filled_zero?;
     let (one, one_kept) = filled_one?;
-    lock.join(&mut both, one);
-    Ok((lock.take(rt, &mut both), zero_kept && one_kept))
+    shared.join(&mut both, one);
+    Ok((shared.take(rt, &mut both), zero_kept && one_kept))
+}
+
+/// The same with a new lock of empty lists.
+fn fill_new<R: Threads + Wait + Sync>(rt: &R, alloc: Global) -> Result<(Lists, bool), OutOfMemory> {
+    let (lock, mut zero, one) = Lock::vacant(alloc)?;
+    lock.give(&mut zero, Lists::empty(alloc));
+    fill_beside(rt, &lock, zero, one)
 }
 
 /// So many numbers from `first` on.
@@ -213,7 +235,7 @@ fn numbers(alloc: Global, first: u64, times: u64) -> Result<Vec<u64>, Fail> {
 fn two_owners_each_find_their_300_numbers_in_order(rt: HostRuntime) -> Result<(), Fail> {
     let zero = numbers(rt.alloc(), 0, 300)?;
     let one = numbers(rt.alloc(), 1000, 300)?;
-    let (lists, kept) = fill_beside(&rt, rt.alloc())?;
+    let (lists, kept) = fill_new(&rt, rt.alloc())?;
     same(&rt, kept, true);
     assert_lists(&rt, &lists, zero.as_slice(), one.as_slice());
     Ok(())

@@ -8,7 +8,9 @@ ghost use Rattle.aio_words.specs.Seats.{Belongs};
 use crate::asserts::same;
 use aio_base::{CountFault, Notify, OutOfMemory, Waker};
 use aio_devices::{FailingNotify, MemNotify, fault_after};
-use aio_words::{Pass, RoundSeat, RoundsSpent, Words};
+use aio_words::{Pass, RoundSeat, Words};
+use std::alloc::Global;
+use std::process::Abort;
 use std::sync::Wait;
 use std::sync::atomic::{AtomicU64, Ordering};
 use std::test::Fail;
@@ -17,6 +19,50 @@ use std::thread::{Threads, join};
 
 // How often each of the 64 slots is woken while its thread parks.
 const ROUNDS: u64 = 200;
+
+/// What is tried at new words of two parkers, by their round seat and their first pass.
+#[derive(Clone, Copy)]
+enum Trial {
+    /// Wakes slots 3 and 5 of parker 0 and one of a parker that is not there, and takes the mask twice.
+    TakeTogether,
+    /// Wakes slot 0 of parker 0 in a wait, and looks again after the wait.
+    WakeAWait,
+    /// Notifies before a wait, wakes and notifies in it, and notifies after it.
+    TellAWait,
+    /// Wakes slot 7 in a wait, by a notifier that fails, and takes the mask.
+    WakeUntold,
+    /// Begins two rounds.
+    BeginTwo,
+    /// Wakes slot 40 of parker 1, and then parks there.
+    ParkAfterAWake,
+    /// Parks there in a thread, and wakes the slot from another.
+    ParkBeside,
+    /// Parks on parker 0 in a thread, and wakes its 64 slots from two others.
+    WakeFromTwo,
+}
+
+/// What comes of it.
+#[derive(Clone, Copy, Debug, PartialEq)]
+enum Came {
+    /// No wake failed, the two takes found these masks, and the notifier was called so often.
+    Taken([u64; 2], u64),
+    /// The notifier was called so often, and the second look found this mask.
+    Found(u64, u64),
+    /// The notifier was called so often by then: after two notifies; after two wakes in a wait; after one more
+    /// notify in it; and after one when it was over.
+    Told([u64; 4]),
+    /// The wake met this fault, and the mask was this one.
+    Untold(CountFault, u64),
+    /// These rounds began, and these were the numbers of rounds that the first pass found before, that the round
+    /// seat and a later pass found afterwards, and that the first one found when it had taken in the later one.
+    Begun([u64; 2], [u64; 4]),
+    /// No wake failed, and the park found this mask.
+    Parked(u64),
+    /// So many rounds went by in each of which all slots were woken.
+    Gathered(u64),
+    /// Something else.
+    Other,
+}
 
 fn another<N: Notify>(notifier: &N) -> Result<N, OutOfMemory> {
     notifier.twin()
@@ -50,53 +96,37 @@ fn goes_to_wait(words: &Words, s: &mut RoundSeat) -> bool
     true
 }
 
-/// Wakes slots 3 and 5 of parker 0 and one of a parker that is not there, and takes the mask twice. Whether no
-/// wake failed, the two masks, and how often the notifier was called.
-fn take_together(words: &Words, p: &mut Pass) -> (bool, [u64; 2], u64)
-    requires { Belongs words.now p.old × (0 < words.now.parkers) }
+/// Wakes slots 3 and 5 of parker 0 and one of parker 2, and takes the mask twice.
+fn take_together(words: &Words, p: &mut Pass) -> Came
+    requires { Belongs words.now p.old × (1 < words.now.parkers) }
 {
     let mut notifier = MemNotify::new();
-    let told = wake_each(words, p, &[3, 64, 5], &mut notifier);
+    if !wake_each(words, p, &[3, 128, 5], &mut notifier) {
+        return Came::Other;
+    }
     let masks = [words.take(p, 0), words.take(p, 0)];
-    (told, masks, notifier.calls())
+    Came::Taken(masks, notifier.calls())
 }
 
-#[test]
-fn slots_of_a_parker_are_taken_together(rt: HostRuntime) -> Result<(), Fail> {
-    let (words, seat, mut pass) = Words::new(rt.alloc(), 1)?;
-    works_for_threads(&words, &seat, &pass);
-    same(&rt, take_together(&words, &mut pass), (true, [40, 0], 0));
-    Ok(())
-}
-
-/// Goes to wait for parker 0, wakes its slot 0, and looks again after the wait. How often the notifier was
-/// called, and what the second look found; `None` where one of the looks found something else.
-fn wake_a_wait(words: &Words, s: &mut RoundSeat, p: &mut Pass) -> Option<(u64, u64)>
+/// Goes to wait for parker 0, wakes its slot 0, and looks again after the wait.
+fn wake_a_wait(words: &Words, s: &mut RoundSeat, p: &mut Pass) -> Came
     requires round { Belongs words.now s.old × (s.old.view.mode ≡ mode.Idle) }
     requires parker { 0 < words.now.parkers }
     requires pass { Belongs words.now p.old }
 {
     let mut notifier = MemNotify::new();
     if !goes_to_wait(words, s) {
-        return None;
+        return Came::Other;
     }
     wake_each(words, p, &[0], &mut notifier);
     words.waited(s);
     match words.take_or_wait(s) {
         Some(found) => {
             words.unblock(s);
-            Some((notifier.calls(), found))
+            Came::Found(notifier.calls(), found)
         }
-        None => None,
+        None => Came::Other,
     }
-}
-
-#[test]
-fn one_wake_ends_a_wait(rt: HostRuntime) -> Result<(), Fail> {
-    let (words, mut round, mut pass) = Words::new(rt.alloc(), 1)?;
-    let woken = wake_a_wait(&words, &mut round, &mut pass);
-    same(&rt, woken, Some((1, 1)));
-    Ok(())
 }
 
 /// Notifies so often. How often it was called by then, by its own count.
@@ -110,9 +140,8 @@ fn notify_times<N: Notify>(words: &Words, p: &mut Pass, times: u32, notifier: &m
     notifier.calls()
 }
 
-/// How often the notifier was called by then: after two notifies; after two wakes in a wait; after one more
-/// notify in it; and after one when it was over. `None` where it did not wait.
-fn tell_a_wait(words: &Words, s: &mut RoundSeat, p: &mut Pass) -> Option<[u64; 4]>
+/// Notifies twice before a wait of parker 0, wakes two slots and notifies once in it, and notifies once after it.
+fn tell_a_wait(words: &Words, s: &mut RoundSeat, p: &mut Pass) -> Came
     requires round { Belongs words.now s.old × (s.old.view.mode ≡ mode.Idle) }
     requires parker { 0 < words.now.parkers }
     requires pass { Belongs words.now p.old }
@@ -121,92 +150,60 @@ fn tell_a_wait(words: &Words, s: &mut RoundSeat, p: &mut Pass) -> Option<[u64; 4
     let before = notify_times(words, p, 2, &mut notifier);
     words.waited(s);
     if !goes_to_wait(words, s) {
-        return None;
+        return Came::Other;
     }
     wake_each(words, p, &[1, 2], &mut notifier);
     let woken = notifier.calls();
     let told_again = notify_times(words, p, 1, &mut notifier);
     words.waited(s);
     let after = notify_times(words, p, 1, &mut notifier);
-    Some([before, woken, told_again, after])
+    Came::Told([before, woken, told_again, after])
 }
 
-#[test]
-fn a_wait_is_told_once(rt: HostRuntime) -> Result<(), Fail> {
-    let (words, mut round, mut pass) = Words::new(rt.alloc(), 1)?;
-    let calls = tell_a_wait(&words, &mut round, &mut pass);
-    same(&rt, calls, Some([1, 2, 2, 3]));
-    Ok(())
-}
-
-/// Goes to wait, and wakes slot 7 by this notifier. The fault of the wake, and the mask that is taken then;
-/// `None` where it did not wait.
-fn wake_untold<N: Notify>(
+/// Goes to wait, wakes slot 7 by a twin of this notifier, and takes the mask.
+fn wake_untold<N: Notify + Drop>(
     words: &Words,
     s: &mut RoundSeat,
     p: &mut Pass,
-    notifier: &mut N,
-) -> Option<(Option<CountFault>, u64)>
+    notifier: &N,
+) -> Came
     requires round { Belongs words.now s.old × (s.old.view.mode ≡ mode.Idle) }
     requires parker { 0 < words.now.parkers }
     requires pass { Belongs words.now p.old }
 {
+    let Ok(mut twin) = another(notifier) else {
+        return Came::Other;
+    };
     if !goes_to_wait(words, s) {
-        return None;
+        return Came::Other;
     }
-    let fault = words.wake(p, Waker(7), notifier).err();
-    Some((fault, words.take(p, 0)))
+    match words.wake(p, Waker(7), &mut twin) {
+        Ok(()) => Came::Other,
+        Err(fault) => Came::Untold(fault, words.take(p, 0)),
+    }
 }
 
-#[test]
-fn a_failing_notifier_leaves_the_slot_woken(rt: HostRuntime) -> Result<(), Fail> {
-    let mut notifier = another(&FailingNotify::new())?;
-    let (words, mut round, mut pass) = Words::new(rt.alloc(), 1)?;
-    let woken = wake_untold(&words, &mut round, &mut pass, &mut notifier);
-    same(&rt, woken, Some((Some(fault_after(0)), 128)));
-    Ok(())
-}
-
-/// Begins two rounds: what that answered; and the numbers of rounds that a first pass found before, that the
-/// round seat and a later pass found afterwards, and that the first one found when it had taken in the later one.
-fn begin_two(
-    words: &Words,
-    s: &mut RoundSeat,
-    first: &mut Pass,
-) -> ([Result<u64, RoundsSpent>; 2], [u64; 4])
+/// Begins two rounds, and has the first pass take in a later one.
+fn begin_two(words: &Words, s: &mut RoundSeat, first: &mut Pass) -> Came
     requires { Belongs words.now s.old × Belongs words.now first.old }
 {
     let none_yet = words.ticker(first);
-    let begun = [words.bump(s), words.bump(s)];
+    let begun = [words.bump(s).unwrap_or(0), words.bump(s).unwrap_or(0)];
     let mut later = words.pass(first);
     let of_round = words.rounds(s);
     let of_later = words.ticker(&mut later);
     words.join(first, later);
-    (begun, [none_yet, of_round, of_later, words.ticker(first)])
+    Came::Begun(begun, [none_yet, of_round, of_later, words.ticker(first)])
 }
 
-#[test]
-fn passes_see_each_round_that_began(rt: HostRuntime) -> Result<(), Fail> {
-    let (words, mut round, mut first) = Words::new(rt.alloc(), 1)?;
-    let found = begin_two(&words, &mut round, &mut first);
-    same(&rt, found, ([Ok(1), Ok(2)], [0, 2, 2, 2]));
-    Ok(())
-}
-
-/// Wakes slot 40 of parker 1, and then parks there. Whether the wake did not fail, and what was woken.
-fn park_after_a_wake<R: Wait>(rt: &R, words: &Words, p: &mut Pass) -> (bool, u64)
+/// Wakes slot 40 of parker 1, and then parks there.
+fn park_after_a_wake<R: Wait>(rt: &R, words: &Words, p: &mut Pass) -> Came
     requires { Belongs words.now p.old × (1 < words.now.parkers) }
 {
-    let told = wake_each(words, p, &[104], &mut MemNotify::new());
-    (told, words.park(rt, p, 1))
-}
-
-#[test]
-fn a_wake_before_the_park_is_found(rt: HostRuntime) -> Result<(), Fail> {
-    let (words, _round, mut pass) = Words::new(rt.alloc(), 2)?;
-    let found = park_after_a_wake(&rt, &words, &mut pass);
-    same(&rt, found, (true, 1 << 40));
-    Ok(())
+    if !wake_each(words, p, &[104], &mut MemNotify::new()) {
+        return Came::Other;
+    }
+    Came::Parked(words.park(rt, p, 1))
 }
 
 fn let_others_run() {
@@ -216,17 +213,17 @@ fn let_others_run() {
 }
 
 /// Parks on parker 1 in a thread, and wakes its slot 40 from another, late enough that the first mostly
-/// sleeps by then. What the park answers.
+/// sleeps by then. What the park answers, and whether the wake did not fail.
 fn parked_beside<R: Threads + Wait + Sync>(
     rt: &R,
     words: &Words,
     mine: &mut Pass,
     other: &mut Pass,
-) -> u64
+) -> (u64, bool)
     requires passes { Belongs words.now mine.old × Belongs words.now other.old }
     requires parker { (1 < words.now.parkers) × IsSync R.row }
 {
-    let (found, _told) = join(
+    join(
         rt,
         || -> u64
             requires { Belongs words.now other.now × (1 < words.now.parkers) }
@@ -237,17 +234,18 @@ fn parked_beside<R: Threads + Wait + Sync>(
             let_others_run();
             wake_each(words, mine, &[104], &mut MemNotify::new())
         },
-    );
-    found
+    )
 }
 
-#[test]
-fn a_wake_of_a_high_slot_ends_a_sleep(rt: HostRuntime) -> Result<(), Fail> {
-    let (words, _seat, mut pass) = Words::new(rt.alloc(), 2)?;
-    let mut other = words.pass(&mut pass);
-    let found = parked_beside(&rt, &words, &mut pass, &mut other);
-    same(&rt, found, 1 << 40);
-    Ok(())
+/// The same with one more pass.
+fn park_beside<R: Threads + Wait + Sync>(rt: &R, words: &Words, p: &mut Pass) -> Came
+    requires { Belongs words.now p.old × (1 < words.now.parkers) }
+{
+    let mut other = words.pass(p);
+    match parked_beside(rt, words, p, &mut other) {
+        (found, true) => Came::Parked(found),
+        _ => Came::Other,
+    }
 }
 
 /// Parks until all 64 slots of parker 0 were woken, each at least once.
@@ -356,12 +354,123 @@ fn wake_both<R: Threads + Sync>(
     first && second
 }
 
+/// The same with two more passes.
+fn gather_from_two<R: Threads + Wait + Sync>(rt: &R, words: &Words, p: &mut Pass) -> Came
+    requires { Belongs words.now p.old × (0 < words.now.parkers) }
+{
+    let mut even = words.pass(p);
+    let mut odd = words.pass(&mut even);
+    Came::Gathered(wake_from_two(rt, words, p, &mut even, &mut odd))
+}
+
+/// Does this at new words.
+fn tried<R: Threads + Wait + Sync>(
+    rt: &R,
+    words: &Words,
+    s: &mut RoundSeat,
+    p: &mut Pass,
+    trial: Trial,
+) -> Came
+    requires round { Belongs words.now s.old × (s.old.view.mode ≡ mode.Idle) }
+    requires parker { 1 < words.now.parkers }
+    requires pass { Belongs words.now p.old }
+{
+    match trial {
+        Trial::TakeTogether => take_together(words, p),
+        Trial::WakeAWait => wake_a_wait(words, s, p),
+        Trial::TellAWait => tell_a_wait(words, s, p),
+        Trial::WakeUntold => wake_untold(words, s, p, &FailingNotify::new()),
+        Trial::BeginTwo => begin_two(words, s, p),
+        Trial::ParkAfterAWake => park_after_a_wake(rt, words, p),
+        Trial::ParkBeside => park_beside(rt, words, p),
+        Trial::WakeFromTwo => gather_from_two(rt, words, p),
+    }
+}
+
+/// Does this at new words of two parkers.
+fn try_anew<R: Threads + Wait + Sync>(
+    rt: &R,
+    alloc: Global,
+    trial: Trial,
+) -> Result<Came, OutOfMemory> {
+    let (words, mut seat, mut pass) = Words::new(alloc, 2)?;
+    works_for_threads(&words, &seat, &pass);
+    Ok(tried(rt, &words, &mut seat, &mut pass, trial))
+}
+
+/// Asserts what comes of it at new words of two parkers.
+fn comes_to<R: Threads + Wait + Sync + Abort>(
+    rt: &R,
+    alloc: Global,
+    trial: Trial,
+    wanted: Came,
+) -> Result<(), Fail> {
+    same(rt, try_anew(rt, alloc, trial)?, wanted);
+    Ok(())
+}
+
+/// What the wakes of slots 0 and 63 of the one parker and of a slot behind it leave in new words.
+fn woken_at_one(alloc: Global) -> Result<(bool, u64), OutOfMemory> {
+    let (words, _seat, mut pass) = Words::new(alloc, 1)?;
+    let mut notifier = MemNotify::new();
+    let told = wake_each(&words, &mut pass, &[0, 64, 63], &mut notifier);
+    Ok((told, words.take(&mut pass, 0)))
+}
+
+#[test]
+fn words_of_one_parker_have_64_slots(rt: HostRuntime) -> Result<(), Fail> {
+    same(&rt, woken_at_one(rt.alloc())?, (true, 1 | 1 << 63));
+    Ok(())
+}
+
+#[test]
+fn slots_of_a_parker_are_taken_together(rt: HostRuntime) -> Result<(), Fail> {
+    comes_to(
+        &rt,
+        rt.alloc(),
+        Trial::TakeTogether,
+        Came::Taken([40, 0], 0),
+    )
+}
+
+#[test]
+fn one_wake_ends_a_wait(rt: HostRuntime) -> Result<(), Fail> {
+    comes_to(&rt, rt.alloc(), Trial::WakeAWait, Came::Found(1, 1))
+}
+
+#[test]
+fn a_wait_is_told_once(rt: HostRuntime) -> Result<(), Fail> {
+    comes_to(&rt, rt.alloc(), Trial::TellAWait, Came::Told([1, 2, 2, 3]))
+}
+
+#[test]
+fn a_failing_notifier_leaves_the_slot_woken(rt: HostRuntime) -> Result<(), Fail> {
+    let untold = Came::Untold(fault_after(0), 128);
+    comes_to(&rt, rt.alloc(), Trial::WakeUntold, untold)
+}
+
+#[test]
+fn passes_see_each_round_that_began(rt: HostRuntime) -> Result<(), Fail> {
+    let begun = Came::Begun([1, 2], [0, 2, 2, 2]);
+    comes_to(&rt, rt.alloc(), Trial::BeginTwo, begun)
+}
+
+#[test]
+fn a_wake_before_the_park_is_found(rt: HostRuntime) -> Result<(), Fail> {
+    comes_to(
+        &rt,
+        rt.alloc(),
+        Trial::ParkAfterAWake,
+        Came::Parked(1 << 40),
+    )
+}
+
+#[test]
+fn a_wake_of_a_high_slot_ends_a_sleep(rt: HostRuntime) -> Result<(), Fail> {
+    comes_to(&rt, rt.alloc(), Trial::ParkBeside, Came::Parked(1 << 40))
+}
+
 #[test]
 fn no_wake_of_64_slots_is_lost(rt: HostRuntime) -> Result<(), Fail> {
-    let (words, _seat, mut parks) = Words::new(rt.alloc(), 1)?;
-    let mut even = words.pass(&mut parks);
-    let mut odd = words.pass(&mut even);
-    let whole = wake_from_two(&rt, &words, &mut parks, &mut even, &mut odd);
-    same(&rt, whole, ROUNDS);
-    Ok(())
+    comes_to(&rt, rt.alloc(), Trial::WakeFromTwo, Came::Gathered(ROUNDS))
 }
