@@ -2,6 +2,7 @@
 pub mod Apart
 pub mod BetweenSteps
 pub mod FirstPolls
+pub mod GivenOnce
 pub mod NotesUnread
 pub mod RunLemmas
 pub mod Singles

@@ -10,7 +10,10 @@ pub mod FreeKeys
 pub mod GivingUp
 pub mod Hearing
 pub mod Interesting
+pub mod Keeping
 pub mod Marking
+pub mod Mending
+pub mod Needing
 pub mod Owning
 pub mod Readying
 pub mod RefusalLemmas

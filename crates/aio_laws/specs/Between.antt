@@ -13,7 +13,9 @@ use Rattle.aio_laws.specs.Clock.{ClockIsSet}
 use Rattle.aio_laws.specs.Counts.{CountsRise}
 use Rattle.aio_laws.specs.Drawn.{DrawsFollow}
 use Rattle.aio_laws.specs.Distinct.{IsOfTimer, NoDoubles}
+use Rattle.aio_laws.specs.FailedArms.{BrokenFollows}
 use Rattle.aio_laws.specs.FirstPolls.{InPollOrder}
+use Rattle.aio_laws.specs.Given.{EachIsGivenOnce}
 use Rattle.aio_laws.specs.Handling.{HandledIsNoted}
 use Rattle.aio_laws.specs.Marks.{MarksFollow}
 use Rattle.aio_laws.specs.Others.{OthersStand}
@@ -24,6 +26,7 @@ use Rattle.aio_laws.specs.Sources.{SourcesFollow}
 use Rattle.aio_laws.specs.Own.{KeepsItsOwn}
 use Rattle.aio_base.specs.Refusals.{RefusalLeaves}
 use Rattle.aio_laws.specs.Registered.{TimersAreRegistered}
+use Rattle.aio_laws.specs.RoundArming.{RoundArming}
 use Rattle.aio_laws.specs.RoundCounts.{RoundsFollow}
 use Rattle.aio_laws.specs.RoundHands.{HandFollows}
 use Rattle.aio_base.specs.Timers.{AllAbove, after_pass}
@@ -120,6 +123,12 @@ pub record StandsBetween (run : List PolledStep) : Type 0 where
   -- it called the poller as it told, told where one of its calls failed, and what is armed is what it asked for
   pub calls : (before : List PolledStep) (last : PolledStep) → run ≡ before ++ last ∷ []
       → CallsFollow (world_of opening before) last.step last.answers (outcome_of (world_of opening before) last).answer (outcome_of (world_of opening before) last).calls (world_of opening run)
+  -- its own source is broken where its last arm failed
+  pub broken : (before : List PolledStep) (last : PolledStep) → run ≡ before ++ last ∷ []
+      → BrokenFollows (world_of opening before) last.step last.answers (outcome_of (world_of opening before) last).answer (outcome_of (world_of opening before) last).calls (world_of opening run)
+  -- a whole round armed just the sources whose events left a waiter, and what it left armed and broken is what these arms made of it
+  pub rearmed : (before : List PolledStep) (last : PolledStep) → run ≡ before ++ last ∷ []
+      → RoundArming (world_of opening before) last.step last.answers (outcome_of (world_of opening before) last).calls (world_of opening run)
   -- and its own listener and timer are as it says
   pub own : (before : List PolledStep) (last : PolledStep) → run ≡ before ++ last ∷ []
       → KeepsItsOwn (world_of opening before) last.step (outcome_of (world_of opening before) last).answer (world_of opening run)
@@ -128,5 +137,8 @@ pub record StandsBetween (run : List PolledStep) : Type 0 where
       → RefusalLeaves (world_of opening before) (outcome_of (world_of opening before) last).answer (outcome_of (world_of opening before) last).wakes (world_of opening run)
 
 -- what stands after these steps of a trace over the poller in memory
-abbrev pub StandsAfter : List Step → Type 0
-StandsAfter steps = StandsBetween (scripted opening steps)
+pub record StandsAfter (steps : List Step) : Type 0 where
+  -- what stands after every run
+  pub between : StandsBetween (scripted opening steps)
+  -- the poller gave each event that it was told to give once, and in order
+  pub given : EachIsGivenOnce steps

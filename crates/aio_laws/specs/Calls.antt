@@ -1,6 +1,8 @@
 -- Which calls of the poller a step makes, that it tells where its calls failed, and that no interest changes without one.
-use Rattle.std.specs.Prelude.{◌≡◌, ◌≢◌, ◌⊎◌, ◌+◌, ◌≤◌, Bool, true, false, ◌||◌, if◌then◌else◌, List, [], ◌∷◌, length}
+use Rattle.std.specs.Prelude.{◌≡◌, ◌≢◌, ◌⊎◌, ℕ, ◌+◌, ◌≤◌, Bool, true, false, not, ◌||◌, if◌then◌else◌, List, [], ◌∷◌, find, length, None, Some}
 use Rattle.std.specs.List.{Contains}
+use Rattle.aio_base.specs.declared.names.Key.{Key}
+use Rattle.aio_base.specs.declared.names.Waker.{Waker}
 use Rattle.aio_base.specs.declared.names.Dir.{Dir}
 use Rattle.aio_base.specs.declared.names.Event.{Event}
 use Rattle.aio_base.specs.declared.outcomes.EndWord.{EndWord}
@@ -11,10 +13,10 @@ use Rattle.aio_base.specs.declared.steps.Step.{Step}
 use Rattle.aio_base.specs.declared.steps.Step.TheVariants as step
 use Rattle.aio_base.specs.declared.steps.Answer.{Answer}
 use Rattle.aio_base.specs.declared.steps.Answer.TheVariants as answer
-use Rattle.aio_base.specs.World.{PollerAnswer, ArmedDirection, World, is_armed, clear_armed}
-use Rattle.aio_base.specs.Machine.{fails, next_answer, later_answers}
+use Rattle.aio_base.specs.World.{PollerAnswer, ListenerEntry, ArmedDirection, World, serial_of, is_empty_list, is_idle, wanted, is_broken, is_armed, clear_armed}
+use Rattle.aio_base.specs.Machine.{is_listener, fails, next_answer, later_answers}
 use Rattle.aio_laws.specs.Interests.{InterestsFollow}
-use Rattle.aio_laws.specs.Succession.{events_given}
+use Rattle.aio_laws.specs.Succession.{has_to_wait, events_given}
 
 -- no call, or one arm
 abbrev pub MayArm : List Which → Type 0
@@ -43,6 +45,28 @@ CallsFit step.Handle (answer.Handled key false) calls = MayArm calls
 CallsFit step.Handle (answer.Handled key true) calls = (calls ≡ which.Arm ∷ [])
 CallsFit step.React (answer.Round number events end) calls = (arms : List Which) × (calls ≡ which.Wait ∷ arms) × OnlyArms arms
 CallsFit s told calls = (calls ≡ [])
+
+-- one arm where there has to be one
+abbrev pub arms_where : Bool → List Which
+arms_where true = which.Arm ∷ []
+arms_where false = []
+
+-- a poll of a direction has to arm its source: nobody waits there yet, or the last arm of the source failed
+abbrev pub has_to_arm : World → ℕ → Dir → Bool
+has_to_arm w serial dir = is_idle w serial dir || is_broken w serial
+
+-- Where a poll and a handled event arm: just where they have to.
+pub record ArmsAsNeeded (w : World) (s : Step) (told : Answer) (calls : List Which) (v : World) : Type 0 where
+  -- a poll that has to wait arms where its direction had no waiter, or the last arm of its source had failed
+  pub polled : (key : Key) (dir : Dir) (waker : Waker) (serial : ℕ) → s ≡ step.Poll key dir waker → serial_of w key.0 ≡ Some serial
+      → has_to_wait told ≡ true → calls ≡ arms_where (has_to_arm w serial dir)
+  pub listened : (number : ℕ) (waker : Waker) (l : ListenerEntry) → s ≡ step.StepEar number waker → find (is_listener number) w.listeners ≡ Some l
+      → has_to_wait told ≡ true → calls ≡ arms_where (has_to_arm w l.serial l.dir)
+  -- a handled event arms where its source has a waiter left
+  pub handled : (key : Key) (failed : Bool) (serial : ℕ) → s ≡ step.Handle → told ≡ answer.Handled key failed → serial_of w key.0 ≡ Some serial
+      → calls ≡ arms_where (not (is_empty_list (wanted v serial)))
+  -- and never where no source has its key
+  pub dropped : (key : Key) (failed : Bool) → s ≡ step.Handle → told ≡ answer.Handled key failed → serial_of w key.0 ≡ None → calls ≡ []
 
 -- A wait that gave events leaves the key of each of them armed in no direction, for the poller has cleared its interest. So a waiter that is left there
 -- is armed for by a later call alone.
@@ -92,6 +116,8 @@ pub record CallsFollow (w : World) (s : Step) (answers : List PollerAnswer) (tol
   -- where the poller is not called, what is armed stays so, and nothing else is
   pub silent : calls ≡ [] → v.armed ≡ w.armed
   pub cleared : IsCleared s answers told v.armed
+  -- a poll and a handled event arm where they have to
+  pub needed : ArmsAsNeeded w s told calls v
   -- a step that is no whole round tells a failure exactly where its call failed
   pub heard : s ≢ step.React → tells_failure told ≡ has_failed calls answers
   -- and a call that failed changes no interest

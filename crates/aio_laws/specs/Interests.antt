@@ -75,5 +75,7 @@ pub record InterestsFollow (w : World) (s : Step) (answers : List PollerAnswer) 
   -- a wait clears the keys of its events, and no other
   pub given : (count : ℕ) → s ≡ step.Wait → told ≡ answer.Given count → (k : ℕ) (dir : Dir)
       → IsArmedIn v.armed k dir ↔ (IsArmedIn w.armed k dir × NoneOf (events_given (next_answer answers)) k)
+  -- one that was interrupted gave no event, and leaves what is armed
+  pub interrupted : s ≡ step.Wait → told ≡ answer.Interrupted → v.armed ≡ w.armed
   -- and a whole round arms a key where an arm succeeded
   pub round : s ≡ step.React → w.round ≡ None → RoundArms w answers calls v

@@ -4,9 +4,12 @@ pub mod Distinct
 pub mod Counts
 pub mod Drawn
 pub mod RoundAnswers
+pub mod RoundArming
 pub mod RoundCounts
 pub mod RoundHands
 pub mod Clock
+pub mod FailedArms
+pub mod Given
 pub mod Handling
 pub mod Interests
 pub mod Others

@@ -1,13 +1,15 @@
 -- What a step may change of a listener and of a timer, its own ones too.
-use Rattle.std.specs.Prelude.{◌≡◌, ◌⊎◌, ℕ, ◌+◌, ◌<◌, ◌≤◌, ◌^◌, Bool, true, false, ◌==◌, List, Option, None, Some}
+use Rattle.std.specs.Prelude.{◌≡◌, ◌⊎◌, ℕ, ◌+◌, ◌<◌, ◌≤◌, ◌^◌, Bool, true, false, not, ◌&&◌, ◌||◌, ◌==◌, if◌then◌else◌, List, find, Option, None, Some, is_some, option_map}
 use Rattle.std.specs.List.{Contains}
 use Rattle.aio_base.specs.declared.names.Key.{Key}
+use Rattle.aio_base.specs.declared.names.Waker.{Waker}
 use Rattle.aio_base.specs.declared.names.Dir.{Dir}
 use Rattle.aio_base.specs.declared.steps.Step.{Step}
 use Rattle.aio_base.specs.declared.steps.Step.TheVariants as step
 use Rattle.aio_base.specs.declared.steps.Answer.{Answer}
 use Rattle.aio_base.specs.declared.steps.Answer.TheVariants as answer
 use Rattle.aio_base.specs.World.{ListenerEntry, TimerEntry, World, serial_of}
+use Rattle.aio_base.specs.Machine.{is_timer, is_waker}
 use Rattle.aio_laws.specs.Others.{but_waker}
 
 -- ## Listeners
@@ -74,6 +76,37 @@ pub data TimerFrom (w : World) (s : Step) (told : Answer) (t : TimerEntry) : Typ
       → TimerFrom w s told t
   MadeTimer : (deadline period : Option ℕ) → MakesTimer s deadline period → t ≡ new_timer_entry w deadline period → TimerFrom w s told t
 
+-- ## What a timer keeps of its registration
+
+-- the id of a registration, and the waker with which the timer was registered
+pub record Keeping : Type 0 where
+  pub id : Option ℕ
+  pub waker : Option Waker
+
+abbrev pub keeping : TimerEntry → Keeping
+keeping t = record { id = t.id; waker = t.kept }
+
+-- registered with a waker under the next id; without a waker nothing is kept
+abbrev pub registered_with : World → Option Waker → Keeping
+registered_with w None = record { id = None; waker = None }
+registered_with w (Some waker) = record { id = Some (w.ids_drawn + 1); waker = Some waker }
+
+-- whether a timer that is polled with a waker has nothing to wait for, or waits on with that very waker
+abbrev pub waits_on : Waker → TimerEntry → Bool
+waits_on waker t = not (is_some t.deadline) || (is_some t.id && is_waker waker t.kept)
+
+-- What a timer of this number keeps after a step that is told so, by the deadline that it has then. A poll that has to wait registers it with its
+-- waker, under the next id, unless it waits on; one that is told ready does so where there is a next deadline, and else nothing is kept. A `set`
+-- registers it anew with the waker that it kept. No other step changes what a timer keeps, also where a pass took its registration.
+abbrev pub keeping_after : World → Step → Answer → ℕ → TimerEntry → Option ℕ → Keeping
+keeping_after w (step.Tick number waker) answer.Pending n old next =
+    if n == number then (if waits_on waker old then keeping old else registered_with w (Some waker)) else keeping old
+keeping_after w (step.Tick number waker) (answer.ReadyAt at) n old next =
+    if n == number then registered_with w (option_map (λ (deadline : ℕ). waker) next) else keeping old
+keeping_after w (step.SetAt number deadline) answer.Set n old next = if n == number then registered_with w old.kept else keeping old
+keeping_after w (step.SetEvery number deadline period) answer.Set n old next = if n == number then registered_with w old.kept else keeping old
+keeping_after w s told n old next = keeping old
+
 -- ## A step
 
 -- what a step makes is told, and stands among these listeners or timers
@@ -117,6 +150,9 @@ pub record KeepsItsOwn (w : World) (s : Step) (told : Answer) (v : World) : Type
   pub listeners : (l : ListenerEntry) → Contains v.listeners l → ComesFrom w s l
   pub timers : (t : TimerEntry) → Contains v.timers t → TimerFrom w s told t
   pub made : StandsMade w s told v.listeners v.timers
+  -- the id and the waker that a timer keeps are those that it kept, or those that the step gives it
+  pub keeps : (number : ℕ) (old t : TimerEntry) → find (is_timer number) w.timers ≡ Some old → find (is_timer number) v.timers ≡ Some t
+      → keeping t ≡ keeping_after w s told number old t.deadline
   -- none is lost that is not given up
   pub listeners_stand : (l : ListenerEntry) → Contains w.listeners l → drops_listener s l.number ≡ false
       → (after : ListenerEntry) × Contains v.listeners after × (after.number ≡ l.number)

@@ -175,6 +175,8 @@ pub record StoringsFollow (w : World) (s : Step) (answers : List PollerAnswer) (
   -- a round takes all that stood where it takes, in the order of those places, and leaves nothing standing there
   pub taken : taken_now ≡ standing_in (taken_places w s answers) before.standing
   pub emptied : (x : Stored) → Contains after.standing x → Contains (taken_places w s answers) x.place → ⊥
+  -- where a step gives up nothing, all that stood where it may stands on; so a timer that waits on with the same waker stays registered
+  pub keeps : gives_up w s answers ≡ false → given_up_now ≡ []
   -- where a step gives up, it leaves nothing standing but what it stores
   pub cleared : gives_up w s answers ≡ true → (x : Stored) → Contains after.standing x → Contains (may_give_up w s) x.place → Contains stored_now x
   -- a step that ends a round wakes all that the round has taken, also in this step, and leaves nothing taken

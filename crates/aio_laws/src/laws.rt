@@ -11,6 +11,7 @@ ghost use Rattle.aio_laws.specs.Counts.{CountsRise};
 ghost use Rattle.aio_laws.specs.Covered.{Covered, WaitsForLive};
 ghost use Rattle.aio_laws.specs.Distinct.{IsOfTimer, NoDoubles};
 ghost use Rattle.aio_laws.specs.Drawn.{DrawsFollow};
+ghost use Rattle.aio_laws.specs.FailedArms.{BrokenFollows};
 ghost use Rattle.aio_laws.specs.FirstPolls.{InPollOrder};
 ghost use Rattle.aio_laws.specs.Handling.{HandledIsNoted};
 ghost use Rattle.aio_base.specs.Lines.{Reads, step_read};
@@ -22,6 +23,7 @@ ghost use Rattle.aio_laws.specs.Readiness.{ReadyIsTold};
 ghost use Rattle.aio_base.specs.Refusals.{RefusalLeaves, is_refusal, only_counted};
 ghost use Rattle.aio_laws.specs.Registered.{TimersAreRegistered};
 ghost use Rattle.aio_base.specs.Runs.{PolledStep, answers_of, outcome_without_notes, scripted, wakes_of, without_notes, world_of};
+ghost use Rattle.aio_laws.specs.RoundArming.{RoundArming};
 ghost use Rattle.aio_laws.specs.RoundCounts.{RoundsFollow};
 ghost use Rattle.aio_laws.specs.RoundHands.{HandFollows};
 ghost use Rattle.aio_base.specs.Script.{outcomes_from, world_after};
@@ -130,7 +132,9 @@ pub fn no_storing_is_lost_or_woken_twice()
 /// poll replaces what stood with its direction, and wakes it; a round takes what is due at a pass and
 /// the waiters of each event that it handles, all of them and in order; what is given up stood with the
 /// source that `del` takes out, with the listener that `step` or `drop` names, or with the registration
-/// of the timer that `tick`, `set` or `end` names, and nothing but what is stored is left standing there.
+/// of the timer that `tick`, `set` or `end` names, and nothing but what is stored is left standing there;
+/// a step that gives up nothing, as the poll of a timer that waits on with the same waker, leaves there
+/// what stood.
 /// What a round has taken stays taken until the step that ends it, a `finish` or a `react` that is not
 /// refused: that one wakes all of it, in order, also what it took itself, and leaves nothing taken. A
 /// step that is refused moves nothing.
@@ -317,7 +321,9 @@ pub fn no_number_and_no_event_is_left_out()
 
 /// The calls of the poller that a step makes fit its answer: one `add`, one `remove` or one `wait`; of a
 /// poll that stays pending, and of an event that is handled, one `arm` or none, and one where it is told
-/// that this failed; of a whole round one `wait` and arms behind it. No other step calls the poller. What
+/// that this failed; of a whole round one `wait` and arms behind it. No other step calls the poller. A
+/// poll that has to wait arms exactly where its direction had no waiter, or the last arm of its source
+/// had failed; a handled event exactly where its source is live and has a waiter left. What
 /// is armed changes in no step without a call, and a wait that gave events leaves their keys armed in no
 /// direction, since the poller has cleared their interests: so a waiter that is left there is armed for
 /// by a call of the poller, and not by what the machine remembers.
@@ -330,13 +336,32 @@ pub fn no_number_and_no_event_is_left_out()
 ///
 /// What is armed is what was asked for. Of a source that is new or gone nothing is armed. A poll or a
 /// handled event that armed its source leaves it armed in just the directions that have a waiter, and a
-/// wait clears the keys of its events; of every other key what was armed is (`InterestsFollow`). A whole
+/// wait clears the keys of its events, and none where it was interrupted; of every other key what was
+/// armed is (`InterestsFollow`). A whole
 /// round arms anew at most one key for each of its arms that succeeded, and only directions that had a
 /// waiter.
 pub fn no_interest_changes_without_a_call()
     ensures { (w : World) (s : Step) (answers : List PollerAnswer)
         → CallsFollow w s answers (step_result w s answers).answer (step_result w s answers).calls
         (step_result w s answers).world }
+{}
+
+/// A source is broken where its last arm failed, at the position of the step in which it did. After a step
+/// that is no whole round its own source is broken at this position where it tells `fault arm`; it is not
+/// where the step called the poller and tells no such thing; and where the step made no call it is if it
+/// was.
+///
+/// A whole round arms behind each event of its wait whose source is live and has a waiter whom no event so
+/// far has taken, for just the directions of such waiters, and makes no other call; a failed arm stops
+/// nothing. Of several arms of one source the last tells whether it is broken, and the last that succeeded
+/// what is armed. A source or a key of which no arm was made is broken, or armed, as after the wait.
+pub fn a_source_is_broken_where_its_last_arm_failed()
+    ensures step { (w : World) (s : Step) (answers : List PollerAnswer)
+        → let after = step_result w s answers in
+        BrokenFollows w s answers after.answer after.calls after.world }
+    ensures round { (w : World) (s : Step) (answers : List PollerAnswer)
+        → let after = step_result w s answers in
+        RoundArming w s answers after.calls after.world }
 {}
 
 /// A listener is the same after a step, but for its waker, and but for its position where this is its
@@ -349,6 +374,10 @@ pub fn no_interest_changes_without_a_call()
 /// timer's deadline, which has come, and the next is one period later where that is at most 10^18
 /// nanoseconds; else there is none. The period stays. No other step changes deadline or period, and no
 /// listener or timer is lost but the one that is given up, which is gone.
+///
+/// The id and the waker that a timer keeps are those that it kept, but for a `tick` that registers it
+/// under the next id with its own waker, one that fires with no deadline to follow, after which it keeps
+/// neither, and a `set`, which registers it under the next id with the waker that it kept, if any.
 pub fn a_position_and_a_deadline_have_their_steps()
     ensures { (w : World) (s : Step) (answers : List PollerAnswer)
         → KeepsItsOwn w s (step_result w s answers).answer (step_result w s answers).world }
@@ -391,7 +420,11 @@ pub fn a_script_is_a_run()
 /// changed the sources as its answer tells and its own listener or timer as such a step may, and it was
 /// told ready exactly where it polled what was ready. It was told what fits it, and that it is refused
 /// where what it needs was not to be had. It called the poller as it told, and no interest changed without
-/// a call. Where it was refused it took its position and did nothing else.
+/// a call. Its own source is broken where its last arm failed, and a whole round armed just the sources of
+/// which an event left a waiter. Where it was refused it took its position and did nothing else.
+///
+/// Over the poller in memory the waits of a trace gave each event that its steps noted once, in order, or
+/// it is noted still.
 pub fn a_run_stands_between_its_steps()
     ensures run { (run : List PolledStep) → StandsBetween run }
     ensures trace { (steps : List Step) → StandsAfter steps }

@@ -1,11 +1,13 @@
 -- A pass over registrations and one over the book of them take the same wakers, and leave the same time to wait.
-use Rattle.std.proofs.Common.{◌≡◌, ℕ, Bool, true, false, nat_eq, if◌then◌else◌, cond, List, [], ◌∷◌, map, Option, None, Some, refl, sym, ap, ◌∙◌, arith}
+use Rattle.std.proofs.Common.{◌≡◌, ℕ, Bool, true, false, not, nat_eq, if◌then◌else◌, cond, List, [], ◌∷◌, map, Option, None, Some, refl, sym, ap, ◌∙◌, arith}
 use Rattle.std.specs.Prelude.{nat_le}
 use Rattle.std.specs.List.{All, AllByRecursion, IsDistinct, filter}
+use Rattle.std.proofs.lemmas.Bool.{not-true}
 use Rattle.std.proofs.lemmas.List.Elements.{All-head}
 use Rattle.aio_base.specs.declared.names.Waker.{Waker}
 use Rattle.aio_base.specs.World.{Registration, is_empty_list}
 use Rattle.aio_base.specs.Timers.{fires_before, placed, in_order, due_wakers, after_pass, lesser, first_deadline, time_to, limit_of}
+use Rattle.aio_base.proofs.Searching.{filtered_empty}
 use Rattle.aio_base.proofs.BookChanges.{IsSorted, in_order_sorted, after_pass_in_order, due_wakers_in_order}
 
 -- ## What is in order stays
@@ -84,3 +86,10 @@ pub ids_filter : (p : Registration → Bool) (xs : List Registration) → IsDist
 unfolding IsDistinct
 ids_filter p [] distinct = tt
 ids_filter p (x ∷ xs) distinct = distinct_at (p x) x (filter p xs) (others_filter x.id p xs distinct.0) (ids_filter p xs distinct.1)
+
+-- a pass leaves no waker that is due at its moment
+pub none_due_left : (moment : ℕ) (book : List Registration) → due_wakers moment (after_pass moment book) ≡ []
+none_due_left moment book =
+    ap (λ (due : List Registration). map (λ (r : Registration). r.waker) (in_order due))
+    (filtered_empty (λ (r : Registration). nat_le r.deadline moment) (λ (r : Registration). not (nat_le r.deadline moment))
+    (λ r stays. not-true (nat_le r.deadline moment) stays) book)

@@ -19,6 +19,8 @@ use Rattle.aio_react.specs.Cores.{CoreValue}
 use Rattle.aio_react.specs.Meeting.{Comes, Meets, kind_of}
 use Rattle.aio_react.specs.Parts.{MeetsPart}
 use Rattle.aio_react.specs.Reacting.{react_reply, MeetsRound, Handles, Stopped}
+use Rattle.aio_react.specs.Replies.{empty_hand_refusal}
+use Rattle.aio_react.specs.Rounds.{RoundValue}
 use Rattle.aio_react.specs.Sections.{begin_refusal, core_begun}
 use Rattle.aio_react.specs.Standing.{StandsWithin, end_word}
 use Rattle.aio_react.proofs.BeginMeets.{world_begun, begun_stands, begin_is_made, begin_meets, busy_world}
@@ -213,6 +215,10 @@ idle_by false spent none = refl
 -- no round runs where none is refused
 pub not_busy : (core : CoreValue) → begin_refusal core ≡ None → core.round.running ≡ false
 not_busy core none = idle_by core.round.running (core.ticker == 2 ^ 64 - 1) none
+
+-- a running round with nothing in hand may wait, and end
+pub open_hand : (r : RoundValue) → r.running ≡ true → r.hand ≡ [] → empty_hand_refusal r ≡ None
+open_hand r runs empty = rw (runs, empty) refl
 
 -- ## A round that was stopped
 

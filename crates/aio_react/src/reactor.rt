@@ -150,6 +150,7 @@ impl<P: Poller> Core<P> {
             → length self.new.1.round.hand ≡ wait_given result }
         ensures bound { wait_given result ≤ 1024 }
         ensures runs { self.new.1.round.running ≡ self.old.1.round.running }
+        ensures book { self.new.1.book ≡ self.old.1.book }
         ensures kept { self.new.1.round.fault
             ≡ option_or self.old.1.round.fault (option_map Wait (wait_failure result)) }
         ensures faults { TellsFaults P.fault_count P.is_sure self.old.0 self.new.0

@@ -254,6 +254,7 @@ impl Round {
             (book.new.entries ≡ second_book self.old now book.old.entries) }
         ensures spare { OnOk result (book.old.spare ≤ book.new.spare) }
         ensures refused { OnErr result ((self.new ≡ self.old) × (book.new ≡ book.old)) }
+        ensures wanting { OnErr result (due_wakers now book.old.entries ≢ []) }
     {
         if self.has_second_pass() {
             match make_pass_room(&mut self.taken, book, now) {
@@ -350,6 +351,7 @@ fn make_pass_room(taken: &mut Vec<Waker>, book: &TimerBook, now: Moment) -> Resu
     ensures items { taken.new.items ≡ taken.old.items }
     ensures room { OnOk result (vec_len taken.new + length (due_wakers now book.now.entries)
         ≤ vec_capacity taken.new) }
+    ensures wanting { OnErr result (due_wakers now book.now.entries ≢ []) }
 {
     if taken.reserve(book.len()).is_ok() {
         return Ok(());

@@ -95,6 +95,13 @@ given_up_elsewhere w s answers before after x now is there other f =
     elsewhere (may_give_up w s) x.place other
     (f.given_up x (subst (λ gone. Contains gone x) (append_cancel_left before.given_up now f.given_up_now (sym is ∙ f.gone)) (known now x there))).1
 
+-- a storing was given up by a step that gives up nothing
+given_up_for_nothing : (w : World) (s : Step) (answers : List PollerAnswer) (before after : Storings) (x : Stored) (now : List Stored)
+    → after.given_up ≡ before.given_up ++ now → has now x ≡ true → gives_up w s answers ≡ false → Refused w s answers before after
+given_up_for_nothing w s answers before after x now is there none f =
+    none_is_in x
+    (subst (λ gone. Contains gone x) (append_cancel_left before.given_up now f.given_up_now (sym is ∙ f.gone) ∙ f.keeps none) (known now x there))
+
 -- a storing was woken that was neither taken before, nor stood
 woken_from_nowhere : (w : World) (s : Step) (answers : List PollerAnswer) (before after : Storings) (x : Stored) (now : List Stored)
     → after.woken ≡ before.woken ++ now ∷ [] → has now x ≡ true → has before.taken x ≡ false → has before.standing x ≡ false → Refused w s answers before after
@@ -395,11 +402,25 @@ pub a_tick_gives_up_the_registration_of_another : (answers : List PollerAnswer)
 a_tick_gives_up_the_registration_of_another answers =
     given_up_elsewhere two_timers _ answers _ _ (storing 1 (OfTimer 2) 12) (storing 0 (OfTimer 1) 11 ∷ storing 1 (OfTimer 2) 12 ∷ []) refl refl refl
 
+-- a timer that waits on with the same waker loses its registration, and no round ever wakes it
+pub a_tick_that_waits_on_gives_up_its_registration : (answers : List PollerAnswer)
+    → Refused two_timers (step.Tick 1 (waker 11)) answers two_registered
+    (after_step 2 (storing 1 (OfTimer 2) 12 ∷ []) [] [] (storing 0 (OfTimer 1) 11 ∷ []))
+unfolding step_result
+a_tick_that_waits_on_gives_up_its_registration answers =
+    given_up_for_nothing two_timers _ answers _ _ (storing 0 (OfTimer 1) 11) (storing 0 (OfTimer 1) 11 ∷ []) refl refl refl
+
 pub an_end_gives_up_the_registration_of_another : (answers : List PollerAnswer)
     → Refused two_timers (step.End 1) answers two_registered
     (after_step 2 [] [] [] (storing 0 (OfTimer 1) 11 ∷ storing 1 (OfTimer 2) 12 ∷ []))
 an_end_gives_up_the_registration_of_another answers =
     given_up_elsewhere two_timers _ answers _ _ (storing 1 (OfTimer 2) 12) (storing 0 (OfTimer 1) 11 ∷ storing 1 (OfTimer 2) 12 ∷ []) refl refl refl
+
+-- a timer that is given up wakes its task
+pub an_end_wakes : (w : World) (answers : List PollerAnswer)
+    → Refused w (step.End 1) answers two_registered
+    (after_step 2 (storing 1 (OfTimer 2) 12 ∷ []) [] (storing 0 (OfTimer 1) 11 ∷ []) [])
+an_end_wakes w answers = woken_too_soon w _ answers _ _ (storing 0 (OfTimer 1) 11) (storing 0 (OfTimer 1) 11 ∷ []) refl refl refl refl
 
 -- a timer that has ended stays registered
 pub an_ended_timer_stays_registered : (answers : List PollerAnswer) → Refused two_timers (step.End 1) answers two_registered (after_step 2 two_registered.standing [] [] [])

@@ -8,7 +8,7 @@ use Rattle.aio_base.specs.declared.outcomes.EndWord.TheVariants.{Clean, FaultArm
 use Rattle.aio_base.specs.declared.outcomes.Which.TheVariants as which
 use Rattle.aio_base.specs.declared.steps.Step.TheVariants as step
 use Rattle.aio_base.specs.declared.steps.Answer.TheVariants as answer
-use Rattle.aio_base.specs.World.{Succeeds, Gives, Fails, ArmedDirection, PollWaiter, World, is_idle}
+use Rattle.aio_base.specs.World.{Succeeds, Gives, IsInterrupted, Fails, ArmedDirection, PollWaiter, World, is_idle}
 use Rattle.aio_laws.specs.Interests.{IsArmedIn, NoneOf, IsWaitedFor, InterestsFollow}
 use Rattle.aio_base.proofs.Membership.{none_is_in, first_is_in, later_is_in, among_cases}
 use Rattle.aio_laws.proofs.refused.FalseNotes.{task, key, readable, waiting, running}
@@ -68,6 +68,17 @@ an_interest_lost_in_a_wait_is_refused i =
           ⊎_elim (λ (first : readable 0 ≡ event). let wrong : 0 ≡ 1 = ap (λ (e : Event). e.key.0) first ∙ same in absurd (omega arith))
           (λ (none : Contains [] event). none_is_in event none) (among_cases (readable 0) [] event here),
     ))
+
+-- a wait is interrupted, and an interest is forgotten that a waiter needs
+pub an_interest_lost_in_an_interrupted_wait_is_refused :
+    InterestsFollow (record (running []) { armed = interest 0 Read ∷ [] }) step.Wait (IsInterrupted ∷ []) answer.Interrupted (which.Wait ∷ [])
+    (record (running []) { pos = 5; armed = [] }) → ⊥
+an_interest_lost_in_an_interrupted_wait_is_refused i = let wrong = i.interrupted refl refl in cc
+
+-- it arms a source for which nobody waits
+pub an_interest_made_in_an_interrupted_wait_is_refused :
+    InterestsFollow (running []) step.Wait (IsInterrupted ∷ []) answer.Interrupted (which.Wait ∷ []) (record (running []) { pos = 5; armed = interest 1 Write ∷ [] }) → ⊥
+an_interest_made_in_an_interrupted_wait_is_refused i = let wrong = i.interrupted refl refl in cc
 
 -- ## A whole round
 

@@ -1,5 +1,5 @@
 -- Steps of machines that treat a timer or a listener wrongly, and refused steps that do something, each refused by a law of a step.
-use Rattle.std.proofs.Common.{◌≡◌, ℕ, ◌<◌, ◌≤◌, true, false, [], ◌∷◌, Option, None, Some, refl, ap, ◌∙◌, sym, subst, ⊎_elim, arith}
+use Rattle.std.proofs.Common.{◌≡◌, ℕ, ◌<◌, ◌≤◌, true, false, [], ◌∷◌, Option, None, Some, option_map, refl, ap, ◌∙◌, sym, subst, ⊎_elim, arith}
 use Rattle.std.specs.List.{Contains}
 use Rattle.aio_base.specs.declared.names.Key.{Key}
 use Rattle.aio_base.specs.declared.names.Waker.{Waker}
@@ -10,7 +10,7 @@ use Rattle.aio_base.specs.declared.steps.Step.TheVariants as step
 use Rattle.aio_base.specs.declared.steps.Answer.{Answer}
 use Rattle.aio_base.specs.declared.steps.Answer.TheVariants as answer
 use Rattle.aio_base.specs.World.{ListenerEntry, TimerEntry, World, opening}
-use Rattle.aio_laws.specs.Own.{ComesFrom, Stood, FirstPolled, Made, TimerFrom, StoodDated, IsRedated, MadeTimer, FollowsReady, redates, KeepsItsOwn}
+use Rattle.aio_laws.specs.Own.{Keeping, ComesFrom, Stood, FirstPolled, Made, TimerFrom, StoodDated, IsRedated, MadeTimer, FollowsReady, redates, KeepsItsOwn}
 use Rattle.aio_base.specs.Refusals.{RefusalLeaves}
 use Rattle.aio_base.proofs.Membership.{among_cases, first_is_in, none_is_in}
 
@@ -129,6 +129,31 @@ pending t due (MadeTimer deadline period makes at) = makes
 pub a_deadline_moved_by_a_pending_tick_is_refused :
     KeepsItsOwn (one_timer 1 (timer 1 (Some 6) None)) tick answer.Pending (one_timer 2 (timer 1 (Some 9) None)) → ⊥
 a_deadline_moved_by_a_pending_tick_is_refused k = pending (timer 1 (Some 9) None) refl (k.timers (timer 1 (Some 9) None) (first_is_in (timer 1 (Some 9) None) []))
+
+-- a timer that keeps this id and this waker
+abbrev kept : ℕ → ℕ → ℕ → ℕ → TimerEntry
+kept number deadline id waker = record { number = number; deadline = Some deadline; period = None; id = Some id; kept = Some (record { 0 = waker }) }
+
+abbrev waker_kept : Keeping → Option ℕ
+waker_kept k = option_map (λ (w : Waker). w.0) k.waker
+
+-- a timer that is set keeps the id of a timer that has ended, and a waker that no task gave
+pub a_set_that_invents_a_waker_is_refused :
+    KeepsItsOwn (record opening { timers = timer 2 (Some 5) None ∷ []; timers_made = 2; ids_drawn = 1 }) (step.SetAt 2 0) answer.Set
+    (record opening { pos = 1; timers = kept 2 0 1 9 ∷ []; timers_made = 2; ids_drawn = 1 }) → ⊥
+a_set_that_invents_a_waker_is_refused k = none_given 9 (sym (ap waker_kept (k.keeps 2 (timer 2 (Some 5) None) (kept 2 0 1 9) refl refl)))
+
+-- a timer that waits on with the same waker forgets id and waker, so that a later `set` registers nothing
+pub a_tick_that_forgets_its_waker_is_refused :
+    KeepsItsOwn (record opening { timers = kept 1 50 1 7 ∷ []; timers_made = 1; ids_drawn = 1 }) tick answer.Pending
+    (record opening { pos = 1; timers = timer 1 (Some 50) None ∷ []; timers_made = 1; ids_drawn = 1 }) → ⊥
+a_tick_that_forgets_its_waker_is_refused k = none_given 7 (ap waker_kept (k.keeps 1 (kept 1 50 1 7) (timer 1 (Some 50) None) refl refl))
+
+-- a pass takes the registration of a timer, and the timer forgets its waker, with which a `set` would register it again
+pub a_waker_forgotten_at_a_pass_is_refused :
+    KeepsItsOwn (record opening { now = 60; timers = kept 1 50 1 7 ∷ []; timers_made = 1; ids_drawn = 1 }) (step.Begin None) (answer.Begin 1 (Some 0))
+    (record opening { pos = 1; now = 60; timers = timer 1 (Some 50) None ∷ []; timers_made = 1; ids_drawn = 1 }) → ⊥
+a_waker_forgotten_at_a_pass_is_refused k = none_given 7 (ap waker_kept (k.keeps 1 (kept 1 50 1 7) (timer 1 (Some 50) None) refl refl))
 
 -- a timer that is told ready is gone
 pub a_timer_lost_at_ready_is_refused : (told : Answer)

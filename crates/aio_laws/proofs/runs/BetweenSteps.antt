@@ -11,12 +11,14 @@ use Rattle.aio_laws.specs.Calls.{CallsFollow}
 use Rattle.aio_laws.specs.Clock.{ClockIsSet}
 use Rattle.aio_laws.specs.Counts.{CountsRise}
 use Rattle.aio_laws.specs.Drawn.{DrawsFollow}
+use Rattle.aio_laws.specs.FailedArms.{BrokenFollows}
 use Rattle.aio_laws.specs.Handling.{HandledIsNoted}
 use Rattle.aio_laws.specs.Marks.{MarksFollow}
 use Rattle.aio_laws.specs.Others.{OthersStand}
 use Rattle.aio_laws.specs.Sources.{SourcesFollow}
 use Rattle.aio_laws.specs.Own.{KeepsItsOwn}
 use Rattle.aio_base.specs.Refusals.{RefusalLeaves}
+use Rattle.aio_laws.specs.RoundArming.{RoundArming}
 use Rattle.aio_laws.specs.RoundCounts.{RoundsFollow}
 use Rattle.aio_laws.specs.RoundHands.{HandFollows}
 use Rattle.aio_base.specs.Timers.{after_pass}
@@ -30,8 +32,10 @@ use Rattle.aio_laws.proofs.steps.Drawing.{draws_follow}
 use Rattle.aio_laws.proofs.cover.Rearming.{step_leaves_unbroken}
 use Rattle.aio_laws.proofs.cover.CoverRuns.{run_covers, run_waits_for_live}
 use Rattle.aio_laws.proofs.runs.FirstPolls.{run_polls_in_order}
+use Rattle.aio_laws.proofs.runs.GivenOnce.{each_is_given_once}
 use Rattle.aio_laws.proofs.storings.Following.{run_follows}
 use Rattle.aio_laws.proofs.steps.Marking.{marks_follow}
+use Rattle.aio_laws.proofs.steps.Mending.{broken_follows}
 use Rattle.aio_laws.proofs.rounds.Noting.{handled_is_noted}
 use Rattle.aio_laws.proofs.storings.OnceRuns.{run_once}
 use Rattle.aio_laws.proofs.steps.Owning.{keeps_its_own}
@@ -39,6 +43,7 @@ use Rattle.aio_laws.proofs.timers.PassLemmas.{pass_leaves}
 use Rattle.aio_laws.proofs.steps.Readying.{ready_is_told}
 use Rattle.aio_laws.proofs.steps.RefusalLemmas.{refusal_leaves}
 use Rattle.aio_laws.proofs.timers.Registering.{step_leaves_registered}
+use Rattle.aio_laws.proofs.rounds.RoundArms.{round_arming}
 use Rattle.aio_laws.proofs.rounds.RoundHands.{hand_follows}
 use Rattle.aio_laws.proofs.rounds.RoundSteps.{rounds_follow, clock_is_set}
 use Rattle.aio_laws.proofs.steps.Sourcing.{sources_follow}
@@ -137,6 +142,12 @@ stands_between run = record {
   calls = λ before last is.
       let w = world_of opening before in
       subst (CallsFollow w last.step last.answers (outcome_of w last).answer (outcome_of w last).calls) (sym (ap (world_of opening) is ∙ one_more opening before last)) (calls_follow w last.step last.answers);
+  broken = λ before last is.
+      let w = world_of opening before in
+      subst (BrokenFollows w last.step last.answers (outcome_of w last).answer (outcome_of w last).calls) (sym (ap (world_of opening) is ∙ one_more opening before last)) (broken_follows w last.step last.answers);
+  rearmed = λ before last is.
+      let w = world_of opening before in
+      subst (RoundArming w last.step last.answers (outcome_of w last).calls) (sym (ap (world_of opening) is ∙ one_more opening before last)) (round_arming w last.step last.answers);
   own = λ before last is.
       let w = world_of opening before in
       subst (KeepsItsOwn w last.step (outcome_of w last).answer) (sym (ap (world_of opening) is ∙ one_more opening before last)) (keeps_its_own w last.step last.answers);
@@ -146,4 +157,4 @@ stands_between run = record {
 }
 
 pub stands_after : (steps : List Step) → StandsAfter steps
-stands_after steps = stands_between (scripted opening steps)
+stands_after steps = record { between = stands_between (scripted opening steps); given = each_is_given_once steps }

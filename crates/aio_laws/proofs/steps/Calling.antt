@@ -24,6 +24,7 @@ use Rattle.aio_laws.proofs.rounds.RoundFaults.{begun_clean}
 use Rattle.aio_laws.proofs.cover.Standing.{armed_stays}
 use Rattle.aio_laws.proofs.steps.Interesting.{Sets, Rearms, taken_arms, add_sets, del_sets, poll_sets, listen_sets, handle_sets, each_leaves}
 use Rattle.aio_laws.proofs.steps.Hearing.{case_heard, case_stays}
+use Rattle.aio_laws.proofs.steps.Needing.{case_needs}
 use Rattle.aio_laws.proofs.rounds.RoundEnds.{case_ends, round_waits}
 
 -- what an outcome calls fits a step, and leaves what is armed where it calls nothing
@@ -381,7 +382,7 @@ answered_arms w round (Gives events) rest = refl
 answered_arms w round IsInterrupted rest = refl
 answered_arms w round Fails rest = refl
 
-waits_arms : (w : World) (round : Option RoundState) (answers : List PollerAnswer) → in_hand_of round ≡ Some []
+pub waits_arms : (w : World) (round : Option RoundState) (answers : List PollerAnswer) → in_hand_of round ≡ Some []
     → (wait_in w round answers).world.armed ≡ clear_armed w.armed (events_given (next_answer answers))
 waits_arms w None answers at = absurd cc
 waits_arms w (Some round) answers at =
@@ -389,10 +390,10 @@ waits_arms w (Some round) answers at =
     cond_both (is_empty_list round.in_hand) _ _ (λ (o : Outcome). o.world.armed ≡ clear_armed w.armed (events_given (next_answer answers)))
     (λ yes. answered_arms w round (next_answer answers) (later_answers answers)) (λ no. absurd (let wrong : true ≡ false = sym empty ∙ no in cc))
 
-begun_arms : (w : World) (answers : List PollerAnswer) → (begin_round w None answers).world.armed ≡ w.armed
+pub begun_arms : (w : World) (answers : List PollerAnswer) → (begin_round w None answers).world.armed ≡ w.armed
 begun_arms w answers = cond_both (is_some w.round) _ _ (λ (o : Outcome). o.world.armed ≡ w.armed) (λ runs. refl) (λ none. refl)
 
-finish_arms : (w : World) (round : Option RoundState) (answers : List PollerAnswer) → (finish_in w round answers).world.armed ≡ w.armed
+pub finish_arms : (w : World) (round : Option RoundState) (answers : List PollerAnswer) → (finish_in w round answers).world.armed ≡ w.armed
 finish_arms w None answers = refl
 finish_arms w (Some round) answers = cond_both (is_empty_list round.in_hand) _ _ (λ (o : Outcome). o.world.armed ≡ w.armed) (λ ends. refl) (λ some. refl)
 
@@ -456,13 +457,27 @@ cleared_stays (event ∷ events) armed k dir arms none =
     (armed_stays armed event.key.0 [] k dir (λ same. none event (first_is_in event events) (sym same)) arms) (λ e later. none e (later_is_in event events e later))
 
 -- what is armed after events cleared their keys
-cleared_is : (events : List Event) (armed after : List ArmedDirection) → after ≡ clear_armed armed events → (k : ℕ) (dir : Dir)
+pub cleared_is : (events : List Event) (armed after : List ArmedDirection) → after ≡ clear_armed armed events → (k : ℕ) (dir : Dir)
     → IsArmedIn after k dir ↔ (IsArmedIn armed k dir × NoneOf events k)
 cleared_is events armed after is k dir = (
   λ arms. let from = cleared_from events armed (record { key = k; dir = dir }) (subst (λ xs. IsArmedIn xs k dir) is arms) in
       (from.0, λ e here same. from.1 e here (sym same)),
   λ stays. subst (λ xs. IsArmedIn xs k dir) (sym is) (cleared_stays events armed k dir stays.0 stays.1),
 )
+
+interrupted_arms : (w : World) (round : RoundState) (told : PollerAnswer) (rest : List PollerAnswer) → (wait_answered w round told rest).answer ≡ answer.Interrupted
+    → (wait_answered w round told rest).world.armed ≡ w.armed
+interrupted_arms w round Succeeds rest told = refl
+interrupted_arms w round (Gives events) rest told = absurd cc
+interrupted_arms w round IsInterrupted rest told = refl
+interrupted_arms w round Fails rest told = refl
+
+wait_interrupted : (w : World) (round : Option RoundState) (answers : List PollerAnswer) → (wait_in w round answers).answer ≡ answer.Interrupted
+    → (wait_in w round answers).world.armed ≡ w.armed
+wait_interrupted w None answers told = absurd cc
+wait_interrupted w (Some round) answers told =
+    cond_both (is_empty_list round.in_hand) _ _ (λ (o : Outcome). o.answer ≡ answer.Interrupted → o.world.armed ≡ w.armed)
+    (λ empty. interrupted_arms w round (next_answer answers) (later_answers answers)) (λ some told. absurd cc) told
 
 wait_given : (w : World) (round : Option RoundState) (answers : List PollerAnswer) (count : ℕ) → (wait_in w round answers).answer ≡ answer.Given count
     → (wait_in w round answers).world.armed ≡ clear_armed w.armed (events_given (next_answer answers))
@@ -473,7 +488,7 @@ wait_given w (Some round) answers count told =
     (λ empty told. answered_arms w round (next_answer answers) (later_answers answers)) (λ some told. absurd cc) told
 
 -- a world with the same waiters
-abbrev SameWaiters : World → World → Type 0
+abbrev pub SameWaiters : World → World → Type 0
 SameWaiters w v = (n : ℕ) (dir : Dir) → is_idle v n dir ≡ is_idle w n dir
 
 answered_waiters : (w : World) (round : RoundState) (told : PollerAnswer) (rest : List PollerAnswer) → SameWaiters w (wait_answered w round told rest).world
@@ -482,13 +497,13 @@ answered_waiters w round (Gives events) rest n dir = refl
 answered_waiters w round IsInterrupted rest n dir = refl
 answered_waiters w round Fails rest n dir = refl
 
-wait_waiters : (w : World) (round : Option RoundState) (answers : List PollerAnswer) → SameWaiters w (wait_in w round answers).world
+pub wait_waiters : (w : World) (round : Option RoundState) (answers : List PollerAnswer) → SameWaiters w (wait_in w round answers).world
 wait_waiters w None answers n dir = refl
 wait_waiters w (Some round) answers n dir =
     cond_both (is_empty_list round.in_hand) _ _ (λ (o : Outcome). is_idle o.world n dir ≡ is_idle w n dir)
     (λ empty. answered_waiters w round (next_answer answers) (later_answers answers) n dir) (λ some. refl)
 
-begin_waiters : (w : World) (answers : List PollerAnswer) → SameWaiters w (begin_round w None answers).world
+pub begin_waiters : (w : World) (answers : List PollerAnswer) → SameWaiters w (begin_round w None answers).world
 begin_waiters w answers n dir = cond_both (is_some w.round) _ _ (λ (o : Outcome). is_idle o.world n dir ≡ is_idle w n dir) (λ runs. refl) (λ none. refl)
 
 no_round : (round : Option RoundState) → round ≡ None → is_some round ≡ false
@@ -562,6 +577,9 @@ case_interests w s answers = record {
       subst (λ (x : Step). (case_of w x answers).answer ≡ answer.Given count → (k : ℕ) (dir : Dir)
       → IsArmedIn (case_of w x answers).world.armed k dir ↔ (IsArmedIn w.armed k dir × NoneOf (events_given (next_answer answers)) k)) (sym is)
       (λ told. cleared_is (events_given (next_answer answers)) w.armed (wait_in w w.round answers).world.armed (wait_given w w.round answers count told));
+  interrupted = λ is.
+      subst (λ (x : Step). (case_of w x answers).answer ≡ answer.Interrupted → (case_of w x answers).world.armed ≡ w.armed) (sym is)
+      (wait_interrupted w w.round answers);
   round = λ is none.
       subst (λ (x : Step). RoundArms w answers (case_of w x answers).calls (case_of w x answers).world) (sym is) (react_round w answers none);
 }
@@ -576,6 +594,7 @@ calls_follow w s answers =
       fit = c.fit;
       silent = c.silent;
       cleared = case_clears w s answers;
+      needed = (let n = case_needs w s answers in record { polled = n.polled; listened = n.listened; handled = n.handled; dropped = n.dropped });
       heard = case_heard w s answers;
       stays = case_stays w s answers;
       ended = case_ends w s answers;
@@ -587,6 +606,7 @@ calls_follow w s answers =
         listened = i.listened;
         handled = i.handled;
         given = i.given;
+        interrupted = i.interrupted;
         round = λ is none. let r = i.round is none in record { keys = r.keys; asked = r.asked; others = r.others; waited = r.waited };
       };
     }

@@ -48,7 +48,7 @@ set_from armed key dirs k dir among =
     inl (sym (ap (λ (a : ArmedDirection). a.key) from.2), subst (Contains dirs) (ap (λ (a : ArmedDirection). a.dir) from.2) from.1))
     (Contains-append_cases (filter other armed) (map of_key dirs) (record { key = k; dir = dir }) among)
 
-sets : (armed : List ArmedDirection) (key : ℕ) (dirs : List Dir) (On : Dir → Type 0) → ((dir : Dir) → Contains dirs dir → On dir)
+pub sets : (armed : List ArmedDirection) (key : ℕ) (dirs : List Dir) (On : Dir → Type 0) → ((dir : Dir) → Contains dirs dir → On dir)
     → ((dir : Dir) → On dir → Contains dirs dir) → SetsInterest armed (set_armed armed key dirs) key On
 sets armed key dirs On on among = record {
   own = λ dir. (
@@ -148,7 +148,7 @@ pub taken_arms : (dirs : List Dir) (w : World) (serial begin : ℕ) → (world_t
 taken_arms [] w serial begin = refl
 taken_arms (dir ∷ dirs) w serial begin = taken_arms dirs (without_waiters w serial begin dir) serial begin
 
-taken_live : (dirs : List Dir) (w : World) (serial begin : ℕ) → (world_taken w serial begin dirs).live ≡ w.live
+pub taken_live : (dirs : List Dir) (w : World) (serial begin : ℕ) → (world_taken w serial begin dirs).live ≡ w.live
 taken_live [] w serial begin = refl
 taken_live (dir ∷ dirs) w serial begin = taken_live dirs (without_waiters w serial begin dir) serial begin
 

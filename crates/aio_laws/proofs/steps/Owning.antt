@@ -16,6 +16,7 @@ use Rattle.aio_base.specs.Machine.{Outcome, quiet, is_fresh_since, is_waker, is_
 use Rattle.aio_laws.specs.Others.{but_waker}
 use Rattle.aio_laws.specs.Own.{new_listener_entry, new_timer_entry, ComesFrom, Stood, FirstPolled, Made, MakesTimer, FollowsReady, redates, Redated, TimerFrom, StoodDated, IsRedated, MadeTimer, StandsMade, drops_listener, ends_timer, KeepsItsOwn}
 use Rattle.aio_laws.proofs.steps.GivingUp.{what_is_given_up_goes}
+use Rattle.aio_laws.proofs.steps.Keeping.{timers_keep}
 use Rattle.aio_base.proofs.Membership.{found_is_in, filtered_is_in, passing_is_kept, mapped_from, image_is_in}
 use Rattle.aio_laws.proofs.steps.Frames.{Frame, either, either_world, add_keeps, del_keeps, poll_keeps, new_keeps, step_keeps, drop_keeps, tick_keeps, set_keeps, end_keeps, begin_keeps, wait_keeps, handle_keeps, finish_keeps, gone_keeps}
 use Rattle.aio_laws.proofs.steps.Untouched.{entries, react_keeps, pending_entries}
@@ -462,4 +463,4 @@ case_owns w step.React answers =
 pub keeps_its_own : (w : World) (s : Step) (answers : List PollerAnswer) → KeepsItsOwn w s (step_result w s answers).answer (step_result w s answers).world
 unfolding step_result
 keeps_its_own w s answers =
-    let c = case_owns w s answers in record { listeners = c.listeners; timers = c.timers; made = c.made; listeners_stand = c.stay; timers_stand = c.last; goes = what_is_given_up_goes w s answers }
+    let c = case_owns w s answers in record { listeners = c.listeners; timers = c.timers; made = c.made; keeps = timers_keep w s answers; listeners_stand = c.stay; timers_stand = c.last; goes = what_is_given_up_goes w s answers }

@@ -152,6 +152,36 @@ tick_clears : (w : World) (waker : Waker) (entry : Option TimerEntry) (answers :
 tick_clears w waker None answers l gives = absurd cc
 tick_clears w waker (Some entry) answers l gives = tick_clears_at w waker entry entry.deadline answers l refl gives
 
+-- ## A timer that gives up nothing
+
+-- the poll of a timer moves nothing where it neither registers the timer nor is told that it fired
+abbrev Rests : World → Waker → TimerEntry → Storings → Outcome → Storings → Type 0
+Rests w waker entry l o m = (registers w.now o.answer waker (Some entry) || has_fired o.answer) ≡ false → m ≡ l
+
+or_fired : (test : Bool) → (test || true) ≡ false → ⊥
+or_fired true none = cc
+or_fired false none = cc
+
+left_alone : (dated kept ahead : Bool) (l m : Storings) → dated ≡ true → ahead ≡ true → ((dated && not (kept && ahead)) || false) ≡ false → cond kept l m ≡ l
+left_alone true true ahead l m is still none = refl
+left_alone true false ahead l m is still none = absurd cc
+left_alone false kept ahead l m is still none = absurd cc
+
+tick_rests_at : (w : World) (waker : Waker) (entry : TimerEntry) (deadline : Option ℕ) (answers : List PollerAnswer) (l : Storings)
+    → entry.deadline ≡ deadline → Rests w waker entry l (tick_deadline w entry waker deadline answers) (tick_moves_at w waker entry deadline l)
+tick_rests_at w waker entry None answers l at = λ none. refl
+tick_rests_at w waker entry (Some deadline) answers l at =
+    or_else (Rests w waker entry l) (nat_le deadline w.now) _ _ _ _ (λ none. absurd (or_fired (is_some (next_deadline deadline entry.period)) none))
+    (λ later none.
+    left_alone (is_some entry.deadline) (is_some entry.id && is_waker waker entry.kept) (is_ahead w.now entry.deadline) l (registered_anew w entry (Some waker) l)
+    (ap is_some at) (ap (is_ahead w.now) at ∙ ap not later) none)
+
+pub tick_rests : (w : World) (waker : Waker) (entry : Option TimerEntry) (answers : List PollerAnswer) (l : Storings)
+    → (registers w.now (tick_timer w waker entry answers).answer waker entry || has_fired (tick_timer w waker entry answers).answer) ≡ false
+    → tick_moves w waker entry l ≡ l
+tick_rests w waker None answers l none = refl
+tick_rests w waker (Some entry) answers l none = tick_rests_at w waker entry entry.deadline answers l refl none
+
 -- ## A step
 
 pub step_clears : (w : World) (s : Step) (answers : List PollerAnswer) (l : Storings) → gives_up w s answers ≡ true

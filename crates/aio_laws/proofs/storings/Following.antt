@@ -3,6 +3,7 @@ use Rattle.std.proofs.Common.{◌≡◌, ◌⊎◌, ℕ, ◌+◌, Bool, true, fa
 use Rattle.std.specs.Prelude.{nat_le, flat_map, take, option_map, option_to_list, option_and_then}
 use Rattle.std.specs.List.{Contains}
 use Rattle.std.proofs.lemmas.Bool.{cond_both, cond-true, cond-false, eqb-true}
+use Rattle.std.proofs.lemmas.List.{append_cancel_left}
 use Rattle.std.proofs.lemmas.List.Elements.{Contains-append_left, Contains-append_right, Contains-append_cases}
 use Rattle.aio_base.specs.declared.names.Key.{Key}
 use Rattle.aio_base.specs.declared.names.Waker.{Waker}
@@ -18,7 +19,7 @@ use Rattle.aio_base.specs.Refusals.{is_refusal}
 use Rattle.aio_base.specs.Runs.{PolledStep, outcome_of, world_of}
 use Rattle.aio_laws.specs.Storings.{Place, OfPoll, OfListener, OfTimer, Stored, Storings, no_storings, standing_at, none_at, stored_at, given_up_at, woken_at, each_taken, each_given_up, round_woken, timer_place, places_of, due_places, poll_moves, listener_moves, registered_anew, tick_moves_at, tick_moves, set_moves, end_moves, drop_moves, del_moves, begin_moves, event_moves, handle_moves_first, handle_moves, finish_moves_in, finish_moves, handle_each_moves, react_moves, step_storings, step_ended, storings_from, storings_of}
 use Rattle.aio_laws.specs.Succession.{poll_places, waker_kept, id_kept, stored_as, own_storing, has_to_wait, is_ahead, registers, stores, event_places, events_given, taken_places, replaced_places, standing_in, may_give_up, gives_up, ends_round, is_poll, StoringsFollow}
-use Rattle.aio_laws.proofs.storings.Clearing.{Cleared, step_clears}
+use Rattle.aio_laws.proofs.storings.Clearing.{Cleared, step_clears, tick_rests}
 use Rattle.aio_base.proofs.Membership.{none_is_in, first_is_in, found_is_in}
 use Rattle.aio_laws.proofs.storings.Leaving.{Leave, one_leaves, Taking, none_taken, both_taken, all_taken, GivingUp, none_given_up, one_given_up, all_given_up}
 use Rattle.aio_laws.proofs.rounds.RoundLemmas.{Same, listeners_places, same_events, in_hand_of, event_handled, all_handled, is_handled, handled_out, hand_is, round_begun, round_waited, none_due_left}
@@ -390,14 +391,24 @@ none_replaced w s answers stored none =
     cond_both (stores w s answers) (standing_in (replaced_places w s) stored) [] (λ replaced. [] ≡ replaced)
     (λ does. sym (ap (λ places. standing_in places stored) none)) (λ never. refl)
 
+-- where no storing has moved, none was given up
+given_up_none : (l m : Storings) (now : List Stored) → m.given_up ≡ l.given_up ++ now → m ≡ l → now ≡ []
+given_up_none l m now gone same =
+    append_cancel_left l.given_up now [] (sym gone ∙ ap (λ (x : Storings). x.given_up) same ∙ sym (append-nil l.given_up))
+
+not_false : (test : Bool) → not test ≡ false → test ≡ true
+not_false true none = refl
+not_false false none = absurd cc
+
 -- a step that may give storings up and then store one
 giving_follows : (w : World) (s : Step) (answers : List PollerAnswer) (l m : Storings) → l.waking ≡ [] → ends_round w s answers ≡ false
     → taken_places w s answers ≡ [] → [] ≡ cond (stores w s answers) (standing_in (replaced_places w s) l.standing) []
     → (x : Storing (Contains (may_give_up w s)) (stores w s answers) (own_storing w s l.given) l m)
     → (gives_up w s answers ≡ true → Cleared (may_give_up w s) (cond (stores w s answers) (own_storing w s l.given) []) m)
+    → (gives_up w s answers ≡ false → m ≡ l)
     → (is_poll s ≡ true → x.stored ≡ [] → m ≡ l) → (is_refusal (step_result w s answers).answer ≡ true → m ≡ l)
     → StoringsFollow w s answers l (step_ended m)
-giving_follows w s answers l m rests runs takes_none replaces_none x clears polls refused = record {
+giving_follows w s answers l m rests runs takes_none replaces_none x clears keeps polls refused = record {
   stored_now = x.stored;
   replaced_now = [];
   taken_now = [];
@@ -411,6 +422,7 @@ giving_follows w s answers l m rests runs takes_none replaces_none x clears poll
   taken = sym (ap (λ places. standing_in places l.standing) takes_none);
   given_up = x.from;
   emptied = λ y here nowhere. none_is_in y.place (subst (λ places. Contains places y.place) takes_none nowhere);
+  keeps = λ none. given_up_none l m x.now x.given_up (keeps none);
   cleared = λ gives y here place. subst (λ stored. Contains stored y) (sym x.is) (clears gives y here place);
   ends = λ ends. absurd cc;
   goes_on = λ on. (woken_with l m [] x.woken (x.waking ∙ rests), x.taken ∙ sym (append-nil l.taken));
@@ -426,7 +438,7 @@ still_follows w s answers l rests runs takes_none gives_none stores_none =
     giving_follows w s answers l l rests runs takes_none (sym (cond-false (stores w s answers) (standing_in (replaced_places w s) l.standing) [] stores_none))
     (subst (λ does. Storing (Contains (may_give_up w s)) does (own_storing w s l.given) l l) (sym stores_none) (nothing_moved _ _ l))
     (λ gives y here place. none_is_in y.place (subst (λ places. Contains places y.place) gives_none place))
-    (λ poll none. refl) (λ refused. refl)
+    (λ none. refl) (λ poll none. refl) (λ refused. refl)
 
 -- a step in which a round takes storings, and may end
 taking_follows : (w : World) (s : Step) (answers : List PollerAnswer) (l m : Storings) → l.waking ≡ [] → is_poll s ≡ false → may_give_up w s ≡ []
@@ -448,6 +460,7 @@ taking_follows w s answers l m rests no_poll gives_none stores_none x refused = 
   taken = x.order;
   given_up = λ y gone. none_is_in y gone;
   emptied = x.emptied;
+  keeps = λ none. refl;
   cleared = λ gives y here place. none_is_in y.place (subst (λ places. Contains places y.place) gives_none place);
   ends = λ ends. (woken_with l m (l.taken ++ x.now) x.woken ((x.ended ends).0 ∙ ap (λ (front : List Stored). front ++ (l.taken ++ x.now)) rests), (x.ended ends).1);
   goes_on = λ on. (woken_with l m [] x.woken ((x.goes_on on).0 ∙ rests), (x.goes_on on).1);
@@ -488,6 +501,7 @@ replacing_follows w key dir waker answers serial l rests at does refused =
       taken = refl;
       given_up = λ x gone. none_is_in x gone;
       emptied = λ x here nowhere. none_is_in x.place nowhere;
+      keeps = λ none. refl;
       cleared = λ gives x here nowhere. none_is_in x.place nowhere;
       ends = λ ends. absurd cc;
       goes_on = λ on. (ap (λ (front : List Stored). l.woken ++ (front ++ old) ∷ []) rests, sym (append-nil l.taken));
@@ -534,28 +548,32 @@ moves_follow : (w : World) (s : Step) (answers : List PollerAnswer) (l : Storing
 unfolding Listens step_result
 moves_follow w (step.Del key) answers l rests refused =
     giving_follows w (step.Del key) answers l _ rests refl refl (none_replaced w (step.Del key) answers l.standing refl) (del_stores w (serial_of w key.0) l) (step_clears w (step.Del key) answers l)
-    (λ poll. absurd cc) refused
+    (λ none. refused (not_false _ none)) (λ poll. absurd cc) refused
 moves_follow w (step.Poll key dir waker) answers l rests refused = poll_follows w key dir waker answers (serial_of w key.0) l rests refl refused
 moves_follow w (step.StepEar number waker) answers l rests refused =
     let listens = listen_stores w number waker (find (is_listener number) w.listeners) answers l refl in
     giving_follows w (step.StepEar number waker) answers l _ rests refl refl (none_replaced w (step.StepEar number waker) answers l.standing refl) listens.0 (step_clears w (step.StepEar number waker) answers l)
-    (λ poll. listens.1) refused
+    (λ none. listens.1 (listens.0.is ∙ cond-false _ _ [] none)) (λ poll. listens.1) refused
 moves_follow w (step.DropEar number) answers l rests refused =
     giving_follows w (step.DropEar number) answers l _ rests refl refl (none_replaced w (step.DropEar number) answers l.standing refl)
-    (drop_stores number w.listeners (find (is_listener number) w.listeners) l refl) (step_clears w (step.DropEar number) answers l) (λ poll. absurd cc) refused
+    (drop_stores number w.listeners (find (is_listener number) w.listeners) l refl) (step_clears w (step.DropEar number) answers l)
+    (λ none. refused (not_false _ none)) (λ poll. absurd cc) refused
 moves_follow w (step.Tick number waker) answers l rests refused =
     giving_follows w (step.Tick number waker) answers l _ rests refl refl (none_replaced w (step.Tick number waker) answers l.standing refl)
-    (tick_stores w waker (find (is_timer number) w.timers) answers l) (step_clears w (step.Tick number waker) answers l) (λ poll. absurd cc) refused
+    (tick_stores w waker (find (is_timer number) w.timers) answers l) (step_clears w (step.Tick number waker) answers l)
+    (tick_rests w waker (find (is_timer number) w.timers) answers l) (λ poll. absurd cc) refused
 moves_follow w (step.SetAt number deadline) answers l rests refused =
     giving_follows w (step.SetAt number deadline) answers l _ rests refl refl (none_replaced w (step.SetAt number deadline) answers l.standing refl)
-    (set_stores w (find (is_timer number) w.timers) l) (step_clears w (step.SetAt number deadline) answers l) (λ poll. absurd cc) refused
+    (set_stores w (find (is_timer number) w.timers) l) (step_clears w (step.SetAt number deadline) answers l)
+    (λ none. refused (not_false _ none)) (λ poll. absurd cc) refused
 moves_follow w (step.SetEvery number deadline period) answers l rests refused =
     giving_follows w (step.SetEvery number deadline period) answers l _ rests refl refl (none_replaced w (step.SetEvery number deadline period) answers l.standing refl)
     (set_stores w (find (is_timer number) w.timers) l) (step_clears w (step.SetEvery number deadline period) answers l)
-    (λ poll. absurd cc) refused
+    (λ none. refused (not_false _ none)) (λ poll. absurd cc) refused
 moves_follow w (step.End number) answers l rests refused =
     giving_follows w (step.End number) answers l _ rests refl refl (none_replaced w (step.End number) answers l.standing refl)
-    (end_stores (find (is_timer number) w.timers) l) (step_clears w (step.End number) answers l) (λ poll. absurd cc) refused
+    (end_stores (find (is_timer number) w.timers) l) (step_clears w (step.End number) answers l)
+    (λ none. refused (not_false _ none)) (λ poll. absurd cc) refused
 moves_follow w (step.Begin limit) answers l rests refused =
     taking_follows w (step.Begin limit) answers l _ rests refl refl refl (going_on _ l _ (begin_taken w l)) refused
 moves_follow w step.Handle answers l rests refused =

@@ -1,6 +1,6 @@
 //! A whole round of a core (`async-io` 2, `reactor.rs`, `ReactorLock::react`).
 
-ghost use Rattle.std.specs.Prelude.{◌≡◌, ℕ, [], true, false, Option, None, Some, IsSome, IfSome, OnOk, OnErr};
+ghost use Rattle.std.specs.Prelude.{◌≡◌, ◌≢◌, ℕ, [], true, false, Option, None, Some, IsSome, IfSome, OnOk, OnErr};
 ghost use Rattle.aio_base.specs.declared.steps.Answer.TheVariants.{Empty};
 ghost use Rattle.aio_base.specs.declared.steps.Step.TheVariants as step;
 ghost use Rattle.aio_base.specs.Devices.{PollerStep, TellsFaults};
@@ -22,8 +22,9 @@ impl<P: Poller> Core<P> {
     /// machine's step of that name. `woken` has the wakers that are to be woken then. A wait or an arm that fails stops nothing, and the first fault is
     /// answered at the end. `Locked` exactly where a round runs, and then `RoundsSpent` exactly where
     /// 2^64 - 1 rounds have begun; all is as before then. `OutOfMemory` where memory ran out: before
-    /// the begin all is as before, and no round runs; after it the round runs on with its events,
-    /// wakers and first fault, which this call met, for `handle` and `finish`.
+    /// the begin all is as before, and no round runs; after it an event is in hand whose waiters found
+    /// no memory, and the round runs on with its events, wakers and first fault, which this call met,
+    /// for `handle` and `finish`. So a wait that failed or was interrupted never ends in it.
     #[inline(always)]
     pub fn react(&mut self, now: Moment, given: Option<u64>) -> Result<Reacted, CoreRefusal>
         ensures meets { IfSome (react_reply result) (λ reply. MeetsRound
@@ -43,6 +44,8 @@ impl<P: Poller> Core<P> {
         ensures kept { OnErr result (begin_refusal self.old.1 ≡ None
             → self.new.1.round.running ≡ true → IfSome self.new.1.round.fault
             (RisesWithin (P.fault_count self.old.0) (P.fault_count self.new.0))) }
+        ensures wanting { OnErr result (begin_refusal self.old.1 ≡ None
+            → self.new.1.round.running ≡ true → self.new.1.round.hand ≢ []) }
         ensures idle { OnOk result (self.new.1.round.running ≡ false) }
         ensures faults { TellsFaults P.fault_count P.is_sure self.old.0 self.new.0
             (IsSome (react_fault result)) }
@@ -84,6 +87,8 @@ impl<P: Poller> Core<P> {
             self.old self.new }
         ensures runs { self.new.1.round.running ≡ true }
         ensures hand { OnOk result (self.new.1.round.hand ≡ []) }
+        ensures wanting { OnErr result (self.new.1.round.hand ≢ []) }
+        ensures book { self.new.1.book ≡ self.old.1.book }
         ensures faults { (start : P) → FaultsSince P.fault_count P.is_sure
             start self.old.0 self.old.1.round.fault → FaultsSince P.fault_count P.is_sure
             start self.new.0 self.new.1.round.fault }

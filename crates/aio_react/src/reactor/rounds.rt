@@ -1,11 +1,12 @@
 //! The sections of a core's round (`async-io` 2, `reactor.rs`, `ReactorLock::react`).
 
-ghost use Rattle.std.specs.Prelude.{◌≡◌, ℕ, ◌+◌, [], false, drop, Option, None, Some, option_map, slice_get, IsSome, IfSome, IfOk, OnOk, OnErr};
+ghost use Rattle.std.specs.Prelude.{◌≡◌, ◌≢◌, ℕ, ◌+◌, [], false, drop, Option, None, Some, option_map, slice_get, IsSome, IfSome, IfOk, OnOk, OnErr};
 ghost use Rattle.std.specs.Option.{option_or};
 ghost use Rattle.aio_base.specs.declared.names.Event.{Event};
 ghost use Rattle.aio_base.specs.declared.steps.Step.TheVariants as step;
 ghost use Rattle.aio_base.specs.Devices.{PollerStep, TellsFaults};
 ghost use Rattle.aio_base.specs.Machine.{handle_round, finish_round};
+ghost use Rattle.aio_base.specs.Timers.{due_wakers};
 ghost use Rattle.aio_react.specs.declared.round.RoundFault.TheVariants.{Arm};
 ghost use Rattle.aio_react.specs.Asking.{UsesPoller, handle_part};
 ghost use Rattle.aio_react.specs.Meeting.{Meets};
@@ -78,6 +79,7 @@ impl<P: Poller> Core<P> {
             (slice_get self.old.1.round.hand 0) ≡ Some handled.key) }
         ensures hand { OnOk result (self.new.1.round.hand ≡ drop 1 self.old.1.round.hand) }
         ensures runs { self.new.1.round.running ≡ self.old.1.round.running }
+        ensures book { self.new.1.book ≡ self.old.1.book }
         ensures kept { self.new.1.round.fault
             ≡ option_or self.old.1.round.fault (option_map Arm (handle_fault result)) }
         ensures lent { IfOk result (λ handled.
@@ -119,7 +121,7 @@ impl<P: Poller> Core<P> {
     /// moment `now` where its last wait gave no event and had time to wait. Answers its first fault;
     /// `woken` has the wakers that are to be woken then. `NoRound` exactly where no round runs, and
     /// then `EventsLeft` exactly where events are in hand; `OutOfMemory` where there is no memory for
-    /// the wakers that are due, and the round runs on. All is as before then.
+    /// the wakers that are due, so only where some are, and the round runs on. All is as before then.
     #[inline(always)]
     pub fn finish(&mut self, now: Moment) -> Result<Option<RoundFault>, CoreRefusal>
         ensures meets { IfSome (finish_reply result) (λ reply. Meets
@@ -130,6 +132,8 @@ impl<P: Poller> Core<P> {
             reply (finish_wakes result self.new.1.round) limit self.old self.new) }
         ensures cause { IsRefusedBy (empty_hand_refusal self.old.1.round) result }
         ensures refused { OnErr result (self.new ≡ self.old) }
+        ensures wanting { OnErr result (empty_hand_refusal self.old.1.round ≡ None
+            → due_wakers now self.old.1.book ≢ []) }
         ensures poller { self.new.0 ≡ self.old.0 }
         ensures idle { OnOk result (self.new.1.round.running ≡ false) }
         ensures fault { IfOk result (λ fault. fault ≡ self.old.1.round.fault) }

@@ -1,4 +1,4 @@
-use Rattle.std.proofs.Common.{length, length-drop, sym, ap, subst, ◌∙◌, arith}
+use Rattle.std.proofs.Common.{refl, length, length-drop, sym, ap, subst, ◌∙◌, arith}
 use Rattle.aio_base.specs.Devices.{PollerStep}
 use Rattle.aio_react.specs.Cores.{CoreValue}
 use Rattle.aio_react.specs.Reacting.{Handles, FaultsSince}
@@ -7,7 +7,7 @@ use Rattle.aio_react.proofs.RoundFaults.{handle_since}
 use Rattle.aio_react.proofs.reactor.Core.handle_all.Goals as goal
 
 pub loop-self-init : goal.loop-self-init
-loop-self-init g c = record { runs = c.requires; rest = λ last rest. rest; handles = λ last rest. rest; faults = λ start since. since }
+loop-self-init g c = record { runs = c.requires; book = refl; rest = λ last rest. rest; handles = λ last rest. rest; faults = λ start since. since }
 
 pub loop-self-smaller : goal.loop-self-smaller
 loop-self-smaller g c =
@@ -18,6 +18,7 @@ loop-self-smaller g c =
 pub loop-self-preserved : goal.loop-self-preserved
 loop-self-preserved g c = record {
   runs = c.in-Ok.ensures.runs ∙ c.loop-self.invariant.runs;
+  book = c.in-Ok.ensures.book ∙ c.loop-self.invariant.book;
   rest = λ last rest. c.loop-self.invariant.rest last
       (rest_before (PollerStep g.P.Arm.arm_step g.P.EventWait.wait_step) g.P.Arm.interests _ _ c.loop-self.self c.handle.new.self last
       c.in-Ok.ensures.first c.in-Ok.ensures.hand c.in-Ok.ensures.part rest);
@@ -45,8 +46,24 @@ returns-clause-part g c = c.loop-self.invariant.rest c.loop-self.self (rest_none
 pub returns-clause-handles : goal.returns-clause-handles
 returns-clause-handles g c = c.loop-self.invariant.handles c.loop-self.self (handles_none (PollerStep g.P.Arm.arm_step g.P.EventWait.wait_step) g.P.Arm.interests c.loop-self.self)
 
+pub returns-clause-hand : goal.returns-clause-hand
+returns-clause-hand g c =
+    sym (ap (λ (v : g.row.P.Denot × CoreValue). v.1.round.hand) c.self.view_is) ∙ c.in_hand.ensures.none (omega arith)
+
 pub returns-clause-runs : goal.returns-clause-runs
 returns-clause-runs g c = c.loop-self.invariant.runs
 
 pub returns-clause-faults : goal.returns-clause-faults
 returns-clause-faults g c = λ start since. c.loop-self.invariant.faults start since
+
+pub returns-in-Err-clause-wanting : goal.returns-in-Err-clause-wanting
+returns-in-Err-clause-wanting g c = λ none.
+    let same = ap (λ (v : g.row.P.Denot × CoreValue). length v.1.round.hand) c.self.view_is in
+    let left = ap length (sym (ap (λ (v : g.row.P.Denot × CoreValue). v.1.round.hand) c.in-Err.ensures.refused) ∙ none) in
+    absurd (omega (arith, c.loop-self-test.true, c.in_hand.ensures.value, same, left))
+
+pub returns-in-Err-clause-book : goal.returns-in-Err-clause-book
+returns-in-Err-clause-book g c = ap (λ (v : g.row.P.Denot × CoreValue). v.1.book) c.in-Err.ensures.refused ∙ c.loop-self.invariant.book
+
+pub returns-clause-book : goal.returns-clause-book
+returns-clause-book g c = c.loop-self.invariant.book

@@ -9,6 +9,7 @@ use Rattle.aio_react.proofs.reactor.Core.handle_all.Given as goal
 abbrev pub invariant-loop-self : goal.invariant-loop-self
 invariant-loop-self g l = record {
   runs : l.self.1.round.running ≡ true;
+  book : l.self.1.book ≡ l.initial.self.1.book;
   rest : (last : g.row.P.Denot × CoreValue) → HandlesRest (PollerStep g.P.Arm.arm_step g.P.EventWait.wait_step) g.P.Arm.interests l.self last
       → HandlesRest (PollerStep g.P.Arm.arm_step g.P.EventWait.wait_step) g.P.Arm.interests l.initial.self last;
   handles : (last : g.row.P.Denot × CoreValue) → Handles (PollerStep g.P.Arm.arm_step g.P.EventWait.wait_step) g.P.Arm.interests l.self last

@@ -14,7 +14,7 @@ pub invariant_of-self : goal.invariant_of-self
 invariant_of-self g c =
     let i = c.self.inside in
     let is = read_at i.sources.items c.args.key.0 c.index_mut.result.now (omega arith) c.index_mut.ensures.value ∙ c.in-Some.is in
-    let keeps = polled_keeps c.in-Some.entry.source c.poll_dir.new.self c.args.dir c.args.w i.ticker _ c.poll_dir.ensures.after in (
+    let keeps = polled_keeps c.in-Some.entry.source c.poll_dir.new.self c.args.dir c.args.w _ _ c.poll_dir.ensures.after in (
       omega arith,
       omega arith,
       keyed_again i.sources.items c.args.key.0 c.in-Some.entry _ is keeps c.self.invariant.2,

@@ -1,10 +1,12 @@
 use Rattle.std.proofs.Common.{◌≡◌, ◌∙◌, None, Some, Ok, sym, ap, subst}
 use Rattle.aio_base.specs.declared.outcomes.Waited.{Waited}
 use Rattle.aio_base.specs.Devices.{PollerStep}
+use Rattle.aio_base.specs.Timers.{due_wakers}
 use Rattle.aio_react.specs.Cores.{CoreValue}
 use Rattle.aio_react.specs.Reacting.{Handles}
 use Rattle.aio_react.specs.Replies.{empty_hand_refusal, wait_phase, wait_given}
-use Rattle.aio_react.proofs.ReactMeets.{react_meets, round_alone, react_refused, react_stopped, not_busy}
+use Rattle.aio_react.proofs.BookPasses.{none_due_left}
+use Rattle.aio_react.proofs.ReactMeets.{react_meets, round_alone, react_refused, react_stopped, not_busy, open_hand}
 use Rattle.aio_react.proofs.reactor.Core.react.Goals as goal
 use Rattle.aio_react.proofs.reactor.Core.react.Goals.{in-Ok-Given, in-Ok-Interrupted, in-Err-wait}
 
@@ -46,3 +48,9 @@ returns-in-Err-finish-clause-stopped g c = λ none running.
     (not_busy c.args.self.now.1 none) c.in-Ok.ensures.poller c.in-Ok.ensures.begun c.wait.ensures.meets
     (subst (λ (last : g.row.P.Denot × CoreValue). Handles (PollerStep g.P.Arm.arm_step g.P.EventWait.wait_step) g.P.Arm.interests c.wait.new.self last) (sym c.in-Err-finish.ensures.refused)
     c.in-Ok-handle_all.ensures.handles)
+
+pub returns-in-Err-finish-clause-wanting : goal.returns-in-Err-finish-clause-wanting
+returns-in-Err-finish-clause-wanting g c = λ none running empty.
+    let book = c.in-Ok-handle_all.ensures.book ∙ c.wait.ensures.book ∙ ap (λ (core : CoreValue). core.book) c.in-Ok.ensures.begun in
+    absurd (c.in-Err-finish.ensures.wanting (open_hand c.handle_all.new.self.1.round c.in-Ok-handle_all.ensures.runs c.in-Ok-handle_all.ensures.hand)
+    (ap (due_wakers c.args.now) book ∙ none_due_left c.args.now c.args.self.now.1.book))
