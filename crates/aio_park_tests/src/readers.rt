@@ -3,10 +3,11 @@
 use crate::acts::{Act, Came, counted, driven, ended, ended_well, fired, polled};
 use crate::asserts::{moment, same};
 use crate::tasks::{Never, Readable, WakesItself};
-use aio_base::{Arm, Dir, EventWait, Moment, Notify, Waker};
+use aio_base::{Arm, Dir, EventWait, Moment, Notify, Task, Waker};
 use aio_devices::{MemClock, clock_until};
 use aio_future::Sleep;
-use aio_park::{Thread, drive};
+use aio_park::{BlockFault, Thread, drive};
+use aio_shared::Inside;
 use std::alloc::Global;
 use std::process::Abort;
 use std::sync::Wait;
@@ -22,6 +23,17 @@ pub(crate) struct Reader<R: Wait, N: Notify, A: Arm, W: EventWait> {
     task: Readable<A>,
 }
 
+/// Blocks on a task.
+pub(crate) fn block_on<
+    R: Wait + Copy,
+    N: Notify,
+    A: Arm,
+    W: EventWait,
+    T: Task<Inside<R, N, A, W>>,
+>(thread: &mut Alone<R, N, A, W>, task: &mut T) -> Result<T::Output, BlockFault> {
+    thread.run(task)
+}
+
 /// Blocks until a timer fires.
 fn sleep<R: Wait + Copy, N: Notify, A: Arm, W: EventWait>(
     thread: &mut Alone<R, N, A, W>,
@@ -31,7 +43,7 @@ fn sleep<R: Wait + Copy, N: Notify, A: Arm, W: EventWait>(
         return Came::Other;
     };
     let mut task = Sleep::until(at);
-    let answer = thread.run(&mut task);
+    let answer = block_on(thread, &mut task);
     fired(answer, task.polls)
 }
 
@@ -41,7 +53,7 @@ fn wake_itself<R: Wait + Copy, N: Notify, A: Arm, W: EventWait>(
     last: u64,
 ) -> Came {
     let mut task = WakesItself::until(last, 0);
-    let answer = thread.run(&mut task);
+    let answer = block_on(thread, &mut task);
     ended(answer, task.polls)
 }
 
@@ -50,7 +62,7 @@ fn never_end<R: Wait + Copy, N: Notify, A: Arm, W: EventWait>(
     thread: &mut Alone<R, N, A, W>,
 ) -> Came {
     let mut task = Never { polls: 0 };
-    let answer = thread.run(&mut task);
+    let answer = block_on(thread, &mut task);
     ended(answer, task.polls)
 }
 
@@ -128,7 +140,7 @@ impl<R: Wait + Copy, N: Notify + Drop, A: Arm + Drop, W: EventWait + Drop> Reade
 impl<R: Wait + Copy, N: Notify, A: Arm, W: EventWait> Reader<R, N, A, W> {
     /// Blocks until the source is readable.
     fn read(&mut self) -> Came {
-        let answer = self.thread.run(&mut self.task);
+        let answer = block_on(&mut self.thread, &mut self.task);
         ended_well(answer, self.task.polls)
     }
 

@@ -2,7 +2,7 @@
 //! may have.
 
 use crate::asserts::same;
-use crate::readers::{Alone, alone, waits};
+use crate::readers::{Alone, alone, block_on, waits};
 use crate::tasks::{Link, WakesItself};
 use aio_base::Task;
 use aio_devices::{MemNotify, MemWait, SureArm};
@@ -23,7 +23,7 @@ fn answers_of<
 >(rt: R, alloc: Global, mut group: Group<T, u64>) -> Result<(Vec<u64>, Option<u64>), Fail> {
     let devices = (MemNotify::new(), MemWait::new(0));
     let mut thread: Undisturbed<R> = alone(rt, alloc, devices, (1, 0))?;
-    match thread.run(&mut group) {
+    match block_on(&mut thread, &mut group) {
         Ok(answers) => Ok((answers, waits(&mut thread))),
         Err(_) => Err(Fail::from("no answers")),
     }

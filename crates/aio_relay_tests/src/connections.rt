@@ -109,7 +109,7 @@ fn calls<C: Conn>(rt: &impl Abort, alloc: Global, conn: &mut C, rows: &[(Act, Ca
 fn plays(
     rt: &impl Abort,
     alloc: Global,
-    peer: Peer,
+    peer: &Peer,
     rows: &[(Act, Came)],
     texts: (&str, &str),
 ) -> Result<(), Fail> {
@@ -123,7 +123,7 @@ fn plays(
 fn plays_surely(
     rt: &impl Abort,
     alloc: Global,
-    peer: Peer,
+    peer: &Peer,
     rows: &[(Act, Came)],
     texts: (&str, &str),
 ) -> Result<(), Fail> {
@@ -131,6 +131,18 @@ fn plays_surely(
     calls(rt, alloc, &mut conn, rows, texts.0);
     same(rt, conn.sent(), texts.1.as_bytes());
     Ok(())
+}
+
+/// Both of them.
+fn plays_both(
+    rt: &impl Abort,
+    alloc: Global,
+    peer: &Peer,
+    rows: &[(Act, Came)],
+    texts: (&str, &str),
+) -> Result<(), Fail> {
+    plays(rt, alloc, peer, rows, texts)?;
+    plays_surely(rt, alloc, peer, rows, texts)
 }
 
 const PIECES: [(Act, Came); 8] = [
@@ -146,8 +158,7 @@ const PIECES: [(Act, Came); 8] = [
 
 #[test]
 fn pieces_are_read_in_order_and_a_block_once(rt: HostRuntime) -> Result<(), Fail> {
-    plays(&rt, rt.alloc(), TORN, &PIECES, ("ab\ncd", ""))?;
-    plays_surely(&rt, rt.alloc(), TORN, &PIECES, ("ab\ncd", ""))
+    plays_both(&rt, rt.alloc(), &TORN, &PIECES, ("ab\ncd", ""))
 }
 
 const LATE: Peer = Peer {
@@ -166,7 +177,7 @@ const PASSED_OVER: [(Act, Came); 5] = [
 
 #[test]
 fn a_piece_without_bytes_is_passed_over(rt: HostRuntime) -> Result<(), Fail> {
-    plays(&rt, rt.alloc(), LATE, &PASSED_OVER, ("abc", ""))
+    plays(&rt, rt.alloc(), &LATE, &PASSED_OVER, ("abc", ""))
 }
 
 const NARROW: Peer = Peer {
@@ -185,8 +196,7 @@ const TAKEN: [(Act, Came); 5] = [
 
 #[test]
 fn writes_are_taken_up_to_the_room(rt: HostRuntime) -> Result<(), Fail> {
-    plays(&rt, rt.alloc(), NARROW, &TAKEN, ("", "abxyz"))?;
-    plays_surely(&rt, rt.alloc(), NARROW, &TAKEN, ("", "abxyz"))
+    plays_both(&rt, rt.alloc(), &NARROW, &TAKEN, ("", "abxyz"))
 }
 
 const UNSURE: Peer = Peer {
@@ -209,5 +219,5 @@ const NUMBERED: [(Act, Came); 10] = [
 
 #[test]
 fn calls_of_all_kinds_are_numbered_together(rt: HostRuntime) -> Result<(), Fail> {
-    plays(&rt, rt.alloc(), UNSURE, &NUMBERED, ("ab", "yz"))
+    plays(&rt, rt.alloc(), &UNSURE, &NUMBERED, ("ab", "yz"))
 }

@@ -51,8 +51,12 @@ const LAST_BYTE_COUNTS: [(Act, Came); 7] = [
 
 #[test]
 fn a_pair_is_idle_once_its_time_has_passed(rt: HostRuntime) -> Result<(), Fail> {
-    plays(&rt, rt.alloc(), LINE_AND_SILENCE, &IDLE_AT_LAST)?;
-    plays(&rt, rt.alloc(), LINE_IN_TWO, &LAST_BYTE_COUNTS)
+    plays(&rt, rt.alloc(), &LINE_AND_SILENCE, &IDLE_AT_LAST)
+}
+
+#[test]
+fn the_idle_time_counts_from_the_last_byte(rt: HostRuntime) -> Result<(), Fail> {
+    plays(&rt, rt.alloc(), &LINE_IN_TWO, &LAST_BYTE_COUNTS)
 }
 
 const LATEST: Row = Row {
@@ -74,9 +78,13 @@ const WAITS_FOR_EVER: [(Act, Came); 3] = [
 ];
 
 #[test]
+fn a_timer_is_kept_up_to_the_last_moment(rt: HostRuntime) -> Result<(), Fail> {
+    plays(&rt, rt.alloc(), &LATEST, &WAITS_TO_THE_LAST)
+}
+
+#[test]
 fn no_timer_is_kept_past_the_last_moment(rt: HostRuntime) -> Result<(), Fail> {
-    plays(&rt, rt.alloc(), LATEST, &WAITS_TO_THE_LAST)?;
-    plays(&rt, rt.alloc(), TOO_LATE, &WAITS_FOR_EVER)
+    plays(&rt, rt.alloc(), &TOO_LATE, &WAITS_FOR_EVER)
 }
 
 const SPENT: Row = Row {
@@ -94,7 +102,7 @@ const WAKES_ITSELF: [(Act, Came); 5] = [
 
 #[test]
 fn a_pair_wakes_itself_where_no_id_is_left(rt: HostRuntime) -> Result<(), Fail> {
-    plays(&rt, rt.alloc(), SPENT, &WAKES_ITSELF)
+    plays(&rt, rt.alloc(), &SPENT, &WAKES_ITSELF)
 }
 
 const WAKES_THE_OTHER: [(Act, Came); 5] = [
@@ -107,7 +115,7 @@ const WAKES_THE_OTHER: [(Act, Came); 5] = [
 
 #[test]
 fn a_waker_that_another_replaces_is_woken(rt: HostRuntime) -> Result<(), Fail> {
-    plays(&rt, rt.alloc(), QUIET, &WAKES_THE_OTHER)
+    plays(&rt, rt.alloc(), &QUIET, &WAKES_THE_OTHER)
 }
 
 /// The first fault of a device.
@@ -140,9 +148,13 @@ const READ_FAILS: [(Act, Came); 2] = [
 ];
 
 #[test]
-fn a_failed_read_ends_a_pair(rt: HostRuntime) -> Result<(), Fail> {
-    plays(&rt, rt.alloc(), READ_OF_A, &READ_FAILS)?;
-    plays(&rt, rt.alloc(), READ_OF_B, &READ_FAILS)
+fn a_failed_read_of_side_a_ends_a_pair(rt: HostRuntime) -> Result<(), Fail> {
+    plays(&rt, rt.alloc(), &READ_OF_A, &READ_FAILS)
+}
+
+#[test]
+fn a_failed_read_of_side_b_ends_a_pair(rt: HostRuntime) -> Result<(), Fail> {
+    plays(&rt, rt.alloc(), &READ_OF_B, &READ_FAILS)
 }
 
 // Side B is read after its first write, and not before.
@@ -162,7 +174,7 @@ const WRITE_FAILS: [(Act, Came); 2] = [
 
 #[test]
 fn a_failed_write_ends_a_pair(rt: HostRuntime) -> Result<(), Fail> {
-    plays(&rt, rt.alloc(), WRITE_TO_B, &WRITE_FAILS)
+    plays(&rt, rt.alloc(), &WRITE_TO_B, &WRITE_FAILS)
 }
 
 // The first call is a read that is blocked, and the second one an arm.
@@ -199,9 +211,13 @@ const ARM_OF_A_FAILS: [(Act, Came); 1] = [(At(0), Ends(PairEnd::ArmFault(FIRST_O
 const ARM_OF_B_FAILS: [(Act, Came); 1] = [(At(0), Ends(PairEnd::ArmFault(FIRST_OF_B)))];
 
 #[test]
-fn a_failed_arm_ends_a_pair(rt: HostRuntime) -> Result<(), Fail> {
-    plays(&rt, rt.alloc(), ARM_OF_A, &ARM_OF_A_FAILS)?;
-    plays(&rt, rt.alloc(), ARM_OF_B, &ARM_OF_B_FAILS)
+fn a_failed_arm_of_side_a_ends_a_pair(rt: HostRuntime) -> Result<(), Fail> {
+    plays(&rt, rt.alloc(), &ARM_OF_A, &ARM_OF_A_FAILS)
+}
+
+#[test]
+fn a_failed_arm_of_side_b_ends_a_pair(rt: HostRuntime) -> Result<(), Fail> {
+    plays(&rt, rt.alloc(), &ARM_OF_B, &ARM_OF_B_FAILS)
 }
 
 const UNTOLD: Row = Row {
@@ -225,7 +241,11 @@ const MEMORY_IS_OUT: [(Act, Came); 2] = [
 ];
 
 #[test]
-fn a_fault_of_the_host_ends_a_pair(rt: HostRuntime) -> Result<(), Fail> {
-    plays(&rt, rt.alloc(), UNTOLD, &NOTIFIER_FAILS)?;
-    plays(&rt, rt.alloc(), NO_MEMORY, &MEMORY_IS_OUT)
+fn a_failed_notifier_ends_a_pair(rt: HostRuntime) -> Result<(), Fail> {
+    plays(&rt, rt.alloc(), &UNTOLD, &NOTIFIER_FAILS)
+}
+
+#[test]
+fn a_host_without_memory_ends_a_pair(rt: HostRuntime) -> Result<(), Fail> {
+    plays(&rt, rt.alloc(), &NO_MEMORY, &MEMORY_IS_OUT)
 }

@@ -11,6 +11,7 @@ use aio_conns::SureConn;
 use aio_react::Host;
 use aio_relay::{MemEnd, Pair, PairEnd, Side};
 use std::alloc::Global;
+use std::process::Abort;
 use std::test::Fail;
 
 const LAST_LINE_TORN: Row = Row {
@@ -32,7 +33,7 @@ const PASSES_ONE_LINE: [(Act, Came); 8] = [
 
 #[test]
 fn a_torn_last_line_is_not_passed_on(rt: HostRuntime) -> Result<(), Fail> {
-    plays(&rt, rt.alloc(), LAST_LINE_TORN, &PASSES_ONE_LINE)
+    plays(&rt, rt.alloc(), &LAST_LINE_TORN, &PASSES_ONE_LINE)
 }
 
 const BOTH_SPEAK: Row = Row {
@@ -85,10 +86,18 @@ const REST_IS_KEPT: [(Act, Came); 5] = [
 ];
 
 #[test]
+fn lines_are_passed_on_both_ways(rt: HostRuntime) -> Result<(), Fail> {
+    plays(&rt, rt.alloc(), &BOTH_SPEAK, &BOTH_WAYS)
+}
+
+#[test]
 fn lines_are_passed_on_in_as_many_writes_as_it_takes(rt: HostRuntime) -> Result<(), Fail> {
-    plays(&rt, rt.alloc(), BOTH_SPEAK, &BOTH_WAYS)?;
-    plays(&rt, rt.alloc(), ONE_BY_ONE, &EACH_BYTE_ONCE)?;
-    plays(&rt, rt.alloc(), NO_ROOM, &REST_IS_KEPT)
+    plays(&rt, rt.alloc(), &ONE_BY_ONE, &EACH_BYTE_ONCE)
+}
+
+#[test]
+fn what_finds_no_room_is_kept(rt: HostRuntime) -> Result<(), Fail> {
+    plays(&rt, rt.alloc(), &NO_ROOM, &REST_IS_KEPT)
 }
 
 const LONGEST_LINE: Row = Row {
@@ -150,10 +159,18 @@ const COUNTS_FROM_THE_FIRST: [(Act, Came); 1] = [(
 )];
 
 #[test]
+fn a_line_of_4096_bytes_is_passed_on(rt: HostRuntime) -> Result<(), Fail> {
+    plays(&rt, rt.alloc(), &LONGEST_LINE, &PASSES_THE_LONGEST)
+}
+
+#[test]
 fn a_line_has_4096_bytes_at_most(rt: HostRuntime) -> Result<(), Fail> {
-    plays(&rt, rt.alloc(), LONGEST_LINE, &PASSES_THE_LONGEST)?;
-    plays(&rt, rt.alloc(), LINE_TOO_LONG, &TELLS_ITS_PLACE)?;
-    plays(&rt, rt.alloc(), LONG_BEHIND_A_LINE, &COUNTS_FROM_THE_FIRST)
+    plays(&rt, rt.alloc(), &LINE_TOO_LONG, &TELLS_ITS_PLACE)
+}
+
+#[test]
+fn the_place_of_a_long_line_counts_from_the_first_byte(rt: HostRuntime) -> Result<(), Fail> {
+    plays(&rt, rt.alloc(), &LONG_BEHIND_A_LINE, &COUNTS_FROM_THE_FIRST)
 }
 
 // One byte less than a poll reads of a side.
@@ -202,9 +219,13 @@ const WAKES_ITSELF: [(Act, Came); 5] = [
 ];
 
 #[test]
+fn a_poll_that_reads_less_than_65536_bytes_comes_to_the_end(rt: HostRuntime) -> Result<(), Fail> {
+    plays(&rt, rt.alloc(), &BELOW_A_BLOCK, &ENDS_AT_ONCE)
+}
+
+#[test]
 fn a_poll_reads_65536_bytes_of_a_side(rt: HostRuntime) -> Result<(), Fail> {
-    plays(&rt, rt.alloc(), BELOW_A_BLOCK, &ENDS_AT_ONCE)?;
-    plays(&rt, rt.alloc(), JUST_A_BLOCK, &WAKES_ITSELF)
+    plays(&rt, rt.alloc(), &JUST_A_BLOCK, &WAKES_ITSELF)
 }
 
 /// Polls a task until it ends, ten times at most.
@@ -233,15 +254,32 @@ fn sure_pair(alloc: Global, start: Moment) -> Result<Pair<MemEnd<SureConn>>, Fai
     }
 }
 
+/// Asserts that a pair ends, on a host without trouble.
+fn ends(rt: &impl Abort, alloc: Global, pair: &mut Pair<MemEnd<SureConn>>, wanted: PairEnd) {
+    let mut host = ListHost::new(alloc, Trouble::Nothing);
+    same(
+        rt,
+        poll_to_end(pair, &mut host, moment(rt, 0)),
+        Some(wanted),
+    );
+}
+
+/// Asserts that the connections of a pair were sent these texts.
+fn hands_back(rt: &impl Abort, pair: Pair<MemEnd<SureConn>>, to_a: &str, to_b: &str) {
+    let (a, b) = pair.into_ends();
+    same(rt, a.cell.io.sent(), to_a.as_bytes());
+    same(rt, b.cell.io.sent(), to_b.as_bytes());
+}
+
 #[test]
 fn a_pair_hands_its_connections_back(rt: HostRuntime) -> Result<(), Fail> {
-    let now = moment(&rt, 0);
-    let mut pair = sure_pair(rt.alloc(), now)?;
-    let mut host = ListHost::new(rt.alloc(), Trouble::Nothing);
-    let end = PairEnd::Ended { to_a: 0, to_b: 3 };
-    same(&rt, poll_to_end(&mut pair, &mut host, now), Some(end));
-    let (a, b) = pair.into_ends();
-    same(&rt, a.cell.io.sent(), b"".as_slice());
-    same(&rt, b.cell.io.sent(), b"ab\n".as_slice());
+    let mut pair = sure_pair(rt.alloc(), moment(&rt, 0))?;
+    ends(
+        &rt,
+        rt.alloc(),
+        &mut pair,
+        PairEnd::Ended { to_a: 0, to_b: 3 },
+    );
+    hands_back(&rt, pair, "", "ab\n");
     Ok(())
 }

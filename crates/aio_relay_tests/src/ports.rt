@@ -35,12 +35,19 @@ fn giving(alloc: Global, text: &'static str) -> Result<MemConn, Fail> {
     Peer { then: text, ..ENDS }.connection(alloc)
 }
 
-/// A port of three connections, which give an a, a b and a c.
-fn three(alloc: Global) -> Result<MemPort, Fail> {
-    let a = giving(alloc, "a")?;
-    let b = giving(alloc, "b")?;
-    let c = giving(alloc, "c")?;
-    Ok(MemPort::new(vec![in alloc; a, b, c]?))
+/// A port of connections that give these texts.
+fn port_of(alloc: Global, texts: &[&'static str]) -> Result<MemPort, Fail> {
+    let mut conns = Vec::new(alloc);
+    for text in texts {
+        conns.push(giving(alloc, text)?)?;
+    }
+    Ok(MemPort::new(conns))
+}
+
+/// Asserts that a port has a number of its own where none is asked for, and else the one that is.
+fn is_bound(rt: &impl Abort, port: &mut MemPort) {
+    same(rt, port.bind(0), Ok(4000));
+    same(rt, port.bind(7), Ok(7));
 }
 
 /// Asserts that three connections come in order, and then faults alone.
@@ -62,9 +69,8 @@ where
 
 #[test]
 fn a_port_hands_its_three_connections_out_in_order(rt: HostRuntime) -> Result<(), Fail> {
-    let mut port = three(rt.alloc())?;
-    same(&rt, port.bind(0), Ok(4000));
-    same(&rt, port.bind(7), Ok(7));
+    let mut port = port_of(rt.alloc(), &["a", "b", "c"])?;
+    is_bound(&rt, &mut port);
     hands_out_three(&rt, &mut port);
     Ok(())
 }

@@ -190,11 +190,14 @@ pub(crate) fn moment(rt: &impl Abort, nanoseconds: u64) -> Moment {
 pub(crate) fn plays(
     rt: &impl Abort,
     alloc: Global,
-    row: Row,
+    row: &Row,
     rows: &[(Act, Came)],
 ) -> Result<(), Fail> {
-    let start = moment(rt, row.start);
-    let mut relay = Relay::new(alloc, &row, start)?;
-    relay.plays(rt, rows);
-    Ok(())
+    match Relay::new(alloc, row, moment(rt, row.start)) {
+        Ok(mut relay) => {
+            relay.plays(rt, rows);
+            Ok(())
+        }
+        Err(fault) => Err(fault),
+    }
 }

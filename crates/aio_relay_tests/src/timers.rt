@@ -7,6 +7,7 @@ use aio_base::Waker;
 use aio_future::{Poll, Timer, TimerFault};
 use aio_react::{Core, TimerHost};
 use aio_script::ScriptPoller;
+use std::alloc::Global;
 use std::process::Abort;
 use std::test::Fail;
 
@@ -40,14 +41,24 @@ fn is_set_anew<H: TimerHost>(rt: &impl Abort, host: &mut H) {
     same(rt, timer.close(host).is_ok(), true);
 }
 
+/// Asserts it on a host that keeps a list, which has no timer then.
+fn is_set_anew_on_a_list(rt: &impl Abort, alloc: Global) {
+    let mut host = ListHost::new(alloc, Trouble::Nothing);
+    is_set_anew(rt, &mut host);
+    same(rt, host.timers(), 0);
+}
+
+/// A core over the poller in memory.
+fn new_core(alloc: Global) -> Result<Core<ScriptPoller>, Fail> {
+    match Core::new(alloc, ScriptPoller::new(alloc)?) {
+        Ok(core) => Ok(core),
+        Err(_) => Err(Fail::from("there is no memory")),
+    }
+}
+
 #[test]
 fn a_timer_that_is_set_anew_fires_for_each_period(rt: HostRuntime) -> Result<(), Fail> {
-    let mut host = ListHost::new(rt.alloc(), Trouble::Nothing);
-    is_set_anew(&rt, &mut host);
-    same(&rt, host.timers(), 0);
-    let Ok(mut core) = Core::new(rt.alloc(), ScriptPoller::new(rt.alloc())?) else {
-        return Err(Fail::from("there is no memory"));
-    };
-    is_set_anew(&rt, &mut core);
+    is_set_anew_on_a_list(&rt, rt.alloc());
+    is_set_anew(&rt, &mut new_core(rt.alloc())?);
     Ok(())
 }

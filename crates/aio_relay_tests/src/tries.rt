@@ -152,7 +152,7 @@ fn plays_over(
 const KEY: Key = Key(3);
 
 /// Asserts that what these acts come to over a connection to this peer is what stands beside each.
-fn plays(rt: &impl Abort, alloc: Global, peer: Peer, rows: &[(Act, Came)]) -> Result<(), Fail> {
+fn plays(rt: &impl Abort, alloc: Global, peer: &Peer, rows: &[(Act, Came)]) -> Result<(), Fail> {
     let mut taken = Vec::with_capacity(alloc, 8)?;
     let io = peer.connection(alloc)?;
     let state = SourceState::new(alloc, KEY);
@@ -201,8 +201,12 @@ const FAILS_AGAIN: [(Act, Came); 4] = [
 
 #[test]
 fn a_blocked_read_is_tried_again_where_the_source_is_ready(rt: HostRuntime) -> Result<(), Fail> {
-    plays(&rt, rt.alloc(), BLOCKED_ONCE, &TRIES_AGAIN)?;
-    plays(&rt, rt.alloc(), SECOND_READ_FAILS, &FAILS_AGAIN)
+    plays(&rt, rt.alloc(), &BLOCKED_ONCE, &TRIES_AGAIN)
+}
+
+#[test]
+fn a_second_read_that_fails_is_told(rt: HostRuntime) -> Result<(), Fail> {
+    plays(&rt, rt.alloc(), &SECOND_READ_FAILS, &FAILS_AGAIN)
 }
 
 const FOURTH_FAILS: Peer = Peer {
@@ -246,11 +250,23 @@ const WRITES_END_FOURTH: [(Act, Came); 4] = [
 ];
 
 #[test]
-fn a_connection_is_tried_twice_at_most(rt: HostRuntime) -> Result<(), Fail> {
-    plays(&rt, rt.alloc(), FOURTH_FAILS, &READS_ARM_FOURTH)?;
-    plays(&rt, rt.alloc(), FIFTH_FAILS, &READS_END_FOURTH)?;
-    plays(&rt, rt.alloc(), FOURTH_FAILS, &WRITES_ARM_FOURTH)?;
-    plays(&rt, rt.alloc(), FIFTH_FAILS, &WRITES_END_FOURTH)
+fn a_read_arms_after_two_tries(rt: HostRuntime) -> Result<(), Fail> {
+    plays(&rt, rt.alloc(), &FOURTH_FAILS, &READS_ARM_FOURTH)
+}
+
+#[test]
+fn a_read_is_tried_twice_at_most(rt: HostRuntime) -> Result<(), Fail> {
+    plays(&rt, rt.alloc(), &FIFTH_FAILS, &READS_END_FOURTH)
+}
+
+#[test]
+fn a_write_arms_after_two_tries(rt: HostRuntime) -> Result<(), Fail> {
+    plays(&rt, rt.alloc(), &FOURTH_FAILS, &WRITES_ARM_FOURTH)
+}
+
+#[test]
+fn a_write_is_tried_twice_at_most(rt: HostRuntime) -> Result<(), Fail> {
+    plays(&rt, rt.alloc(), &FIFTH_FAILS, &WRITES_END_FOURTH)
 }
 
 const REPLACED: [(Act, Came); 7] = [
@@ -282,8 +298,12 @@ const REPLACED_BY_WRITES: [(Act, Came); 8] = [
 
 #[test]
 fn a_waker_that_another_replaces_is_handed_out(rt: HostRuntime) -> Result<(), Fail> {
-    plays(&rt, rt.alloc(), SILENT, &REPLACED)?;
-    plays(&rt, rt.alloc(), NARROW, &REPLACED_BY_WRITES)
+    plays(&rt, rt.alloc(), &SILENT, &REPLACED)
+}
+
+#[test]
+fn a_waker_that_another_write_replaces_is_handed_out(rt: HostRuntime) -> Result<(), Fail> {
+    plays(&rt, rt.alloc(), &NARROW, &REPLACED_BY_WRITES)
 }
 
 const FIRST_ARM_FAILS: Peer = Peer {
@@ -306,8 +326,12 @@ const LISTENER_STAYS: [(Act, Came); 3] = [
 
 #[test]
 fn a_waiter_stays_where_its_arm_failed(rt: HostRuntime) -> Result<(), Fail> {
-    plays(&rt, rt.alloc(), FIRST_ARM_FAILS, &ARMS_AGAIN)?;
-    plays(&rt, rt.alloc(), FIRST_ARM_FAILS, &LISTENER_STAYS)
+    plays(&rt, rt.alloc(), &FIRST_ARM_FAILS, &ARMS_AGAIN)
+}
+
+#[test]
+fn a_listener_stays_where_its_arm_failed(rt: HostRuntime) -> Result<(), Fail> {
+    plays(&rt, rt.alloc(), &FIRST_ARM_FAILS, &LISTENER_STAYS)
 }
 
 const LISTENS: [(Act, Came); 5] = [
@@ -320,5 +344,5 @@ const LISTENS: [(Act, Came); 5] = [
 
 #[test]
 fn a_listener_waits_until_an_event_of_its_direction(rt: HostRuntime) -> Result<(), Fail> {
-    plays(&rt, rt.alloc(), SILENT, &LISTENS)
+    plays(&rt, rt.alloc(), &SILENT, &LISTENS)
 }

@@ -10,6 +10,8 @@ mod asserts;
 #[cfg(test)]
 mod core_rounds;
 #[cfg(test)]
+mod cores;
+#[cfg(test)]
 mod host_tests;
 #[cfg(test)]
 mod hosted;

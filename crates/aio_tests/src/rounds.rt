@@ -3,7 +3,11 @@
 
 ghost use Rattle.std.specs.Prelude.{◌≡◌, [], true};
 
-use crate::asserts::{moment, same};
+use crate::asserts::same;
+use crate::rounds::Act::{
+    Begin, Fault, Finish, Given, Idle, Insert, Peek, Serve, Timers, Waiting, Woken,
+};
+use crate::rounds::Came::{Answered, Begun, Done, Ended, Failed, Handled, Is, Number, Woke};
 use aio_base::{
     Arm, ArmFault, CountFault, Dir, Event, EventWait, Interest, Key, Moment, OutOfMemory, Poll,
     TimerId, Waited, Waker,
@@ -12,9 +16,74 @@ use aio_devices::{FailingArm, ScriptedWait, WaitAnswer};
 use aio_react::{Round, RoundFault};
 use aio_source::SourceState;
 use aio_timers::{TimerBook, TimerOp};
-use std::alloc::Global;
+use std::alloc::{AllocError, Global};
 use std::process::Abort;
 use std::test::Fail;
+
+/// What is done with a round. Moments and limits are in nanoseconds.
+#[derive(Clone, Copy)]
+enum Act {
+    /// Registers a timer at this moment with this waker.
+    Insert(u64, u32),
+    /// Begins the round at this moment with this limit.
+    Begin(u64, Option<u64>),
+    /// Waits, and handles the first event on the source, or skips it.
+    Serve,
+    /// Ends the round at this moment.
+    Finish(u64),
+    /// Looks whether it is idle.
+    Idle,
+    /// Looks whether an event is in hand.
+    Peek,
+    /// Looks whom it woke.
+    Woken,
+    /// Counts the events that its wait gave.
+    Given,
+    /// Looks what failed in it first.
+    Fault,
+    /// Counts the timers that are registered.
+    Timers,
+    /// Counts who waits for a direction of the source.
+    Waiting(Dir),
+}
+
+/// What comes of it.
+#[derive(Clone, Copy, Debug, PartialEq)]
+enum Came {
+    /// Nothing failed.
+    Done,
+    /// The round has begun, with this limit.
+    Begun(Option<u64>),
+    /// The wait answered this, and no event was handled.
+    Answered(Waited),
+    /// The wait failed.
+    Failed(CountFault),
+    /// The wait answered this, and its event was handled, where an arm may have failed.
+    Handled(Waited, Option<ArmFault>),
+    /// The round has ended, and this failed first in it.
+    Ended(Option<RoundFault>),
+    /// Whether it is so.
+    Is(bool),
+    /// So many.
+    Number(usize),
+    /// The first waker and the last one of so many.
+    Woke(usize, Option<u32>, Option<u32>),
+    /// Something else.
+    Other,
+}
+
+/// What a wait is to answer.
+#[derive(Clone, Copy)]
+enum Answer {
+    /// It gives this event.
+    Gives(Event),
+    /// It gives no event.
+    GivesNone,
+    /// It is interrupted.
+    Interrupted,
+    /// It fails.
+    Fails,
+}
 
 const KEY: Key = Key(7);
 
@@ -23,13 +92,6 @@ const READABLE: Event = Event {
     key: KEY,
     on: Interest::READ,
 };
-
-/// Registers a timer that wakes the task of this waker.
-fn insert(rt: &impl Abort, book: &mut TimerBook, deadline: u64, waker: u32) -> Result<(), Fail> {
-    book.reserve(1)?;
-    book.apply(TimerOp::Insert(moment(rt, deadline), TimerId(1), Waker(waker)));
-    Ok(())
-}
 
 /// Asserts that a poll waits.
 fn poll_pending<A: Arm>(
@@ -92,171 +154,289 @@ struct Lending {
 fn make_lending(
     rt: &impl Abort,
     alloc: Global,
-    answers: Vec<WaitAnswer>,
-    fails: Vec<u64>,
+    answers: &[Answer],
+    fails: &[u64],
 ) -> Result<Lending, Fail> {
-    let mut arm = FailingArm::new(0, fails);
+    let mut arm = arm_of(alloc, fails)?;
     let source = waited_for(rt, alloc, &mut arm);
     Ok(Lending {
         round: Round::new(alloc)?,
         book: TimerBook::new(alloc),
-        wait: ScriptedWait::new(answers),
+        wait: wait_of(alloc, answers)?,
         source,
         arm,
     })
 }
 
 /// A wait that gives one event.
-fn gives(alloc: Global, event: Event) -> Result<WaitAnswer, Fail> {
+fn gives(alloc: Global, event: Event) -> Result<WaitAnswer, AllocError> {
     Ok(WaitAnswer::Gives(vec![in alloc; event]?))
 }
 
+/// What a wait is to answer, for the device.
+fn answer_of(alloc: Global, answer: Answer) -> Result<WaitAnswer, AllocError> {
+    match answer {
+        Answer::Gives(event) => gives(alloc, event),
+        Answer::GivesNone => Ok(WaitAnswer::Gives(Vec::new(alloc))),
+        Answer::Interrupted => Ok(WaitAnswer::Interrupted),
+        Answer::Fails => Ok(WaitAnswer::Fails),
+    }
+}
+
+/// A wait that gives these answers.
+fn wait_of(alloc: Global, answers: &[Answer]) -> Result<ScriptedWait, AllocError> {
+    let mut told = Vec::new(alloc);
+    for answer in answers {
+        told.push(answer_of(alloc, *answer)?)?;
+    }
+    Ok(ScriptedWait::new(told))
+}
+
+/// A connection whose arms with these numbers fail.
+fn arm_of(alloc: Global, fails: &[u64]) -> Result<FailingArm, AllocError> {
+    let mut numbers = Vec::new(alloc);
+    numbers.extend_from_slice(fails)?;
+    Ok(FailingArm::new(0, numbers))
+}
+
+/// What a wait and the handling of its event come to.
+fn served(answer: Result<Served, OutOfMemory>) -> Came {
+    match answer {
+        Ok((Ok(waited), None)) => Came::Answered(waited),
+        Ok((Ok(waited), Some(fault))) => Came::Handled(waited, fault),
+        Ok((Err(fault), None)) => Came::Failed(fault),
+        _ => Came::Other,
+    }
+}
+
+/// The first waker and the last one.
+fn woke(woken: &[Waker]) -> Came {
+    let first = woken.first().map(|waker| waker.0);
+    let last = woken.last().map(|waker| waker.0);
+    Came::Woke(woken.len(), first, last)
+}
+
 impl Lending {
-    fn begin(
-        &mut self,
-        rt: &impl Abort,
-        now: u64,
-        given: Option<u64>,
-    ) -> Result<Option<u64>, OutOfMemory> {
-        assert!(rt; self.round.is_idle());
-        self.round.begin(&mut self.book, moment(rt, now), given, 1)
+    /// Registers a timer.
+    fn insert(&mut self, deadline: Moment, waker: u32) -> Came {
+        if self.book.reserve(1).is_err() {
+            return Came::Other;
+        }
+        let op = TimerOp::Insert(deadline, TimerId(1), Waker(waker));
+        self.book.apply(op);
+        Came::Done
+    }
+
+    /// Begins the round.
+    fn begin(&mut self, now: Moment, limit: Option<u64>) -> Came {
+        if !self.round.is_idle() {
+            return Came::Other;
+        }
+        match self.round.begin(&mut self.book, now, limit, 1) {
+            Ok(limit) => Came::Begun(limit),
+            Err(OutOfMemory) => Came::Other,
+        }
     }
 
     /// Serves while no event is in hand.
-    fn serve(&mut self, rt: &impl Abort) -> Result<Served, OutOfMemory> {
-        assert!(rt; !self.round.is_idle());
-        assert!(rt; self.round.in_hand() == 0);
-        serve(
+    fn serve(&mut self) -> Came {
+        if self.round.is_idle() || self.round.in_hand() != 0 {
+            return Came::Other;
+        }
+        served(serve(
             &mut self.round,
             &mut self.wait,
             &mut self.source,
             &mut self.arm,
-        )
+        ))
     }
 
     /// Ends the round while no event is in hand.
-    fn finish(&mut self, rt: &impl Abort, now: u64) -> Result<Option<RoundFault>, OutOfMemory> {
-        assert!(rt; !self.round.is_idle());
-        assert!(rt; self.round.in_hand() == 0);
-        self.round.finish(&mut self.book, moment(rt, now))
+    fn finish(&mut self, now: Moment) -> Came {
+        if self.round.is_idle() || self.round.in_hand() != 0 {
+            return Came::Other;
+        }
+        match self.round.finish(&mut self.book, now) {
+            Ok(fault) => Came::Ended(fault),
+            Err(OutOfMemory) => Came::Other,
+        }
     }
+
+    /// Does this at a moment.
+    fn act_at(&mut self, at: u64, act: Act) -> Came {
+        let Some(at) = Moment::new(at) else {
+            return Came::Other;
+        };
+        match act {
+            Act::Insert(_, waker) => self.insert(at, waker),
+            Act::Begin(_, limit) => self.begin(at, limit),
+            Act::Finish(_) => self.finish(at),
+            _ => Came::Other,
+        }
+    }
+
+    /// Looks at this.
+    fn look(&self, act: Act) -> Came {
+        match act {
+            Act::Idle => Came::Is(self.round.is_idle()),
+            Act::Peek => Came::Is(self.round.peek().is_some()),
+            Act::Woken => woke(self.round.woken()),
+            Act::Given => Came::Number(self.round.given() as usize),
+            Act::Fault => Came::Ended(self.round.fault()),
+            Act::Timers => Came::Number(self.book.len()),
+            Act::Waiting(dir) => Came::Number(self.source.waiting(dir) as usize),
+            _ => Came::Other,
+        }
+    }
+
+    /// Does this.
+    fn act(&mut self, act: Act) -> Came {
+        match act {
+            Act::Insert(at, _) | Act::Begin(at, _) | Act::Finish(at) => self.act_at(at, act),
+            Act::Serve => self.serve(),
+            act => self.look(act),
+        }
+    }
+
+    /// Asserts that what these acts come to is what stands beside each.
+    fn plays(&mut self, rt: &impl Abort, rows: &[(Act, Came)]) {
+        for (act, came) in rows {
+            same(rt, self.act(*act), *came);
+        }
+    }
+}
+
+/// Asserts that what these acts come to is what stands beside each, with a round over a wait that gives these
+/// answers, and over a source of which the arms with these numbers fail.
+fn plays(
+    rt: &impl Abort,
+    alloc: Global,
+    answers: &[Answer],
+    fails: &[u64],
+    rows: &[(Act, Came)],
+) -> Result<(), Fail> {
+    let mut lending = make_lending(rt, alloc, answers, fails)?;
+    lending.plays(rt, rows);
+    Ok(())
+}
+
+const WAKES_BOTH: [(Act, Came); 13] = [
+    (Insert(10, 1), Done),
+    (Idle, Is(true)),
+    (Woken, Woke(0, None, None)),
+    (Fault, Ended(None)),
+    (Given, Number(0)),
+    (Peek, Is(false)),
+    (Begin(10, None), Begun(Some(0))),
+    (Serve, Handled(Waited::Given(1), None)),
+    (Finish(10), Ended(None)),
+    (Idle, Is(true)),
+    (Woken, Woke(2, Some(1), Some(2))),
+    (Given, Number(1)),
+    (Waiting(Dir::Write), Number(1)),
+];
+
+#[test]
+fn a_round_wakes_what_it_took(rt: HostRuntime) -> Result<(), Fail> {
+    plays(
+        &rt,
+        rt.alloc(),
+        &[Answer::Gives(READABLE)],
+        &[],
+        &WAKES_BOTH,
+    )
+}
+
+/// The first fault of the wait.
+const FIRST: CountFault = CountFault {
+    before: 0,
+    after: 1,
+};
+
+/// That of the source, in an arm.
+const UNARMED: ArmFault = ArmFault {
+    key: KEY,
+    before: 0,
+    after: 1,
+};
+
+const FAILS_TWICE: [Answer; 2] = [Answer::Fails, Answer::Gives(READABLE)];
+
+const FIRST_STAYS: [(Act, Came); 6] = [
+    (Begin(0, None), Begun(None)),
+    (Serve, Failed(FIRST)),
+    (Serve, Handled(Waited::Given(1), Some(UNARMED))),
+    (Finish(0), Ended(Some(RoundFault::Wait(FIRST)))),
+    (Fault, Ended(Some(RoundFault::Wait(FIRST)))),
+    (Woken, Woke(1, Some(2), Some(2))),
+];
+
+#[test]
+fn the_first_fault_of_a_round_stays(rt: HostRuntime) -> Result<(), Fail> {
+    plays(&rt, rt.alloc(), &FAILS_TWICE, &[3], &FIRST_STAYS)
+}
+
+const FINDS_THE_TIMER: [(Act, Came); 7] = [
+    (Insert(10, 1), Done),
+    (Begin(0, Some(50)), Begun(Some(10))),
+    (Serve, Answered(Waited::Given(0))),
+    (Finish(10), Ended(None)),
+    (Given, Number(0)),
+    (Timers, Number(0)),
+    (Woken, Woke(1, Some(1), Some(1))),
+];
+
+const LEAVES_IT_INTERRUPTED: [(Act, Came); 7] = [
+    (Insert(10, 1), Done),
+    (Begin(0, Some(50)), Begun(Some(10))),
+    (Serve, Answered(Waited::Interrupted)),
+    (Finish(10), Ended(None)),
+    (Given, Number(0)),
+    (Timers, Number(1)),
+    (Woken, Woke(0, None, None)),
+];
+
+/// An event of another source.
+const STRAY: Event = Event {
+    key: Key(9),
+    on: Interest::READ,
+};
+
+const LEAVES_IT_AFTER_AN_EVENT: [(Act, Came); 7] = [
+    (Insert(10, 1), Done),
+    (Begin(0, Some(50)), Begun(Some(10))),
+    (Serve, Answered(Waited::Given(1))),
+    (Finish(10), Ended(None)),
+    (Given, Number(1)),
+    (Timers, Number(1)),
+    (Woken, Woke(0, None, None)),
+];
+
+#[test]
+fn only_a_wait_that_gave_no_event_asks_for_a_second_pass(rt: HostRuntime) -> Result<(), Fail> {
+    let (alloc, none) = (rt.alloc(), &[]);
+    plays(&rt, alloc, &[Answer::GivesNone], none, &FINDS_THE_TIMER)?;
+    plays(
+        &rt,
+        alloc,
+        &[Answer::Interrupted],
+        none,
+        &LEAVES_IT_INTERRUPTED,
+    )?;
+    plays(
+        &rt,
+        alloc,
+        &[Answer::Gives(STRAY)],
+        none,
+        &LEAVES_IT_AFTER_AN_EVENT,
+    )
 }
 
 /// Takes what a lock may hold, and lets it go.
 fn send_away<T: Send + Drop>(_value: T) {}
 
-/// Asserts that a round is idle, and has had no fault, no event and no waker.
-fn assert_new(rt: &impl Abort, round: &Round) {
-    assert!(rt; round.is_idle());
-    assert!(rt; round.woken().is_empty());
-    same(
-        rt,
-        (round.fault(), round.given(), round.peek()),
-        (None, 0, None),
-    );
-}
-
-/// Asserts that a round has ended with one event, and wakes the first two tasks.
-fn assert_ended(rt: &impl Abort, round: &Round) {
-    assert!(rt; round.is_idle());
-    same(rt, round.woken(), [Waker(1), Waker(2)].as_slice());
-    same(rt, round.given(), 1);
-}
-
 #[test]
-fn a_round_wakes_what_it_took(rt: HostRuntime) -> Result<(), Fail> {
-    let answers = vec![in rt.alloc(); gives(rt.alloc(), READABLE)?]?;
-    let mut lending = make_lending(&rt, rt.alloc(), answers, Vec::new(rt.alloc()))?;
-    insert(&rt, &mut lending.book, 10, 1)?;
-    assert_new(&rt, &lending.round);
-    same(&rt, lending.begin(&rt, 10, None), Ok(Some(0)));
-    same(
-        &rt,
-        lending.serve(&rt),
-        Ok((Ok(Waited::Given(1)), Some(None))),
-    );
-    same(&rt, lending.finish(&rt, 10), Ok(None));
-    assert_ended(&rt, &lending.round);
-    same(&rt, lending.source.waiting(Dir::Write), 1);
-    send_away(lending.round);
+fn a_round_may_go_to_another_thread(rt: HostRuntime) -> Result<(), Fail> {
+    send_away(Round::new(rt.alloc())?);
     Ok(())
-}
-
-/// Asserts that the wait of a round fails, and answers its fault.
-fn fail_wait(rt: &impl Abort, lending: &mut Lending) -> CountFault {
-    let failed = CountFault {
-        before: 0,
-        after: 1,
-    };
-    same(rt, lending.serve(rt), Ok((Err(failed), None)));
-    failed
-}
-
-/// Asserts that the arm of an event fails.
-fn fail_arm(rt: &impl Abort, lending: &mut Lending) {
-    let unarmed = ArmFault {
-        key: KEY,
-        before: 0,
-        after: 1,
-    };
-    same(
-        rt,
-        lending.serve(rt),
-        Ok((Ok(Waited::Given(1)), Some(Some(unarmed)))),
-    );
-}
-
-#[test]
-fn the_first_fault_of_a_round_stays(rt: HostRuntime) -> Result<(), Fail> {
-    let answers = vec![in rt.alloc(); WaitAnswer::Fails, gives(rt.alloc(), READABLE)?]?;
-    let mut lending = make_lending(&rt, rt.alloc(), answers, vec![in rt.alloc(); 3]?)?;
-    same(&rt, lending.begin(&rt, 0, None), Ok(None));
-    let first = Some(RoundFault::Wait(fail_wait(&rt, &mut lending)));
-    fail_arm(&rt, &mut lending);
-    same(&rt, lending.finish(&rt, 0), Ok(first));
-    same(&rt, lending.round.fault(), first);
-    same(&rt, lending.round.woken(), [Waker(2)].as_slice());
-    Ok(())
-}
-
-/// Begins a round with a limit of fifty nanoseconds, ten before its timer.
-fn begin_before_a_timer(rt: &impl Abort, lending: &mut Lending) -> Result<(), Fail> {
-    insert(rt, &mut lending.book, 10, 1)?;
-    same(rt, lending.begin(rt, 0, Some(50)), Ok(Some(10)));
-    Ok(())
-}
-
-/// Asserts how many events a round gave, and how many timers it left: the others it wakes.
-fn assert_left(rt: &impl Abort, lending: &Lending, given: u32, timers: usize) {
-    same(rt, lending.round.given(), given);
-    same(rt, lending.book.len(), timers);
-    same(rt, lending.round.woken().len().saturating_add(timers), 1);
-}
-
-/// A round whose timer is reached while it waits, for this answer.
-fn assert_second_pass(
-    rt: &impl Abort,
-    alloc: Global,
-    answer: WaitAnswer,
-    given: u32,
-    timers: usize,
-) -> Result<(), Fail> {
-    let mut lending = make_lending(rt, alloc, vec![in alloc; answer]?, Vec::new(alloc))?;
-    begin_before_a_timer(rt, &mut lending)?;
-    same(rt, lending.serve(rt)?.1, None);
-    same(rt, lending.finish(rt, 10), Ok(None));
-    assert_left(rt, &lending, given, timers);
-    Ok(())
-}
-
-#[test]
-fn only_a_wait_that_gave_no_event_asks_for_a_second_pass(rt: HostRuntime) -> Result<(), Fail> {
-    let alloc = rt.alloc();
-    let stray = Event {
-        key: Key(9),
-        on: Interest::READ,
-    };
-    assert_second_pass(&rt, alloc, WaitAnswer::Gives(Vec::new(alloc)), 0, 0)?;
-    assert_second_pass(&rt, alloc, WaitAnswer::Interrupted, 0, 1)?;
-    assert_second_pass(&rt, alloc, gives(alloc, stray)?, 1, 1)
 }

@@ -5,8 +5,10 @@
 use crate::acts::Act::{Await, Drive, Follow, Give, HandOver, Poll, Rest, SetTimer, Wake, WakeAll};
 use crate::acts::Came::{Done, Ended, Events, Mask};
 use crate::acts::{Act, Came};
+use crate::asserts::moment;
 use crate::teams::play_blocking;
 use aio_base::Dir;
+use aio_devices::{MemClock, clock_at};
 use std::alloc::Global;
 use std::process::Abort;
 use std::sync::Wait;
@@ -15,6 +17,31 @@ use std::thread::Threads;
 
 /// How often both tables are carried out, each time with the second thread a turn later.
 const TIMES: u32 = 20;
+
+/// Clocks that stand still at these moments.
+fn still_clocks(
+    rt: &impl Abort,
+    alloc: Global,
+    moments: (u64, u64),
+) -> Result<(MemClock, MemClock), Fail> {
+    let clock = clock_at(alloc, moment(rt, moments.0))?;
+    let clock_of_other = clock_at(alloc, moment(rt, moments.1))?;
+    Ok((clock, clock_of_other))
+}
+
+/// Two threads over devices that block carry out these tables at once, the second one so many turns late.
+/// Their clocks stand still at these moments.
+fn plays<R: Threads + Wait + Sync + Abort>(
+    rt: &R,
+    alloc: Global,
+    moments: (u64, u64),
+    rows: &[(Act, Came)],
+    rows_of_other: &[(Act, Came)],
+    late: u32,
+) -> Result<(), Fail> {
+    let clocks = still_clocks(rt, alloc, moments)?;
+    play_blocking(rt, alloc, 2, clocks, (rows, rows_of_other), late)
+}
 
 /// Two threads carry out these tables at once, again and again. Their clocks stand still at these moments.
 fn play_each_time<R: Threads + Wait + Sync + Abort>(
@@ -25,7 +52,7 @@ fn play_each_time<R: Threads + Wait + Sync + Abort>(
     rows_of_other: &[(Act, Came)],
 ) -> Result<(), Fail> {
     for late in 0..TIMES {
-        play_blocking(rt, alloc, moments, rows, rows_of_other, late)?;
+        plays(rt, alloc, moments, rows, rows_of_other, late)?;
     }
     Ok(())
 }
@@ -86,7 +113,7 @@ fn an_event_ends_a_sleep(rt: HostRuntime) -> Result<(), Fail> {
     for (key, dir) in SOURCES {
         let rests = [(Poll(key, dir, 9), Done), (Rest(1 << 9), Ended(1 << 9))];
         let gives = [(Follow, Done), (Give(key, dir), Done)];
-        play_blocking(&rt, rt.alloc(), (5, 5), &rests, &gives, key)?;
+        plays(&rt, rt.alloc(), (5, 5), &rests, &gives, key)?;
     }
     Ok(())
 }
@@ -121,7 +148,7 @@ fn a_source_of_one_thread_is_served_by_the_rounds_of_another(rt: HostRuntime) ->
             (Give(key, dir), Done),
             (Rest(1 << 9), Ended(1 << 9)),
         ];
-        play_blocking(&rt, rt.alloc(), (5, 5), &DRIVES_AN_EVENT, &rests, 0)?;
+        plays(&rt, rt.alloc(), (5, 5), &DRIVES_AN_EVENT, &rests, 0)?;
     }
     Ok(())
 }

@@ -8,15 +8,16 @@ use crate::acts::Came::{Done, Ended};
 use crate::acts::{Act, Came};
 use crate::asserts::moment;
 use crate::clocks::shared_clocks;
-use crate::teams::{over_blocking, over_instant, play_together};
+use crate::teams::{play_blocking, play_instant};
 use std::alloc::Global;
 use std::process::Abort;
 use std::sync::Wait;
 use std::test::Fail;
 use std::thread::Threads;
 
-/// So many threads over devices that answer at once carry out these tables at the same time. They share a clock.
-pub(crate) fn play_instant<R: Threads + Wait + Sync + Abort>(
+/// So many threads carry out these tables at the same time: over devices that answer at once, and then over
+/// such as block until they are told. They share a clock.
+pub(crate) fn plays<R: Threads + Wait + Sync + Abort>(
     rt: &R,
     alloc: Global,
     threads: u32,
@@ -25,26 +26,17 @@ pub(crate) fn play_instant<R: Threads + Wait + Sync + Abort>(
 ) -> Result<(), Fail>
     requires { (1 ≤ threads) × (threads ≤ 16) }
 {
-    let (clock, clock_of_others) = shared_clocks(rt, alloc, moment(rt, 0))?;
-    let team = over_instant(rt, alloc, threads, clock)?;
-    let players = team.players(alloc, &clock_of_others, rows, rows_of_others, 0)?;
-    play_together(rt, players)
-}
-
-/// The same over devices that block until they are told.
-pub(crate) fn play_blocking<R: Threads + Wait + Sync + Abort>(
-    rt: &R,
-    alloc: Global,
-    threads: u32,
-    rows: &[(Act, Came)],
-    rows_of_others: &[(Act, Came)],
-) -> Result<(), Fail>
-    requires { (1 ≤ threads) × (threads ≤ 16) }
-{
-    let (clock, clock_of_others) = shared_clocks(rt, alloc, moment(rt, 0))?;
-    let team = over_blocking(rt, alloc, threads, clock)?;
-    let players = team.players(alloc, &clock_of_others, rows, rows_of_others, 0)?;
-    play_together(rt, players)
+    let tables = (rows, rows_of_others);
+    let start = moment(rt, 0);
+    play_instant(rt, alloc, threads, shared_clocks(rt, alloc, start)?, tables)?;
+    play_blocking(
+        rt,
+        alloc,
+        threads,
+        shared_clocks(rt, alloc, start)?,
+        tables,
+        0,
+    )
 }
 
 const MEETS_THE_OTHER: [(Act, Came); 2] = [(Meet(1, 100), Ended(0)), (HandOver, Done)];
@@ -54,8 +46,7 @@ const MEETS_THE_FIRST: [(Act, Came); 2] = [(Meet(0, 100), Ended(0)), (HandOver, 
 // No timer ends a wait: each one that lasts is ended by the other's wake alone.
 #[test]
 fn two_threads_meet_a_hundred_times_without_a_timer(rt: HostRuntime) -> Result<(), Fail> {
-    play_instant(&rt, rt.alloc(), 2, &MEETS_THE_OTHER, &MEETS_THE_FIRST)?;
-    play_blocking(&rt, rt.alloc(), 2, &MEETS_THE_OTHER, &MEETS_THE_FIRST)
+    plays(&rt, rt.alloc(), 2, &MEETS_THE_OTHER, &MEETS_THE_FIRST)
 }
 
 const WAITS_FOR_THE_OTHER: [(Act, Came); 2] = [(MeetLater(1, 100), Ended(0)), (HandOver, Done)];
@@ -64,14 +55,7 @@ const WAITS_FOR_THE_FIRST: [(Act, Came); 2] = [(MeetLater(0, 100), Ended(0)), (H
 
 #[test]
 fn two_threads_wait_for_each_other_a_hundred_times(rt: HostRuntime) -> Result<(), Fail> {
-    play_instant(
-        &rt,
-        rt.alloc(),
-        2,
-        &WAITS_FOR_THE_OTHER,
-        &WAITS_FOR_THE_FIRST,
-    )?;
-    play_blocking(
+    plays(
         &rt,
         rt.alloc(),
         2,

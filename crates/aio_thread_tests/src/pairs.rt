@@ -5,7 +5,7 @@ use crate::acts::Act::{Await, Follow, HandOver, Hold, Rest, Sleep, Wake, WakeIts
 use crate::acts::Came::{Done, Ended, Mask};
 use crate::acts::{Act, Came};
 use crate::asserts::moment;
-use crate::teams::{over_blocking, over_instant, play_together};
+use crate::teams::{play_blocking, play_instant};
 use aio_devices::{MemClock, clock_until};
 use std::alloc::Global;
 use std::process::Abort;
@@ -24,32 +24,18 @@ fn clocks(
     Ok((clock, clock_of_other))
 }
 
-/// Two threads over devices that answer at once carry out these tables at the same time.
-fn play_instant<R: Threads + Wait + Sync + Abort>(
+/// Two threads carry out these tables at the same time: over devices that answer at once, and then over such
+/// as block until they are told.
+fn plays<R: Threads + Wait + Sync + Abort>(
     rt: &R,
     alloc: Global,
     looks: (usize, usize),
     rows: &[(Act, Came)],
     rows_of_other: &[(Act, Came)],
 ) -> Result<(), Fail> {
-    let (clock, clock_of_other) = clocks(rt, alloc, looks)?;
-    let team = over_instant(rt, alloc, 2, clock)?;
-    let players = team.players(alloc, &clock_of_other, rows, rows_of_other, 0)?;
-    play_together(rt, players)
-}
-
-/// The same over devices that block until they are told.
-fn play_blocking<R: Threads + Wait + Sync + Abort>(
-    rt: &R,
-    alloc: Global,
-    looks: (usize, usize),
-    rows: &[(Act, Came)],
-    rows_of_other: &[(Act, Came)],
-) -> Result<(), Fail> {
-    let (clock, clock_of_other) = clocks(rt, alloc, looks)?;
-    let team = over_blocking(rt, alloc, 2, clock)?;
-    let players = team.players(alloc, &clock_of_other, rows, rows_of_other, 0)?;
-    play_together(rt, players)
+    let tables = (rows, rows_of_other);
+    play_instant(rt, alloc, 2, clocks(rt, alloc, looks)?, tables)?;
+    play_blocking(rt, alloc, 2, clocks(rt, alloc, looks)?, tables, 0)
 }
 
 // It has the reactor lock until the other wakes it.
@@ -59,8 +45,7 @@ const SLEEPS_AND_WAKES: [(Act, Came); 3] = [(Follow, Done), (Sleep(5), Ended(5))
 
 #[test]
 fn a_parked_thread_is_served_by_the_rounds_of_another(rt: HostRuntime) -> Result<(), Fail> {
-    play_instant(&rt, rt.alloc(), (0, 1), &REACTS_FOR_BOTH, &SLEEPS_AND_WAKES)?;
-    play_blocking(&rt, rt.alloc(), (0, 1), &REACTS_FOR_BOTH, &SLEEPS_AND_WAKES)
+    plays(&rt, rt.alloc(), (0, 1), &REACTS_FOR_BOTH, &SLEEPS_AND_WAKES)
 }
 
 // It hands over only where the other has taken the mask that it woke: else both wakes would be in one.
@@ -79,8 +64,7 @@ const SLEEPS_ONCE_IT_IS_HELD: [(Act, Came); 3] = [
 #[test]
 fn a_parked_thread_reacts_by_itself_once_it_is_woken(rt: HostRuntime) -> Result<(), Fail> {
     let (rows, rows_of_other) = (&HOLDS_THE_CELL, &SLEEPS_ONCE_IT_IS_HELD);
-    play_instant(&rt, rt.alloc(), (0, 2), rows, rows_of_other)?;
-    play_blocking(&rt, rt.alloc(), (0, 2), rows, rows_of_other)
+    plays(&rt, rt.alloc(), (0, 2), rows, rows_of_other)
 }
 
 // By its clock the timer of the other is never due: it ends before.
@@ -90,6 +74,5 @@ const SLEEPS: [(Act, Came); 1] = [(Sleep(5), Ended(5))];
 
 #[test]
 fn a_thread_that_ends_wakes_the_other_which_goes_on(rt: HostRuntime) -> Result<(), Fail> {
-    play_instant(&rt, rt.alloc(), (1000, 3), &ENDS_FIRST, &SLEEPS)?;
-    play_blocking(&rt, rt.alloc(), (1000, 3), &ENDS_FIRST, &SLEEPS)
+    plays(&rt, rt.alloc(), (1000, 3), &ENDS_FIRST, &SLEEPS)
 }

@@ -3,11 +3,12 @@
 use crate::acts::{Act, Came, done, driven, ended, fired};
 use crate::asserts::same;
 use crate::tasks::{Meets, Rests, WakesItself};
-use aio_base::{Clock, Dir, Event, EventWait, Interest, Key, Moment, Notify, Poll, Waker};
+use aio_base::{Clock, Dir, Event, EventWait, Interest, Key, Moment, Notify, Poll, Task, Waker};
 use aio_devices::{BlockingNotify, SureArm};
 use aio_future::Sleep;
-use aio_park::{Thread, drive};
+use aio_park::{BlockFault, Thread, drive};
 use aio_react::{Host, TimerHost};
+use aio_shared::Inside;
 use std::process::Abort;
 use std::sync::Wait;
 use std::thread::yield_now;
@@ -37,12 +38,23 @@ fn let_run(turns: u32) {
     }
 }
 
+/// Blocks on a task.
+fn block_on<
+    R: Wait + Copy,
+    N: Notify,
+    W: EventWait,
+    C: Clock,
+    T: Task<Inside<R, N, SureArm, W>> + Drop,
+>(thread: &mut Sleeper<R, N, W, C>, mut task: T) -> Result<T::Output, BlockFault> {
+    thread.run(&mut task)
+}
+
 /// Blocks until one of these slots of the thread's parker is woken.
 fn rest<R: Wait + Copy, N: Notify, W: EventWait, C: Clock>(
     thread: &mut Sleeper<R, N, W, C>,
     slots: u64,
 ) -> Came {
-    ended(thread.run(&mut Rests::until(slots)))
+    ended(block_on(thread, Rests::until(slots)))
 }
 
 /// Blocks until a timer fires.
@@ -51,7 +63,7 @@ fn sleep<R: Wait + Copy, N: Notify, W: EventWait, C: Clock>(
     at: u64,
 ) -> Came {
     match Moment::new(at) {
-        Some(at) => fired(thread.run(&mut Sleep::until(at))),
+        Some(at) => fired(block_on(thread, Sleep::until(at))),
         None => Came::Other,
     }
 }
@@ -61,7 +73,7 @@ fn wake_itself<R: Wait + Copy, N: Notify, W: EventWait, C: Clock>(
     thread: &mut Sleeper<R, N, W, C>,
     last: u64,
 ) -> Came {
-    ended(thread.run(&mut WakesItself::until(last)))
+    ended(block_on(thread, WakesItself::until(last)))
 }
 
 /// Blocks on meetings with another thread.
@@ -71,7 +83,7 @@ fn meet<R: Wait + Copy, N: Notify, W: EventWait, C: Clock>(
     times: u32,
     timed: bool,
 ) -> Came {
-    ended(thread.run(&mut Meets::new(other, times, timed)))
+    ended(block_on(thread, Meets::new(other, times, timed)))
 }
 
 /// Makes so many rounds.
@@ -89,6 +101,13 @@ fn drive_on<R: Wait + Copy, N: Notify, W: EventWait, C: Clock>(
     ))
 }
 
+/// Wakes a task. Whether nothing failed.
+fn wake<H: Host>(host: &mut H, waker: Waker) -> bool
+    ensures { H.is_later host.old host.new }
+{
+    host.wake(waker).is_ok()
+}
+
 /// Takes the round cell, wakes this waker, and gives the cell back without a round after so many turns.
 fn hold<R: Wait + Copy, N: Notify, W: EventWait, C>(
     thread: &mut Sleeper<R, N, W, C>,
@@ -97,7 +116,7 @@ fn hold<R: Wait + Copy, N: Notify, W: EventWait, C>(
 ) -> Came {
     let host = &mut thread.host;
     let cell = host.shared.take_round(&host.rt, &mut host.member);
-    let told = host.wake(Waker(waker)).is_ok();
+    let told = wake(host, Waker(waker));
     let_run(turns);
     host.shared.give_round(&host.rt, &mut host.member, cell);
     done(told)
@@ -211,10 +230,10 @@ impl<R: Wait + Copy, N: Notify, W: EventWait, C: Clock> Player<'_, R, N, W, C> {
     fn act_at_once(&mut self, act: Act) -> Came {
         let thread = &mut self.thread;
         match act {
-            Act::Wake(waker) => done(thread.host.wake(Waker(waker)).is_ok()),
+            Act::Wake(waker) => done(wake(&mut thread.host, Waker(waker))),
             Act::WakeNext(slot) => {
                 let waker = next_waker(thread.parker, self.parkers, slot);
-                done(thread.host.wake(waker).is_ok())
+                done(wake(&mut thread.host, waker))
             }
             Act::SetTimer(at, waker) => set_timer(&mut thread.host, at, waker),
             Act::Poll(key, dir, waker) => poll_at(thread, key, dir, waker),

@@ -3,7 +3,7 @@
 use crate::acts::Act::{HandOver, Rest, Sleep, WakeNext};
 use crate::acts::Came::{Done, Ended};
 use crate::acts::{Act, Came};
-use crate::meetings::{play_blocking, play_instant};
+use crate::meetings::plays;
 use std::test::Fail;
 
 const BEGINS_THE_RING: [(Act, Came); 3] = [
@@ -20,14 +20,12 @@ const HANDS_ON: [(Act, Came); 3] = [
 
 #[test]
 fn a_wake_goes_round_sixteen_blocked_threads(rt: HostRuntime) -> Result<(), Fail> {
-    play_instant(&rt, rt.alloc(), 16, &BEGINS_THE_RING, &HANDS_ON)?;
-    play_blocking(&rt, rt.alloc(), 16, &BEGINS_THE_RING, &HANDS_ON)
+    plays(&rt, rt.alloc(), 16, &BEGINS_THE_RING, &HANDS_ON)
 }
 
 const SLEEPS: [(Act, Came); 2] = [(Sleep(200), Ended(200)), (HandOver, Done)];
 
 #[test]
 fn the_timers_of_sixteen_blocked_threads_fire(rt: HostRuntime) -> Result<(), Fail> {
-    play_instant(&rt, rt.alloc(), 16, &SLEEPS, &SLEEPS)?;
-    play_blocking(&rt, rt.alloc(), 16, &SLEEPS, &SLEEPS)
+    plays(&rt, rt.alloc(), 16, &SLEEPS, &SLEEPS)
 }

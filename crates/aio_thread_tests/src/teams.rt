@@ -3,12 +3,9 @@
 ghost use Rattle.std.specs.Prelude.{◌≡◌, ◌<◌, ◌≤◌};
 
 use crate::acts::{Act, Came};
-use crate::asserts::moment;
 use crate::players::{Player, Sleeper};
 use aio_base::{Clock, EventWait, Notify};
-use aio_devices::{
-    BlockingNotify, BlockingWait, MemClock, MemNotify, MemWait, blocking_pair, clock_at,
-};
+use aio_devices::{BlockingNotify, BlockingWait, MemNotify, MemWait, blocking_pair};
 use aio_park::Thread;
 use std::alloc::Global;
 use std::process::Abort;
@@ -90,7 +87,8 @@ impl<R: Wait + Copy, N: Notify + Drop, W: EventWait + Drop, C: Clock + Drop> Tea
         }
     }
 
-    /// A player for each other parker, with clocks like this one and this table.
+    /// A player for each other parker, with clocks like this one and this table. The first of them makes events
+    /// ready.
     fn others<'a>(
         &mut self,
         alloc: Global,
@@ -105,13 +103,24 @@ impl<R: Wait + Copy, N: Notify + Drop, W: EventWait + Drop, C: Clock + Drop> Tea
             let thread = self.another(parker, clock)?;
             players.push(Player {
                 thread,
-                outside: None,
+                outside: self.outside.take(),
                 rows,
                 late,
                 parkers,
             })?;
         }
         Ok(players)
+    }
+
+    /// The player of the first thread.
+    fn into_first<'a>(self, rows: &'a [(Act, Came)], late: u32) -> Player<'a, R, N, W, C> {
+        Player {
+            thread: self.first,
+            outside: None,
+            rows,
+            late,
+            parkers: self.parkers,
+        }
     }
 
     /// A player for each parker, the first one last. The others have clocks like this one, and a table for
@@ -125,22 +134,7 @@ impl<R: Wait + Copy, N: Notify + Drop, W: EventWait + Drop, C: Clock + Drop> Tea
         late: u32,
     ) -> Result<Vec<Player<'a, R, N, W, C>>, Fail> {
         let mut players = self.others(alloc, clock_of_others, rows_of_others, late)?;
-        let Team {
-            first,
-            outside,
-            parkers,
-            ..
-        } = self;
-        if let Some(player) = players.first_mut() {
-            player.outside = outside;
-        }
-        players.push(Player {
-            thread: first,
-            outside: None,
-            rows,
-            late,
-            parkers,
-        })?;
+        players.push(self.into_first(rows, late))?;
         Ok(players)
     }
 }
@@ -158,29 +152,54 @@ pub(crate) fn play_together<
     Ok(())
 }
 
-/// Clocks that stand still at these moments.
-fn still_clocks(
-    rt: &impl Abort,
+/// Has the threads of a team carry out these tables at the same time. The other threads have clocks like this
+/// one, and come so many turns late.
+fn play_team<
+    'a,
+    R: Threads + Wait + Sync + Abort,
+    N: Notify + Drop + Send,
+    W: EventWait + Drop + Send,
+    C: Clock + Drop + Send,
+>(
+    rt: &'a R,
     alloc: Global,
-    moments: (u64, u64),
-) -> Result<(MemClock, MemClock), Fail> {
-    let clock = clock_at(alloc, moment(rt, moments.0))?;
-    let clock_of_others = clock_at(alloc, moment(rt, moments.1))?;
-    Ok((clock, clock_of_others))
-}
-
-/// Two threads over devices that block carry out these tables at once, the second one so many turns late. Their
-/// clocks stand still at these moments.
-pub(crate) fn play_blocking<R: Threads + Wait + Sync + Abort>(
-    rt: &R,
-    alloc: Global,
-    moments: (u64, u64),
-    rows: &[(Act, Came)],
-    rows_of_other: &[(Act, Came)],
+    team: Team<&'a R, N, W, C>,
+    clock_of_others: &C,
+    tables: (&'a [(Act, Came)], &'a [(Act, Came)]),
     late: u32,
 ) -> Result<(), Fail> {
-    let (clock, clock_of_other) = still_clocks(rt, alloc, moments)?;
-    let team = over_blocking(rt, alloc, 2, clock)?;
-    let players = team.players(alloc, &clock_of_other, rows, rows_of_other, late)?;
+    let players = team.players(alloc, clock_of_others, tables.0, tables.1, late)?;
     play_together(rt, players)
+}
+
+/// So many threads over devices that answer at once carry out these tables at the same time, the first thread
+/// with the first clock and the first table, each other one with a clock like the second, and the second table.
+pub(crate) fn play_instant<'a, R: Threads + Wait + Sync + Abort, C: Clock + Drop + Send>(
+    rt: &'a R,
+    alloc: Global,
+    threads: u32,
+    clocks: (C, C),
+    tables: (&'a [(Act, Came)], &'a [(Act, Came)]),
+) -> Result<(), Fail>
+    requires { (1 ≤ threads) × (threads ≤ 16) }
+{
+    let (clock, clock_of_others) = clocks;
+    let team = over_instant(rt, alloc, threads, clock)?;
+    play_team(rt, alloc, team, &clock_of_others, tables, 0)
+}
+
+/// The same over devices that block until they are told. The other threads come so many turns late.
+pub(crate) fn play_blocking<'a, R: Threads + Wait + Sync + Abort, C: Clock + Drop + Send>(
+    rt: &'a R,
+    alloc: Global,
+    threads: u32,
+    clocks: (C, C),
+    tables: (&'a [(Act, Came)], &'a [(Act, Came)]),
+    late: u32,
+) -> Result<(), Fail>
+    requires { (1 ≤ threads) × (threads ≤ 16) }
+{
+    let (clock, clock_of_others) = clocks;
+    let team = over_blocking(rt, alloc, threads, clock)?;
+    play_team(rt, alloc, team, &clock_of_others, tables, late)
 }
