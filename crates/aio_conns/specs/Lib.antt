@@ -1,3 +1,4 @@
 pub mod Connections
 pub mod Given
+pub mod Peers
 pub mod Sent

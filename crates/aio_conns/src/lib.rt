@@ -9,11 +9,13 @@
 mod armed;
 mod connections;
 mod giving;
+mod peers;
 mod pieces;
 mod ports;
 mod script;
 mod sending;
 
 pub use connections::{MemConn, SureConn};
+pub use peers::{ENDS, Peer, SILENT};
 pub use pieces::Piece;
 pub use ports::MemPort;
