@@ -1,5 +1,5 @@
 -- What became of a relay: what its output grew by, and why it stopped.
-use Rattle.std.specs.Prelude.{◌≡◌, ◌⊎◌, ℕ, ◌≤◌, Bool, true, false, List, ◌++◌, length, Option, IfSome, Result, Ok, Err, ⊤}
+use Rattle.std.specs.Prelude.{◌≡◌, ◌⊎◌, ℕ, Bool, true, false, List, ◌++◌, length, Option, IfSome, Result, Ok, Err}
 use Rattle.std.specs.Io.KnownBytes.{Appends}
 use Rattle.aio_base.specs.ClockBounds.{ClockBounds}
 use Rattle.aio_base.specs.Connections.{IsInUse, Telling}
@@ -14,6 +14,7 @@ use Rattle.aio_line.specs.declared.relaying.RelayStop.TheVariants as stop
 use Rattle.aio_serve.specs.declared.server.ServeFault.{ServeFault}
 use Rattle.aio_serve.specs.declared.server.ServeFault.TheVariants as fault
 use Rattle.aio_serve.specs.Places.{EndsFit, Terms}
+use Rattle.aio_serve.specs.Servers.{HasServeCause}
 use Rattle.aio_line.specs.Texts.{listening_line, relay_text}
 
 abbrev pub terms_of : ClockBounds → (idle : ℕ) → (sure : Bool) → Terms
@@ -56,21 +57,21 @@ abbrev pub TakesAfterFirst : {C : Type 0} → (waiting_old waiting_new : Option 
 TakesAfterFirst waiting_old waiting_new own asked old new =
     (waiting_new ≡ waiting_old) ⊎ AtPort own asked (λ port. AppendsMore old new (listening_line port))
 
--- two counts of faults within a call, of which the second is the greater or stands at its type's end
-abbrev pub RoseWithin : (before after : ℕ) → (first last : ℕ) → Type 0
-RoseWithin before after first last = (first ≤ before) × Rose before after × (after ≤ last)
-
 -- Why a relay stopped, by the counts of faults that port and output had before and after it, and by whether wait and notifier are sure. A port that was not
--- bound failed in the one call of it, so its two counts are those of the whole relay.
+-- bound failed in the one call of it, so its two counts are those of the whole relay. What its server stopped for has the server's cause.
 abbrev pub HasRelayCause : (port_before port_after : ℕ) → (sure_of_wait sure_notifier : Bool) → (out_before out_after : ℕ) → RelayStop → Type 0
 HasRelayCause port_before port_after sure_of_wait sure_notifier out_before out_after (stop.Bind f) =
     (f ≡ record { before = port_before; after = port_after }) × Rose f.before f.after
-HasRelayCause port_before port_after sure_of_wait sure_notifier out_before out_after (stop.Port f) = RoseWithin f.before f.after port_before port_after
-HasRelayCause port_before port_after sure_of_wait sure_notifier out_before out_after (stop.Wait f) = (sure_of_wait ≡ false) × Rose f.before f.after
-HasRelayCause port_before port_after sure_of_wait sure_notifier out_before out_after (stop.Notify f) = (sure_notifier ≡ false) × Rose f.before f.after
+HasRelayCause port_before port_after sure_of_wait sure_notifier out_before out_after (stop.Port f) =
+    HasServeCause port_before port_after sure_of_wait sure_notifier (fault.Port f)
+HasRelayCause port_before port_after sure_of_wait sure_notifier out_before out_after (stop.Wait f) =
+    HasServeCause port_before port_after sure_of_wait sure_notifier (fault.Wait f)
+HasRelayCause port_before port_after sure_of_wait sure_notifier out_before out_after (stop.Notify f) =
+    HasServeCause port_before port_after sure_of_wait sure_notifier (fault.Notify f)
 HasRelayCause port_before port_after sure_of_wait sure_notifier out_before out_after (stop.Output f) =
     (f ≡ record { before = out_before; after = out_after }) × Rose f.before f.after
-HasRelayCause port_before port_after sure_of_wait sure_notifier out_before out_after stop.OutOfMemory = ⊤
+HasRelayCause port_before port_after sure_of_wait sure_notifier out_before out_after stop.OutOfMemory =
+    HasServeCause port_before port_after sure_of_wait sure_notifier fault.OutOfMemory
 
 -- whether the output failed
 abbrev pub has_output_failed : Result (Unit {0}) RelayStop → Bool

@@ -13,7 +13,7 @@ SpellsFromTo least most n word = SpellsUpTo most n word × (least ≤ n)
 
 -- the most workers that a relay may have
 abbrev pub most_workers : ℕ
-most_workers = 1
+most_workers = 16
 
 -- the most pairs of one worker
 abbrev pub pairs_of_worker : ℕ

@@ -10,7 +10,7 @@ use crate::numbers::{number_from_to, number_up_to};
 const GREATEST_PORT: u64 = 65_535;
 
 /// The most workers of a relay.
-const MOST_WORKERS: u64 = 1;
+const MOST_WORKERS: u64 = 16;
 
 /// The longest idle time, 10^18 nanoseconds.
 const LONGEST_IDLE: u64 = 1_000_000_000_000_000_000;
@@ -31,7 +31,7 @@ pub struct RelayOrder {
     pub pairs: u32,
 }
 
-/// What the words `relay PORT WORKERS IDLE PAIRS` ask for. PORT is 0 to 65,535, WORKERS 1, IDLE 1 to
+/// What the words `relay PORT WORKERS IDLE PAIRS` ask for. PORT is 0 to 65,535, WORKERS 1 to 16, IDLE 1 to
 /// 10^18 and PAIRS 1 to 64 for each worker, each in decimal digits, with leading zeros or without, and no
 /// sign. `None` exactly where the words are no such ones.
 pub fn relay_order(words: &[String]) -> Option<RelayOrder>

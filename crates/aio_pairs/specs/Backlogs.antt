@@ -1,5 +1,5 @@
 -- One side of a pair: what was read of it and not yet written to the other.
-use Rattle.std.specs.Prelude.{◌≡◌, ℕ, ◌+◌, ◌-◌, ◌^◌, Bool, true, zero, suc, List, ◌++◌, length, drop, min, Result, Ok, Err}
+use Rattle.std.specs.Prelude.{◌≡◌, ℕ, ◌+◌, ◌-◌, ◌^◌, Bool, true, false, zero, suc, List, [], ◌++◌, length, drop, min, Result, Ok, Err}
 use Rattle.aio_base.specs.Connections.{Telling, ReadTells}
 use Rattle.aio_base.specs.declared.names.Waker.{Waker}
 use Rattle.aio_base.specs.declared.outcomes.Poll.{Poll}
@@ -14,6 +14,10 @@ pub record SideState : Type 0 where
   pub backlog : List ℕ
   pub forwarded : ℕ
   pub ended : Bool
+
+-- the side of which nothing was read
+abbrev pub fresh_side : SideState
+fresh_side = record { backlog = []; forwarded = 0; ended = false }
 
 -- a count that stands still at the end of its type
 abbrev pub saturated : ℕ → ℕ

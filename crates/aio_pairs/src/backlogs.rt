@@ -4,7 +4,7 @@ ghost use Rattle.std.specs.Prelude.{◌≡◌, ◌+◌, ◌-◌, ◌<◌, ◌≤
 ghost use Rattle.aio_base.specs.Connections.{ReadTells};
 ghost use Rattle.aio_base.specs.declared.outcomes.Poll.TheVariants.{Ready, Pending};
 ghost use Rattle.aio_future.specs.Tries.{bytes_over, fault_counts, IsReadAnswer, FaultsWithin};
-ghost use Rattle.aio_pairs.specs.Backlogs.{TakesUp, ends_with, shrunk};
+ghost use Rattle.aio_pairs.specs.Backlogs.{TakesUp, ends_with, fresh_side, shrunk};
 ghost use Rattle.aio_pairs.specs.Calls.{Reads, LeavesHost};
 ghost use Rattle.aio_pairs.specs.Lines.{lines, unfinished};
 
@@ -55,7 +55,7 @@ impl Model for Backlog {
 impl Backlog {
     /// The backlog of a side of which nothing was read.
     pub fn new(alloc: Global) -> Result<Backlog, AllocError>
-        ensures { IfOk result (λ side. side ≡ record { backlog = []; forwarded = 0; ended = false }) }
+        ensures { IfOk result (λ side. side ≡ fresh_side) }
     {
         let mut buffer = Vec::new(alloc);
         buffer.resize(SIZE, 0)?;

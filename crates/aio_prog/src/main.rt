@@ -9,7 +9,7 @@ use aio_devices::{MemNotify, MemWait};
 use aio_line::{Kit, SixDevices};
 use aio_mio::{MioRefusal, RealClock, mio_parts};
 use aio_run::run;
-use aio_serve::{CallerSpawner, OpenGate};
+use aio_serve::{OpenGate, ThreadSpawner};
 use std::io::{BufReader, ErrorKind};
 use std::process::ExitCode;
 use std::rt::Env;
@@ -65,7 +65,7 @@ fn begins_with_relay(words: &[String]) -> bool {
 }
 
 /// Runs the words over a port, a wait and a notifier, with the machine's clock, an open gate and a
-/// spawner that runs jobs here.
+/// spawner that runs jobs on threads.
 fn run_over<
     R: Wait + Threads + Sync + Send + Copy + time::Clock + AllocGlobal,
     P: Port + Drop,
@@ -92,7 +92,7 @@ where
             notify,
             clock: RealClock::new(rt),
             gate: OpenGate,
-            spawner: CallerSpawner,
+            spawner: ThreadSpawner,
         },
     };
     let status = run(rt, rt.alloc(), words, input, out, err, &mut kit);

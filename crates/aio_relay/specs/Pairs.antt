@@ -1,5 +1,5 @@
 -- A pair as contracts see it, and what a poll makes of it.
-use Rattle.std.specs.Prelude.{◌≡◌, ℕ, ◌+◌, ◌^◌, ◌<◌, ◌≤◌, Bool, true, false, zero, suc, List, [], length, Option, None, max, ⊤}
+use Rattle.std.specs.Prelude.{◌≡◌, ℕ, ◌+◌, ◌^◌, ◌<◌, ◌≤◌, Bool, true, zero, suc, List, [], length, Option, None, max, ⊤}
 use Rattle.std.proofs.Common.{le_trans}
 use Rattle.aio_base.specs.Connections.{Telling, IsAtItsEnd}
 use Rattle.aio_base.specs.Devices.{raised}
@@ -13,7 +13,7 @@ use Rattle.aio_base.specs.declared.outcomes.Poll.TheVariants.{Ready, Pending}
 use Rattle.aio_base.specs.declared.tasks.Cx.{Cx}
 use Rattle.aio_future.specs.Timers.{TimerValue, new_timer}
 use Rattle.aio_future.specs.declared.tried.TryFault.{TryFault}
-use Rattle.aio_pairs.specs.Backlogs.{SideState}
+use Rattle.aio_pairs.specs.Backlogs.{SideState, fresh_side}
 use Rattle.aio_pairs.specs.Calls.{EndCall, HostGoesOn, RoseIn}
 use Rattle.aio_pairs.specs.Exchanges.{Exchanged, IsLongThere, OneFailed, try_fault_of, went_over}
 use Rattle.aio_pairs.specs.Fits.{ToGive, Fits, to_give}
@@ -45,9 +45,6 @@ pub record IsPair {E : Type 0} (told : E → Telling) (p : PairState E) : Type 0
   pub idle_bound : p.idle ≤ 10 ^ 18
   pub side_a : IsKept p.from_a (told p.a)
   pub side_b : IsKept p.from_b (told p.b)
-
-abbrev pub fresh_side : SideState
-fresh_side = record { backlog = []; forwarded = 0; ended = false }
 
 abbrev pub fresh_pair : {E : Type 0} → (a b : E) → (idle start : ℕ) → PairState E
 fresh_pair a b idle start = record {

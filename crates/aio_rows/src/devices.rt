@@ -15,7 +15,7 @@ use std::sync::Wait;
 
 /// Bytes that are all in hand, and of which the second read fails, taking none.
 #[derive(Drop)]
-pub struct Torn {
+pub(crate) struct Torn {
     bytes: Vec<u8>,
     position: usize,
     reads: u64,
@@ -39,7 +39,7 @@ impl Model for Torn {
 
 impl Torn {
     /// A source of `bytes`, of which nothing is read.
-    pub fn new(bytes: Vec<u8>) -> Torn
+    pub(crate) fn new(bytes: Vec<u8>) -> Torn
         ensures { result ≡ record { left = bytes.items; reads = 0; fault_count = 0 } }
     {
         Torn {
@@ -112,13 +112,13 @@ fn copy_front(from: &[u8], to: &mut [u8]) -> usize
 
 /// A port of which each call fails.
 #[derive(Drop)]
-pub struct ClosedPort {
+pub(crate) struct ClosedPort {
     failed: u64,
 }
 
 impl ClosedPort {
     /// A port of which no call was made.
-    pub fn new() -> ClosedPort
+    pub(crate) fn new() -> ClosedPort
         ensures { result ≡ record { failed = 0 } }
     {
         ClosedPort { failed: 0 }

@@ -1,38 +1,71 @@
 //! Devices in memory for the calls of the tests.
 
-ghost use Rattle.std.specs.Prelude.{◌≤◌};
-
-use aio_base::Moment;
-use aio_devices::{MemClock, MemNotify, MemWait, clock_at};
+use aio_base::{Moment, Placement, Port, Spawner};
+use aio_devices::{FailingWait, MemClock, MemNotify, clock_until};
 use aio_line::{Kit, SixDevices};
-use aio_serve::{CallerSpawner, OpenGate};
+use aio_serve::OpenGate;
 use std::alloc::{AllocError, Global};
 
 /// Six devices, of which the tests choose the port.
-pub(crate) type MemKit<P> = Kit<P, MemWait, MemNotify, MemClock, OpenGate, CallerSpawner>;
+pub(crate) type MemKit<P> = Kit<P, FailingWait, MemNotify, MemClock, OpenGate, ChosenSpawner>;
 
-/// This port, a wait that gives events of so many keys, a notifier, a clock that stands at 0, an open gate
-/// and a spawner that runs jobs on the caller.
-pub(crate) fn kit_of<P: Drop>(alloc: Global, port: P, keys: u32) -> Result<MemKit<P>, AllocError>
-    requires { keys ≤ 1024 }
-{
-    let clock = clock_at(alloc, start())?;
+/// Runs the jobs of a call where the tests choose.
+#[derive(Drop)]
+pub(crate) struct ChosenSpawner {
+    placement: Placement,
+}
+
+impl Spawner for ChosenSpawner {
+    fn placement(&self) -> Placement {
+        self.placement
+    }
+}
+
+/// How often the clock is looked at while it stands at 0.
+const LOOKS: usize = 1000;
+
+/// What the tests choose of a wait, a clock and a spawner.
+#[derive(Clone, Copy)]
+pub(crate) struct Course {
+    /// Each wait gives events of so many keys, 1,024 at most.
+    pub(crate) keys: u32,
+    /// The numbers of the waits that fail.
+    pub(crate) fails: &'static [u64],
+    /// Where the clock stands once it was looked at a thousand times, in nanoseconds, 10^18 at most.
+    pub(crate) until: u64,
+    /// Where jobs run.
+    pub(crate) placement: Placement,
+}
+
+/// Waits give nothing, the clock stands still, and jobs run on the caller.
+pub(crate) const NOTHING_COMES: Course = Course {
+    keys: 0,
+    fails: &[],
+    until: 0,
+    placement: Placement::Caller,
+};
+
+/// This port, with a wait, a clock and a spawner of this course, a notifier and an open gate.
+pub(crate) fn kit_of<P: Port + Drop>(
+    alloc: Global,
+    port: P,
+    course: Course,
+) -> Result<MemKit<P>, AllocError> {
+    let wait = FailingWait::new(course.keys.min(1024), course.fails.to_vec(alloc)?);
+    let Some(until) = Moment::new(course.until) else {
+        return Err(AllocError);
+    };
+    let clock = clock_until(alloc, LOOKS, until)?;
     Ok(Kit {
         devices: SixDevices {
             port,
-            wait: MemWait::new(keys),
+            wait,
             notify: MemNotify::new(),
             clock,
             gate: OpenGate,
-            spawner: CallerSpawner,
+            spawner: ChosenSpawner {
+                placement: course.placement,
+            },
         },
     })
-}
-
-/// The moment 0.
-fn start() -> Moment {
-    match Moment::new(0) {
-        Some(moment) => moment,
-        None => unreachable!(),
-    }
 }

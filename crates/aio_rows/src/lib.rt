@@ -2,15 +2,15 @@
 //! a line is read, traces that a number describes, and a replay with its core.
 //!
 //! They stand above every crate that they use, so that none of those is proved a second time for its
-//! tests. Of other code there is a source that fails, and a port. They have contracts, so that wrong ones are
-//! refused.
+//! tests. The devices of their own, a source that fails and a port, have contracts too.
 #![tactic(auto)]
 
 #[cfg(test)]
 mod asserts;
 #[cfg(test)]
 mod cores;
-pub mod devices;
+#[cfg(test)]
+mod devices;
 #[cfg(test)]
 mod generated;
 #[cfg(test)]

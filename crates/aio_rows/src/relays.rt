@@ -1,20 +1,17 @@
 //! What no clause says of a relay: that the definitions mean the lines that are told of pairs, that a port
 //! which is not bound ends it before anything is written, and that it serves pairs to their ends.
 
-ghost use Rattle.std.specs.Prelude.{◌^◌, ◌<◌, IfOk};
-ghost use Rattle.aio_conns.specs.Given.{total_bytes};
-
 use crate::asserts::{same, same_in};
 use crate::devices::ClosedPort;
-use crate::kits::kit_of;
-use crate::traces::{FIRST_FAULT, Failing, NOTHING_FAILS, Ran, Wrote, assert_ran, run_with};
-use aio_base::{ArmFault, Key, Moment};
+use crate::kits::{Course, NOTHING_COMES, kit_of};
+use crate::traces::{FIRST_FAULT, Failing, NOTHING_FAILS, Wrote, assert_ran, run_with};
+use aio_base::{ArmFault, Key, Moment, Placement, Port};
 use aio_bytes::MemSource;
-use aio_conns::{MemConn, MemPort, Piece};
+use aio_conns::{ENDS, MemPort, Peer, SILENT};
 use aio_line::pair_lines;
 use aio_pairs::{PairEnd, Side};
-use aio_run::{Status, Which6, Why};
-use std::alloc::{AllocError, AllocGlobal, Global};
+use aio_run::{Which6, Why};
+use std::alloc::{AllocGlobal, Global};
 use std::process::Abort;
 use std::sync::Wait;
 use std::test::Fail;
@@ -60,127 +57,260 @@ fn each_end_of_a_pair_has_its_line(rt: HostRuntime) -> Result<(), Fail> {
     Ok(())
 }
 
-/// The status of a relay whose port could not be bound.
-const NOT_BOUND: Status = Status {
-    exit: 6,
-    why: Why::DeviceFault {
-        which: Which6::Port,
-        fault: FIRST_FAULT,
-    },
+/// Sends a line in two pieces and two bytes behind it, and ends.
+const TORN: Peer<'static> = Peer {
+    first: b"ab",
+    blocks: true,
+    last: b"\ncd",
+    ..ENDS
 };
 
-#[test]
-fn a_port_that_is_not_bound_ends_a_relay(rt: HostRuntime) -> Result<(), Fail> {
-    let alloc = rt.alloc();
-    let mut kit = kit_of(alloc, ClosedPort::new(), 4)?;
-    let mut source = MemSource::new(Vec::new(alloc), 1, Vec::new(alloc));
-    let words = ["relay", "0", "1", "1000", "2"];
-    let ran: Ran = run_with(&rt, &words, &mut source, NOTHING_FAILS, &mut kit)?;
-    same_in(&rt, words, ran.status, NOT_BOUND);
-    same(
-        &rt,
-        (ran.out.bytes(), ran.err.bytes()),
-        (b"".as_slice(), b"device fault\n".as_slice()),
-    );
-    Ok(())
+/// Bytes that are one too many for a line whose end is still to come.
+const LONG: &[u8] = &[b'a'; 4096];
+
+/// A relay: how many workers and pairs it is asked for, what the other ends of its connections do, in turn
+/// those of sides A and B, what its devices do, and what comes of it.
+struct Row {
+    workers: &'static str,
+    pairs: &'static str,
+    peers: &'static [Peer<'static>],
+    course: Course,
+    failing: Failing,
+    wanted: Wrote<'static>,
+    why: Why,
 }
 
-/// The bytes of a text.
-fn bytes(alloc: Global, text: &str) -> Result<Vec<u8>, AllocError> {
-    let mut bytes = Vec::new(alloc);
-    bytes.extend_from_slice(text.as_bytes())?;
-    Ok(bytes)
-}
+/// Each wait gives an event of each of four connections.
+const FOUR_KEYS: Course = Course {
+    keys: 4,
+    ..NOTHING_COMES
+};
 
-/// Two bytes, then a read that is blocked, and then a line feed and two bytes more.
-fn halting_pieces(alloc: Global) -> Result<Vec<Piece>, Fail>
-    ensures { IfOk result (λ pieces. total_bytes pieces.items < 2 ^ 64) }
-{
-    let first = Piece::Bytes(bytes(alloc, "ab")?);
-    let then = Piece::Bytes(bytes(alloc, "\ncd")?);
-    Ok(vec![in alloc; first, Piece::Block, then]?)
-}
+/// The same, with workers on threads.
+const ON_THREADS: Course = Course {
+    placement: Placement::Threads,
+    ..FOUR_KEYS
+};
 
-/// Side A of a pair: it sends a line in two pieces and two bytes behind it, and ends.
-fn halts(alloc: Global) -> Result<MemConn, Fail> {
-    let pieces = halting_pieces(alloc)?;
-    Ok(MemConn::new(alloc, pieces, true, 4096, u32::MAX, Vec::new(alloc))?)
-}
+/// What a relay writes of two pairs of which side A sent a line of three bytes.
+const TWO_ENDED: Wrote<'static> = (
+    b"listening 4000\npair 1 ended 0 3\npair 2 ended 0 3\n",
+    b"",
+    0,
+);
 
-/// Side B of a pair: it ends at once.
-fn ends(alloc: Global) -> Result<MemConn, Fail> {
-    Ok(MemConn::new(
-        alloc,
-        Vec::new(alloc),
-        true,
-        4096,
-        u32::MAX,
-        Vec::new(alloc),
-    )?)
-}
+/// Why a relay stops for the first fault of its port.
+const PORT_FAULT: Why = Why::DeviceFault {
+    which: Which6::Port,
+    fault: FIRST_FAULT,
+};
 
-/// A port that hands out so many connections, in turn a side A and a side B.
-fn port_of(alloc: Global, count: u32) -> Result<MemPort, Fail> {
+/// Why it stops for that of its wait.
+const WAIT_FAULT: Why = Why::DeviceFault {
+    which: Which6::Wait,
+    fault: FIRST_FAULT,
+};
+
+/// Relays over ports that can be bound.
+const ROWS: &[Row] = &[
+    Row {
+        workers: "1",
+        pairs: "2",
+        peers: &[TORN, ENDS, TORN, ENDS],
+        course: FOUR_KEYS,
+        failing: NOTHING_FAILS,
+        wanted: TWO_ENDED,
+        why: Why::Done,
+    },
+    // Two workers, one after the other.
+    Row {
+        workers: "2",
+        pairs: "2",
+        peers: &[TORN, ENDS, TORN, ENDS],
+        course: FOUR_KEYS,
+        failing: NOTHING_FAILS,
+        wanted: TWO_ENDED,
+        why: Why::Done,
+    },
+    // Two on threads.
+    Row {
+        workers: "2",
+        pairs: "2",
+        peers: &[TORN, ENDS, TORN, ENDS],
+        course: ON_THREADS,
+        failing: NOTHING_FAILS,
+        wanted: TWO_ENDED,
+        why: Why::Done,
+    },
+    // Sixteen on threads, of which two have a pair.
+    Row {
+        workers: "16",
+        pairs: "2",
+        peers: &[TORN, ENDS, TORN, ENDS],
+        course: ON_THREADS,
+        failing: NOTHING_FAILS,
+        wanted: TWO_ENDED,
+        why: Why::Done,
+    },
+    // A port with too few connections.
+    Row {
+        workers: "1",
+        pairs: "2",
+        peers: &[TORN, ENDS, TORN],
+        course: FOUR_KEYS,
+        failing: NOTHING_FAILS,
+        wanted: (b"listening 4000\n", b"device fault\n", 6),
+        why: PORT_FAULT,
+    },
+    // The same with two workers on threads.
+    Row {
+        workers: "2",
+        pairs: "2",
+        peers: &[TORN, ENDS, TORN],
+        course: ON_THREADS,
+        failing: NOTHING_FAILS,
+        wanted: (b"listening 4000\n", b"device fault\n", 6),
+        why: PORT_FAULT,
+    },
+    // A wait that fails.
+    Row {
+        workers: "1",
+        pairs: "2",
+        peers: &[TORN, ENDS, TORN, ENDS],
+        course: Course {
+            fails: &[1],
+            ..FOUR_KEYS
+        },
+        failing: NOTHING_FAILS,
+        wanted: (b"listening 4000\n", b"device fault\n", 6),
+        why: WAIT_FAULT,
+    },
+    // An output that takes the first line alone.
+    Row {
+        workers: "1",
+        pairs: "2",
+        peers: &[TORN, ENDS, TORN, ENDS],
+        course: FOUR_KEYS,
+        failing: Failing {
+            writes: &[2],
+            ..NOTHING_FAILS
+        },
+        wanted: (b"listening 4000\n", b"write fault\n", 4),
+        why: Why::WriteFault(FIRST_FAULT),
+    },
+    // Pairs that come to each of the ends that connections alone can bring about. The first call of each
+    // connection is its add.
+    Row {
+        workers: "1",
+        pairs: "8",
+        peers: &[
+            TORN,
+            ENDS,
+            Peer {
+                first: b"x\n",
+                ..SILENT
+            },
+            SILENT,
+            Peer {
+                first: LONG,
+                ..SILENT
+            },
+            SILENT,
+            ENDS,
+            Peer {
+                first: b"x\n",
+                last: LONG,
+                ..ENDS
+            },
+            Peer {
+                first: b"x\n",
+                fails: &[2],
+                ..ENDS
+            },
+            ENDS,
+            TORN,
+            // It is read to its end before there is a line to write.
+            Peer {
+                fails: &[3],
+                ..ENDS
+            },
+            Peer {
+                first: b"x\n",
+                fails: &[1],
+                ..ENDS
+            },
+            ENDS,
+            // It is armed as its read is blocked.
+            Peer {
+                fails: &[3],
+                ..SILENT
+            },
+            ENDS,
+        ],
+        course: Course {
+            keys: 16,
+            until: 1000,
+            ..NOTHING_COMES
+        },
+        failing: NOTHING_FAILS,
+        wanted: (
+            b"listening 4000\npair 1 ended 0 3\npair 2 idle 0 1000\npair 3 too long a 4096\n\
+pair 4 too long b 4098\npair 5 read fault\npair 6 write fault\npair 7 arm fault\npair 8 arm fault\n",
+            b"",
+            0,
+        ),
+        why: Why::Done,
+    },
+];
+
+/// A port that hands out connections to these peers.
+fn port_of(alloc: Global, peers: &[Peer<'_>]) -> Result<MemPort, Fail> {
     let mut conns = Vec::new(alloc);
-    for at in 0..count {
-        conns.push(if at % 2 == 0 {
-            halts(alloc)?
-        } else {
-            ends(alloc)?
-        })?;
+    for peer in peers {
+        conns.push(peer.connection(alloc)?)?;
     }
     Ok(MemPort::new(conns))
 }
 
-/// Runs a relay of two pairs over a port of so many connections, and asserts what it wrote and told, and its
-/// exit status. Why it ended.
-fn relayed<R: Wait + Threads + Sync + Send + Copy + AllocGlobal + Abort>(
+/// Runs a relay over a port, and asserts what came of it.
+fn relay_over<R: Wait + Threads + Sync + Send + Copy + AllocGlobal + Abort, P: Port + Drop>(
     rt: &R,
-    count: u32,
-    failing: Failing,
-    wanted: Wrote<'_>,
-) -> Result<Why, Fail> {
+    port: P,
+    row: &Row,
+) -> Result<(), Fail>
+where
+    P::C: Send + Drop,
+{
     let alloc = rt.alloc();
-    let mut kit = kit_of(alloc, port_of(alloc, count)?, 4)?;
+    let mut kit = kit_of(alloc, port, row.course)?;
     let mut source = MemSource::new(Vec::new(alloc), 1, Vec::new(alloc));
-    let words = ["relay", "0", "1", "1000", "2"];
-    let ran = run_with(rt, &words, &mut source, failing, &mut kit)?;
-    assert_ran(rt, &ran, wanted, count);
-    Ok(ran.status.why)
-}
-
-#[test]
-fn a_relay_serves_its_pairs_and_tells_their_ends(rt: HostRuntime) -> Result<(), Fail> {
-    let out = b"listening 4000\npair 1 ended 0 3\npair 2 ended 0 3\n".as_slice();
-    let why = relayed(&&rt, 4, NOTHING_FAILS, (out, b"".as_slice(), 0))?;
-    same(&rt, why, Why::Done);
+    let words = ["relay", "0", row.workers, "1000", row.pairs];
+    let ran = run_with(rt, &words, &mut source, row.failing, &mut kit)?;
+    assert_ran(rt, &ran, row.wanted, row.why);
+    same(rt, ran.status.why, row.why);
     Ok(())
 }
 
 #[test]
-fn a_relay_ends_for_a_port_that_has_too_few_connections(rt: HostRuntime) -> Result<(), Fail> {
-    let wanted = (
-        b"listening 4000\n".as_slice(),
-        b"device fault\n".as_slice(),
-        6,
-    );
-    let why = relayed(&&rt, 3, NOTHING_FAILS, wanted)?;
-    same(&rt, why, NOT_BOUND.why);
+fn a_relay_tells_what_its_pairs_come_to_and_why_it_stops(rt: HostRuntime) -> Result<(), Fail> {
+    for row in ROWS {
+        relay_over(&&rt, port_of(rt.alloc(), row.peers)?, row)?;
+    }
     Ok(())
 }
 
+/// A relay over a port that cannot be bound.
+const NOT_BOUND: Row = Row {
+    workers: "1",
+    pairs: "2",
+    peers: &[],
+    course: FOUR_KEYS,
+    failing: NOTHING_FAILS,
+    wanted: (b"", b"device fault\n", 6),
+    why: PORT_FAULT,
+};
+
 #[test]
-fn a_relay_ends_for_an_output_that_fails(rt: HostRuntime) -> Result<(), Fail> {
-    let failing = Failing {
-        writes: &[2],
-        ..NOTHING_FAILS
-    };
-    let wanted = (
-        b"listening 4000\n".as_slice(),
-        b"write fault\n".as_slice(),
-        4,
-    );
-    let why = relayed(&&rt, 4, failing, wanted)?;
-    same(&rt, why, Why::WriteFault(FIRST_FAULT));
-    Ok(())
+fn a_port_that_is_not_bound_ends_a_relay(rt: HostRuntime) -> Result<(), Fail> {
+    relay_over(&&rt, ClosedPort::new(), &NOT_BOUND)
 }

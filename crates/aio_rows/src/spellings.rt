@@ -1,6 +1,6 @@
 //! In which spellings a line is read, and why a line that reads as no step is refused.
 
-use crate::traces::{NOTHING_FAILS, Wrote, assert_ran, ends, replay_rows, run_from};
+use crate::traces::{NOTHING_FAILS, Wrote, assert_ran, replay_rows, replay_so, run_from};
 use aio_bytes::{MemSource, Source};
 use std::alloc::{AllocError, Global};
 use std::process::Abort;
@@ -116,19 +116,8 @@ fn refuse_rows<R: Wait + Threads + Sync + Send + Copy + AllocGlobal + Abort>(
     piece: usize,
 ) -> Result<(), AllocError> {
     for (trace, out, err) in rows {
-        refuse_row(rt, trace, out, err, piece)?;
+        replay_so(rt, trace, piece, (out, err, 2))?;
     }
-    Ok(())
-}
-
-fn refuse_row<R: Wait + Threads + Sync + Send + Copy + AllocGlobal + Abort>(
-    rt: &R,
-    trace: &[u8],
-    out: &[u8],
-    err: &[u8],
-    piece: usize,
-) -> Result<(), AllocError> {
-    ends(rt, &["replay"], trace, piece, NOTHING_FAILS, (out, err, 2))?;
     Ok(())
 }
 
@@ -163,16 +152,6 @@ fn long_line(alloc: Global, len: usize, last: u8) -> Result<Vec<u8>, AllocError>
     Ok(trace)
 }
 
-/// Replays a trace, and asserts what that writes and tells.
-fn replay_so<R: Wait + Threads + Sync + Send + Copy + AllocGlobal + Abort>(
-    rt: &R,
-    trace: &[u8],
-    wanted: Wrote<'_>,
-) -> Result<(), AllocError> {
-    ends(rt, &["replay"], trace, 4096, NOTHING_FAILS, wanted)?;
-    Ok(())
-}
-
 fn read_long_line<R: Wait + Threads + Sync + Send + Copy + AllocGlobal + Abort>(
     rt: &R,
     len: usize,
@@ -180,7 +159,7 @@ fn read_long_line<R: Wait + Threads + Sync + Send + Copy + AllocGlobal + Abort>(
     wanted: Wrote<'_>,
 ) -> Result<(), AllocError> {
     let trace = long_line(rt.alloc(), len, last)?;
-    replay_so(rt, trace.as_slice(), wanted)
+    replay_so(rt, trace.as_slice(), 4096, wanted)
 }
 
 #[test]
@@ -209,7 +188,7 @@ fn read_long_header<R: Wait + Threads + Sync + Send + Copy + AllocGlobal + Abort
     wanted: Wrote<'_>,
 ) -> Result<(), AllocError> {
     let trace = long_header(rt.alloc(), len)?;
-    replay_so(rt, trace.as_slice(), wanted)
+    replay_so(rt, trace.as_slice(), 4096, wanted)
 }
 
 /// The first line is no header.
@@ -225,7 +204,7 @@ fn a_header_has_at_most_256_bytes(rt: HostRuntime) -> Result<(), Fail> {
 fn a_long_line_of_other_bytes_is_long(rt: HostRuntime) -> Result<(), Fail> {
     let mut trace = b"trace 1\n".to_vec(rt.alloc())?;
     trace.extend_from_slice(&[0; 257])?;
-    Ok(replay_so(&rt, trace.as_slice(), IS_LONG)?)
+    Ok(replay_so(&rt, trace.as_slice(), 4096, IS_LONG)?)
 }
 
 #[test]

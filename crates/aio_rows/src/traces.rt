@@ -5,8 +5,8 @@ ghost use Rattle.std.specs.Prelude.{None, false};
 
 use crate::asserts::{same, same_in};
 use crate::devices::Torn;
-use crate::kits::{MemKit, kit_of};
-use aio_base::{CountFault, Failed, Faults, Port, Reason};
+use crate::kits::{MemKit, NOTHING_COMES, kit_of};
+use aio_base::{CountFault, EventWait, Failed, Faults, Notify, Port, Reason};
 use aio_bytes::{MemSink, MemSource, Source};
 use aio_conns::MemPort;
 use aio_run::{Status, Why, run};
@@ -79,7 +79,7 @@ pub(crate) fn run_from<R: Wait + Threads + Sync + Send + Copy + AllocGlobal, S: 
     failing: Failing,
 ) -> Result<Ran, AllocError> {
     let alloc = rt.alloc();
-    let mut kit = kit_of(alloc, MemPort::new(Vec::new(alloc)), 0)?;
+    let mut kit = kit_of(alloc, MemPort::new(Vec::new(alloc)), NOTHING_COMES)?;
     run_with(rt, words, source, failing, &mut kit)
 }
 
@@ -298,18 +298,18 @@ pub(crate) fn replay_rows<R: Wait + Threads + Sync + Send + Copy + AllocGlobal +
     piece: usize,
 ) -> Result<(), AllocError> {
     for (trace, out) in rows {
-        replay_row(rt, trace, out, piece)?;
+        replay_so(rt, trace, piece, (out, b"", 0))?;
     }
     Ok(())
 }
 
-fn replay_row<R: Wait + Threads + Sync + Send + Copy + AllocGlobal + Abort>(
+/// Replays a trace, of which a read gives at most `piece` bytes, and asserts what that writes and tells.
+pub(crate) fn replay_so<R: Wait + Threads + Sync + Send + Copy + AllocGlobal + Abort>(
     rt: &R,
     trace: &[u8],
-    out: &[u8],
     piece: usize,
+    wanted: Wrote<'_>,
 ) -> Result<(), AllocError> {
-    let wanted = (out, b"".as_slice(), 0);
     ends(rt, &["replay"], trace, piece, NOTHING_FAILS, wanted)?;
     Ok(())
 }
@@ -364,7 +364,9 @@ const OTHER_WORDS: &[&[&str]] = &[
     &["relay", "0", "1", "1", "1", "1"],
     &["relay", "65536", "1", "1", "1"],
     &["relay", "0", "0", "1000", "1"],
-    &["relay", "0", "2", "1000", "2"],
+    &["relay", "0", "17", "1000", "2"],
+    &["relay", "0", "2", "1000", "129"],
+    &["relay", "0", "16", "1000", "1025"],
     &["relay", "0", "1", "0", "1"],
     &["relay", "0", "1", "1000000000000000001", "1"],
     &["relay", "0", "1", "1000", "0"],
@@ -374,21 +376,39 @@ const OTHER_WORDS: &[&[&str]] = &[
     &["stress", "1", "1"],
 ];
 
+/// Runs words that are no command, over these devices.
 fn refuse_words<R: Wait + Threads + Sync + Send + Copy + AllocGlobal + Abort>(
     rt: &R,
     words: &[&str],
+    kit: &mut MemKit<MemPort>,
 ) -> Result<(), AllocError> {
-    let wanted = (b"".as_slice(), USAGE, 1);
-    let why = ends(rt, words, ORDINARY, 4096, NOTHING_FAILS, wanted)?;
-    same(rt, why, Why::Usage);
+    let alloc = rt.alloc();
+    let mut source = MemSource::new(ORDINARY.to_vec(alloc)?, 4096, Vec::new(alloc));
+    let ran = run_with(rt, words, &mut source, NOTHING_FAILS, kit)?;
+    assert_ran(rt, &ran, (b"", USAGE, 1), words);
+    same(rt, ran.status.why, Why::Usage);
     Ok(())
 }
 
+/// What devices count: the faults of port and wait, the waits, and the calls of the notifier.
+fn counts(kit: &MemKit<MemPort>) -> [u64; 4] {
+    let six = &kit.devices;
+    [
+        six.port.faults(),
+        six.wait.faults(),
+        six.wait.waits(),
+        six.notify.calls(),
+    ]
+}
+
 #[test]
-fn other_words_are_no_command(rt: HostRuntime) -> Result<(), Fail> {
+fn other_words_are_no_command_and_use_no_device(rt: HostRuntime) -> Result<(), Fail> {
+    let alloc = rt.alloc();
+    let mut kit = kit_of(alloc, MemPort::new(Vec::new(alloc)), NOTHING_COMES)?;
     for words in OTHER_WORDS {
-        refuse_words(&rt, words)?;
+        refuse_words(&rt, words, &mut kit)?;
     }
+    same(&rt, counts(&kit), [0; 4]);
     Ok(())
 }
 

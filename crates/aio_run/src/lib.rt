@@ -1,10 +1,12 @@
 //! The top call of the program: what its words ask for, read from a source and written to a sink.
 //!
-//! It stands on `aio_replay`, which reads a trace and runs its steps, on `aio_trace`, which writes
-//! steps, on `aio_generator`, which gives those that a number describes, on `aio_bytes`, and on `aio_laws`
-//! for what holds between two steps; and on `aio_line` for a relay. It promises, for every list of bytes that the source has left, that the output of a replay is that of
-//! the machine run over the steps of these bytes; for all numbers, that the trace which they describe
-//! is written, or the counts of its run; and of each other end its cause and what was written by then.
+//! It stands on `aio_replay`, which reads a trace and runs its steps, on `aio_trace`, which writes steps, on
+//! `aio_generator`, which gives those that a number describes, on `aio_bytes`, on `aio_laws` for what holds
+//! between two steps, and on `aio_line` for a relay. It promises, for every list of bytes that the source has
+//! left, that the output of a replay is that of the machine run over the steps of these bytes; for all
+//! numbers, that the trace which they describe is written, or the counts of its run; of a relay, that the
+//! output names the port and then an end for each pair that its connections may come to; and of each other
+//! end its cause and what was written by then.
 #![tactic(auto)]
 
 pub mod commands;

@@ -11,7 +11,8 @@ use Rattle.aio_pairs.specs.declared.outcomes.PairEnd.{PairEnd}
 use Rattle.aio_pairs.specs.declared.outcomes.PairEnd.TheVariants as pair
 use Rattle.aio_pairs.specs.declared.outcomes.Side.TheVariants.{A, B}
 use Rattle.aio_serve.specs.Complete.{AllOfPairs, AreShortLines, EndsInShortLines, IsComplete, NoneIsIdle}
-use Rattle.aio_serve.specs.Places.{EndsFit, FitsUnder, Terms, all_of, earliest_of, latest_of}
+use Rattle.aio_places.specs.Places.{all_of}
+use Rattle.aio_serve.specs.Places.{EndsFit, FitsUnder, Terms, earliest_of, latest_of}
 use Rattle.aio_serve.specs.Servers.{HasServeCause}
 use Rattle.aio_serve.specs.declared.server.ServeFault.{ServeFault}
 use Rattle.aio_serve.specs.declared.server.ServeFault.TheVariants as fault

@@ -1,7 +1,4 @@
-pub mod Lives
-pub mod Told
-pub mod Turns
-pub mod Standing
+pub mod Fitting
 pub mod Stopping
 pub mod Complete
 pub mod Slots

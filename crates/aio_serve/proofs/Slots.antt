@@ -11,9 +11,11 @@ use Rattle.aio_park.specs.Blocking.{IsPast}
 use Rattle.aio_park.specs.Groups.{SlotsGive}
 use Rattle.aio_park.specs.declared.group.Slot.{Slot}
 use Rattle.aio_park.specs.declared.group.Slot.TheVariants.{Running, Ended}
-use Rattle.aio_serve.specs.Places.{PlaceFits, PlaceValue, StopsFor, Terms, WorkerEnds, WorkerValue, earliest_of, end_gives, latest_of}
+use Rattle.aio_places.specs.Places.{PlaceValue, end_gives}
+use Rattle.aio_serve.specs.Places.{PlaceFits, StopsFor, Terms, WorkerEnds, WorkerValue, earliest_of, latest_of}
 use Rattle.aio_serve.specs.declared.serving.WorkerFault.{WorkerFault}
-use Rattle.aio_serve.specs.Served.{IsSeated, ServedValue, first_stage, stage_gives}
+use Rattle.aio_serve.specs.Served.{ServedValue, first_stage, stage_gives}
+use Rattle.aio_serve.specs.Seated.{IsSeated}
 
 -- ## The bounds of a clock
 

@@ -1,5 +1,6 @@
 -- From how the workers end to the ends of all pairs.
-use Rattle.std.proofs.Common.{◌≡◌, ℕ, Bool, true, false, List, [], ◌∷◌, map, refl, sym, ◌∙◌, subst, inl, inr}
+use Rattle.std.proofs.Common.{◌≡◌, ℕ, ◌+◌, Bool, true, false, List, [], ◌∷◌, ◌++◌, length, map, refl, sym, ap, ◌∙◌, subst, inl, inr, arith, append_assoc}
+use Rattle.std.proofs.lemmas.List.{map-append}
 use Rattle.std.specs.Prelude.{IsTrue, Result, Ok, Err, Vec}
 use Rattle.std.specs.declared.alloc.Global.{Global}
 use Rattle.std.specs.List.{AllZip}
@@ -8,12 +9,13 @@ use Rattle.aio_base.specs.ClockBounds.{ClockBounds}
 use Rattle.aio_pairs.specs.Fits.{Fits, ToGive}
 use Rattle.aio_pairs.specs.declared.outcomes.PairEnd.{PairEnd}
 use Rattle.aio_pairs.specs.declared.outcomes.PairEnd.TheVariants as pair
-use Rattle.aio_serve.specs.Dealing.{GivesInTurn}
-use Rattle.aio_serve.specs.Places.{AllServeUnder, PlaceFits, PlaceValue, ServesUnder, StopsFor, Terms, WorkerEnds, WorkerValue, earliest_of, end_gives, latest_of}
+use Rattle.aio_places.specs.Dealing.{GivesInTurn}
+use Rattle.aio_places.specs.Places.{PlaceValue, end_gives}
+use Rattle.aio_serve.specs.Places.{AllServeUnder, HaveParkers, PlaceFits, ServesUnder, StopsFor, Terms, WorkerEnds, WorkerValue, earliest_of, latest_of}
 use Rattle.aio_serve.specs.Servers.{IsFaultOf, IsRowOf, OneStopsFor}
 use Rattle.aio_serve.specs.declared.serving.WorkerFault.{WorkerFault}
 use Rattle.aio_serve.specs.declared.serving.WorkerFault.TheVariants as stop
-use Rattle.aio_serve.proofs.Turns.{alike_in_turn}
+use Rattle.aio_places.proofs.Turns.{alike_in_turn}
 
 -- ## Under the lent devices
 
@@ -102,3 +104,25 @@ one_stops (w ∷ workers) (Err first ∷ ended) fault all (inr is) = inl (subst 
 pub rows_after : (end : Result (Vec PairEnd Global) WorkerFault) (left after : List (Result (Vec PairEnd Global) WorkerFault)) (row : List PairEnd) (more : List (List PairEnd))
     → left ≡ end ∷ after → IsRowOf end row → AllZip IsRowOf after more → AllZip IsRowOf left (row ∷ more)
 rows_after end left after row more is row_is are = subst (λ l. AllZip IsRowOf l (row ∷ more)) (sym is) (row_is, are)
+
+-- ## One worker more
+
+pub one_more_serves : (t : Terms) (sure_of_wait : Bool) (workers : List WorkerValue) (w : WorkerValue) → AllServeUnder t sure_of_wait workers
+    → ServesUnder t sure_of_wait w → AllServeUnder t sure_of_wait (workers ++ w ∷ [])
+one_more_serves t sure_of_wait [] w all last = (last, tt)
+one_more_serves t sure_of_wait (first ∷ workers) w all last = (all.0, one_more_serves t sure_of_wait workers w all.1 last)
+
+pub one_more_parker : (first : ℕ) (workers : List WorkerValue) (w : WorkerValue) → HaveParkers first workers → w.parker ≡ first + length workers
+    → HaveParkers first (workers ++ w ∷ [])
+one_more_parker first [] w have is = (omega (arith, is), tt)
+one_more_parker first (other ∷ workers) w have is = (have.0, one_more_parker (first + 1) workers w have.1 (omega (arith, is)))
+
+-- the row that a worker has was the first of those that were left
+pub row_goes_over : (workers after : List WorkerValue) (w : WorkerValue) (rows left : List (List PlaceValue)) (row : List PlaceValue)
+    → after ≡ workers ++ w ∷ [] → w.places ≡ row → rows ≡ row ∷ left
+    → map (λ (v : WorkerValue). v.places) workers ++ rows ≡ map (λ (v : WorkerValue). v.places) after ++ left
+row_goes_over workers after w rows left row more has are =
+    let places = map (λ (v : WorkerValue). v.places) in
+    let all : places after ≡ places workers ++ row ∷ [] =
+    ap places more ∙ map-append (λ (v : WorkerValue). v.places) workers (w ∷ []) ∙ ap (λ (r : List PlaceValue). places workers ++ r ∷ []) has in
+    ap (λ (r : List (List PlaceValue)). places workers ++ r) are ∙ sym (append_assoc (places workers) (row ∷ []) left) ∙ sym (ap (λ (a : List (List PlaceValue)). a ++ left) all)

@@ -1,7 +1,6 @@
-pub mod Dealing
-pub mod SourceEnds
 pub mod Places
 pub mod Served
+pub mod Seated
 pub mod Servers
 pub mod Accepted
 pub mod Complete

@@ -1,20 +1,17 @@
--- The places of pairs, what each may come to, and why a worker stops.
-use Rattle.std.specs.Prelude.{◌≡◌, ℕ, ◌^◌, Bool, false, IsTrue, List, [], ◌∷◌, Option, None, Some, Result, Ok, Err, Vec, ⊤}
+-- What the places of pairs may come to under which terms, and why a worker stops.
+use Rattle.std.specs.Prelude.{◌≡◌, ℕ, ◌+◌, ◌^◌, Bool, false, IsTrue, List, [], ◌∷◌, Option, None, Some, Result, Ok, Err, Vec, ⊤}
 use Rattle.std.specs.declared.alloc.Global.{Global}
 use Rattle.std.specs.List.{AllZip}
 use Rattle.aio_base.specs.ClockBounds.{ClockBounds}
 use Rattle.aio_base.specs.Connections.{Telling}
 use Rattle.aio_base.specs.Devices.{Rose}
-use Rattle.aio_base.specs.declared.outcomes.ArmFault.{ArmFault}
-use Rattle.aio_base.specs.declared.outcomes.CountFault.{CountFault}
-use Rattle.aio_pairs.specs.Fits.{Fits, ToGive, to_give}
+use Rattle.aio_pairs.specs.Fits.{Fits, ToGive}
 use Rattle.aio_pairs.specs.declared.outcomes.PairEnd.{PairEnd}
 use Rattle.aio_pairs.specs.declared.outcomes.PairEnd.TheVariants as pair
-use Rattle.aio_relay.specs.Pairs.{fresh_side}
-use Rattle.aio_serve.specs.SourceEnds.{SourceEndValue, is_sure_end, told_by}
+use Rattle.aio_places.specs.Places.{PlaceValue, all_of, end_gives}
 use Rattle.aio_serve.specs.declared.serving.WorkerFault.{WorkerFault}
 use Rattle.aio_serve.specs.declared.serving.WorkerFault.TheVariants as stop
-use Rattle.aio_sources.specs.Sources.{SourceRefValue}
+use Rattle.aio_shared.specs.Members.{IsMemberOf, MemberValue, SharedValue}
 
 -- ## Terms
 
@@ -39,17 +36,6 @@ FitsUnder t a b end = Fits a b (earliest_of t.bounds.least) (latest_of t.bounds.
 
 -- ## Places
 
--- what a connection has to give of which no byte went over yet
-abbrev pub all_of : Telling → (sure : Bool) → ToGive
-all_of telling sure = to_give fresh_side telling sure
-
-abbrev pub end_gives : SourceEndValue → ToGive
-end_gives end = all_of (told_by end.rest) (is_sure_end end.rest end.told)
-
--- the place of a pair: the ends of its two connections, that of side A first; or the fault of a connection that could not join the reactor
-abbrev pub PlaceValue : Type 0
-PlaceValue = Result (SourceEndValue × SourceEndValue) ArmFault
-
 -- A pair with its two ends comes to an end that fits them, and one with a fault to this fault.
 abbrev pub PlaceFits : Terms → PlaceValue → PairEnd → Type 0
 PlaceFits t (Ok ends) end = FitsUnder t (end_gives ends.0) (end_gives ends.1) end
@@ -57,8 +43,9 @@ PlaceFits t (Err fault) end = end ≡ pair.ArmFault fault
 
 -- ## Workers
 
--- A worker: under which terms it serves, whether its reactor is sure of its wait, and its places.
+-- A worker: its parker, under which terms it serves, whether its reactor is sure of its wait, and its places.
 pub record WorkerValue : Type 0 where
+  pub parker : ℕ
   pub terms : Terms
   pub sure_of_wait : Bool
   pub places : List PlaceValue
@@ -88,32 +75,16 @@ abbrev pub AllServeUnder : Terms → (sure_of_wait : Bool) → List WorkerValue 
 AllServeUnder t sure_of_wait [] = ⊤
 AllServeUnder t sure_of_wait (w ∷ workers) = ServesUnder t sure_of_wait w × AllServeUnder t sure_of_wait workers
 
--- ## The connections of the places
+-- each worker has a parker of its own: these have the parkers from a first one on, in their order
+abbrev pub HaveParkers : (first : ℕ) → List WorkerValue → Type 0
+HaveParkers first [] = ⊤
+HaveParkers first (w ∷ workers) = (w.parker ≡ first) × HaveParkers (first + 1) workers
 
--- the end over the source of a token, which told no fault yet
-abbrev pub new_end : SourceRefValue → SourceEndValue
-new_end token = record { words = token.words; key = token.key; rest = token.rest; told = 0 }
-
--- The place of two connections, by what became of them as the reactor began: their ends, or the first fault of the two.
-abbrev pub IsPlaceOf : (a b : Result SourceRefValue ArmFault) → PlaceValue → Type 0
-IsPlaceOf (Err fault) b place = place ≡ Err fault
-IsPlaceOf (Ok a) (Err fault) place = place ≡ Err fault
-IsPlaceOf (Ok a) (Ok b) place = place ≡ Ok (new_end a, new_end b)
-
--- Where one of two connections alone has joined, it was closed: one `remove` of its key was made on a connection with its rest, and had some answer.
-abbrev pub ClosesOther : (removes : (key : ℕ) → (rest : List ℕ) → Result (Unit {0}) CountFault → Type 0) → (a b : Result SourceRefValue ArmFault) → Type 0
-ClosesOther removes (Ok a) (Ok b) = ⊤
-ClosesOther removes (Ok a) (Err fault) = (answer : Result (Unit {0}) CountFault) × removes a.key a.rest answer
-ClosesOther removes (Err fault) (Ok b) = (answer : Result (Unit {0}) CountFault) × removes b.key b.rest answer
-ClosesOther removes (Err fault) (Err other) = ⊤
-
--- two answers for each place, in order
-abbrev pub ArePlacesOf : List (Result SourceRefValue ArmFault) → List PlaceValue → Type 0
-ArePlacesOf [] [] = ⊤
-ArePlacesOf [] (place ∷ places) = ⊥
-ArePlacesOf (a ∷ []) places = ⊥
-ArePlacesOf (a ∷ b ∷ answers) [] = ⊥
-ArePlacesOf (a ∷ b ∷ answers) (place ∷ places) = IsPlaceOf a b place × ArePlacesOf answers places
+-- A member of a reactor through which a worker may enter it: its notifier is sure where that of the first member is, and its reactor is as sure of its wait.
+pub record IsFellowMember {N : Type 0} (notifier_is_sure : N → Bool) (shared : SharedValue) (sure : Bool) (sure_of_wait : Bool) (m : MemberValue N) : Type 0 where
+  pub member : IsMemberOf shared m
+  pub notifier : IsTrue sure → IsTrue (notifier_is_sure m.notifier)
+  pub wait : m.claim.sure_of_wait ≡ sure_of_wait
 
 -- ## What a server promises
 

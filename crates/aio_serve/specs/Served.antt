@@ -7,11 +7,9 @@ use Rattle.aio_base.specs.declared.tasks.Cx.{Cx}
 use Rattle.aio_pairs.specs.Fits.{to_give}
 use Rattle.aio_pairs.specs.declared.outcomes.PairEnd.{PairEnd}
 use Rattle.aio_pairs.specs.declared.outcomes.PairEnd.TheVariants as pair
-use Rattle.aio_park.specs.declared.group.Slot.{Slot}
-use Rattle.aio_park.specs.declared.group.Slot.TheVariants.{Running, Ended}
 use Rattle.aio_relay.specs.Pairs.{PairState, fits-longer, fresh_pair, may_come_to}
-use Rattle.aio_serve.specs.Places.{PlaceValue}
-use Rattle.aio_serve.specs.SourceEnds.{SourceEndValue, is_sure_end, told_by}
+use Rattle.aio_places.specs.Places.{PlaceValue}
+use Rattle.aio_places.specs.SourceEnds.{SourceEndValue, is_sure_end, told_by}
 use Rattle.aio_serve.specs.declared.served.Stage.{Stage}
 use Rattle.aio_serve.specs.declared.served.Stage.TheVariants.{Open, Refused, Over}
 
@@ -66,8 +64,3 @@ module _ {H : Type 0} (polls_pair : PairState SourceEndValue → H → Cx → Po
 
   abbrev pub PollsServed : ServedValue → H → Cx → Poll PairEnd → ServedValue → H → Type 0
   PollsServed old host cx answer new left = PollsStage old.stage host cx answer new.stage left
-
--- a slot stands for a place of a pair that was not polled yet
-abbrev pub IsSeated : (idle start : ℕ) → PlaceValue → Slot ServedValue PairEnd → Type 0
-IsSeated idle start place (Running served) = served ≡ record { stage = first_stage idle start place; polls = 0 }
-IsSeated idle start place (Ended end) = ⊥

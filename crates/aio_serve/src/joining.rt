@@ -2,15 +2,16 @@
 
 ghost use Rattle.std.specs.Prelude.{List, Bool, map, IfOk, IfErr};
 ghost use Rattle.std.specs.List.{AllZip};
-ghost use Rattle.aio_serve.specs.Dealing.{GivesInTurn};
-ghost use Rattle.aio_serve.specs.Places.{AllServeUnder, PlaceFits, PlaceValue, Terms, WorkerValue};
+ghost use Rattle.aio_places.specs.Dealing.{GivesInTurn};
+ghost use Rattle.aio_places.specs.Places.{PlaceValue};
+ghost use Rattle.aio_serve.specs.Places.{AllServeUnder, HaveParkers, PlaceFits, Terms, WorkerValue};
 ghost use Rattle.aio_serve.specs.Servers.{IsFaultOf, IsRowOf, OneStopsFor};
 
-use crate::rows::{Rows, gather};
 use crate::serving::WorkerFault;
 use crate::worker::Worker;
 use aio_base::{Clock, Conn, EventWait, Gate, Notify, Spawner};
 use aio_pairs::PairEnd;
+use aio_places::{Rows, gather};
 use std::alloc::Global;
 use std::collections::VecDeque;
 use std::sync::Wait;
@@ -40,8 +41,8 @@ pub(crate) fn rows_of(
     Ok(rows)
 }
 
-/// Runs the workers, each once, and answers the ends of their pairs in the order in which the pairs were
-/// dealt to them: one of each worker in turn.
+/// Runs the workers, each once and by a parker of its own, and answers the ends of their pairs in the order
+/// in which the pairs were dealt to them: one of each worker in turn.
 ///
 /// # Errors
 ///
@@ -61,6 +62,7 @@ pub(crate) fn run_workers<
     spawner: &mut T,
     workers: Vec<Worker<'_, N, C, A, W, G>>,
 ) -> Result<Vec<PairEnd>, WorkerFault>
+    requires parkers { HaveParkers 0 workers.items }
     ensures ends { IfOk result (λ ends.
         (t : Terms) (sure_of_wait : Bool) (places : List PlaceValue)
         → AllServeUnder t sure_of_wait workers.entry.items

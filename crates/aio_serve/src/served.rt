@@ -9,9 +9,9 @@ ghost use Rattle.aio_serve.specs.declared.served.Stage.TheVariants.{Open, Over};
 ghost use Rattle.aio_shared.specs.Inside.{IsLaterInside};
 ghost use Rattle.aio_sources.specs.Sources.{Removes};
 
-use crate::ends::SourceEnd;
 use aio_base::{ArmFault, Conn, Cx, EventWait, Gate, Moment, Notify, OutOfMemory, Poll, Task};
 use aio_pairs::PairEnd;
+use aio_places::{Place, SourceEnd};
 use aio_relay::Pair;
 use aio_shared::Inside;
 use std::alloc::Global;
@@ -19,23 +19,6 @@ use std::marker::Model;
 use std::mem;
 use std::sync::Wait;
 use std::thread::Threads;
-
-/// The place of a pair, before a worker serves it.
-#[derive(Drop)]
-pub struct Place<C: Conn, W: EventWait> {
-    /// The number of the pair, from 1.
-    pub number: u32,
-    /// Its two ends, that of side A first; or the fault of a connection that could not join the reactor.
-    pub sides: Result<(SourceEnd<C, W>, SourceEnd<C, W>), ArmFault>,
-}
-
-impl<C: Conn, W: EventWait> Model for Place<C, W> {
-    ghost use Rattle.aio_serve.specs.Places.{PlaceValue};
-
-    ghost Value = { PlaceValue };
-
-    ghost view = { λ place. place.sides };
-}
 
 /// How far a pair is.
 #[derive(Drop)]

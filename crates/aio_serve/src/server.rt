@@ -1,24 +1,18 @@
 //! A server of lines: it accepts connections in pairs, passes the lines of each to the other, and
 //! answers how each pair ended.
 
-ghost use Rattle.std.specs.Prelude.{◌≡◌, ◌≤◌, ◌*◌, ◌^◌, List, length, map, IfOk, IfErr, IfSome, OnOk};
-ghost use Rattle.std.specs.Arc.{arc_value};
-ghost use Rattle.aio_shared.specs.Members.{IsMemberOf};
+ghost use Rattle.std.specs.Prelude.{◌≡◌, ◌≤◌, ◌*◌, ◌^◌, List, length, IfOk, IfErr, IfSome, OnOk};
 ghost use Rattle.aio_serve.specs.Accepted.{HandedOut};
-ghost use Rattle.aio_serve.specs.Dealing.{GivesInTurn};
-ghost use Rattle.aio_serve.specs.Places.{AllServeUnder, EndsFit, WorkerValue};
+ghost use Rattle.aio_serve.specs.Places.{EndsFit};
 ghost use Rattle.aio_serve.specs.Servers.{HasServeCause, fault_of_worker};
 
 use crate::accepting::accept_all;
 use crate::joining::run_workers;
-use crate::places::{Begun, begin};
-use crate::rows::deal;
 use crate::serving::WorkerFault;
-use crate::worker::Worker;
-use aio_base::{
-    Clock, Conn, CountFault, EventWait, Gate, Lent, Notify, OutOfMemory, Parts, Port, Spawner,
-};
+use crate::starting::workers_of;
+use aio_base::{Clock, CountFault, EventWait, Gate, Lent, Notify, Parts, Port, Spawner};
 use aio_pairs::PairEnd;
+use aio_places::begin;
 use std::alloc::Global;
 use std::sync::Wait;
 use std::thread::Threads;
@@ -39,8 +33,10 @@ pub enum ServeFault {
 /// Accepts two connections for each of so many pairs, and passes the whole lines of either to the
 /// other until each pair has its end, which is told in the order of the pairs. The first two
 /// connections are sides A and B of the first pair, the next two those of the second, and so on.
-/// The pairs go to the workers in turn, and each worker is a job of the spawner. The idle time, 1 to
-/// 10^18, is in nanoseconds. It waits.
+/// The pairs go to the workers, 1 to 16, in turn. Each worker is a job of the spawner with a member of
+/// the one reactor, a parker of its own and a twin of the clock. The idle time, 1 to 10^18, is in
+/// nanoseconds. That of a pair runs from the moment at which its worker begins, also while the gate holds
+/// the pair. It waits.
 ///
 /// The lent wait is used until the call returns. Notifier and clock have twins, which are used in
 /// their places.
@@ -48,8 +44,9 @@ pub enum ServeFault {
 /// # Errors
 ///
 /// `Port` where an accept failed, before any pair is served; `Wait` only where the lent wait is not
-/// sure, and `Notify` only where the lent notifier is not; `OutOfMemory` where memory ran out. A
-/// fault of a connection ends its own pair alone.
+/// sure, and `Notify` only where the lent notifier is not; `OutOfMemory` where memory ran out. Where
+/// several workers stop for a fault, that of the first of them is told, once all have stopped. A fault
+/// of a connection ends its own pair alone.
 pub fn serve<
     R: Wait + Threads + Sync + Send + Copy,
     P: Port,
@@ -68,7 +65,7 @@ pub fn serve<
 ) -> Result<Vec<PairEnd>, ServeFault>
 where
     P::C: Send + Drop,
-    requires workers { workers ≡ 1 }
+    requires workers { (1 ≤ workers) × (workers ≤ 16) }
     requires idle { (1 ≤ idle) × (idle ≤ 10 ^ 18) }
     requires pairs { (1 ≤ pairs) × (pairs ≤ 64 * workers) }
     ensures accepted { OnOk result ((conns : List P.C)
@@ -107,7 +104,7 @@ where
             ) else {
                 return Err(ServeFault::OutOfMemory);
             };
-            let Ok(workers) = workers_of(alloc, begun, clock, gate, idle, workers) else {
+            let Ok(workers) = workers_of(alloc, rt, begun, clock, gate, idle, workers) else {
                 return Err(ServeFault::OutOfMemory);
             };
             match run_workers(alloc, rt, spawner, workers) {
@@ -116,46 +113,6 @@ where
             }
         }
     }
-}
-
-/// The workers of a reactor that began, each with a twin of the clock and its row of the places.
-/// The first has the first member, and parker 0. `OutOfMemory` where memory ran out.
-fn workers_of<'g, N: Notify + Drop, C: Clock + Drop, A: Conn + Drop, W: EventWait + Drop, G>(
-    alloc: Global,
-    begun: Begun<A, W, N>,
-    clock: &C,
-    gate: &'g G,
-    idle: u64,
-    count: u32,
-) -> Result<Vec<Worker<'g, N, C, A, W, G>>, OutOfMemory>
-    requires member { IsMemberOf (arc_value begun.shared) begun.member }
-    requires one { count ≡ 1 }
-    requires parkers { (arc_value begun.shared).words.parkers ≡ count }
-    requires idle { (1 ≤ idle) × (idle ≤ 10 ^ 18) }
-    requires few { length begun.places.items ≤ 64 * count }
-    ensures dealt { IfOk result (λ workers. GivesInTurn
-        (map (λ (w : WorkerValue). w.places) workers.items) begun.places.items) }
-    ensures under { IfOk result (λ workers. AllServeUnder (record {
-      bounds = C.bounds clock.now;
-      idle = idle;
-      is_sure = N.is_sure begun.member.notifier;
-    }) begun.member.claim.sure_of_wait workers.items) }
-{
-    let Begun {
-        shared,
-        member,
-        places,
-    } = begun;
-    let mut rows = deal(alloc, places, count)?;
-    let Some(row) = rows.take_row() else {
-        unreachable!()
-    };
-    let clock = clock.twin()?;
-    let Ok(mut workers) = Vec::with_capacity(alloc, 1) else {
-        return Err(OutOfMemory);
-    };
-    workers.push_reserved(Worker::new(shared, member, clock, 0, row, idle, gate, alloc));
-    Ok(workers)
 }
 
 /// What a server tells of the fault for which a worker stopped.

@@ -6,14 +6,15 @@ ghost use Rattle.std.specs.VecDeque.{deque_len};
 ghost use Rattle.std.specs.Arc.{arc_value};
 ghost use Rattle.aio_shared.specs.Members.{IsMemberOf};
 ghost use Rattle.aio_serve.specs.Places.{WorkerEnds};
-ghost use Rattle.aio_serve.specs.Served.{IsSeated};
+ghost use Rattle.aio_serve.specs.Seated.{IsSeated};
 
 use crate::seats::Seats;
-use crate::served::{Place, Served};
+use crate::served::Served;
 use crate::serving::{WorkerFault, run_seated};
 use aio_base::{Clock, Conn, EventWait, Gate, Job, Moment, Notify, OutOfMemory};
 use aio_pairs::PairEnd;
 use aio_park::{Group, GroupRefusal, Thread};
+use aio_places::Place;
 use aio_shared::{Inside, Member, Shared};
 use std::alloc::Global;
 use std::collections::VecDeque;
@@ -22,8 +23,8 @@ use std::sync::{Arc, Wait};
 use std::thread::Threads;
 
 /// One thread's part of a server: its way into the reactor, its clock and its parker, and up to 64
-/// places of pairs, in their order. Contracts see under which terms it serves, whether its reactor
-/// is sure of its wait, and the places.
+/// places of pairs, in their order. Contracts see the parker, under which terms it serves, whether its
+/// reactor is sure of its wait, and the places.
 #[derive(Drop)]
 pub struct Worker<'g, N: Notify, C: Clock, A: Conn, W: EventWait, G> {
     shared: Arc<Shared<A, W>, Global>,
@@ -46,6 +47,7 @@ impl<'g, N: Notify, C: Clock, A: Conn, W: EventWait, G> Model for Worker<'g, N, 
     ghost Value = { WorkerValue };
 
     ghost view = { λ w. record {
+      parker = w.parker;
       terms = record {
         bounds = C.bounds w.clock;
         idle = w.idle;
@@ -81,6 +83,7 @@ impl<'g, N: Notify, C: Clock, A: Conn, W: EventWait, G> Worker<'g, N, C, A, W, G
         requires some { 0 < idle }
         requires bound { idle ≤ 10 ^ 18 }
         ensures { result ≡ record {
+          parker = parker;
           terms = record {
             bounds = C.bounds clock;
             idle = idle;

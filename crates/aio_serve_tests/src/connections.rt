@@ -3,7 +3,7 @@
 ghost use Rattle.std.specs.Prelude.{◌^◌, ◌<◌, IfOk};
 ghost use Rattle.aio_conns.specs.Given.{total_bytes};
 
-use aio_conns::{MemConn, Piece, SureConn};
+use aio_conns::{Piece, SureConn};
 use std::alloc::{AllocError, Global};
 use std::test::Fail;
 
@@ -31,30 +31,6 @@ pub(crate) fn sends(alloc: Global, first: &str, then: &str, ends: bool) -> Resul
     Ok(SureConn::new(alloc, pieces, ends, 4096, u32::MAX)?)
 }
 
-/// The same, and ends; its calls of these numbers fail.
-pub(crate) fn fails(alloc: Global, text: &str, fails: &[u64]) -> Result<MemConn, Fail> {
-    let first = bytes(alloc, text)?;
-    let pieces = pieces(alloc, first, Vec::new(alloc))?;
-    let mut numbers = Vec::new(alloc);
-    numbers.extend_from_slice(fails)?;
-    Ok(MemConn::new(alloc, pieces, true, 4096, u32::MAX, numbers)?)
-}
-
-/// Sends a text, then nothing for once, and then another text, and ends; its calls of these numbers fail.
-pub(crate) fn halts(
-    alloc: Global,
-    first: &str,
-    then: &str,
-    fails: &[u64],
-) -> Result<MemConn, Fail> {
-    let first = bytes(alloc, first)?;
-    let then = bytes(alloc, then)?;
-    let pieces = pieces(alloc, first, then)?;
-    let mut numbers = Vec::new(alloc);
-    numbers.extend_from_slice(fails)?;
-    Ok(MemConn::new(alloc, pieces, true, 4096, u32::MAX, numbers)?)
-}
-
 /// One text.
 fn one_piece(alloc: Global, text: Vec<u8>) -> Result<Vec<Piece>, Fail>
     ensures { IfOk result (λ pieces. total_bytes pieces.items < 2 ^ 64) }
@@ -68,11 +44,4 @@ pub(crate) fn sends_at_once(alloc: Global, text: &str) -> Result<SureConn, Fail>
     let text = bytes(alloc, text)?;
     let pieces = one_piece(alloc, text)?;
     Ok(SureConn::new(alloc, pieces, true, 4096, u32::MAX)?)
-}
-
-/// Sends a text without a halt, and ends.
-pub(crate) fn goes_on(alloc: Global, text: &str) -> Result<MemConn, Fail> {
-    let text = bytes(alloc, text)?;
-    let pieces = one_piece(alloc, text)?;
-    Ok(MemConn::new(alloc, pieces, true, 4096, u32::MAX, Vec::new(alloc))?)
 }

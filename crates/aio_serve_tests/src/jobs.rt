@@ -1,10 +1,10 @@
-//! Jobs that run on the caller, and a gate that holds nothing.
+//! Jobs that run on the caller and on threads, and a gate that holds nothing.
 
 ghost use Rattle.std.specs.Prelude.{◌≡◌};
 
 use crate::asserts::same;
 use aio_base::{Gate, Job, Spawner};
-use aio_serve::{CallerSpawner, OpenGate};
+use aio_places::{CallerSpawner, OpenGate, ThreadSpawner};
 use std::alloc::Global;
 use std::sync::Wait;
 use std::test::Fail;
@@ -49,10 +49,17 @@ fn ends<S: Spawner, R: Wait + Threads + Sync + Send + Copy>(
     Ok(spawner.run_all(alloc, rt, jobs(alloc, numbers)?)?)
 }
 
+/// The numbers of sixteen jobs.
+const SIXTEEN: [u64; 16] = [9, 8, 7, 6, 5, 4, 3, 2, 1, 0, 10, 11, 12, 13, 14, 15];
+
 #[test]
 fn the_ends_of_jobs_stand_in_their_order(rt: HostRuntime) -> Result<(), Fail> {
-    let ends = ends(&mut CallerSpawner, rt.alloc(), &&rt, &[3, 1, 2])?;
-    same(&rt, ends.as_slice(), [3, 1, 2].as_slice());
+    for numbers in [[].as_slice(), [3, 1, 2].as_slice(), SIXTEEN.as_slice()] {
+        let on_the_caller = ends(&mut CallerSpawner, rt.alloc(), &&rt, numbers)?;
+        let on_threads = ends(&mut ThreadSpawner, rt.alloc(), &&rt, numbers)?;
+        same(&rt, on_the_caller.as_slice(), numbers);
+        same(&rt, on_threads.as_slice(), numbers);
+    }
     Ok(())
 }
 

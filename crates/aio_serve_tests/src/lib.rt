@@ -1,6 +1,6 @@
 //! Tests of what a server of lines stands on: pairs over the sources of a shared reactor, which a thread
 //! serves to their ends; workers that serve their places; pairs dealt to workers and ends gathered; and jobs
-//! on the caller.
+//! on the caller and on threads.
 #![tactic(auto)]
 
 #[cfg(test)]
@@ -8,7 +8,11 @@ mod asserts;
 #[cfg(test)]
 mod connections;
 #[cfg(test)]
+mod gates;
+#[cfg(test)]
 mod jobs;
+#[cfg(test)]
+mod moments;
 #[cfg(test)]
 mod pairs;
 #[cfg(test)]
@@ -17,7 +21,5 @@ mod reactors;
 mod rows;
 #[cfg(test)]
 mod served;
-#[cfg(test)]
-mod servers;
 #[cfg(test)]
 mod workers;

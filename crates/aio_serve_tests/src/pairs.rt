@@ -2,47 +2,40 @@
 //! serves it to its end.
 
 use crate::asserts::same;
-use crate::connections::{fails, sends};
-use aio_base::{Conn, CountFault, Key, Moment};
+use crate::connections::sends;
+use crate::moments::moment;
+use aio_base::Key;
 use aio_conns::SureConn;
 use aio_devices::{MemClock, MemNotify, MemWait, clock_until};
 use aio_park::Thread;
+use aio_places::SourceEnd;
 use aio_relay::{Pair, PairEnd};
-use aio_serve::SourceEnd;
 use std::alloc::Global;
 use std::process::Abort;
 use std::sync::{Arc, Wait};
 use std::test::Fail;
 
-/// A thread of a reactor of its own, whose sources have connections of this type.
-pub(crate) type Server<R, C> = Thread<R, MemNotify, C, MemWait, MemClock>;
+/// A thread of a reactor of its own, whose sources have connections that never fail.
+pub(crate) type Server<R> = Thread<R, MemNotify, SureConn, MemWait, MemClock>;
 
 /// An end over a source of such a reactor.
-pub(crate) type End<C> = SourceEnd<C, MemWait>;
+pub(crate) type End = SourceEnd<SureConn, MemWait>;
 
 /// The idle time of the pairs.
 pub(crate) const IDLE: u64 = 1000;
 
-/// The moment so many nanoseconds after the clock's start.
-pub(crate) fn moment(nanoseconds: u64) -> Result<Moment, Fail> {
-    Ok(Moment::new(nanoseconds).ok_or("no moment")?)
-}
-
 /// A thread whose clock stands at 0 for so many looks, and then at the idle time.
-pub(crate) fn server<R: Wait + Copy + Abort, C: Conn + Drop>(
+pub(crate) fn server<R: Wait + Copy + Abort>(
     rt: R,
     alloc: Global,
     looks: usize,
-) -> Result<Server<R, C>, Fail> {
+) -> Result<Server<R>, Fail> {
     let clock = clock_until(alloc, looks, moment(IDLE)?)?;
     Ok(Thread::new(alloc, rt, 1, MemWait::new(2), MemNotify::new(), clock)?)
 }
 
 /// An end over a new source of the thread's reactor.
-pub(crate) fn end_over<R: Wait + Copy, C: Conn + Drop>(
-    server: &Server<R, C>,
-    conn: C,
-) -> Result<End<C>, Fail> {
+pub(crate) fn end_over<R: Wait + Copy>(server: &Server<R>, conn: SureConn) -> Result<End, Fail> {
     let shared = Arc::try_clone(&server.host.shared)?;
     match server.host.insert_source(conn) {
         Ok(token) => Ok(SourceEnd::new(shared, token)),
@@ -50,108 +43,124 @@ pub(crate) fn end_over<R: Wait + Copy, C: Conn + Drop>(
     }
 }
 
-/// A pair over two connections.
-fn pair_over<R: Wait + Copy, C: Conn + Drop>(
-    server: &Server<R, C>,
-    alloc: Global,
-    sides: (C, C),
-) -> Result<Pair<End<C>>, Fail> {
-    let a = end_over(server, sides.0)?;
-    let b = end_over(server, sides.1)?;
-    match Pair::new(alloc, a, b, IDLE, moment(0)?) {
+/// Ends over two connections.
+pub(crate) fn ends_over<R: Wait + Copy>(
+    server: &Server<R>,
+    sides: (SureConn, SureConn),
+) -> Result<(End, End), Fail> {
+    let (a, b) = sides;
+    let a = end_over(server, a)?;
+    let b = end_over(server, b)?;
+    Ok((a, b))
+}
+
+/// A pair of these ends.
+fn pair_of(alloc: Global, ends: (End, End)) -> Result<Pair<End>, Fail> {
+    let start = moment(0)?;
+    let (a, b) = ends;
+    match Pair::new(alloc, a, b, IDLE, start) {
         Ok(pair) => Ok(pair),
         Err(_) => Err(Fail::from("no pair")),
     }
 }
 
-/// Serves a pair to its end. Its end, and its two ends over the sources.
-fn served<R: Wait + Copy, C: Conn + Drop>(
-    server: &mut Server<R, C>,
-    mut pair: Pair<End<C>>,
-) -> Result<(PairEnd, End<C>), Fail> {
-    let ended = server.run(&mut pair);
-    let (_a, b) = pair.into_ends();
-    match ended {
-        Ok(end) => Ok((end, b)),
+/// Serves a pair to its end.
+fn end_of<R: Wait + Copy>(server: &mut Server<R>, pair: &mut Pair<End>) -> Result<PairEnd, Fail> {
+    match server.run(pair) {
+        Ok(end) => Ok(end),
         Err(_) => Err(Fail::from("no end")),
     }
 }
 
+/// Serves a pair to its end. Its end, and its side B.
+fn served<R: Wait + Copy>(
+    server: &mut Server<R>,
+    mut pair: Pair<End>,
+) -> Result<(PairEnd, End), Fail> {
+    let end = end_of(server, &mut pair)?;
+    let (_a, b) = pair.into_ends();
+    Ok((end, b))
+}
+
+/// Whether a connection was sent just this text.
+fn has(conn: &SureConn, text: &str) -> bool {
+    conn.sent() == text.as_bytes()
+}
+
 /// Whether a side was sent just this text.
-fn was_sent<R: Wait + Copy>(server: &Server<R, SureConn>, end: End<SureConn>, text: &str) -> bool {
+fn was_sent<R: Wait + Copy>(server: &Server<R>, end: End, text: &str) -> bool {
     let mut token = end.into_token();
     let cell = token.take(&server.host.rt);
-    let sent = cell.io.sent() == text.as_bytes();
+    let sent = has(&cell.io, text);
     token.give(cell);
     sent
 }
 
-/// Serves two connections that never fail. Their end, and whether side B was sent this text.
-fn relayed<R: Wait + Copy + Abort>(
-    rt: R,
+/// Serves a pair over two connections. Its end, and whether side B was sent this text.
+fn relayed<R: Wait + Copy>(
+    server: &mut Server<R>,
     alloc: Global,
-    looks: usize,
     sides: (SureConn, SureConn),
     text: &str,
 ) -> Result<(PairEnd, bool), Fail> {
-    let mut server = server(rt, alloc, looks)?;
-    let pair = pair_over(&server, alloc, sides)?;
-    let (end, b) = served(&mut server, pair)?;
-    Ok((end, was_sent(&server, b, text)))
+    let ends = ends_over(server, sides)?;
+    let pair = pair_of(alloc, ends)?;
+    let (end, b) = served(server, pair)?;
+    Ok((end, was_sent(server, b, text)))
+}
+
+/// Two connections: side A sends a text, then nothing for once, and then another text; side B sends
+/// nothing. They end then, where that is asked for.
+pub(crate) fn sides(
+    alloc: Global,
+    first: &str,
+    then: &str,
+    ends: bool,
+) -> Result<(SureConn, SureConn), Fail> {
+    let a = sends(alloc, first, then, ends)?;
+    let b = sends(alloc, "", "", ends)?;
+    Ok((a, b))
 }
 
 #[test]
 fn a_thread_serves_a_pair_to_its_end(rt: HostRuntime) -> Result<(), Fail> {
-    let sides = (
-        sends(rt.alloc(), "ab", "\ncd", true)?,
-        sends(rt.alloc(), "", "", true)?,
-    );
-    let found = relayed(&rt, rt.alloc(), 1000, sides, "ab\n")?;
+    let sides = sides(rt.alloc(), "ab", "\ncd", true)?;
+    let mut server = server(&rt, rt.alloc(), 1000)?;
+    let found = relayed(&mut server, rt.alloc(), sides, "ab\n")?;
     same(&rt, found, (PairEnd::Ended { to_a: 0, to_b: 3 }, true));
     Ok(())
 }
 
 #[test]
 fn a_pair_over_silent_connections_ends_idle(rt: HostRuntime) -> Result<(), Fail> {
-    let sides = (
-        sends(rt.alloc(), "x\n", "", false)?,
-        sends(rt.alloc(), "", "", false)?,
-    );
-    let (end, sent) = relayed(&rt, rt.alloc(), 20, sides, "x\n")?;
-    let wanted = PairEnd::Idle {
-        last: moment(0)?,
-        now: moment(IDLE)?,
-    };
-    same(&rt, (end, sent), (wanted, true));
+    let sides = sides(rt.alloc(), "x\n", "", false)?;
+    let mut server = server(&rt, rt.alloc(), 20)?;
+    let found = relayed(&mut server, rt.alloc(), sides, "x\n")?;
+    let last = moment(0)?;
+    let now = moment(IDLE)?;
+    same(&rt, found, (PairEnd::Idle { last, now }, true));
     Ok(())
 }
 
-// The add is the first call of each connection.
-#[test]
-fn a_failed_read_ends_its_pair(rt: HostRuntime) -> Result<(), Fail> {
-    let sides = (
-        fails(rt.alloc(), "ab\n", &[2])?,
-        fails(rt.alloc(), "", &[])?,
-    );
-    let mut server = server(&rt, rt.alloc(), 1000)?;
-    let pair = pair_over(&server, rt.alloc(), sides)?;
-    let (end, _b) = served(&mut server, pair)?;
-    let fault = CountFault {
-        before: 0,
-        after: 1,
-    };
-    same(&rt, end, PairEnd::ReadFault(fault));
-    Ok(())
+/// The key of a new source of a thread's reactor, which stays in it.
+pub(crate) fn next_key<R: Wait + Copy>(server: &Server<R>, alloc: Global) -> Result<Key, Fail> {
+    let end = end_over(server, sends(alloc, "", "", true)?)?;
+    Ok(end.into_token().key())
+}
+
+/// The keys of a source that joins beside another, and of one that joins once that other was closed.
+fn keys_beside<R: Wait + Copy>(server: &Server<R>, alloc: Global) -> Result<(Key, Key), Fail> {
+    let closed = end_over(server, sends(alloc, "", "", true)?)?;
+    let beside = next_key(server, alloc)?;
+    if closed.close(&server.host.rt).is_err() {
+        return Err(Fail::from("not closed"));
+    }
+    Ok((beside, next_key(server, alloc)?))
 }
 
 #[test]
 fn the_key_of_an_end_that_was_closed_is_free_again(rt: HostRuntime) -> Result<(), Fail> {
     let server = server(&rt, rt.alloc(), 1)?;
-    let first = end_over(&server, sends(rt.alloc(), "", "", true)?)?;
-    let second = end_over(&server, sends(rt.alloc(), "", "", true)?)?;
-    same(&rt, first.close(&&rt), Ok(()));
-    let third = end_over(&server, sends(rt.alloc(), "", "", true)?)?;
-    let keys = (second.into_token().key(), third.into_token().key());
-    same(&rt, keys, (Key(1), Key(0)));
+    same(&rt, keys_beside(&server, rt.alloc())?, (Key(1), Key(0)));
     Ok(())
 }

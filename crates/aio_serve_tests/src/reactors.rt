@@ -4,6 +4,7 @@ ghost use Rattle.std.specs.Prelude.{◌≡◌, ◌<◌, ◌≤◌, IfOk, OnOk};
 
 use crate::asserts::same;
 use crate::connections::sends;
+use crate::moments::moment;
 use aio_base::{Dir, Key, Moment, Poll, TimerId, Waker};
 use aio_conns::SureConn;
 use aio_devices::{MemClock, MemNotify, MemWait, clock_at};
@@ -29,11 +30,6 @@ fn enter<R: Wait + Copy>(rt: R, alloc: Global, keys: u32) -> Result<Way<R>, Fail
         return Err(Fail::from("no reactor"));
     };
     Ok(Inside { rt, shared, member })
-}
-
-/// The moment so many nanoseconds after the clock's start.
-fn moment(nanoseconds: u64) -> Result<Moment, Fail> {
-    Ok(Moment::new(nanoseconds).ok_or("no moment")?)
 }
 
 /// A clock that stands still at this moment.

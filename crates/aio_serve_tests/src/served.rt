@@ -2,72 +2,34 @@
 //! which order the gate is told of their ends, and that the keys of their sources are free then.
 
 use crate::asserts::same;
-use crate::connections::{sends, sends_at_once};
-use crate::pairs::{IDLE, Server, end_over, moment, server};
-use aio_base::{ArmFault, Gate, Key};
+use crate::connections::sends_at_once;
+use crate::gates::NotingGate;
+use crate::moments::moment;
+use crate::pairs::{IDLE, Server, ends_over, next_key, server, sides};
+use aio_base::{ArmFault, Key};
 use aio_conns::SureConn;
 use aio_devices::MemWait;
 use aio_park::Group;
+use aio_places::Place;
 use aio_relay::PairEnd;
-use aio_serve::{Place, Served};
+use aio_serve::Served;
 use std::alloc::Global;
 use std::process::Abort;
 use std::sync::Wait;
-use std::sync::atomic::{AtomicU32, Ordering};
 use std::test::Fail;
 use std::thread::Threads;
 
-/// What is added to the number of a pair that had its end.
-const ENDED: u32 = 5;
-
-/// A gate that notes its calls in their order, each a digit behind those before: the number of a
-/// pair that it may hold, and a number that is greater by 5 where a pair had its end.
-#[derive(Drop)]
-struct NotingGate {
-    digits: AtomicU32,
-}
-
-/// Puts a digit behind those of a number.
-fn note(digits: &AtomicU32, digit: u32) {
-    let before = digits.load(Ordering::SeqCst);
-    digits.store(
-        before.wrapping_mul(10).wrapping_add(digit),
-        Ordering::SeqCst,
-    );
-}
-
-impl Gate for NotingGate {
-    fn hold<R: Wait + Threads + Sync + Send + Copy>(&self, _rt: &R, pair: u32) -> bool {
-        note(&self.digits, pair);
-        true
-    }
-
-    fn passed(&self, pair: u32) {
-        note(&self.digits, pair.wrapping_add(ENDED));
-    }
-}
+/// What stands in a slot, of pairs over connections that never fail.
+type SureServed<'g> = Served<'g, SureConn, MemWait, NotingGate>;
 
 /// The slots of a worker whose pairs are over connections that never fail.
-type Slots<'g> = Group<Served<'g, SureConn, MemWait, NotingGate>, PairEnd>;
+type Slots<'g> = Group<SureServed<'g>, PairEnd>;
 
-/// Adds a slot for a place.
-fn seat<'g>(
-    slots: &mut Slots<'g>,
-    alloc: Global,
-    place: Place<SureConn, MemWait>,
-    gate: &'g NotingGate,
-) -> Result<(), Fail> {
-    match Served::new(alloc, place, IDLE, moment(0)?, gate) {
-        Ok(served) => match slots.add(served) {
-            Ok(_) => Ok(()),
-            Err(_) => Err(Fail::from("no slot")),
-        },
-        Err(_) => Err(Fail::from("no pair")),
-    }
-}
+/// The place of a pair over such connections.
+pub(crate) type SurePlace = Place<SureConn, MemWait>;
 
 /// The fault of an arm.
-fn arm_fault() -> ArmFault {
+pub(crate) fn arm_fault() -> ArmFault {
     ArmFault {
         key: Key(3),
         before: 0,
@@ -75,45 +37,101 @@ fn arm_fault() -> ArmFault {
     }
 }
 
+/// The place of a pair that is refused.
+pub(crate) fn refused_place(number: u32) -> SurePlace {
+    Place {
+        number,
+        sides: Err(arm_fault()),
+    }
+}
+
+/// The place of a pair over two connections.
+pub(crate) fn place_over<R: Wait + Copy>(
+    server: &Server<R>,
+    number: u32,
+    sides: (SureConn, SureConn),
+) -> Result<SurePlace, Fail> {
+    let ends = ends_over(server, sides)?;
+    Ok(Place {
+        number,
+        sides: Ok(ends),
+    })
+}
+
+/// What stands in the slot of a place.
+fn served_at<'g>(
+    alloc: Global,
+    place: SurePlace,
+    gate: &'g NotingGate,
+) -> Result<SureServed<'g>, Fail> {
+    match Served::new(alloc, place, IDLE, moment(0)?, gate) {
+        Ok(served) => Ok(served),
+        Err(_) => Err(Fail::from("no pair")),
+    }
+}
+
+/// Adds a slot.
+fn seat<'g>(slots: &mut Slots<'g>, served: SureServed<'g>) -> Result<(), Fail> {
+    match slots.add(served) {
+        Ok(_) => Ok(()),
+        Err(_) => Err(Fail::from("no slot")),
+    }
+}
+
+/// Slots for a place, and behind it for a pair that is refused, with number 2.
+fn slots_of<'g>(alloc: Global, place: SurePlace, gate: &'g NotingGate) -> Result<Slots<'g>, Fail> {
+    let mut slots = Group::new(alloc, 0);
+    seat(&mut slots, served_at(alloc, place, gate)?)?;
+    seat(&mut slots, served_at(alloc, refused_place(2), gate)?)?;
+    Ok(slots)
+}
+
+/// Serves pairs to their ends.
+fn ends_of<R: Wait + Threads + Sync + Send + Copy>(
+    server: &mut Server<R>,
+    mut slots: Slots<'_>,
+) -> Result<Vec<PairEnd>, Fail> {
+    match server.run(&mut slots) {
+        Ok(ends) => Ok(ends),
+        Err(_) => Err(Fail::from("no ends")),
+    }
+}
+
+/// Serves a pair over these connections, which has number 1, and a refused one with number 2. Their
+/// ends.
+fn serve_two<R: Wait + Threads + Sync + Send + Copy>(
+    server: &mut Server<R>,
+    alloc: Global,
+    sides: (SureConn, SureConn),
+    gate: &NotingGate,
+) -> Result<Vec<PairEnd>, Fail> {
+    let place = place_over(server, 1, sides)?;
+    let slots = slots_of(alloc, place, gate)?;
+    ends_of(server, slots)
+}
+
+/// The keys of two sources that join a thread's reactor.
+fn next_keys<R: Wait + Copy>(server: &Server<R>, alloc: Global) -> Result<(Key, Key), Fail> {
+    let first = next_key(server, alloc)?;
+    let second = next_key(server, alloc)?;
+    Ok((first, second))
+}
+
 /// What came of two pairs: their ends, the digits that their gate noted, and the keys of two
 /// sources that were made after that.
 type Outcome = (Vec<PairEnd>, u32, (Key, Key));
 
-/// The key of a new source of a thread's reactor.
-fn next_key<R: Wait + Copy>(server: &Server<R, SureConn>, alloc: Global) -> Result<Key, Fail> {
-    let end = end_over(server, sends_at_once(alloc, "")?)?;
-    Ok(end.into_token().key())
-}
-
-/// Serves a pair over these connections, which has number 1, and a refused one with number 2.
-fn serve_two<R: Wait + Threads + Sync + Send + Copy + Abort>(
+/// What comes of a pair over these connections, and of a refused one.
+fn outcome<R: Wait + Threads + Sync + Send + Copy + Abort>(
     rt: R,
     alloc: Global,
     sides: (SureConn, SureConn),
 ) -> Result<Outcome, Fail> {
-    let gate = NotingGate {
-        digits: AtomicU32::new(0),
-    };
+    let gate = NotingGate::new();
     let mut server = server(rt, alloc, 1000)?;
-    let a = end_over(&server, sides.0)?;
-    let b = end_over(&server, sides.1)?;
-    let open = Place {
-        number: 1,
-        sides: Ok((a, b)),
-    };
-    let refused = Place {
-        number: 2,
-        sides: Err(arm_fault()),
-    };
-    let mut slots = Group::new(alloc, 0);
-    seat(&mut slots, alloc, open, &gate)?;
-    seat(&mut slots, alloc, refused, &gate)?;
-    let Ok(ends) = server.run(&mut slots) else {
-        return Err(Fail::from("no ends"));
-    };
-    let first = next_key(&server, alloc)?;
-    let second = next_key(&server, alloc)?;
-    Ok((ends, gate.digits.load(Ordering::SeqCst), (first, second)))
+    let ends = serve_two(&mut server, alloc, sides, &gate)?;
+    let keys = next_keys(&server, alloc)?;
+    Ok((ends, gate.digits(), keys))
 }
 
 /// The ends of the two pairs.
@@ -128,23 +146,24 @@ fn two_ends() -> [PairEnd; 2] {
 fn a_refused_pair_asks_no_gate_and_ends_while_another_is_blocked(
     rt: HostRuntime,
 ) -> Result<(), Fail> {
-    let sides = (
-        sends(rt.alloc(), "ab", "\ncd", true)?,
-        sends(rt.alloc(), "", "", true)?,
-    );
-    let (ends, digits, _keys) = serve_two(&rt, rt.alloc(), sides)?;
+    let sides = sides(rt.alloc(), "ab", "\ncd", true)?;
+    let (ends, digits, _keys) = outcome(&rt, rt.alloc(), sides)?;
     same(&rt, ends.as_slice(), two_ends().as_slice());
     same(&rt, digits, 176);
     Ok(())
 }
 
+/// Two connections that send the same without a halt.
+fn prompt_sides(alloc: Global) -> Result<(SureConn, SureConn), Fail> {
+    let a = sends_at_once(alloc, "ab\ncd")?;
+    let b = sends_at_once(alloc, "")?;
+    Ok((a, b))
+}
+
 #[test]
 fn a_pair_asks_the_gate_before_a_first_poll_that_ends_it(rt: HostRuntime) -> Result<(), Fail> {
-    let sides = (
-        sends_at_once(rt.alloc(), "ab\ncd")?,
-        sends_at_once(rt.alloc(), "")?,
-    );
-    let (ends, digits, _keys) = serve_two(&rt, rt.alloc(), sides)?;
+    let sides = prompt_sides(rt.alloc())?;
+    let (ends, digits, _keys) = outcome(&rt, rt.alloc(), sides)?;
     same(&rt, ends.as_slice(), two_ends().as_slice());
     same(&rt, digits, 167);
     Ok(())
@@ -152,11 +171,8 @@ fn a_pair_asks_the_gate_before_a_first_poll_that_ends_it(rt: HostRuntime) -> Res
 
 #[test]
 fn the_keys_of_a_pair_are_free_after_its_end(rt: HostRuntime) -> Result<(), Fail> {
-    let sides = (
-        sends(rt.alloc(), "ab", "\ncd", true)?,
-        sends(rt.alloc(), "", "", true)?,
-    );
-    let (_ends, _digits, keys) = serve_two(&rt, rt.alloc(), sides)?;
+    let sides = sides(rt.alloc(), "ab", "\ncd", true)?;
+    let (_ends, _digits, keys) = outcome(&rt, rt.alloc(), sides)?;
     same(&rt, keys, (Key(0), Key(1)));
     Ok(())
 }

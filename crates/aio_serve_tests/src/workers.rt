@@ -1,72 +1,42 @@
 //! What no clause says of workers: that they serve their pairs to the end.
 
 use crate::asserts::same;
-use crate::connections::sends;
-use crate::pairs::{IDLE, end_over, server};
-use aio_base::{ArmFault, Job, Key};
+use crate::gates::NotingGate;
+use crate::pairs::{IDLE, Server, server, sides};
+use crate::served::{SurePlace, arm_fault, place_over, refused_place};
+use aio_base::Job;
 use aio_conns::SureConn;
 use aio_devices::{MemClock, MemNotify, MemWait};
 use aio_park::Thread;
 use aio_relay::PairEnd;
-use aio_serve::{OpenGate, Place, Worker};
+use aio_serve::Worker;
 use aio_shared::Inside;
 use std::alloc::Global;
 use std::collections::VecDeque;
+use std::process::Abort;
 use std::sync::Wait;
 use std::test::Fail;
+use std::thread::Threads;
 
-/// A thread whose sources are connections that never fail.
-type Server<R> = Thread<R, MemNotify, SureConn, MemWait, MemClock>;
+/// A worker whose pairs are over connections that never fail.
+type SureWorker<'g> = Worker<'g, MemNotify, MemClock, SureConn, MemWait, NotingGate>;
 
-/// The fault of an arm.
-fn arm_fault() -> ArmFault {
-    ArmFault {
-        key: Key(3),
-        before: 0,
-        after: 1,
-    }
-}
-
-/// Adds a place.
-fn add(
-    places: &mut VecDeque<Place<SureConn, MemWait>>,
-    place: Place<SureConn, MemWait>,
-) -> Result<(), Fail> {
-    match places.push_back(place) {
-        Ok(()) => Ok(()),
-        Err(_) => Err(Fail::from("no room")),
-    }
-}
-
-/// The place of a refused pair with number 1, and of a pair with number 2.
-fn places<R: Wait + Copy>(
-    server: &Server<R>,
-    alloc: Global,
-    sides: (SureConn, SureConn),
-) -> Result<VecDeque<Place<SureConn, MemWait>>, Fail> {
-    let a = end_over(server, sides.0)?;
-    let b = end_over(server, sides.1)?;
+/// The place of a pair that is refused, with number 1, and behind it this one.
+fn places_of(alloc: Global, place: SurePlace) -> Result<VecDeque<SurePlace>, Fail> {
     let mut places = VecDeque::new(alloc);
-    let refused = Place {
-        number: 1,
-        sides: Err(arm_fault()),
-    };
-    add(&mut places, refused)?;
-    let open = Place {
-        number: 2,
-        sides: Ok((a, b)),
-    };
-    add(&mut places, open)?;
+    if places.push_back(refused_place(1)).is_err() || places.push_back(place).is_err() {
+        return Err(Fail::from("no room"));
+    }
     Ok(places)
 }
 
-/// One worker by the thread of a server.
+/// A worker by the thread of a server.
 fn alone<'g, R: Wait + Copy>(
     server: Server<R>,
     alloc: Global,
-    places: VecDeque<Place<SureConn, MemWait>>,
-    gate: &'g OpenGate,
-) -> Result<Worker<'g, MemNotify, MemClock, SureConn, MemWait, OpenGate>, Fail> {
+    places: VecDeque<SurePlace>,
+    gate: &'g NotingGate,
+) -> Result<SureWorker<'g>, Fail> {
     let Thread {
         host,
         clock,
@@ -79,18 +49,36 @@ fn alone<'g, R: Wait + Copy>(
     Ok(Worker::new(shared, member, clock, parker, places, IDLE, gate, alloc))
 }
 
+/// The places of a refused pair and of one over these connections, and a worker that serves them.
+fn worker_of<'g, R: Wait + Copy + Abort>(
+    rt: R,
+    alloc: Global,
+    sides: (SureConn, SureConn),
+    gate: &'g NotingGate,
+) -> Result<SureWorker<'g>, Fail> {
+    let server = server(rt, alloc, 1000)?;
+    let place = place_over(&server, 2, sides)?;
+    let places = places_of(alloc, place)?;
+    alone(server, alloc, places, gate)
+}
+
+/// The ends of a worker's pairs.
+fn ends_of<R: Wait + Threads + Sync + Send + Copy>(
+    rt: &R,
+    worker: SureWorker<'_>,
+) -> Result<Vec<PairEnd>, Fail> {
+    match worker.run(rt) {
+        Ok(ends) => Ok(ends),
+        Err(_) => Err(Fail::from("no ends")),
+    }
+}
+
 #[test]
 fn a_worker_serves_its_places_in_their_order(rt: HostRuntime) -> Result<(), Fail> {
-    let sides = (
-        sends(rt.alloc(), "ab", "\ncd", true)?,
-        sends(rt.alloc(), "", "", true)?,
-    );
-    let server = server(&rt, rt.alloc(), 1000)?;
-    let places = places(&server, rt.alloc(), sides)?;
-    let worker = alone(server, rt.alloc(), places, &OpenGate)?;
-    let Ok(ends) = worker.run(&&rt) else {
-        return Err(Fail::from("no ends"));
-    };
+    let gate = NotingGate::new();
+    let sides = sides(rt.alloc(), "ab", "\ncd", true)?;
+    let worker = worker_of(&rt, rt.alloc(), sides, &gate)?;
+    let ends = ends_of(&&rt, worker)?;
     let wanted = [
         PairEnd::ArmFault(arm_fault()),
         PairEnd::Ended { to_a: 0, to_b: 3 },

@@ -7,7 +7,7 @@ use Rattle.aio_serve.specs.Accepted.{HandedOut}
 use Rattle.aio_serve.specs.Places.{AllServeUnder, EndsFit, PlaceFits, StopsFor, Terms}
 use Rattle.aio_serve.specs.Servers.{HasServeCause}
 use Rattle.aio_serve.specs.declared.server.ServeFault.{ServeFault}
-use Rattle.aio_serve.proofs.Standing.{as_many, told_fit}
+use Rattle.aio_serve.proofs.Fitting.{as_many, told_fit}
 use Rattle.aio_serve.proofs.Stopping.{all_serve_lent, all_stop, any_cause, worker_cause}
 use Rattle.aio_serve.proofs.server.serve.Goals as goal
 use Rattle.aio_serve.proofs.server.serve.Goals.{in-Err, in-Ok+in-Ok-begin+in-Ok-workers_of+in-Ok-run_workers, in-Ok+in-Ok-begin+in-Ok-workers_of+in-Err-run_workers}

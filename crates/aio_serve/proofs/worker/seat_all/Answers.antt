@@ -2,8 +2,8 @@ use Rattle.std.proofs.Common.{◌≡◌, List, [], ◌∷◌, ◌++◌, length, 
 use Rattle.std.proofs.lemmas.List.{nil_from_length}
 use Rattle.std.specs.List.{AllZip}
 use Rattle.aio_park.specs.declared.group.Slot.TheVariants.{Running}
-use Rattle.aio_serve.specs.Places.{PlaceValue}
-use Rattle.aio_serve.specs.Served.{IsSeated}
+use Rattle.aio_places.specs.Places.{PlaceValue}
+use Rattle.aio_serve.specs.Seated.{IsSeated}
 use Rattle.aio_serve.proofs.Slots.{seats_one_more}
 use Rattle.aio_serve.proofs.worker.seat_all.Goals as goal
 

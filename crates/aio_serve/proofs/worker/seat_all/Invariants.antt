@@ -1,8 +1,8 @@
 use Rattle.std.proofs.Common.{◌≡◌, ◌+◌, ◌≤◌, List, ◌++◌, length}
 use Rattle.std.specs.List.{AllZip}
 use Rattle.std.specs.VecDeque.{deque_len}
-use Rattle.aio_serve.specs.Places.{PlaceValue}
-use Rattle.aio_serve.specs.Served.{IsSeated}
+use Rattle.aio_places.specs.Places.{PlaceValue}
+use Rattle.aio_serve.specs.Seated.{IsSeated}
 use Rattle.aio_serve.proofs.worker.seat_all.Given as goal
 
 -- the places so far have a slot each

@@ -1,0 +1,3 @@
+pub mod Dealing
+pub mod SourceEnds
+pub mod Places
