@@ -5,18 +5,28 @@ use aio_devices::{FailingWait, MemClock, MemNotify, clock_until};
 use aio_line::{Kit, SixDevices};
 use aio_serve::OpenGate;
 use std::alloc::{AllocError, Global};
+use std::cell::Cell;
 
 /// Six devices, of which the tests choose the port.
 pub(crate) type MemKit<P> = Kit<P, FailingWait, MemNotify, MemClock, OpenGate, ChosenSpawner>;
 
-/// Runs the jobs of a call where the tests choose.
+/// Runs the jobs of a call where the tests choose, and counts how often it is asked where.
 #[derive(Drop)]
 pub(crate) struct ChosenSpawner {
     placement: Placement,
+    asked: Cell<u64>,
+}
+
+impl ChosenSpawner {
+    /// How often jobs were run.
+    pub(crate) fn asked(&self) -> u64 {
+        self.asked.get()
+    }
 }
 
 impl Spawner for ChosenSpawner {
     fn placement(&self) -> Placement {
+        self.asked.set(self.asked.get().saturating_add(1));
         self.placement
     }
 }
@@ -65,6 +75,7 @@ pub(crate) fn kit_of<P: Port + Drop>(
             gate: OpenGate,
             spawner: ChosenSpawner {
                 placement: course.placement,
+                asked: Cell::new(0),
             },
         },
     })

@@ -1,5 +1,5 @@
 //! Tests of whole traces, row by row: traces and their answers through the top call, the spellings in which
-//! a line is read, traces that a number describes, and a replay with its core.
+//! a line is read, traces that a number describes, two jobs on shared cells, and a replay with its core.
 //!
 //! They stand above every crate that they use, so that none of those is proved a second time for its
 //! tests. The devices of their own, a source that fails and a port, have contracts too.
@@ -19,5 +19,7 @@ mod kits;
 mod relays;
 #[cfg(test)]
 mod spellings;
+#[cfg(test)]
+mod stresses;
 #[cfg(test)]
 mod traces;

@@ -373,7 +373,16 @@ const OTHER_WORDS: &[&[&str]] = &[
     &["relay", "0", "1", "1000", "65"],
     &["relay", "+0", "1", "1000", "1"],
     &["Relay", "0", "1", "1000", "1"],
-    &["stress", "1", "1"],
+    &["stress"],
+    &["stress", "1"],
+    &["stress", "1", "1", "1"],
+    &["stress", "x", "1"],
+    &["stress", "1", "x"],
+    &["stress", "-1", "1"],
+    &["stress", "1", "+1"],
+    &["stress", "100001", "0"],
+    &["stress", "1", "281474976710656"],
+    &["Stress", "1", "1"],
 ];
 
 /// Runs words that are no command, over these devices.
@@ -390,14 +399,16 @@ fn refuse_words<R: Wait + Threads + Sync + Send + Copy + AllocGlobal + Abort>(
     Ok(())
 }
 
-/// What devices count: the faults of port and wait, the waits, and the calls of the notifier.
-fn counts(kit: &MemKit<MemPort>) -> [u64; 4] {
+/// What devices count: the faults of port and wait, the waits, the calls of the notifier, and how often jobs
+/// were run.
+pub(crate) fn counts(kit: &MemKit<MemPort>) -> [u64; 5] {
     let six = &kit.devices;
     [
         six.port.faults(),
         six.wait.faults(),
         six.wait.waits(),
         six.notify.calls(),
+        six.spawner.asked(),
     ]
 }
 
@@ -408,7 +419,7 @@ fn other_words_are_no_command_and_use_no_device(rt: HostRuntime) -> Result<(), F
     for words in OTHER_WORDS {
         refuse_words(&rt, words, &mut kit)?;
     }
-    same(&rt, counts(&kit), [0; 4]);
+    same(&rt, counts(&kit), [0; 5]);
     Ok(())
 }
 

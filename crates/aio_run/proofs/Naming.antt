@@ -5,7 +5,7 @@ use Rattle.aio_line.specs.declared.words.RelayOrder.{RelayOrder}
 use Rattle.aio_line.specs.Words.{IsRelay, SpellsUpTo}
 use Rattle.aio_run.specs.declared.commands.Command.{Command}
 use Rattle.aio_run.specs.declared.commands.Command.TheVariants as command
-use Rattle.aio_run.specs.Commands.{IsGen, IsOfSteps, IsReplay, IsSum, Names}
+use Rattle.aio_run.specs.Commands.{IsGen, IsOfNumbers, IsReplay, IsStress, IsSum, Names}
 
 -- ## The words as a list
 
@@ -33,18 +33,23 @@ no_such_count words one three none (command.Relay order) is = none order is
 no_such_count [] one three none command.Replay is = absurd cc
 no_such_count [] one three none (command.Gen n seed) is = is
 no_such_count [] one three none (command.Sum n seed) is = is
+no_such_count [] one three none (command.Stress n seed) is = is
 no_such_count (a ∷ []) one three none command.Replay is = one refl
 no_such_count (a ∷ []) one three none (command.Gen n seed) is = one refl
 no_such_count (a ∷ []) one three none (command.Sum n seed) is = one refl
+no_such_count (a ∷ []) one three none (command.Stress n seed) is = one refl
 no_such_count (a ∷ b ∷ []) one three none command.Replay is = no_replay a b [] is
 no_such_count (a ∷ b ∷ []) one three none (command.Gen n seed) is = is
 no_such_count (a ∷ b ∷ []) one three none (command.Sum n seed) is = is
+no_such_count (a ∷ b ∷ []) one three none (command.Stress n seed) is = is
 no_such_count (a ∷ b ∷ c ∷ []) one three none command.Replay is = three refl
 no_such_count (a ∷ b ∷ c ∷ []) one three none (command.Gen n seed) is = three refl
 no_such_count (a ∷ b ∷ c ∷ []) one three none (command.Sum n seed) is = three refl
+no_such_count (a ∷ b ∷ c ∷ []) one three none (command.Stress n seed) is = three refl
 no_such_count (a ∷ b ∷ c ∷ d ∷ words) one three none command.Replay is = no_replay a b (c ∷ d ∷ words) is
 no_such_count (a ∷ b ∷ c ∷ d ∷ words) one three none (command.Gen n seed) is = is
 no_such_count (a ∷ b ∷ c ∷ d ∷ words) one three none (command.Sum n seed) is = is
+no_such_count (a ∷ b ∷ c ∷ d ∷ words) one three none (command.Stress n seed) is = is
 
 -- so they name what they ask for as those of a relay, or nothing
 pub relay_or_none : (words : List (List ℕ)) → length words ≢ 1 → length words ≢ 3 → (o : Option Command)
@@ -57,55 +62,97 @@ not_alone a other command.Replay is = other (ap (λ words. get_or words 0 a) is)
 not_alone a other (command.Gen n seed) is = is
 not_alone a other (command.Sum n seed) is = is
 not_alone a other (command.Relay order) is = is
+not_alone a other (command.Stress n seed) is = is
 
-module _ (a steps from : List ℕ) where
+-- words of two numbers that are no command but `stress`
+module _ (a count from : List ℕ) where
   -- the second word spells no number of steps
-  pub no_steps : ((n : ℕ) → SpellsUpTo 999999 n steps → ⊥) → (c : Command) → Names c (a ∷ steps ∷ from ∷ []) → ⊥
-  no_steps none command.Replay is = no_replay a steps (from ∷ []) is
-  no_steps none (command.Gen n seed) is = none n is.1
-  no_steps none (command.Sum n seed) is = none n is.1
-  no_steps none (command.Relay order) is = is
+  pub no_steps : ((n : ℕ) → SpellsUpTo 999999 n count → ⊥) → (c : Command) → Names c (a ∷ count ∷ from ∷ []) → a ≡ codes "stress"
+  no_steps none command.Replay is = absurd (no_replay a count (from ∷ []) is)
+  no_steps none (command.Gen n seed) is = absurd (none n is.1)
+  no_steps none (command.Sum n seed) is = absurd (none n is.1)
+  no_steps none (command.Relay order) is = absurd is
+  no_steps none (command.Stress n seed) is = is.0
 
   -- the third word spells no seed
-  pub no_seed : ((seed : ℕ) → SpellsUpTo (2 ^ 48 - 1) seed from → ⊥) → (c : Command) → Names c (a ∷ steps ∷ from ∷ []) → ⊥
-  no_seed none command.Replay is = no_replay a steps (from ∷ []) is
-  no_seed none (command.Gen n seed) is = none seed is.2
-  no_seed none (command.Sum n seed) is = none seed is.2
-  no_seed none (command.Relay order) is = is
+  pub no_seed : ((seed : ℕ) → SpellsUpTo (2 ^ 48 - 1) seed from → ⊥) → (c : Command) → Names c (a ∷ count ∷ from ∷ []) → a ≡ codes "stress"
+  no_seed none command.Replay is = absurd (no_replay a count (from ∷ []) is)
+  no_seed none (command.Gen n seed) is = absurd (none seed is.2)
+  no_seed none (command.Sum n seed) is = absurd (none seed is.2)
+  no_seed none (command.Relay order) is = absurd is
+  no_seed none (command.Stress n seed) is = is.0
 
-  -- the first word is the name of neither
-  pub no_name : a ≢ codes "gen" → a ≢ codes "sum" → (c : Command) → Names c (a ∷ steps ∷ from ∷ []) → ⊥
-  no_name gen sum command.Replay is = no_replay a steps (from ∷ []) is
-  no_name gen sum (command.Gen n seed) is = gen is.0
-  no_name gen sum (command.Sum n seed) is = sum is.0
-  no_name gen sum (command.Relay order) is = is
+  -- the first word is the name of neither command of steps
+  pub no_name : a ≢ codes "gen" → a ≢ codes "sum" → (c : Command) → Names c (a ∷ count ∷ from ∷ []) → a ≡ codes "stress"
+  no_name gen sum command.Replay is = absurd (no_replay a count (from ∷ []) is)
+  no_name gen sum (command.Gen n seed) is = absurd (gen is.0)
+  no_name gen sum (command.Sum n seed) is = absurd (sum is.0)
+  no_name gen sum (command.Relay order) is = absurd is
+  no_name gen sum (command.Stress n seed) is = is.0
+
+gen_no_stress : codes "stress" ≡ codes "gen" → ⊥
+gen_no_stress same = let first : 115 ≡ 103 = ap (λ name. get_or name 0 0) same in absurd (omega (arith, first))
+
+sum_no_stress : codes "stress" ≡ codes "sum" → ⊥
+sum_no_stress same = let second : 116 ≡ 117 = ap (λ name. get_or name 1 0) same in absurd (omega (arith, second))
+
+-- words behind `stress` that are none of it
+module _ (count from : List ℕ) where
+  -- the first of them spells no number of calls
+  pub no_calls : ((n : ℕ) → SpellsUpTo 100000 n count → ⊥) → (c : Command) → Names c (codes "stress" ∷ count ∷ from ∷ []) → ⊥
+  no_calls none command.Replay is = no_replay (codes "stress") count (from ∷ []) is
+  no_calls none (command.Gen n seed) is = gen_no_stress is.0
+  no_calls none (command.Sum n seed) is = sum_no_stress is.0
+  no_calls none (command.Relay order) is = is
+  no_calls none (command.Stress n seed) is = none n is.1
+
+  -- the second spells no seed
+  pub no_seed_of_calls : ((seed : ℕ) → SpellsUpTo (2 ^ 48 - 1) seed from → ⊥) → (c : Command) → Names c (codes "stress" ∷ count ∷ from ∷ []) → ⊥
+  no_seed_of_calls none command.Replay is = no_replay (codes "stress") count (from ∷ []) is
+  no_seed_of_calls none (command.Gen n seed) is = gen_no_stress is.0
+  no_seed_of_calls none (command.Sum n seed) is = sum_no_stress is.0
+  no_seed_of_calls none (command.Relay order) is = is
+  no_seed_of_calls none (command.Stress n seed) is = none seed is.2
+
+-- words of another name that name none by their numbers of steps name none
+pub none_by_steps : (a count from : List ℕ) → a ≢ codes "stress" → (o : Option Command)
+    → MatchOption o ((c : Command) → Names c (a ∷ count ∷ from ∷ []) → a ≡ codes "stress") (λ c. Names c (a ∷ count ∷ from ∷ []))
+    → MatchOption o ((c : Command) → Names c (a ∷ count ∷ from ∷ []) → ⊥) (λ c. Names c (a ∷ count ∷ from ∷ []))
+none_by_steps a count from other None none = λ c is. other (none c is)
+none_by_steps a count from other (Some c) names = names
 
 -- ## One command at most
 
--- the name and the numbers of a command of steps
-pub same_numbers : (name other : List ℕ) (n seed m from : ℕ) (words : List (List ℕ)) → IsOfSteps name n seed words → IsOfSteps other m from words
+-- the name and the numbers of words
+pub same_numbers : (most many : ℕ) (name other : List ℕ) (n seed m from : ℕ) (words : List (List ℕ)) → IsOfNumbers most name n seed words → IsOfNumbers many other m from words
     → (name ≡ other) × (n ≡ m) × (seed ≡ from)
-same_numbers name other n seed m from [] p q = absurd p
-same_numbers name other n seed m from (a ∷ []) p q = absurd p
-same_numbers name other n seed m from (a ∷ b ∷ []) p q = absurd p
-same_numbers name other n seed m from (a ∷ b ∷ c ∷ []) p q =
+same_numbers most many name other n seed m from [] p q = absurd p
+same_numbers most many name other n seed m from (a ∷ []) p q = absurd p
+same_numbers most many name other n seed m from (a ∷ b ∷ []) p q = absurd p
+same_numbers most many name other n seed m from (a ∷ b ∷ c ∷ []) p q =
     let first = p.1.0 in let second = q.1.0 in let third = p.2.0 in let fourth = q.2.0 in
     (sym p.0 ∙ q.0, cc, cc)
-same_numbers name other n seed m from (a ∷ b ∷ c ∷ d ∷ words) p q = absurd p
+same_numbers most many name other n seed m from (a ∷ b ∷ c ∷ d ∷ words) p q = absurd p
 
--- the words of a command of steps are not those of a replay
-pub steps_no_replay : (name : List ℕ) (n seed : ℕ) (words : List (List ℕ)) → IsOfSteps name n seed words → IsReplay words → ⊥
-steps_no_replay name n seed [] p is = p
-steps_no_replay name n seed (a ∷ []) p is = p
-steps_no_replay name n seed (a ∷ b ∷ []) p is = p
-steps_no_replay name n seed (a ∷ b ∷ c ∷ []) p is = no_replay a b (c ∷ []) is
-steps_no_replay name n seed (a ∷ b ∷ c ∷ d ∷ words) p is = p
+-- words with two numbers are not those of a replay
+pub steps_no_replay : (most : ℕ) (name : List ℕ) (n seed : ℕ) (words : List (List ℕ)) → IsOfNumbers most name n seed words → IsReplay words → ⊥
+steps_no_replay most name n seed [] p is = p
+steps_no_replay most name n seed (a ∷ []) p is = p
+steps_no_replay most name n seed (a ∷ b ∷ []) p is = p
+steps_no_replay most name n seed (a ∷ b ∷ c ∷ []) p is = no_replay a b (c ∷ []) is
+steps_no_replay most name n seed (a ∷ b ∷ c ∷ d ∷ words) p is = p
 
 -- no words are those of both
 pub gen_no_sum : (n seed m from : ℕ) (words : List (List ℕ)) → IsGen n seed words → IsSum m from words → ⊥
 gen_no_sum n seed m from words p q =
-    let first : 103 ≡ 115 = ap (λ name. get_or name 0 0) (same_numbers (codes "gen") (codes "sum") n seed m from words p q).0 in
+    let first : 103 ≡ 115 = ap (λ name. get_or name 0 0) (same_numbers _ _ (codes "gen") (codes "sum") n seed m from words p q).0 in
     absurd (omega (arith, first))
+
+pub gen_is_not_stress : (n seed m from : ℕ) (words : List (List ℕ)) → IsGen n seed words → IsStress m from words → ⊥
+gen_is_not_stress n seed m from words p q = gen_no_stress (sym (same_numbers _ _ (codes "gen") (codes "stress") n seed m from words p q).0)
+
+pub sum_is_not_stress : (n seed m from : ℕ) (words : List (List ℕ)) → IsSum n seed words → IsStress m from words → ⊥
+sum_is_not_stress n seed m from words p q = sum_no_stress (sym (same_numbers _ _ (codes "sum") (codes "stress") n seed m from words p q).0)
 
 -- ## A relay
 
@@ -119,14 +166,14 @@ relay_no_replay order (a ∷ b ∷ c ∷ d ∷ []) p is = p
 relay_no_replay order (a ∷ b ∷ c ∷ d ∷ e ∷ []) p is = no_replay a b (c ∷ d ∷ e ∷ []) is
 relay_no_replay order (a ∷ b ∷ c ∷ d ∷ e ∷ f ∷ words) p is = p
 
-pub relay_no_steps : (order : RelayOrder) (name : List ℕ) (n seed : ℕ) (words : List (List ℕ)) → IsRelay order words → IsOfSteps name n seed words → ⊥
-relay_no_steps order name n seed [] p is = p
-relay_no_steps order name n seed (a ∷ []) p is = p
-relay_no_steps order name n seed (a ∷ b ∷ []) p is = p
-relay_no_steps order name n seed (a ∷ b ∷ c ∷ []) p is = p
-relay_no_steps order name n seed (a ∷ b ∷ c ∷ d ∷ []) p is = p
-relay_no_steps order name n seed (a ∷ b ∷ c ∷ d ∷ e ∷ []) p is = is
-relay_no_steps order name n seed (a ∷ b ∷ c ∷ d ∷ e ∷ f ∷ words) p is = p
+pub relay_no_steps : (order : RelayOrder) (most : ℕ) (name : List ℕ) (n seed : ℕ) (words : List (List ℕ)) → IsRelay order words → IsOfNumbers most name n seed words → ⊥
+relay_no_steps order most name n seed [] p is = p
+relay_no_steps order most name n seed (a ∷ []) p is = p
+relay_no_steps order most name n seed (a ∷ b ∷ []) p is = p
+relay_no_steps order most name n seed (a ∷ b ∷ c ∷ []) p is = p
+relay_no_steps order most name n seed (a ∷ b ∷ c ∷ d ∷ []) p is = p
+relay_no_steps order most name n seed (a ∷ b ∷ c ∷ d ∷ e ∷ []) p is = is
+relay_no_steps order most name n seed (a ∷ b ∷ c ∷ d ∷ e ∷ f ∷ words) p is = p
 
 one_number : (most other m n : ℕ) (word : List ℕ) → SpellsUpTo most m word → SpellsUpTo other n word → m ≡ n
 one_number most other m n word first second = let a = first.0 in let b = second.0 in cc

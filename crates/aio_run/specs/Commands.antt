@@ -28,18 +28,22 @@ use Rattle.aio_replay.specs.Ends.{Replayed, tells_read_fault, tells_write_fault}
 abbrev pub IsReplay : List (List ℕ) → Type 0
 IsReplay words = words ≡ codes "replay" ∷ []
 
--- the words are a name, a number of steps and a seed
-abbrev pub IsOfSteps : List ℕ → ℕ → ℕ → List (List ℕ) → Type 0
-IsOfSteps name n seed (word ∷ steps ∷ from ∷ []) = (word ≡ name) × SpellsUpTo 999999 n steps × SpellsUpTo (2 ^ 48 - 1) seed from
-IsOfSteps name n seed _ = ⊥
+-- the words are a name, a number that is at most so great, and a seed
+abbrev pub IsOfNumbers : ℕ → List ℕ → ℕ → ℕ → List (List ℕ) → Type 0
+IsOfNumbers most name n seed (word ∷ count ∷ from ∷ []) = (word ≡ name) × SpellsUpTo most n count × SpellsUpTo (2 ^ 48 - 1) seed from
+IsOfNumbers most name n seed _ = ⊥
 
 -- the words of the command that writes the trace of so many steps from a seed
 abbrev pub IsGen : ℕ → ℕ → List (List ℕ) → Type 0
-IsGen n seed words = IsOfSteps (codes "gen") n seed words
+IsGen n seed words = IsOfNumbers 999999 (codes "gen") n seed words
 
 -- the words of the command that writes what a run of these steps comes to
 abbrev pub IsSum : ℕ → ℕ → List (List ℕ) → Type 0
-IsSum n seed words = IsOfSteps (codes "sum") n seed words
+IsSum n seed words = IsOfNumbers 999999 (codes "sum") n seed words
+
+-- the words of the command that lets two jobs make so many calls each, drawn from this seed and the next
+abbrev pub IsStress : ℕ → ℕ → List (List ℕ) → Type 0
+IsStress calls seed words = IsOfNumbers 100000 (codes "stress") calls seed words
 
 -- the words of each command that is built
 abbrev pub Names : Command → List (List ℕ) → Type 0
@@ -47,6 +51,7 @@ Names command.Replay words = IsReplay words
 Names (command.Gen n seed) words = IsGen n seed words
 Names (command.Sum n seed) words = IsSum n seed words
 Names (command.Relay order) words = IsRelay order words
+Names (command.Stress calls seed) words = IsStress calls seed words
 
 -- ## The ends of the program
 

@@ -1,3 +1,4 @@
 pub mod Commands
 pub mod Texts
 pub mod Relaying
+pub mod Stressing

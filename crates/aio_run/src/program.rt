@@ -10,20 +10,21 @@ ghost use Rattle.aio_line.specs.Relays.{MayEndSo, TakesAfterFirst, terms_of};
 ghost use Rattle.aio_line.specs.Words.{IsRelay};
 ghost use Rattle.aio_line.specs.declared.words.RelayOrder.{RelayOrder};
 ghost use Rattle.aio_replay.specs.Driving.{Causes, LeavesAllBut};
-ghost use Rattle.aio_run.specs.Commands.{IsGen, IsReplay, IsSum, WritesCause, Names, exit_of};
+ghost use Rattle.aio_run.specs.Commands.{IsGen, IsReplay, IsStress, IsSum, WritesCause, Names, exit_of};
 ghost use Rattle.aio_run.specs.Commands.{text_of, refusal_text, summary_text, trace_text};
 ghost use Rattle.aio_run.specs.Commands.{Replays, TellsCounts, WritesText, bytes_taken, why_of};
-ghost use Rattle.aio_run.specs.Commands.{why_written};
 ghost use Rattle.aio_run.specs.Commands.{is_read_fault, is_write_fault};
 ghost use Rattle.aio_run.specs.Relaying.{Relayed};
+ghost use Rattle.aio_run.specs.Stressing.{TouchesSpawner, stress_text};
 ghost use Rattle.aio_run.specs.declared.commands.Command.{Command};
 ghost use Rattle.aio_base.specs.Text.{ended_line, reason_text};
 
 use crate::commands::{Command, command_of};
 use crate::relaying::run_relay;
 use crate::status::{Status, Why};
-use crate::texts::{write_summary, write_trace};
-use aio_base::{CountFault, Port, Reason};
+use crate::stressing::run_stress;
+use crate::texts::{cause_of_text, write_summary, write_trace};
+use aio_base::{Port, Reason};
 use aio_bytes::{Sink, SinkRefusal, Source, write_all};
 use aio_line::Devices;
 use aio_replay::{ReplayEnd, replay};
@@ -50,8 +51,14 @@ const USAGE: &[u8] =
 /// - `relay PORT WORKERS IDLE PAIRS` binds PORT of 127.0.0.1, writes `listening P` with the port in use to
 ///   `out`, takes two connections for each pair, serves the pairs by WORKERS workers until each has ended,
 ///   and writes a line for each pair. PORT is 0 to 65,535, 0 for a port of the device's own choice,
-///   WORKERS 1, IDLE 1 to 10^18 nanoseconds and PAIRS 1 to 64 for each worker. It reads nothing of
-///   `input`, and may wait. No other command touches a device.
+///   WORKERS 1 to 16, IDLE 1 to 10^18 nanoseconds and PAIRS 1 to 64 for each worker. It reads nothing of
+///   `input`, and may wait.
+/// - `stress CALLS SEED` lets two jobs make CALLS calls each on eight recorded cells that they share, and
+///   writes `calls C replayed C` to `out`, C being twice CALLS: how many calls the jobs made, and how many
+///   steps the cells have. CALLS is 0 to 100,000 and SEED 0 to 281,474,976,710,655. It runs the jobs by the
+///   spawner and touches no other device, reads nothing of `input`, and may wait.
+///
+/// No other command touches a device.
 ///
 /// How it ends:
 ///
@@ -76,7 +83,7 @@ const USAGE: &[u8] =
 ///
 /// The parts below that are handed no runtime are proved to return. Of this call itself no clause
 /// says so, since what is handed a runtime may wait: it is seen from its body, which hands it to a relay
-/// alone.
+/// and to `stress` alone.
 pub fn run<R: Wait + Threads + Sync + Send + Copy, S: Source, K: Sink, E: Sink, D: Devices>(
     rt: &R,
     alloc: Global,
@@ -121,9 +128,12 @@ where
         (D.P.waiting (D.six devices.new).port) (D.P.own_port (D.six devices.old).port)
         order.port (K.contents out.old) (K.contents out.new) }
 
-    // Only a relay touches a device, or ends for one.
+    // Only a relay touches a device, or ends for one; and `stress` the spawner.
     ensures idle_devices { ((order : RelayOrder) → IsRelay order (map string_bytes words.now) → ⊥)
+        → ((calls seed : ℕ) → IsStress calls seed (map string_bytes words.now) → ⊥)
         → devices.new ≡ devices.old }
+    ensures spawner { (calls seed : ℕ) → IsStress calls seed (map string_bytes words.now)
+        → TouchesSpawner (D.six devices.old) (D.six devices.new) }
     ensures no_device { ((order : RelayOrder) → IsRelay order (map string_bytes words.now) → ⊥)
         → result.exit < 6 }
 
@@ -134,6 +144,10 @@ where
     ensures sums { (n seed : ℕ) → IsSum n seed (map string_bytes words.now)
         → WritesText result.why (K.contents out.old) (K.contents out.new)
         (summary_text (generated_steps n seed)) }
+
+    // Two jobs make as many calls as is asked for, and the cells have as many steps.
+    ensures stresses { (calls seed : ℕ) → IsStress calls seed (map string_bytes words.now)
+        → WritesText result.why (K.contents out.old) (K.contents out.new) (stress_text calls) }
     ensures idle_input { (IsReplay (map string_bytes words.now) → ⊥) → input.new ≡ input.old }
 
     // After any steps of the trace each waiter is covered, no storing of a waker is lost or woken twice and
@@ -155,6 +169,7 @@ where
         Some(Command::Gen { n, seed }) => run_gen(alloc, n, seed, out),
         Some(Command::Sum { n, seed }) => run_sum(alloc, n, seed, out),
         Some(Command::Relay(order)) => run_relay(rt, alloc, order, out, devices),
+        Some(Command::Stress { calls, seed }) => run_stress(rt, alloc, calls, seed, out, devices),
         None => Why::Usage,
     };
     let _ = tell(err, why);
@@ -223,18 +238,6 @@ fn run_sum<K: Sink>(alloc: Global, n: u32, seed: u64, out: &mut K) -> Why
     let before = out.faults();
     let sent = write_summary(alloc, n, seed, out);
     cause_of_text(sent, before, out.faults())
-}
-
-/// Why the program ends, where the output answered so to a text and had these counts of faults before
-/// and after it.
-fn cause_of_text(sent: Result<(), SinkRefusal>, before: u64, after: u64) -> Why
-    ensures { result ≡ why_written sent (record { before = before; after = after }) }
-{
-    match sent {
-        Ok(()) => Why::Done,
-        Err(SinkRefusal::Failed) => Why::WriteFault(CountFault { before, after }),
-        Err(SinkRefusal::OutOfMemory) => Why::OutOfMemory,
-    }
 }
 
 /// The exit status of the program.

@@ -1,5 +1,5 @@
 //! The commands that write a text of their own: the trace that a number describes, and what its run
-//! comes to. They read no input.
+//! comes to; and how the program ends by a text. They read no input.
 
 ghost use Rattle.std.specs.Prelude.{◌≡◌, ℕ, ◌<◌, ◌≤◌, ◌^◌, ◌++◌, ◌⊎◌, IfOk, OnOk, decimal};
 ghost use Rattle.aio_base.specs.Devices.{TellsFaults};
@@ -9,10 +9,11 @@ ghost use Rattle.aio_base.specs.Text.{ended_line};
 ghost use Rattle.aio_bytes.specs.Sinks.{HasFailed, Writes};
 ghost use Rattle.aio_replay.specs.Driving.{BlockWent};
 ghost use Rattle.aio_replay.specs.Summing.{counts_told};
-ghost use Rattle.aio_run.specs.Commands.{header_text, summary_text, trace_text};
+ghost use Rattle.aio_run.specs.Commands.{header_text, summary_text, trace_text, why_written};
 ghost use Rattle.aio_run.specs.Texts.{Buffers};
 
-use aio_base::Step;
+use crate::status::Why;
+use aio_base::{CountFault, Step};
 use aio_bytes::{BLOCK, Sink, SinkRefusal, flush, write_all};
 use aio_generator::gen_steps;
 use aio_replay::{Summary, summary};
@@ -120,10 +121,22 @@ fn line_of(alloc: Global, counts: &Summary) -> Result<Vec<u8>, AllocError>
 }
 
 /// Writes a word and a count in decimal digits at the end of a line.
-fn push_count(line: &mut Vec<u8>, word: &[u8], count: u64) -> Result<(), AllocError>
+pub(crate) fn push_count(line: &mut Vec<u8>, word: &[u8], count: u64) -> Result<(), AllocError>
     ensures { OnOk result (line.new.items ≡ line.old.items ++ (word.now ++ decimal count)) }
 {
     let mut digits = Buffer::new();
     line.extend_from_slice(word)?;
     line.extend_from_slice(digits.format(count).as_bytes())
+}
+
+/// Why the program ends, where the output answered so to a text and had these counts of faults before
+/// and after it.
+pub(crate) fn cause_of_text(sent: Result<(), SinkRefusal>, before: u64, after: u64) -> Why
+    ensures { result ≡ why_written sent (record { before = before; after = after }) }
+{
+    match sent {
+        Ok(()) => Why::Done,
+        Err(SinkRefusal::Failed) => Why::WriteFault(CountFault { before, after }),
+        Err(SinkRefusal::OutOfMemory) => Why::OutOfMemory,
+    }
 }

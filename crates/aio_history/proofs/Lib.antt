@@ -1,0 +1,4 @@
+pub mod Places
+pub mod Drawn
+pub mod Coding
+mod Trying

@@ -1,0 +1,4 @@
+pub mod Histories
+pub mod StepNumbers
+pub mod DrawnCalls
+pub mod Tried

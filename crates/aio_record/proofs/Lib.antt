@@ -1,0 +1,5 @@
+mod Leaving
+mod Making
+mod Working
+mod Counting
+mod Ending

@@ -1,0 +1,20 @@
+//! Assertions as calls: what stands in the body of a test makes its proof longer by the square, and an
+//! assertion is long.
+
+use std::fmt::Debug;
+use std::process::Abort;
+
+/// Asserts that what was found is what was wanted.
+pub(crate) fn same<T: Debug + Drop + PartialEq>(rt: &impl Abort, found: T, wanted: T) {
+    assert_eq!(rt; found, wanted);
+}
+
+/// Asserts the same of one row of a table, which is told where the two differ.
+pub(crate) fn same_in<T: Debug + Drop + PartialEq, U: Debug + Drop>(
+    rt: &impl Abort,
+    row: U,
+    found: T,
+    wanted: T,
+) {
+    assert_eq!(rt; found, wanted, "in the row {row:?}");
+}
