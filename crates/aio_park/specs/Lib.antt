@@ -4,3 +4,4 @@ pub mod Looks
 pub mod Polls
 pub mod Groups
 pub mod Until
+pub mod Stopping

@@ -23,7 +23,6 @@ use std::sync::{Arc, Wait};
 /// the connection, and leaves the source again. It keeps the token of the source, which is outside
 /// between its calls, and tells of the connection what the token knows. It holds the reactor, so
 /// that whoever has the end can close it.
-#[derive(Drop)]
 pub struct SourceEnd<C: Conn, W: EventWait> {
     shared: Arc<Shared<C, W>, Global>,
     token: SourceRef<C>,
@@ -48,6 +47,16 @@ impl<C: Conn, W: EventWait> Model for SourceEnd<C, W> {
     ghost invariant = { λ end. (end.token.inside ≡ false) × IsRestOf C.rest end.token.rest
         × (IsTrue (sure_read end.token.rest) → end.told ≡ 0)
         × (end.token.words ≡ (arc_value end.shared).words.identity) };
+}
+
+impl<C: Conn + Drop, W: EventWait + Drop> Drop for SourceEnd<C, W> {
+    fn drop(self) {
+        let SourceEnd {
+            shared: _,
+            token: _,
+            told: _,
+        } = self;
+    }
 }
 
 impl<C: Conn, W: EventWait> SourceEnd<C, W> {
@@ -76,7 +85,12 @@ impl<C: Conn + Drop, W: EventWait + Drop> SourceEnd<C, W> {
           rest = self.rest;
         } }
     {
-        self.token
+        let SourceEnd {
+            shared: _,
+            token,
+            told: _,
+        } = self;
+        token
     }
 
     /// Takes the source out of its reactor, and then tells the connection by one `remove`. The

@@ -12,8 +12,9 @@ use Rattle.aio_park.specs.Groups.{SlotsGive}
 use Rattle.aio_park.specs.declared.group.Slot.{Slot}
 use Rattle.aio_park.specs.declared.group.Slot.TheVariants.{Running, Ended}
 use Rattle.aio_places.specs.Places.{PlaceValue, end_gives}
-use Rattle.aio_serve.specs.Places.{PlaceFits, StopsFor, Terms, WorkerEnds, WorkerValue, earliest_of, latest_of}
-use Rattle.aio_serve.specs.declared.serving.WorkerFault.{WorkerFault}
+use Rattle.aio_park.specs.Stopping.{StopsFor}
+use Rattle.aio_serve.specs.Places.{PlaceFits, Terms, WorkerEnds, WorkerValue, earliest_of, latest_of}
+use Rattle.aio_park.specs.declared.to_end.WorkerFault.{WorkerFault}
 use Rattle.aio_serve.specs.Served.{ServedValue, first_stage, stage_gives}
 use Rattle.aio_serve.specs.Seated.{IsSeated}
 

@@ -2,12 +2,13 @@
 use Rattle.std.proofs.Common.{◌≡◌, ℕ, Bool, true, false, List, [], ◌∷◌, refl, sym, ◌∙◌, subst, inl, inr}
 use Rattle.std.specs.Prelude.{IsTrue}
 use Rattle.std.proofs.lemmas.Bool.{false≢true}
-use Rattle.aio_serve.specs.Places.{AllServeUnder, ServesUnder, StopsFor, Terms, WorkerValue}
+use Rattle.aio_park.specs.Stopping.{StopsFor}
+use Rattle.aio_serve.specs.Places.{AllServeUnder, ServesUnder, Terms, WorkerValue}
 use Rattle.aio_serve.specs.Servers.{HasServeCause, OneStopsFor, fault_of_worker}
 use Rattle.aio_serve.specs.declared.server.ServeFault.{ServeFault}
 use Rattle.aio_serve.specs.declared.server.ServeFault.TheVariants as fault
-use Rattle.aio_serve.specs.declared.serving.WorkerFault.{WorkerFault}
-use Rattle.aio_serve.specs.declared.serving.WorkerFault.TheVariants as stop
+use Rattle.aio_park.specs.declared.to_end.WorkerFault.{WorkerFault}
+use Rattle.aio_park.specs.declared.to_end.WorkerFault.TheVariants as stop
 
 -- ## Terms
 

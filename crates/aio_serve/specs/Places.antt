@@ -1,16 +1,15 @@
--- What the places of pairs may come to under which terms, and why a worker stops.
-use Rattle.std.specs.Prelude.{◌≡◌, ℕ, ◌+◌, ◌^◌, Bool, false, IsTrue, List, [], ◌∷◌, Option, None, Some, Result, Ok, Err, Vec, ⊤}
+-- What the places of pairs may come to under which terms, and how a worker ends.
+use Rattle.std.specs.Prelude.{◌≡◌, ℕ, ◌+◌, ◌^◌, Bool, IsTrue, List, [], ◌∷◌, Option, None, Some, Result, Ok, Err, Vec, ⊤}
 use Rattle.std.specs.declared.alloc.Global.{Global}
 use Rattle.std.specs.List.{AllZip}
 use Rattle.aio_base.specs.ClockBounds.{ClockBounds}
 use Rattle.aio_base.specs.Connections.{Telling}
-use Rattle.aio_base.specs.Devices.{Rose}
 use Rattle.aio_pairs.specs.Fits.{Fits, ToGive}
 use Rattle.aio_pairs.specs.declared.outcomes.PairEnd.{PairEnd}
 use Rattle.aio_pairs.specs.declared.outcomes.PairEnd.TheVariants as pair
 use Rattle.aio_places.specs.Places.{PlaceValue, all_of, end_gives}
-use Rattle.aio_serve.specs.declared.serving.WorkerFault.{WorkerFault}
-use Rattle.aio_serve.specs.declared.serving.WorkerFault.TheVariants as stop
+use Rattle.aio_park.specs.declared.to_end.WorkerFault.{WorkerFault}
+use Rattle.aio_park.specs.Stopping.{StopsFor}
 use Rattle.aio_shared.specs.Members.{IsMemberOf, MemberValue, SharedValue}
 
 -- ## Terms
@@ -49,13 +48,6 @@ pub record WorkerValue : Type 0 where
   pub terms : Terms
   pub sure_of_wait : Bool
   pub places : List PlaceValue
-
--- A worker stops for a fault of what is not sure, between two counts of which the second is the greater or stands at its type's end. Want of memory needs
--- no cause.
-abbrev pub StopsFor : (sure_of_wait sure_notifier : Bool) → WorkerFault → Type 0
-StopsFor sure_of_wait sure_notifier (stop.Wait fault) = (sure_of_wait ≡ false) × Rose fault.before fault.after
-StopsFor sure_of_wait sure_notifier (stop.Notify fault) = (sure_notifier ≡ false) × Rose fault.before fault.after
-StopsFor sure_of_wait sure_notifier stop.OutOfMemory = ⊤
 
 -- how a worker ends: with an end for each of its places, in their order, or with a fault
 abbrev pub WorkerEnds : WorkerValue → Result (Vec PairEnd Global) WorkerFault → Type 0

@@ -6,9 +6,10 @@ use Rattle.aio_base.specs.Devices.{Rose}
 use Rattle.aio_pairs.specs.declared.outcomes.PairEnd.{PairEnd}
 use Rattle.aio_serve.specs.declared.server.ServeFault.{ServeFault}
 use Rattle.aio_serve.specs.declared.server.ServeFault.TheVariants as fault
-use Rattle.aio_serve.specs.declared.serving.WorkerFault.{WorkerFault}
-use Rattle.aio_serve.specs.declared.serving.WorkerFault.TheVariants as stop
-use Rattle.aio_serve.specs.Places.{WorkerValue, StopsFor}
+use Rattle.aio_park.specs.declared.to_end.WorkerFault.{WorkerFault}
+use Rattle.aio_park.specs.declared.to_end.WorkerFault.TheVariants as stop
+use Rattle.aio_park.specs.Stopping.{StopsFor}
+use Rattle.aio_serve.specs.Places.{WorkerValue}
 
 -- A port's fault has two counts of its faults in this call. A wait's or a notifier's comes only where that is not sure, with two counts of which the second
 -- is the greater or stands at its type's end. Want of memory needs no cause.

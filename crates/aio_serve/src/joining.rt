@@ -7,10 +7,10 @@ ghost use Rattle.aio_places.specs.Places.{PlaceValue};
 ghost use Rattle.aio_serve.specs.Places.{AllServeUnder, HaveParkers, PlaceFits, Terms, WorkerValue};
 ghost use Rattle.aio_serve.specs.Servers.{IsFaultOf, IsRowOf, OneStopsFor};
 
-use crate::serving::WorkerFault;
 use crate::worker::Worker;
 use aio_base::{Clock, Conn, EventWait, Gate, Notify, Spawner};
 use aio_pairs::PairEnd;
+use aio_park::WorkerFault;
 use aio_places::{Rows, gather};
 use std::alloc::Global;
 use std::collections::VecDeque;

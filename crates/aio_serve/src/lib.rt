@@ -13,13 +13,12 @@ mod laws;
 mod seats;
 mod served;
 mod server;
-mod serving;
 mod starting;
 mod worker;
 
+pub use aio_park::WorkerFault;
 pub use aio_places::{CallerSpawner, OpenGate, Place, ThreadSpawner};
 pub use laws::{a_sure_server_stops_for_memory_alone, pairs_of_sure_connections_end};
 pub use served::{Served, Stage};
 pub use server::{ServeFault, serve};
-pub use serving::WorkerFault;
 pub use worker::Worker;

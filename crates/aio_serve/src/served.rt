@@ -38,7 +38,6 @@ pub enum Stage<P> {
 /// The idle time of a pair runs from the moment at which its worker begins, also while the gate holds
 /// it. The worker polls none of its pairs meanwhile: a gate that waits there for what another pair of
 /// the same worker has yet to do, as for a later one to come to the gate, waits for ever.
-#[derive(Drop)]
 pub struct Served<'g, C: Conn, W: EventWait, G> {
     stage: Stage<Pair<SourceEnd<C, W>>>,
     gate: &'g G,
@@ -52,6 +51,17 @@ impl<'g, C: Conn, W: EventWait, G> Model for Served<'g, C, W, G> {
     ghost Value = { ServedValue };
 
     ghost view = { λ served. record { stage = served.stage; polls = served.polls } };
+}
+
+impl<'g, C: Conn + Drop, W: EventWait + Drop, G> Drop for Served<'g, C, W, G> {
+    fn drop(self) {
+        let Served {
+            stage: _,
+            gate: _,
+            number: _,
+            polls: _,
+        } = self;
+    }
 }
 
 impl<'g, C: Conn + Drop, W: EventWait + Drop, G> Served<'g, C, W, G> {

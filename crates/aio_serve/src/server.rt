@@ -8,10 +8,10 @@ ghost use Rattle.aio_serve.specs.Servers.{HasServeCause, fault_of_worker};
 
 use crate::accepting::accept_all;
 use crate::joining::run_workers;
-use crate::serving::WorkerFault;
 use crate::starting::workers_of;
 use aio_base::{Clock, CountFault, EventWait, Gate, Lent, Notify, Parts, Port, Spawner};
 use aio_pairs::PairEnd;
+use aio_park::WorkerFault;
 use aio_places::begin;
 use std::alloc::Global;
 use std::sync::Wait;

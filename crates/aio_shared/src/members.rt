@@ -21,7 +21,6 @@ use std::sync::Wait;
 
 /// What one thread may do with a reactor, and what it did: its seat at the words, its seat at the
 /// queue of operations on timers, its notifier, and how many ids it has drawn.
-#[derive(Drop)]
 pub struct Member<N, W: EventWait> {
     pub(crate) claim: Claim<W>,
     pub(crate) pass: Pass,
@@ -45,6 +44,18 @@ impl<N, W: EventWait> Model for Member<N, W> {
     } };
 
     ghost invariant = { λ m. m.ids ≤ 2 ^ 40 - 1 };
+}
+
+impl<N: Drop, W: EventWait + Drop> Drop for Member<N, W> {
+    fn drop(self) {
+        let Member {
+            claim: _,
+            pass: _,
+            ops: _,
+            notifier: _,
+            ids: _,
+        } = self;
+    }
 }
 
 impl<A: Arm, W: EventWait> Shared<A, W> {

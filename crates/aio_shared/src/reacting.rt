@@ -156,12 +156,12 @@ impl<A: Arm, W: EventWait> Shared<A, W> {
             EnterRefused fault cell.old cell.new m.old.ops m.new.ops) }
         ensures clock { ClockGoesOn C.bounds C.latest clock.old clock.new }
     {
-        if cell.round.is_idle() {
+        if cell.work.round.is_idle() {
             match self.begin_round(
                 rt,
                 &mut m.ops,
                 &mut cell.seat,
-                &mut cell.round,
+                &mut cell.work.round,
                 clock,
                 limit,
             ) {
@@ -170,7 +170,8 @@ impl<A: Arm, W: EventWait> Shared<A, W> {
                     return Err(fault);
                 }
                 Ok(()) => {
-                    self.wait_for_events(&mut cell.seat, &mut cell.round, &mut cell.wait);
+                    let work = &mut *cell.work;
+                    self.wait_for_events(&mut cell.seat, &mut work.round, &mut work.wait);
                     return Ok(());
                 }
             }
@@ -302,7 +303,7 @@ impl<A: Arm, W: EventWait> Shared<A, W> {
         ensures none_left { OnOk result (cell.new.round.hand ≡ []) }
     {
         let table = self.sources.lock(rt);
-        table.handle_each(rt, &mut cell.round)
+        table.handle_each(rt, &mut cell.work.round)
     }
 
     /// Ends the round, after a drain, under the lock of the book.
@@ -327,7 +328,7 @@ impl<A: Arm, W: EventWait> Shared<A, W> {
         ensures clock { ClockGoesOn C.bounds C.latest clock.old clock.new }
     {
         let mut guard = self.timers.lock(rt);
-        self.end_over(rt, &mut m.ops, &mut *guard, &mut cell.round, clock)
+        self.end_over(rt, &mut m.ops, &mut *guard, &mut cell.work.round, clock)
     }
 
     /// Drains the queue of operations into the book and ends the round, by a pass over what the drain left
@@ -389,10 +390,10 @@ impl<A: Arm, W: EventWait> Shared<A, W> {
         let failed = wake_each(
             &self.words,
             &mut m.pass,
-            cell.round.woken(),
+            cell.work.round.woken(),
             &mut m.notifier,
         );
-        match cell.round.fault() {
+        match cell.work.round.fault() {
             Some(RoundFault::Wait(fault)) => return Err(ReactFault::Wait(fault)),
             Some(RoundFault::Arm(fault)) => return Err(ReactFault::Arm(fault)),
             None => {}
@@ -400,11 +401,15 @@ impl<A: Arm, W: EventWait> Shared<A, W> {
         if let Some(fault) = failed {
             return Err(ReactFault::Notify(fault));
         }
-        let events = if resumed { in_hand } else { cell.round.given() };
+        let events = if resumed {
+            in_hand
+        } else {
+            cell.work.round.given()
+        };
         Ok(ReactedIn {
             resumed,
             events,
-            woken: cell.round.woken().len() as u64,
+            woken: cell.work.round.woken().len() as u64,
         })
     }
 

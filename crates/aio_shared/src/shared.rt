@@ -23,7 +23,6 @@ use std::sync::{Arc, Mutex};
 
 /// A reactor that several threads share by reference. Contracts see its lock, its words, which queue of
 /// operations on timers it has, and whether it is sure of its arms.
-#[derive(Drop)]
 pub struct Shared<A: Arm, W: EventWait> {
     pub(crate) lock: RoundLock<W>,
     pub(crate) words: Arc<Words, Global>,
@@ -44,6 +43,18 @@ impl<A: Arm, W: EventWait> Model for Shared<A, W> {
       ops = s.ops;
       sure_of_arms = A.all_sure;
     } };
+}
+
+impl<A: Arm + Drop, W: EventWait + Drop> Drop for Shared<A, W> {
+    fn drop(self) {
+        let Shared {
+            lock: _,
+            words: _,
+            ops: _,
+            sources: _,
+            timers: _,
+        } = self;
+    }
 }
 
 /// What a reactor and its first member are made of, but for the lock of the rounds.
@@ -151,9 +162,13 @@ pub(crate) fn open_lock<A: Arm, W: EventWait + Drop>(
     let Ok(round) = Round::new(alloc) else {
         return Err(wait);
     };
-    match RoundLock::new::<A>(alloc, RoundCell::new(seat, round, wait)) {
+    let cell = match RoundCell::new(alloc, seat, round, wait) {
+        Ok(cell) => cell,
+        Err(wait) => return Err(wait),
+    };
+    match RoundLock::new::<A>(alloc, cell) {
         Ok(made) => Ok(made),
-        Err(cell) => Err(cell.wait.into_inner()),
+        Err(cell) => Err(cell.into_wait()),
     }
 }
 

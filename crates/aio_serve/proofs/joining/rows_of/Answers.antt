@@ -5,7 +5,7 @@ use Rattle.std.proofs.lemmas.List.{nil_from_length}
 use Rattle.std.specs.List.{AllZip}
 use Rattle.aio_pairs.specs.declared.outcomes.PairEnd.{PairEnd}
 use Rattle.aio_serve.specs.Servers.{IsFaultOf, IsRowOf}
-use Rattle.aio_serve.specs.declared.serving.WorkerFault.{WorkerFault}
+use Rattle.aio_park.specs.declared.to_end.WorkerFault.{WorkerFault}
 use Rattle.aio_serve.proofs.WorkerRows.{memory_is_free, rows_after}
 use Rattle.aio_serve.proofs.joining.rows_of.Goals as goal
 

@@ -3,7 +3,7 @@ use Rattle.std.specs.List.{AllZip}
 use Rattle.std.specs.VecDeque.{deque_len}
 use Rattle.aio_pairs.specs.declared.outcomes.PairEnd.{PairEnd}
 use Rattle.aio_serve.specs.Servers.{IsFaultOf, IsRowOf}
-use Rattle.aio_serve.specs.declared.serving.WorkerFault.{WorkerFault}
+use Rattle.aio_park.specs.declared.to_end.WorkerFault.{WorkerFault}
 use Rattle.aio_serve.proofs.joining.rows_of.Given as goal
 
 -- rows of what is left go behind the rows so far; and no worker that came so far has a fault

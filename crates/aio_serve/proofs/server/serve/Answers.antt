@@ -4,7 +4,8 @@ use Rattle.std.specs.List.{AllZip}
 use Rattle.std.specs.declared.alloc.Global.{Global}
 use Rattle.aio_pairs.specs.declared.outcomes.PairEnd.{PairEnd}
 use Rattle.aio_serve.specs.Accepted.{HandedOut}
-use Rattle.aio_serve.specs.Places.{AllServeUnder, EndsFit, PlaceFits, StopsFor, Terms}
+use Rattle.aio_park.specs.Stopping.{StopsFor}
+use Rattle.aio_serve.specs.Places.{AllServeUnder, EndsFit, PlaceFits, Terms}
 use Rattle.aio_serve.specs.Servers.{HasServeCause}
 use Rattle.aio_serve.specs.declared.server.ServeFault.{ServeFault}
 use Rattle.aio_serve.proofs.Fitting.{as_many, told_fit}

@@ -15,6 +15,7 @@ loop-place-init g c =
       items = refl;
       slots = subst (AllZip (IsSeated c.args.idle c.args.start) []) (sym none) tt;
       few = omega (arith, ap length none, c.requires.few);
+      parker = ap (λ group. group.parker) c.new-group.ensures;
     }
 
 pub loop-place-preserved : goal.loop-place-preserved
@@ -29,6 +30,7 @@ loop-place-preserved g c =
       slots = subst (AllZip (IsSeated c.args.idle c.args.start) (before.seated ++ place ∷ [])) (sym added)
           (seats_one_more c.args.idle c.args.start before.seated c.loop-place.group.slots place slot before.slots c.in_ok-served.ensures);
       few = omega (arith, before.few, c.in-Some.ensures.cases, ap length added, length-append c.loop-place.group.slots (slot ∷ []));
+      parker = ap (λ group. group.parker) c.in-Ok.ensures.added ∙ before.parker;
     }
 
 pub returns : goal.returns
@@ -36,4 +38,7 @@ returns g c =
     let at = c.loop-place.invariant in
     let none : c.loop-place.left.items ≡ [] = nil_from_length c.loop-place.left.items (sym c.loop-place.left.ok.0 ∙ c.in_default.ensures.cases.0) in
     let all : c.args.places.items ≡ at.seated = at.items ∙ ap (λ (left : List PlaceValue). at.seated ++ left) none ∙ append-nil at.seated in
-    subst (λ places. AllZip (IsSeated c.args.idle c.args.start) places c.loop-place.group.slots) (sym all) at.slots
+    record {
+      seated = subst (λ places. AllZip (IsSeated c.args.idle c.args.start) places c.loop-place.group.slots) (sym all) at.slots;
+      parker = at.parker;
+    }

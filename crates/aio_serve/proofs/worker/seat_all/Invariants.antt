@@ -12,6 +12,7 @@ invariant-loop-place g l = record {
   items : l.fn.places.items ≡ seated ++ l.left.items;
   slots : AllZip (IsSeated l.idle l.start) seated l.group.slots;
   few : length l.group.slots + deque_len l.left ≤ 64;
+  parker : l.group.parker ≡ l.parker;
 }
 
 abbrev pub decreases-loop-place : goal.decreases-loop-place

@@ -1,7 +1,7 @@
 use Rattle.std.proofs.Common.{◌≡◌, ℕ}
 use Rattle.aio_park.specs.Blocking.{IsPast}
 use Rattle.aio_shared.specs.Inside.{IsLaterInside}
-use Rattle.aio_serve.proofs.serving.poll_over_and_over.Given as goal
+use Rattle.aio_park.proofs.to_end.poll_over_and_over.Given as goal
 
 -- the task allows nothing by now that it did not allow at first
 abbrev pub invariant-loop : goal.invariant-loop

@@ -1,55 +1,25 @@
 //! A task that a thread serves to its end, whatever its rounds fault.
 
-ghost use Rattle.std.specs.Prelude.{◌≡◌, false, ℕ, Ok, IfOk, IfErr};
+ghost use Rattle.std.specs.Prelude.{◌≡◌, false, ℕ, IfOk, IfErr};
 ghost use Rattle.aio_base.specs.Devices.{Rose};
 ghost use Rattle.aio_park.specs.Blocking.{IsPast};
 ghost use Rattle.aio_shared.specs.Inside.{IsLaterInside};
-ghost use Rattle.aio_serve.specs.Places.{StopsFor};
+ghost use Rattle.aio_park.specs.Stopping.{StopsFor};
 
-use aio_base::{Arm, Clock, CountFault, Cx, EventWait, Notify, OutOfMemory, Poll, Task};
-use aio_park::Thread;
+use crate::thread::Thread;
+use aio_base::{Arm, Clock, CountFault, Cx, EventWait, Notify, Poll, Task};
 use aio_shared::{Inside, ReactFault};
 use std::sync::Wait;
 
-/// Why a worker stops before its pairs have ended.
+/// Why a thread stops before its task has ended.
 #[derive(Clone, Copy, Debug, PartialEq, Eq)]
 pub enum WorkerFault {
     /// A wait of the reactor failed, between these two counts of its faults.
     Wait(CountFault),
-    /// The worker's notifier failed, between these two counts of its faults.
+    /// The thread's notifier failed, between these two counts of its faults.
     Notify(CountFault),
     /// Memory ran out.
     OutOfMemory,
-}
-
-/// Runs a task to its end as `run_to_end` does, where there was memory for it.
-///
-/// # Errors
-///
-/// Those of `run_to_end`; and `OutOfMemory` where there was none for the task.
-pub(crate) fn run_seated<
-    R: Wait + Copy,
-    N: Notify,
-    C: Clock,
-    A: Arm,
-    W: EventWait,
-    T: Task<Inside<R, N, A, W>> + Drop,
->(
-    thread: &mut Thread<R, N, A, W, C>,
-    seated: Result<T, OutOfMemory>,
-) -> Result<T::Output, WorkerFault>
-    ensures output { IfOk result (λ output. (task : T) × (seated ≡ Ok task)
-        × ((moment : ℕ) → IsPast (C.bounds thread.old.clock) moment
-        → T.gives task (N.is_sure thread.old.host.member.notifier) moment output)) }
-    ensures cause { IfErr result (StopsFor thread.old.host.member.claim.sure_of_wait
-        (N.is_sure thread.old.host.member.notifier)) }
-    ensures later { IsLaterInside N.fault_count N.is_sure thread.old.host thread.new.host }
-    ensures parker { thread.new.parker ≡ thread.old.parker }
-{
-    match seated {
-        Err(_) => Err(WorkerFault::OutOfMemory),
-        Ok(mut task) => run_to_end(thread, &mut task),
-    }
 }
 
 /// Runs a task to its end. After the fault of an arm every slot is woken, so that each task polls
@@ -60,7 +30,7 @@ pub(crate) fn run_seated<
 ///
 /// The fault of a wait, or of the thread's notifier, and want of memory: these end it. The task is
 /// as its last poll left it.
-pub(crate) fn run_to_end<
+pub fn run_to_end<
     R: Wait + Copy,
     N: Notify,
     C: Clock,
