@@ -1,6 +1,6 @@
 //! A connection over a TCP stream.
 
-ghost use Rattle.std.specs.Prelude.{◌≡◌, length, false, true, IsErr, IfOk, OnOk, OnErr};
+ghost use Rattle.std.specs.Prelude.{◌≡◌, ◌≤◌, length, false, true, IsErr, IfOk, OnOk, OnErr};
 ghost use Rattle.aio_base.specs.Devices.{HasCause};
 ghost use Rattle.aio_mio.specs.Answers.{MovesWithin, KeepsOk};
 ghost use Rattle.aio_base.specs.World.{has_dir};
@@ -19,6 +19,9 @@ use std::sync::Arc;
 /// How often a call that a signal interrupts is tried.
 const TRIES: u32 = 1_000;
 
+/// How many bytes a read that left room must have given, so that the system is asked once more.
+const MANY: usize = 4_096;
+
 /// A connection that a `MioPort` accepted (`async-io` 2, `lib.rs`, `Async<TcpStream>`). It tells neither
 /// its bytes nor its interests, and is never sure or prompt. One thread at a time makes calls of it; its
 /// events come to the `MioWait` that was made with the port.
@@ -32,6 +35,8 @@ pub struct MioConn {
     // What the system watches for; no direction exactly while the stream is not registered.
     watched: Interest,
     faults: u64,
+    // The system told an error behind the bytes that the last read gave: the next one fails by it.
+    late: bool,
 }
 
 impl Model for MioConn {
@@ -89,6 +94,7 @@ impl MioConn {
             key: Key(0),
             watched: Interest::NONE,
             faults: 0,
+            late: false,
         }
     }
 
@@ -152,6 +158,30 @@ impl MioConn {
         ensures { has_dir self.now.watched dir ≡ false → result ≡ true }
     {
         !self.watches(dir) || self.selector.readiness.take(self.key, dir)
+    }
+
+    /// One more read, behind the first `count` bytes of a buffer, which the read before gave. How many
+    /// bytes there are then. Of an end or an error behind them the next read tells: the system tells an
+    /// end again, and an error only once.
+    fn read_on(&mut self, buf: &mut [u8], count: usize) -> usize
+        requires { count ≤ length buf.old }
+        ensures bound { result ≤ length buf.new }
+        ensures faults { self.new.faults ≡ self.old.faults }
+    {
+        let (_, behind) = buf.split_at_mut(count);
+        let room = behind.len();
+        let more = match read_from(&mut self.stream, behind) {
+            Ok(Did::Blocked) => return count,
+            Ok(Did::Bytes(more)) => more,
+            Err(_) => {
+                self.late = true;
+                0
+            }
+        };
+        if more == 0 || more == room {
+            self.selector.readiness.set(self.key, Dir::Read);
+        }
+        count + more
     }
 
     /// What a call with room for so many bytes came to: its fault is counted, and where it did not see the
@@ -231,13 +261,24 @@ impl Conn for MioConn {
 
     ghost conn_step = { λ old move new. ⊤ };
 
-    /// Blocked at once where it is known that there is nothing to read; else one read of the system.
+    /// Blocked at once where it is known that there is nothing to read; else one read of the system, and
+    /// one more where that gave many bytes and left room: a sender that a full queue held back goes on as
+    /// soon as a read makes room, often before that read has returned.
     fn read(&mut self, buf: &mut [u8]) -> Result<Did, Failed> {
+        if self.late {
+            self.late = false;
+            return counted(Err(Failed), &mut self.faults);
+        }
         if !self.may_move(Dir::Read) {
             return Ok(Did::Blocked);
         }
         let did = read_from(&mut self.stream, buf);
-        self.settle(Dir::Read, did, buf.len())
+        match self.settle(Dir::Read, did, buf.len()) {
+            Ok(Did::Bytes(count)) if MANY <= count && count < buf.len() => {
+                Ok(Did::Bytes(self.read_on(buf, count)))
+            }
+            other => other,
+        }
     }
 
     /// Blocked at once where it is known that nothing can be sent; else one write of the system.

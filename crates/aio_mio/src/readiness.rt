@@ -13,6 +13,17 @@ use std::sync::atomic::{AtomicBool, Ordering};
 /// As many keys as there are sources at once.
 const KEYS: usize = 4_096;
 
+/// Where the flags of a key stand. Keys follow one another as sources join, and threads serve those of
+/// neighbours at a time: so their flags stand 128 bytes apart, and no thread waits for another's.
+fn place_of(key: Key) -> usize {
+    let key = key.0 as usize;
+    if key < KEYS {
+        key % 64 * 64 + key / 64
+    } else {
+        key
+    }
+}
+
 /// Whether each direction of one source may be ready.
 #[derive(Drop)]
 struct Flags {
@@ -55,7 +66,7 @@ impl Readiness {
 
     /// A direction may be ready from now on.
     pub(crate) fn set(&self, key: Key, dir: Dir) {
-        if let Some(flags) = self.flags.get(key.0 as usize) {
+        if let Some(flags) = self.flags.get(place_of(key)) {
             flags.of(dir).store(true, Ordering::SeqCst);
         }
     }
@@ -73,7 +84,7 @@ impl Readiness {
     /// Whether a direction may be ready, which is asked once: then it is not, until it is set again. A key
     /// beyond all sources is always ready.
     pub(crate) fn take(&self, key: Key, dir: Dir) -> bool {
-        match self.flags.get(key.0 as usize) {
+        match self.flags.get(place_of(key)) {
             None => true,
             Some(flags) => flags.of(dir).swap(false, Ordering::SeqCst),
         }

@@ -1,85 +1,16 @@
-//! What no clause says of a connection: that what is armed is told, that bytes and their end come over, and
-//! that a call which need not ask the system does not.
+//! What no clause says of a connection whose other end is slow or ends: that the end is read, and that a blocked
+//! write goes on.
 
 use crate::asserts::same;
 use crate::joined::{
-    Joined, LONG, connected, event, one_event, read_some, receive, send, send_all, send_last, watch,
+    Joined, LONG, connected, event, one_event, read_some, send, send_all, send_last, watch,
 };
-use aio_base::{Arm, Conn, Did, Faults, Interest, Key};
+use aio_base::{Arm, Conn, Did, Failed, Faults, Interest, Key};
 use aio_mio::MioConn;
 use std::alloc::Global;
 use std::io::Read;
-use std::net::{Net, TcpStream};
-
-#[test]
-fn an_arm_tells_again_what_was_not_read(rt: HostRuntime) {
-    let mut j = connected(&rt, rt.alloc()).expect(&rt, "a connection");
-    same(&rt, send(&mut j.client, 1), true);
-    same(&rt, watch(&mut j.conn, 7, Interest::READ), Ok(()));
-    same(
-        &rt,
-        one_event(&mut j.wait, rt.alloc(), LONG),
-        event(7, Interest::READ),
-    );
-    same(&rt, one_event(&mut j.wait, rt.alloc(), Some(0)), Ok(None));
-    same(&rt, j.conn.arm(Key(7), Interest::READ), Ok(()));
-    same(
-        &rt,
-        one_event(&mut j.wait, rt.alloc(), LONG),
-        event(7, Interest::READ),
-    );
-}
-
-#[test]
-fn an_event_is_of_the_directions_that_were_armed(rt: HostRuntime) {
-    let mut j = connected(&rt, rt.alloc()).expect(&rt, "a connection");
-    same(&rt, send(&mut j.client, 1), true);
-    same(&rt, watch(&mut j.conn, 4_095, Interest::WRITE), Ok(()));
-    same(
-        &rt,
-        one_event(&mut j.wait, rt.alloc(), LONG),
-        event(4_095, Interest::WRITE),
-    );
-    same(&rt, j.conn.arm(Key(4_095), Interest::BOTH), Ok(()));
-    same(
-        &rt,
-        one_event(&mut j.wait, rt.alloc(), LONG),
-        event(4_095, Interest::BOTH),
-    );
-}
-
-#[test]
-fn bytes_are_read_after_their_event(rt: HostRuntime) {
-    let mut j = connected(&rt, rt.alloc()).expect(&rt, "a connection");
-    same(&rt, read_some(&mut j.conn), (Ok(Did::Blocked), 0));
-    same(&rt, watch(&mut j.conn, 3, Interest::READ), Ok(()));
-    same(&rt, read_some(&mut j.conn), (Ok(Did::Blocked), 0));
-    same(&rt, send(&mut j.client, 5), true);
-    same(&rt, read_some(&mut j.conn), (Ok(Did::Blocked), 0));
-    same(
-        &rt,
-        one_event(&mut j.wait, rt.alloc(), LONG),
-        event(3, Interest::READ),
-    );
-    same(&rt, read_some(&mut j.conn), (Ok(Did::Bytes(1)), 5));
-    same(&rt, read_some(&mut j.conn), (Ok(Did::Blocked), 0));
-    same(&rt, j.conn.faults(), 0);
-}
-
-#[test]
-fn what_there_was_no_room_for_is_read_without_a_further_event(rt: HostRuntime) {
-    let mut j = connected(&rt, rt.alloc()).expect(&rt, "a connection");
-    same(&rt, watch(&mut j.conn, 3, Interest::READ), Ok(()));
-    same(&rt, read_some(&mut j.conn), (Ok(Did::Blocked), 0));
-    same(&rt, send_all(&mut j.client, &[4; 9]), true);
-    same(
-        &rt,
-        one_event(&mut j.wait, rt.alloc(), LONG),
-        event(3, Interest::READ),
-    );
-    same(&rt, read_some(&mut j.conn), (Ok(Did::Bytes(8)), 4));
-    same(&rt, read_some(&mut j.conn), (Ok(Did::Bytes(1)), 4));
-}
+use std::net::{Net, Shutdown, TcpStream};
+use std::sync::Wait;
 
 /// How often the end is asked for before a test gives up.
 const TURNS: u32 = 10;
@@ -115,14 +46,59 @@ fn an_end_that_came_with_the_last_bytes_is_read(rt: HostRuntime) {
     same(&rt, read_some(&mut j.conn), (Ok(Did::Bytes(0)), 0));
 }
 
-#[test]
-fn what_is_written_comes_to_the_client(rt: HostRuntime) {
-    let mut j = connected(&rt, rt.alloc()).expect(&rt, "a connection");
-    same(&rt, j.conn.write(&[8]), Ok(Did::Bytes(1)));
-    same(&rt, receive(&mut j.client), Some(8));
+const PIECE: usize = 65_536;
+
+// What one read with room for a piece comes to.
+fn read_piece(conn: &mut MioConn) -> Result<Did, Failed> {
+    let mut buf = [0u8; PIECE];
+    conn.read(&mut buf)
 }
 
-const PIECE: usize = 65_536;
+// A connection under key 9 to which half a piece came, with its event.
+fn half_full<R: Net<Stream = TcpStream> + Copy + Wait>(rt: &R, alloc: Global) -> Option<Joined<R>> {
+    let mut j = connected(rt, alloc)?;
+    let ready = watch(&mut j.conn, 9, Interest::READ).is_ok()
+        && send_all(&mut j.client, &[3; PIECE / 2])
+        && one_event(&mut j.wait, alloc, LONG) == event(9, Interest::READ);
+    if ready { Some(j) } else { None }
+}
+
+#[test]
+fn many_bytes_are_all_there_is_until_a_new_event(rt: HostRuntime) {
+    let mut j = half_full(&rt, rt.alloc()).expect(&rt, "a connection");
+    same(&rt, read_piece(&mut j.conn), Ok(Did::Bytes(PIECE / 2)));
+    same(&rt, send(&mut j.client, 5), true);
+    same(&rt, read_piece(&mut j.conn), Ok(Did::Blocked));
+    same(
+        &rt,
+        one_event(&mut j.wait, rt.alloc(), LONG),
+        event(9, Interest::READ),
+    );
+    same(&rt, read_piece(&mut j.conn), Ok(Did::Bytes(1)));
+}
+
+#[test]
+fn an_end_behind_many_bytes_is_read_without_a_further_event(rt: HostRuntime) {
+    let mut j = half_full(&rt, rt.alloc()).expect(&rt, "a connection");
+    same(&rt, j.client.shutdown(Shutdown::Write).is_ok(), true);
+    same(&rt, read_piece(&mut j.conn), Ok(Did::Bytes(PIECE / 2)));
+    same(&rt, read_piece(&mut j.conn), Ok(Did::Bytes(0)));
+    same(&rt, read_piece(&mut j.conn), Ok(Did::Bytes(0)));
+    same(&rt, j.conn.faults(), 0);
+}
+
+#[test]
+fn a_reset_behind_many_bytes_fails_the_next_read(rt: HostRuntime) {
+    let mut j = half_full(&rt, rt.alloc()).expect(&rt, "a connection");
+    same(&rt, j.conn.write(&[8]), Ok(Did::Bytes(1)));
+    // A client that goes without having read what came to it resets the connection.
+    drop(j.client);
+    same(&rt, read_piece(&mut j.conn), Ok(Did::Bytes(PIECE / 2)));
+    same(&rt, j.conn.faults(), 0);
+    same(&rt, read_piece(&mut j.conn), Err(Failed));
+    same(&rt, j.conn.faults(), 1);
+    same(&rt, read_piece(&mut j.conn), Ok(Did::Bytes(0)));
+}
 
 // Writes pieces until one is blocked. How many bytes went over; `None` where a write failed or none was
 // blocked.
@@ -168,31 +144,4 @@ fn a_blocked_write_goes_on_after_its_event(rt: HostRuntime) {
         event(1, Interest::WRITE),
     );
     same(&rt, j.conn.write(&[8]), Ok(Did::Bytes(1)));
-}
-
-#[test]
-fn a_key_is_used_again_after_a_removal(rt: HostRuntime) {
-    let mut j = connected(&rt, rt.alloc()).expect(&rt, "a connection");
-    same(&rt, watch(&mut j.conn, 2, Interest::READ), Ok(()));
-    same(&rt, read_some(&mut j.conn), (Ok(Did::Blocked), 0));
-    same(&rt, j.conn.remove(Key(2)), Ok(()));
-    same(&rt, send(&mut j.client, 6), true);
-    same(&rt, one_event(&mut j.wait, rt.alloc(), Some(0)), Ok(None));
-    same(&rt, watch(&mut j.conn, 2, Interest::READ), Ok(()));
-    same(
-        &rt,
-        one_event(&mut j.wait, rt.alloc(), LONG),
-        event(2, Interest::READ),
-    );
-    same(&rt, read_some(&mut j.conn), (Ok(Did::Bytes(1)), 6));
-}
-
-#[test]
-fn a_removal_of_what_is_not_registered_is_no_fault(rt: HostRuntime) {
-    let mut j = connected(&rt, rt.alloc()).expect(&rt, "a connection");
-    same(&rt, j.conn.remove(Key(2)), Ok(()));
-    same(&rt, j.conn.add(Key(2)), Ok(()));
-    same(&rt, j.conn.arm(Key(2), Interest::NONE), Ok(()));
-    same(&rt, j.conn.remove(Key(2)), Ok(()));
-    same(&rt, j.conn.faults(), 0);
 }

@@ -14,6 +14,8 @@ mod connections;
 #[cfg(test)]
 mod joined;
 #[cfg(test)]
+mod plays;
+#[cfg(test)]
 mod ports;
 #[cfg(test)]
 mod waits;

@@ -1,68 +1,13 @@
-//! What no clause says of a wait: that a notify ends it and gives no event, that it looks at the system
-//! all the same before long, and that no event is lost for want of room.
+//! What no clause says of a wait beside others: that a notify of another thread or of a twin ends it, and that no
+//! event is lost for want of room.
 
 use crate::asserts::same;
-use crate::joined::{LONG, client_of, connected, event, one_event, send, watch};
+use crate::joined::{LONG, client_of, connected, event, one_event, watch};
 use aio_base::{Arm, EventWait, Failed, Faults, Interest, Key, Notify, Port};
 use aio_mio::{MioNotify, MioWait};
 use std::alloc::Global;
 use std::thread::{Threads, join, sleep};
 use std::time::{Clock, Duration};
-
-#[test]
-fn a_notify_before_a_wait_ends_it_and_hides_no_event(rt: HostRuntime) {
-    let mut j = connected(&rt, rt.alloc()).expect(&rt, "a connection");
-    same(&rt, send(&mut j.client, 1), true);
-    same(&rt, watch(&mut j.conn, 7, Interest::READ), Ok(()));
-    same(&rt, j.notify.notify(), Ok(()));
-    same(&rt, one_event(&mut j.wait, rt.alloc(), None), Ok(None));
-    same(
-        &rt,
-        one_event(&mut j.wait, rt.alloc(), LONG),
-        event(7, Interest::READ),
-    );
-    same(&rt, (j.wait.waits(), j.notify.calls()), (2, 1));
-}
-
-#[test]
-fn a_wait_that_only_looks_does_so_though_it_was_told(rt: HostRuntime) {
-    let mut j = connected(&rt, rt.alloc()).expect(&rt, "a connection");
-    same(&rt, send(&mut j.client, 1), true);
-    same(&rt, watch(&mut j.conn, 7, Interest::READ), Ok(()));
-    same(
-        &rt,
-        one_event(&mut j.wait, rt.alloc(), LONG),
-        event(7, Interest::READ),
-    );
-    same(&rt, j.conn.arm(Key(7), Interest::READ), Ok(()));
-    same(&rt, j.notify.notify(), Ok(()));
-    same(
-        &rt,
-        one_event(&mut j.wait, rt.alloc(), Some(0)),
-        event(7, Interest::READ),
-    );
-}
-
-#[test]
-fn notifies_without_pause_hide_no_event(rt: HostRuntime) {
-    let mut j = connected(&rt, rt.alloc()).expect(&rt, "a connection");
-    same(&rt, send(&mut j.client, 1), true);
-    same(&rt, watch(&mut j.conn, 7, Interest::READ), Ok(()));
-    same(
-        &rt,
-        one_event(&mut j.wait, rt.alloc(), LONG),
-        event(7, Interest::READ),
-    );
-    same(&rt, j.conn.arm(Key(7), Interest::READ), Ok(()));
-    same(&rt, j.notify.notify(), Ok(()));
-    same(&rt, one_event(&mut j.wait, rt.alloc(), LONG), Ok(None));
-    same(&rt, j.notify.notify(), Ok(()));
-    same(
-        &rt,
-        one_event(&mut j.wait, rt.alloc(), LONG),
-        event(7, Interest::READ),
-    );
-}
 
 // A wait without a limit, and beside it a notify that comes a while later. What both answer.
 fn end_later<R: Threads + Clock + Sync>(
@@ -124,16 +69,4 @@ fn what_there_is_no_room_for_is_given_by_the_next_wait(rt: HostRuntime) {
     );
     same(&rt, one_event(&mut j.wait, rt.alloc(), Some(0)), Ok(None));
     same(&rt, j.wait.waits(), 3);
-}
-
-#[test]
-fn a_wait_without_events_is_over_with_its_limit(rt: HostRuntime) {
-    let mut j = connected(&rt, rt.alloc()).expect(&rt, "a connection");
-    same(&rt, watch(&mut j.conn, 1, Interest::READ), Ok(()));
-    same(
-        &rt,
-        one_event(&mut j.wait, rt.alloc(), Some(2_000_000)),
-        Ok(None),
-    );
-    same(&rt, (j.wait.waits(), j.wait.faults()), (1, 0));
 }

@@ -1,0 +1,310 @@
+//! A connection, its client and its waits, as the rows of a table use them.
+
+use crate::asserts::same_in;
+use crate::joined::{
+    Joined, LONG, connected, one_event, read_some, receive, send, send_all, watch,
+};
+use crate::plays::Act::{
+    Add, Arm, Calls, Faults, Notify, Read, Receive, Remove, Send, SendNine, Wait, WaitFaults,
+    Waits, Watch, Write,
+};
+use crate::plays::Came::{Blocked, Done, Event, Got, Nothing, Number, Went, Wrote};
+use aio_base::{Conn, Did, EventWait, Failed, Interest, Key};
+use aio_mio::MioConn;
+use std::alloc::Global;
+use std::net::{Net, TcpStream};
+use std::process::Abort;
+use std::sync;
+use std::test::Fail;
+
+/// What is done.
+#[derive(Clone, Copy)]
+enum Act {
+    /// The client sends this byte.
+    Send(u8),
+    /// It sends nine of them at once.
+    SendNine(u8),
+    /// It reads a byte.
+    Receive,
+    /// Adds the connection under a key and arms it.
+    Watch(u32, Interest),
+    /// Adds it.
+    Add(u32),
+    /// Arms it.
+    Arm(u32, Interest),
+    /// Takes it out.
+    Remove(u32),
+    /// Reads from it, up to eight bytes.
+    Read,
+    /// Writes this byte to it.
+    Write(u8),
+    /// Counts its faults.
+    Faults,
+    /// Notifies.
+    Notify,
+    /// Waits with this limit, with room for one event.
+    Wait(Option<u64>),
+    /// Counts the waits.
+    Waits,
+    /// Counts the faults of waits.
+    WaitFaults,
+    /// Counts the notifies.
+    Calls,
+}
+
+/// What comes of it.
+#[derive(Clone, Copy, Debug, PartialEq)]
+enum Came {
+    /// Nothing failed.
+    Done,
+    /// An event of this key.
+    Event(u32, Interest),
+    /// No event.
+    Nothing,
+    /// So many bytes came, of which this is the first.
+    Went(usize, u8),
+    /// So many bytes went over.
+    Wrote(usize),
+    /// The connection is blocked.
+    Blocked,
+    /// The client has this byte.
+    Got(u8),
+    /// So many.
+    Number(u64),
+    /// Something else.
+    Other,
+}
+
+/// What a call without an answer of its own comes to.
+fn done(is_done: bool) -> Came {
+    if is_done { Done } else { Came::Other }
+}
+
+/// Does this with a connection and a key.
+fn act_on(conn: &mut MioConn, key: u32, act: Act) -> Came {
+    if key >= 4096 {
+        return Came::Other;
+    }
+    let answer = match act {
+        Watch(_, on) => watch(conn, key, on),
+        Arm(_, on) => aio_base::Arm::arm(conn, Key(key), on),
+        Add(_) => aio_base::Arm::add(conn, Key(key)),
+        _ => aio_base::Arm::remove(conn, Key(key)),
+    };
+    done(answer.is_ok())
+}
+
+/// What a wait comes to.
+fn waited(answer: Result<Option<aio_base::Event>, Failed>) -> Came {
+    match answer {
+        Ok(Some(event)) => Event(event.key.0, event.on),
+        Ok(None) => Nothing,
+        Err(Failed) => Came::Other,
+    }
+}
+
+/// What a read comes to.
+fn was_read(conn: &mut MioConn) -> Came {
+    match read_some(conn) {
+        (Ok(Did::Bytes(count)), first) => Went(count, first),
+        (Ok(Did::Blocked), 0) => Blocked,
+        _ => Came::Other,
+    }
+}
+
+/// What a write of one byte comes to.
+fn written(conn: &mut MioConn, byte: u8) -> Came {
+    match conn.write(&[byte]) {
+        Ok(Did::Bytes(count)) => Wrote(count),
+        Ok(Did::Blocked) => Blocked,
+        Err(Failed) => Came::Other,
+    }
+}
+
+/// What the client reads.
+fn received(client: &mut TcpStream) -> Came {
+    match receive(client) {
+        Some(byte) => Got(byte),
+        None => Came::Other,
+    }
+}
+
+/// Does this.
+fn comes_of<R: Net + Copy>(j: &mut Joined<R>, alloc: Global, act: Act) -> Came {
+    match act {
+        Send(byte) => done(send(&mut j.client, byte)),
+        SendNine(byte) => done(send_all(&mut j.client, &[byte; 9])),
+        Receive => received(&mut j.client),
+        Watch(key, _) | Arm(key, _) | Add(key) | Remove(key) => act_on(&mut j.conn, key, act),
+        Read => was_read(&mut j.conn),
+        Write(byte) => written(&mut j.conn, byte),
+        Faults => Number(aio_base::Faults::faults(&j.conn)),
+        Notify => done(aio_base::Notify::notify(&mut j.notify).is_ok()),
+        Wait(limit) => waited(one_event(&mut j.wait, alloc, limit)),
+        Waits => Number(j.wait.waits()),
+        WaitFaults => Number(aio_base::Faults::faults(&j.wait)),
+        Calls => Number(aio_base::Notify::calls(&j.notify)),
+    }
+}
+
+/// What is done with a new connection, and what comes of each act.
+struct Row {
+    shows: &'static str,
+    acts: &'static [(Act, Came)],
+}
+
+/// Asserts that what the acts of a row come to is what stands beside each.
+fn plays<R: Net<Stream = TcpStream> + Copy + sync::Wait + Abort>(
+    rt: &R,
+    alloc: Global,
+    row: &Row,
+) -> Result<(), Fail> {
+    let mut j = connected(rt, alloc).ok_or("no connection")?;
+    for (act, came) in row.acts {
+        same_in(rt, row.shows, comes_of(&mut j, alloc, *act), *came);
+    }
+    drop(j);
+    Ok(())
+}
+
+/// Waits, and notifies between them.
+const WAITS: &[Row] = &[
+    Row {
+        shows: "a notify before a wait ends it and hides no event",
+        acts: &[
+            (Send(1), Done),
+            (Watch(7, Interest::READ), Done),
+            (Notify, Done),
+            (Wait(None), Nothing),
+            (Wait(LONG), Event(7, Interest::READ)),
+            (Waits, Number(2)),
+            (Calls, Number(1)),
+        ],
+    },
+    Row {
+        shows: "a wait that only looks does so though it was told",
+        acts: &[
+            (Send(1), Done),
+            (Watch(7, Interest::READ), Done),
+            (Wait(LONG), Event(7, Interest::READ)),
+            (Arm(7, Interest::READ), Done),
+            (Notify, Done),
+            (Wait(Some(0)), Event(7, Interest::READ)),
+        ],
+    },
+    Row {
+        shows: "notifies without pause hide no event",
+        acts: &[
+            (Send(1), Done),
+            (Watch(7, Interest::READ), Done),
+            (Wait(LONG), Event(7, Interest::READ)),
+            (Arm(7, Interest::READ), Done),
+            (Notify, Done),
+            (Wait(LONG), Nothing),
+            (Notify, Done),
+            (Wait(LONG), Event(7, Interest::READ)),
+        ],
+    },
+    Row {
+        shows: "a wait without events is over with its limit",
+        acts: &[
+            (Watch(1, Interest::READ), Done),
+            (Wait(Some(2_000_000)), Nothing),
+            (Waits, Number(1)),
+            (WaitFaults, Number(0)),
+        ],
+    },
+];
+
+#[test]
+fn a_wait_gives_each_event_and_ends_by_a_notify_or_its_limit(rt: HostRuntime) -> Result<(), Fail> {
+    for row in WAITS {
+        plays(&rt, rt.alloc(), row)?;
+    }
+    Ok(())
+}
+
+/// Arms, reads and writes.
+const CONNECTIONS: &[Row] = &[
+    Row {
+        shows: "an arm tells again what was not read",
+        acts: &[
+            (Send(1), Done),
+            (Watch(7, Interest::READ), Done),
+            (Wait(LONG), Event(7, Interest::READ)),
+            (Wait(Some(0)), Nothing),
+            (Arm(7, Interest::READ), Done),
+            (Wait(LONG), Event(7, Interest::READ)),
+        ],
+    },
+    Row {
+        shows: "an event is of the directions that were armed",
+        acts: &[
+            (Send(1), Done),
+            (Watch(4_095, Interest::WRITE), Done),
+            (Wait(LONG), Event(4_095, Interest::WRITE)),
+            (Arm(4_095, Interest::BOTH), Done),
+            (Wait(LONG), Event(4_095, Interest::BOTH)),
+        ],
+    },
+    Row {
+        shows: "bytes are read after their event",
+        acts: &[
+            (Read, Blocked),
+            (Watch(3, Interest::READ), Done),
+            (Read, Blocked),
+            (Send(5), Done),
+            (Read, Blocked),
+            (Wait(LONG), Event(3, Interest::READ)),
+            (Read, Went(1, 5)),
+            (Read, Blocked),
+            (Faults, Number(0)),
+        ],
+    },
+    Row {
+        shows: "what there was no room for is read without a further event",
+        acts: &[
+            (Watch(3, Interest::READ), Done),
+            (Read, Blocked),
+            (SendNine(4), Done),
+            (Wait(LONG), Event(3, Interest::READ)),
+            (Read, Went(8, 4)),
+            (Read, Went(1, 4)),
+        ],
+    },
+    Row {
+        shows: "what is written comes to the client",
+        acts: &[(Write(8), Wrote(1)), (Receive, Got(8))],
+    },
+    Row {
+        shows: "a key is used again after a removal",
+        acts: &[
+            (Watch(2, Interest::READ), Done),
+            (Read, Blocked),
+            (Remove(2), Done),
+            (Send(6), Done),
+            (Wait(Some(0)), Nothing),
+            (Watch(2, Interest::READ), Done),
+            (Wait(LONG), Event(2, Interest::READ)),
+            (Read, Went(1, 6)),
+        ],
+    },
+    Row {
+        shows: "a removal of what is not registered is no fault",
+        acts: &[
+            (Remove(2), Done),
+            (Add(2), Done),
+            (Arm(2, Interest::NONE), Done),
+            (Remove(2), Done),
+            (Faults, Number(0)),
+        ],
+    },
+];
+
+#[test]
+fn a_connection_tells_what_is_armed_and_hands_bytes_over(rt: HostRuntime) -> Result<(), Fail> {
+    for row in CONNECTIONS {
+        plays(&rt, rt.alloc(), row)?;
+    }
+    Ok(())
+}
