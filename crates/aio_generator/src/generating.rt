@@ -1,6 +1,6 @@
 //! The steps of a trace that a number describes.
 
-ghost use Rattle.std.specs.Prelude.{◌≡◌, ◌+◌, ◌%◌, ◌^◌, ◌<◌, ◌≤◌};
+ghost use Rattle.std.specs.Prelude.{◌≡◌, ◌+◌, ◌%◌, ◌^◌, ◌<◌, ◌≤◌, ◌∷◌};
 ghost use Rattle.std.specs.Iterator.{YieldsFirst, item_count};
 ghost use Rattle.aio_base.specs.Generated.{after_draws, dir_drawn, draw, drawn, generated_by, generated_of, generated_steps, interest_drawn, listener_drawn, next_state, timer_drawn};
 ghost use Rattle.aio_generator.specs.Generating.{LeavesRoom, StepsLeft, steps_left};
@@ -77,13 +77,23 @@ impl Iterator for Steps {
         if self.left == 0 {
             return None;
         }
-        self.left -= 1;
-        let kind = self.draws.draw() % 16;
-        Some(self.generated(kind))
+        Some(self.next_step())
     }
 }
 
 impl Steps {
+    /// The next step, where one is left: for a caller that knows how many there are. It takes no memory.
+    #[inline(always)]
+    pub fn next_step(&mut self) -> Step
+        requires { 0 < self.old.left }
+        ensures step { steps_left self.old ≡ result ∷ steps_left self.new }
+        ensures left { self.new.left + 1 ≡ self.old.left }
+    {
+        self.left -= 1;
+        let kind = self.draws.draw() % 16;
+        self.generated(kind)
+    }
+
     /// The step of a kind, its numbers drawn from left to right.
     #[inline(always)]
     fn generated(&mut self, kind: u32) -> Step

@@ -4,6 +4,7 @@ use Rattle.std.specs.List.{All}
 use Rattle.aio_base.specs.declared.steps.Step.{Step}
 use Rattle.aio_base.specs.declared.steps.Step.TheVariants as step
 use Rattle.aio_base.specs.World.{Succeeds, Gives, RoundState, World, opening}
+use Rattle.aio_base.specs.Machine.{Outcome}
 use Rattle.aio_base.specs.Runs.{PolledStep, answers_of, outcome_of, scripted, wakes_of, world_of}
 use Rattle.aio_laws.specs.Storings.{Once, storings_of}
 use Rattle.aio_laws.specs.Succession.{StoringsFollow}
@@ -58,6 +59,53 @@ is_of_timer (step.SetEvery number deadline period) = true
 is_of_timer (step.End number) = true
 is_of_timer _ = false
 
+-- What stands between a world and the outcome of a step from it, whatever the poller answered. Each field speaks of this step alone, so the
+-- entries of a log are judged by it one by one, and a wrong machine breaks it by one step.
+pub record StepStands (w : World) (s : PolledStep) (o : Outcome) : Type 0 where
+  -- where it made a pass, no timer is registered that was due at it
+  pub passed : MakesPass w s.step → AllAbove w.now o.world.registrations
+  -- where it is not of a timer, it took out what was due, if it made a pass, and no other registration
+  pub others : is_of_timer s.step ≡ false → RegistrationsFollow w s.step o.world
+  -- it let no count fall and gave no number again
+  pub counted : CountsRise w o.world
+  -- it drew a number of a listener or of a timer where it told one, an id where it registered a timer, and noted what it was told to note
+  pub drawn : DrawsFollow w s.step o.answer o.world
+  -- it left the source that it polled or handled unbroken, where its answer tells of no fault
+  pub unbroken : UnbrokenAsTold w s.step s.answers o.answer o.world
+  -- it counted a round where it began one, what ran ran on, and it was told so
+  pub rounds : RoundsFollow w s.step s.answers o.answer o.world
+  -- it moved the hand of the running round as it was told
+  pub hand : HandFollows w s.step s.answers o.answer o.world
+  -- it moved the clock where it was a `now` that was answered so
+  pub clock : ClockIsSet w s.step o.answer o.world
+  -- it noted each event that it handled, and nothing else
+  pub noted : HandledIsNoted w s.step s.answers o.world
+  -- it left the sources, marks, failed arms, listeners and timers of others alone
+  pub alone : OthersStand w s.step s.answers o.world
+  -- its own mark went where it was told ready, and is of this step where it stored a waker
+  pub marked : MarksFollow w s.step o.answer o.world
+  -- it added a source where it told a key, the least that was free, and took one out where it told so
+  pub sources : SourcesFollow w s.step o.answer o.world
+  -- it was told ready exactly where it polled what was ready
+  pub ready : ReadyIsTold w s.step o.answer
+  -- it was told what fits it, and that it is refused where what it needs was not to be had
+  pub fits : FitsTheStep w s.step o.answer
+  -- it called the poller as it told, told where one of its calls failed, and what is armed is what it asked for
+  pub calls : CallsFollow w s.step s.answers o.answer o.calls o.world
+  -- its own source is broken where its last arm failed
+  pub broken : BrokenFollows w s.step s.answers o.answer o.calls o.world
+  -- a whole round armed just the sources whose events left a waiter, and what it left armed and broken is what these arms made of it
+  pub rearmed : RoundArming w s.step s.answers o.calls o.world
+  -- its own listener and timer are as it says
+  pub own : KeepsItsOwn w s.step o.answer o.world
+  -- where it was refused, it moved its position alone and woke nobody
+  pub refused : RefusalLeaves w o.answer o.wakes o.world
+
+-- the machine's step from a world, which leaves this world
+pub record LastStands (w : World) (last : PolledStep) (v : World) : Type 0 where
+  pub leaves : v ≡ (outcome_of w last).world
+  pub stands : StepStands w last (outcome_of w last)
+
 -- What stands after a run of the machine, whatever the poller answered in it. A run that is cut off after a step is a run, so this stands
 -- between any two steps.
 pub record StandsBetween (run : List PolledStep) : Type 0 where
@@ -71,70 +119,16 @@ pub record StandsBetween (run : List PolledStep) : Type 0 where
   pub distinct : NoDoubles (world_of opening run)
   -- each registration is that of a timer
   pub timed : All (IsOfTimer (world_of opening run).timers) (world_of opening run).registrations
-  -- the last step moved storings as such a step may
-  pub follows : (before : List PolledStep) (last : PolledStep) → run ≡ before ++ last ∷ []
-      → StoringsFollow (world_of opening before) last.step last.answers (storings_of opening before) (storings_of opening run)
-  -- where the last step made a pass, no timer is registered that was due at it
-  pub passed : (before : List PolledStep) (last : PolledStep) → run ≡ before ++ last ∷ [] → MakesPass (world_of opening before) last.step
-      → AllAbove (world_of opening before).now (world_of opening run).registrations
-  -- a last step that was not of a timer took out what was due, where it made a pass, and no other registration
-  pub others : (before : List PolledStep) (last : PolledStep) → run ≡ before ++ last ∷ [] → is_of_timer last.step ≡ false
-      → RegistrationsFollow (world_of opening before) last.step (world_of opening run)
-  -- the last step let no count fall and gave no number again
-  pub counted : (before : List PolledStep) (last : PolledStep) → run ≡ before ++ last ∷ []
-      → CountsRise (world_of opening before) (world_of opening run)
-  -- it drew a number of a listener or of a timer where it told one, an id where it registered a timer, and noted what it was told to note
-  pub drawn : (before : List PolledStep) (last : PolledStep) → run ≡ before ++ last ∷ []
-      → DrawsFollow (world_of opening before) last.step (outcome_of (world_of opening before) last).answer (world_of opening run)
   -- the listeners that were polled stand in the order of their first polls
   pub polled : InPollOrder (world_of opening run)
   -- each timer that waits is registered, or a pass took its registration
   pub registered : TimersAreRegistered (world_of opening run)
-  -- the last step left the source that it polled or handled unbroken, where its answer tells of no fault
-  pub unbroken : (before : List PolledStep) (last : PolledStep) → run ≡ before ++ last ∷ []
-      → UnbrokenAsTold (world_of opening before) last.step last.answers (outcome_of (world_of opening before) last).answer (world_of opening run)
-  -- the last step counted a round where it began one, what ran ran on, and it was told so
-  pub rounds : (before : List PolledStep) (last : PolledStep) → run ≡ before ++ last ∷ []
-      → RoundsFollow (world_of opening before) last.step last.answers (outcome_of (world_of opening before) last).answer (world_of opening run)
-  -- it moved the hand of the running round as it was told
-  pub hand : (before : List PolledStep) (last : PolledStep) → run ≡ before ++ last ∷ []
-      → HandFollows (world_of opening before) last.step last.answers (outcome_of (world_of opening before) last).answer (world_of opening run)
-  -- it moved the clock where it was a `now` that was answered so
-  pub clock : (before : List PolledStep) (last : PolledStep) → run ≡ before ++ last ∷ []
-      → ClockIsSet (world_of opening before) last.step (outcome_of (world_of opening before) last).answer (world_of opening run)
-  -- it noted each event that it handled, and nothing else
-  pub noted : (before : List PolledStep) (last : PolledStep) → run ≡ before ++ last ∷ []
-      → HandledIsNoted (world_of opening before) last.step last.answers (world_of opening run)
-  -- it left the sources, marks, failed arms, listeners and timers of others alone
-  pub alone : (before : List PolledStep) (last : PolledStep) → run ≡ before ++ last ∷ []
-      → OthersStand (world_of opening before) last.step last.answers (world_of opening run)
-  -- its own mark went where it was told ready, and is of this step where it stored a waker
-  pub marked : (before : List PolledStep) (last : PolledStep) → run ≡ before ++ last ∷ []
-      → MarksFollow (world_of opening before) last.step (outcome_of (world_of opening before) last).answer (world_of opening run)
-  -- it added a source where it told a key, the least that was free, and took one out where it told so
-  pub sources : (before : List PolledStep) (last : PolledStep) → run ≡ before ++ last ∷ []
-      → SourcesFollow (world_of opening before) last.step (outcome_of (world_of opening before) last).answer (world_of opening run)
-  -- it was told ready exactly where it polled what was ready
-  pub ready : (before : List PolledStep) (last : PolledStep) → run ≡ before ++ last ∷ []
-      → ReadyIsTold (world_of opening before) last.step (outcome_of (world_of opening before) last).answer
-  -- it was told what fits it, and that it is refused where what it needs was not to be had
-  pub fits : (before : List PolledStep) (last : PolledStep) → run ≡ before ++ last ∷ []
-      → FitsTheStep (world_of opening before) last.step (outcome_of (world_of opening before) last).answer
-  -- it called the poller as it told, told where one of its calls failed, and what is armed is what it asked for
-  pub calls : (before : List PolledStep) (last : PolledStep) → run ≡ before ++ last ∷ []
-      → CallsFollow (world_of opening before) last.step last.answers (outcome_of (world_of opening before) last).answer (outcome_of (world_of opening before) last).calls (world_of opening run)
-  -- its own source is broken where its last arm failed
-  pub broken : (before : List PolledStep) (last : PolledStep) → run ≡ before ++ last ∷ []
-      → BrokenFollows (world_of opening before) last.step last.answers (outcome_of (world_of opening before) last).answer (outcome_of (world_of opening before) last).calls (world_of opening run)
-  -- a whole round armed just the sources whose events left a waiter, and what it left armed and broken is what these arms made of it
-  pub rearmed : (before : List PolledStep) (last : PolledStep) → run ≡ before ++ last ∷ []
-      → RoundArming (world_of opening before) last.step last.answers (outcome_of (world_of opening before) last).calls (world_of opening run)
-  -- and its own listener and timer are as it says
-  pub own : (before : List PolledStep) (last : PolledStep) → run ≡ before ++ last ∷ []
-      → KeepsItsOwn (world_of opening before) last.step (outcome_of (world_of opening before) last).answer (world_of opening run)
-  -- where it was refused, it moved its position alone and woke nobody
-  pub refused : (before : List PolledStep) (last : PolledStep) → run ≡ before ++ last ∷ []
-      → RefusalLeaves (world_of opening before) (outcome_of (world_of opening before) last).answer (outcome_of (world_of opening before) last).wakes (world_of opening run)
+  -- the last step moved storings as such a step may
+  pub follows : (before : List PolledStep) (last : PolledStep) → run ≡ before ++ last ∷ []
+      → StoringsFollow (world_of opening before) last.step last.answers (storings_of opening before) (storings_of opening run)
+  -- the last step led from the world before it to that after the run, by an outcome of which all stands that stands of a step
+  pub step : (before : List PolledStep) (last : PolledStep) → run ≡ before ++ last ∷ []
+      → LastStands (world_of opening before) last (world_of opening run)
 
 -- what stands after these steps of a trace over the poller in memory
 pub record StandsAfter (steps : List Step) : Type 0 where

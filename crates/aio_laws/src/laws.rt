@@ -4,7 +4,7 @@ ghost use Rattle.std.specs.Prelude.{◌≡◌, ◌≢◌, ◌⊎◌, ◌&&◌, �
 ghost use Rattle.std.specs.List.{All, Contains};
 ghost use Rattle.aio_laws.specs.Answers.{FitsTheStep};
 ghost use Rattle.aio_laws.specs.Arming.{UnbrokenAsTold, IsArmedOrInHand};
-ghost use Rattle.aio_laws.specs.Between.{IsWaitedOut, RegistrationsFollow, StandsAfter, StandsBetween, is_of_timer};
+ghost use Rattle.aio_laws.specs.Between.{IsWaitedOut, RegistrationsFollow, StandsAfter, StandsBetween, StepStands, is_of_timer};
 ghost use Rattle.aio_laws.specs.Calls.{CallsFollow};
 ghost use Rattle.aio_laws.specs.Clock.{ClockIsSet};
 ghost use Rattle.aio_laws.specs.Counts.{CountsRise};
@@ -22,7 +22,7 @@ ghost use Rattle.aio_laws.specs.Own.{KeepsItsOwn};
 ghost use Rattle.aio_laws.specs.Readiness.{ReadyIsTold};
 ghost use Rattle.aio_base.specs.Refusals.{RefusalLeaves, is_refusal, only_counted};
 ghost use Rattle.aio_laws.specs.Registered.{TimersAreRegistered};
-ghost use Rattle.aio_base.specs.Runs.{PolledStep, answers_of, outcome_without_notes, scripted, wakes_of, without_notes, world_of};
+ghost use Rattle.aio_base.specs.Runs.{PolledStep, answers_of, outcome_of, outcome_without_notes, scripted, wakes_of, without_notes, world_of};
 ghost use Rattle.aio_laws.specs.RoundArming.{RoundArming};
 ghost use Rattle.aio_laws.specs.RoundCounts.{RoundsFollow};
 ghost use Rattle.aio_laws.specs.RoundHands.{HandFollows};
@@ -403,25 +403,32 @@ pub fn a_script_is_a_run()
         ≡ outcome_without_notes (step_result v s answers) }
 {}
 
+/// What stands of each step of the machine, from any world and whatever the poller answers (`StepStands`),
+/// as one law with no premise. It is of the step and its outcome alone: of no run, and of no world that a
+/// run has to reach. So a list of steps with their outcomes is judged entry by entry.
+///
+/// Where the step makes a pass, no timer is registered afterwards that was due at it; where it is not of a
+/// timer, it takes out what its pass does and no other registration. It lets no count fall and gives no
+/// number again. Told pending, or having handled an event without a fault, it leaves its source unbroken
+/// where a waiter is left. It counts a round where it begins one, tells what a step of a round tells, moves
+/// the hand as it tells, notes each event that it handles and nothing else, moves the clock where it is a
+/// `now` that is answered so, and leaves the things of others alone. Its own mark goes where it is told
+/// ready, it changes the sources as its answer tells and its own listener or timer as such a step may, and
+/// it is told ready exactly where it polls what is ready. It is told what fits it, and that it is refused
+/// where what it needs is not to be had. It calls the poller as it tells, and no interest changes without a
+/// call. Its own source is broken where its last arm failed, and a whole round arms just the sources of
+/// which an event left a waiter. Where it is refused it takes its position and does nothing else.
+pub fn a_step_stands()
+    ensures { (w : World) (s : PolledStep) → StepStands w s (outcome_of w s) }
+{}
+
 /// After every run, whatever the poller answered in it, each waiter of each live source is covered and
 /// no other waits, no storing of a waker is lost or woken twice, nothing stands twice in the world's
-/// lists, each registration is that of a timer, each timer that waits is registered, and the last step
-/// moved storings as such a step may, let no count fall and gave no number again.
-/// Right after a pass, where a round began, where one ended with a second pass or where a whole round
-/// was run, no timer is registered that was due at it; and a step that is not of a timer takes out what
-/// its pass does and no other registration. Since a run that is cut off at a step is a run, this holds
-/// between any two steps; the steps of a trace over the poller in memory are such a run.
-///
-/// Listeners that were polled stand in the order of their first polls. A last step that was told pending,
-/// or that handled an event without a fault, left its source unbroken where a waiter is left.
-/// The last step counted a round where it began one, told what a step of a round tells, moved the hand as
-/// it told, noted each event that it handled and nothing else, moved the clock where it was a `now` that
-/// was answered so, and left the things of others alone. Its own mark went where it was told ready, it
-/// changed the sources as its answer tells and its own listener or timer as such a step may, and it was
-/// told ready exactly where it polled what was ready. It was told what fits it, and that it is refused
-/// where what it needs was not to be had. It called the poller as it told, and no interest changed without
-/// a call. Its own source is broken where its last arm failed, and a whole round armed just the sources of
-/// which an event left a waiter. Where it was refused it took its position and did nothing else.
+/// lists, each registration is that of a timer, each timer that waits is registered, listeners that were
+/// polled stand in the order of their first polls, and the last step moved storings as such a step may.
+/// The last step led from the world before it to that after the run, and all stands of it that
+/// `a_step_stands` names. Since a run that is cut off at a step is a run, this holds between any two steps;
+/// the steps of a trace over the poller in memory are such a run.
 ///
 /// Over the poller in memory the waits of a trace gave each event that its steps noted once, in order, or
 /// it is noted still.

@@ -1,42 +1,18 @@
 -- Facts on what is unread of an input, and on what is written of a text.
-use Rattle.std.proofs.Common.{◌≡◌, ◌≢◌, ℕ, ◌≤◌, Bool, IsTrue, true, false, ◌||◌, if◌then◌else◌, List, [], ◌∷◌, ◌++◌, length, Option, None, Some, Result, Ok, Err, bytes_eq, refl, sym, ap, ◌∙◌, subst, append_assoc, append-nil, length-append, arith}
+use Rattle.std.proofs.Common.{◌≡◌, ◌≢◌, ℕ, ◌≤◌, Bool, true, false, ◌||◌, if◌then◌else◌, List, [], ◌∷◌, ◌++◌, length, Option, None, Some, Result, Ok, Err, refl, sym, ap, ◌∙◌, subst, append_assoc, append-nil, length-append, arith}
 use Rattle.std.specs.List.{list_any}
 use Rattle.std.specs.Io.KnownBytes.{Appends, Consumes, Keeps, IsAtEnd}
-use Rattle.std.proofs.KnownBytes.{Appends-trans, Appends-nil}
+use Rattle.std.proofs.KnownBytes.{Appends-trans}
 use Rattle.aio_base.specs.Trace.{lines_of, onto_first_line}
 use Rattle.aio_bytes.specs.Held.{HasNoLineFeed, is_line_feed, PutsAhead}
 use Rattle.aio_bytes.specs.declared.traits.SinkRefusal.{SinkRefusal}
-use Rattle.aio_bytes.specs.declared.traits.SinkRefusal.TheVariants as refused
-use Rattle.aio_bytes.specs.Sinks.{AppendsPart, HasFailed, Writes, is_failed}
-use Rattle.aio_base.specs.Devices.{TellsFaults}
+use Rattle.aio_bytes.specs.Sinks.{AppendsPart, Writes}
 use Rattle.aio_replay.specs.declared.ends.Next.{Next}
 use Rattle.aio_replay.specs.declared.ends.Next.TheVariants as next
 use Rattle.aio_replay.specs.Language.{Language, SaysByLines}
-use Rattle.aio_replay.specs.Driving.{Causes, Sends, Unread, LeavesAllBut, BeginsLong, TakesLine, FindsNext}
-
--- ## Faults of the output
-
-failed_where_tested : {T : Type 0} (r : Result T SinkRefusal) → IsTrue (is_failed r) → HasFailed r
-failed_where_tested (Ok done) t = cc
-failed_where_tested (Err refused.Failed) t = refl
-failed_where_tested (Err refused.OutOfMemory) t = cc
-
--- what a call of a sink tells of its faults, by the test of its answer
-pub tells_by_test : {S T : Type 0} (count : S → ℕ) (is_sure : S → Bool) (old new : S) (r : Result T SinkRefusal)
-    → TellsFaults count is_sure old new (HasFailed r) → Causes count is_sure old new (is_failed r)
-tells_by_test count is_sure old new r t = record {
-  cause = record {
-    later = t.cause.later;
-    rose = λ failed. t.cause.rose (failed_where_tested r failed);
-    never = λ sure. (λ failed. (t.cause.never sure).0 (failed_where_tested r failed), (t.cause.never sure).1);
-  };
-  sure = t.sure;
-}
+use Rattle.aio_replay.specs.Driving.{Sends, Unread, LeavesAllBut, BeginsLong, TakesLine, FindsNext}
 
 -- ## What is written of a text
-
-pub Sends-nil : (out : Option (List ℕ)) (text : List ℕ) → Sends out out text text
-Sends-nil out text = record { sent = []; appended = Appends-nil out; whole = refl }
 
 pub Sends-trans : (a b c : Option (List ℕ)) (x y z : List ℕ) → Sends a b x y → Sends b c y z → Sends a c x z
 Sends-trans a b c x y z p q = record {

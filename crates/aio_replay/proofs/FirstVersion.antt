@@ -1,17 +1,16 @@
 -- An input of the first version says what its lines say.
-use Rattle.std.proofs.Common.{◌≡◌, ℕ, ◌+◌, ◌<◌, ◌≤◌, Bool, true, false, ◌&&◌, ltb, leb, nat_lt, if◌then◌else◌, cond, List, [], ◌∷◌, ◌++◌, length, length-append, Option, None, Some, refl, sym, ap, ◌∙◌, arith}
+use Rattle.std.proofs.Common.{◌≡◌, ℕ, ◌+◌, ◌<◌, ◌≤◌, Bool, true, false, ◌&&◌, leb, nat_lt, if◌then◌else◌, List, ◌∷◌, ◌++◌, length, length-append, Option, None, Some, refl, ap, ◌∙◌, arith}
 use Rattle.std.specs.Prelude.{bytes_eq}
 use Rattle.std.specs.Cmp.Lexicographic.{pointwise}
 use Rattle.std.specs.Option.{option_map}
-use Rattle.std.specs.List.{list_all}
 use Rattle.std.proofs.lemmas.Bool.Decides.{nat_tests, Decides-ltb}
 use Rattle.aio_base.specs.declared.steps.LineFault.{LineFault}
 use Rattle.aio_base.specs.declared.steps.LineFault.TheVariants as fault
 use Rattle.aio_base.specs.declared.steps.Step.{Step}
 use Rattle.aio_base.specs.declared.steps.Reason.{Reason}
 use Rattle.aio_base.specs.declared.steps.Reason.TheVariants as reason
-use Rattle.aio_base.specs.Lines.{body_of, fault_of, fault_of_words, is_allowed, line_bytes, step_read, words_in}
-use Rattle.aio_base.specs.Trace.{Trace, refused, with_step, lines_of, trace_of, trace_of_lines, trace_from, trace_after, reason_of, is_header, header_words, line_limit}
+use Rattle.aio_base.specs.Lines.{body_of, fault_of, line_bytes, step_read, words_in}
+use Rattle.aio_base.specs.Trace.{refused, with_step, lines_of, trace_of, trace_of_lines, trace_from, trace_after, reason_of, is_header, header_words, line_limit}
 use Rattle.aio_laws.proofs.traces.Shapes.{is_read}
 use Rattle.aio_trace.proofs.LineLaws.{no_fault}
 use Rattle.aio_generator.proofs.Ranges.{in_range}

@@ -20,7 +20,7 @@ use Rattle.aio_react.specs.Sections.{IsRefusedBy, begin_refusal, begin_reply, ha
 use Rattle.aio_react.specs.Standing.{AreFewTickets}
 use Rattle.aio_react.proofs.Later.{tickets_later}
 use Rattle.aio_replay.specs.declared.replayer.Replayer.{Replayer}
-use Rattle.aio_replay.specs.Replaying.{IsWithin}
+use Rattle.aio_replay.specs.Replaying.{IsWithin, step_limit}
 use Rattle.aio_replay.specs.Replies.{HasReply}
 
 -- ## What is counted
@@ -42,7 +42,7 @@ listened_by false spent none = λ ample. refl
 listened_by true true none = absurd (cc)
 listened_by true false none = λ ample. absurd (ample refl)
 
-pub listened : (core : CoreValue) (key : ℕ) (answered : Result ℕ CoreRefusal) → length core.listeners ≤ 1000000 → IsRefusedBy (listen_refusal core key) answered → HasReply listen_reply answered
+pub listened : (core : CoreValue) (key : ℕ) (answered : Result ℕ CoreRefusal) → length core.listeners ≤ step_limit → IsRefusedBy (listen_refusal core key) answered → HasReply listen_reply answered
 listened core key (Ok number) few cause = λ ample. refl
 listened core key (Err r) few cause =
     let spent : nat_eq (length core.listeners) (2 ^ 64 - 1) ≡ false = ne_eqb (length core.listeners) (2 ^ 64 - 1) (omega arith) in
@@ -62,13 +62,13 @@ reacted_by true spent none = λ ample. refl
 reacted_by false true none = absurd (cc)
 reacted_by false false none = λ ample. absurd (ample refl)
 
-pub begun : (core : CoreValue) (answered : Result (ℕ × Option ℕ) CoreRefusal) → core.ticker ≤ 1000000 → IsRefusedBy (begin_refusal core) answered → HasReply begin_reply answered
+pub begun : (core : CoreValue) (answered : Result (ℕ × Option ℕ) CoreRefusal) → core.ticker ≤ step_limit → IsRefusedBy (begin_refusal core) answered → HasReply begin_reply answered
 begun core (Ok number) few cause = λ ample. refl
 begun core (Err r) few cause =
     let spent : (core.ticker == 2 ^ 64 - 1) ≡ false = ne_eqb core.ticker (2 ^ 64 - 1) (omega arith) in
     subst (λ (x : CoreRefusal). HasReply begin_reply (Err x)) (sym cause) (begun_by core.round.running (core.ticker == 2 ^ 64 - 1) spent)
 
-pub reacted : (core : CoreValue) (answered : Result Reacted CoreRefusal) → core.ticker ≤ 1000000 → IsRefusedBy (begin_refusal core) answered → HasReply react_reply answered
+pub reacted : (core : CoreValue) (answered : Result Reacted CoreRefusal) → core.ticker ≤ step_limit → IsRefusedBy (begin_refusal core) answered → HasReply react_reply answered
 reacted core (Ok round) few cause = λ ample. refl
 reacted core (Err r) few cause =
     let spent : (core.ticker == 2 ^ 64 - 1) ≡ false = ne_eqb core.ticker (2 ^ 64 - 1) (omega arith) in
@@ -81,13 +81,13 @@ stepped_by true true none = absurd (cc)
 stepped_by true false none = λ ample. absurd (ample refl)
 stepped_by false spent none = λ ample. absurd (ample refl)
 
-unspent : (place : Option SourceEntry) (dir : Dir) → IfSome place (λ (e : SourceEntry). (direction_of e.source.directions dir).listeners.drawn ≤ 1000000) → is_spent place dir ≡ false
+unspent : (place : Option SourceEntry) (dir : Dir) → IfSome place (λ (e : SourceEntry). (direction_of e.source.directions dir).listeners.drawn ≤ step_limit) → is_spent place dir ≡ false
 unspent None dir few = refl
 unspent (Some e) dir few =
     let drawn = (direction_of e.source.directions dir).listeners.drawn in
     ne_eqb drawn (2 ^ 64 - 1) (omega (arith, few))
 
-stepped_at : (sources : List (Option SourceEntry)) (l : Option _) (answered : Result (Poll (Result (Unit {0}) ArmFault)) CoreRefusal) → AreFewTickets 1000000 sources
+stepped_at : (sources : List (Option SourceEntry)) (l : Option _) (answered : Result (Poll (Result (Unit {0}) ArmFault)) CoreRefusal) → AreFewTickets step_limit sources
     → IsRefusedBy (step_refusal_of sources l) answered → HasReply step_reply answered
 stepped_at sources l (Ok polled) few cause = λ ample. refl
 stepped_at sources None (Err r) few cause = subst (λ (x : CoreRefusal). HasReply step_reply (Err x)) (sym cause) (λ ample. refl)
@@ -95,7 +95,7 @@ stepped_at sources (Some l) (Err r) few cause =
     subst (λ (x : CoreRefusal). HasReply step_reply (Err x)) (sym cause)
     (stepped_by (is_none l.first) (is_spent (entry_at sources l.key.0) l.dir) (unspent (entry_at sources l.key.0) l.dir (few l.key.0 l.dir)))
 
-pub stepped : (core : CoreValue) (number : ℕ) (answered : Result (Poll (Result (Unit {0}) ArmFault)) CoreRefusal) → AreFewTickets 1000000 core.sources
+pub stepped : (core : CoreValue) (number : ℕ) (answered : Result (Poll (Result (Unit {0}) ArmFault)) CoreRefusal) → AreFewTickets step_limit core.sources
     → IsRefusedBy (step_refusal core number) answered → HasReply step_reply answered
 stepped core number answered few cause = stepped_at core.sources (value_of core.listeners number) answered few cause
 

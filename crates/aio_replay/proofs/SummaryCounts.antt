@@ -18,7 +18,7 @@ use Rattle.aio_generator.specs.Generating.{StepsLeft, steps_left}
 use Rattle.aio_generator.proofs.Ranges.{all_spelled, in_range}
 use Rattle.aio_replay.specs.declared.counts.Summary.{Summary}
 use Rattle.aio_replay.specs.declared.replayer.Replayer.{Replayer}
-use Rattle.aio_replay.specs.Replaying.{IsWithin, Replays, StandsFor}
+use Rattle.aio_replay.specs.Replaying.{IsWithin, Replays, StandsFor, step_limit}
 use Rattle.aio_replay.specs.Summing.{AreAtMost, counts_told}
 use Rattle.aio_replay.proofs.Counting.{within_more}
 use Rattle.aio_replay.proofs.StepLemmas.{world_after-push}
@@ -33,6 +33,13 @@ length-steps_from (suc n) g = ap suc (length-steps_from n (generated_by g).after
 length-generated : (n seed : ℕ) → length (generated_steps n seed) ≡ n
 unfolding generated_steps
 length-generated n seed = length-steps_from n (first_generator seed)
+
+-- as many steps are left at first as the seed gives, and none where none is left
+pub all_left : (n seed : ℕ) (left : StepsLeft) → steps_left left ≡ generated_steps n seed → left.left ≡ n
+all_left n seed left is = sym (length-steps_from left.left left.generator) ∙ ap length is ∙ length-generated n seed
+
+pub none_left : (left : StepsLeft) → left.left ≡ 0 → steps_left left ≡ []
+none_left left none = ap (λ n. steps_from n left.generator) none
 
 -- the step behind some steps that all have spellings
 pub behind : (done : List Step) (s : Step) (rest : List Step) → All HasSpelling (done ++ s ∷ rest) → HasSpelling s
@@ -87,7 +94,7 @@ counts_push old new outcomes o before one = record {
 counts_are : (s : Summary) (outcomes : List Outcome) → AreCounts s outcomes → counts_told s ≡ counts_of outcomes
 counts_are s outcomes c = rw (c.steps, c.ready, c.pending, c.wakes, c.rounds, c.refused) refl
 
-few_counts : (s : Summary) (done : List Step) → AreCounts s (outcomes_from opening done) → length done ≤ 1000000 → AreAtMost 1000000 s
+few_counts : (s : Summary) (done : List Step) → AreCounts s (outcomes_from opening done) → length done ≤ step_limit → AreAtMost step_limit s
 few_counts s done counts few =
     let outcomes = outcomes_from opening done in
     let long = length-outcomes opening done in
@@ -134,14 +141,14 @@ module _ (n seed : ℕ) (left rest : StepsLeft) (s : Summary) (r : Replayer) (su
   done_few : length sums.done + 1 ≤ n
   done_few = omega (arith, length-generated n seed, ap length with_next, length-append sums.done (next ∷ steps_left rest))
 
-  pub sums_within : IsWithin 1000000 r
-  sums_within = within_more (length sums.done) 1000000 r (omega (arith, done_few)) sums.within
+  pub sums_within : IsWithin step_limit r
+  sums_within = within_more (length sums.done) step_limit r (omega (arith, done_few)) sums.within
 
-  pub sums_few : AreAtMost 1000000 s
+  pub sums_few : AreAtMost step_limit s
   sums_few = few_counts s sums.done sums.counts (omega (arith, done_few))
 
   -- the wakes of one step more are still few
-  pub wakes_few : (answer : Answer) (wakes : List Waker) (after : Replayer) → Replays next answer wakes r after → s.wakes + length wakes ≤ 1000000
+  pub wakes_few : (answer : Answer) (wakes : List Waker) (after : Replayer) → Replays next answer wakes r after → s.wakes + length wakes ≤ step_limit
   wakes_few answer wakes after replays =
       let o = script_step (world_after opening sums.done) next in
       let all = few_woken (sums.done ++ next ∷ []) in

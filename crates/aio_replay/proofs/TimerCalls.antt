@@ -19,7 +19,7 @@ use Rattle.aio_react.specs.Hosts.{has_id_left, next_id}
 use Rattle.aio_react.specs.Numbers.{value_of, with_value}
 use Rattle.aio_react.proofs.Later.{stands_later}
 use Rattle.aio_replay.specs.declared.replayer.Replayer.{Replayer}
-use Rattle.aio_replay.specs.Replaying.{StandsFor, Gives}
+use Rattle.aio_replay.specs.Replaying.{StandsFor, Gives, step_limit}
 use Rattle.aio_replay.specs.Replies.{IsHosted}
 use Rattle.aio_replay.specs.Timers.{number_of, TimerStands, OnlyAt, Owns}
 use Rattle.aio_replay.proofs.TimerChanges.{Times, times_of, with_times, TimesStand, times_without, book_without, gone_stands, next_registration, times_drawn, drawn_stands, own_registration, times_with, changed_stands}
@@ -153,7 +153,7 @@ abbrev pub CoreWorked : Work → Script × CoreValue → Script × CoreValue →
 CoreWorked work old new before after fault =
     Worked core_rules (λ (a b : Script × CoreValue). Unit {0}) (λ (c : Script × CoreValue). true) work old new before after fault
 
-pub hosted : (work : Work) (old new : Script × CoreValue) (before after : TimerValue) (fault : Option TimerFault) → old.1.ids_drawn ≤ 1000000
+pub hosted : (work : Work) (old new : Script × CoreValue) (before after : TimerValue) (fault : Option TimerFault) → old.1.ids_drawn ≤ step_limit
     → CoreWorked work old new before after fault → IsHosted fault
 hosted work old new before after None few works = tt
 hosted work old new before after (Some IdsSpent) few works =
@@ -187,10 +187,6 @@ pub gone : (r : Replayer) (w : World) (number : ℕ) (t : TimerValue) (e : Timer
 gone r w number t e has =
     gone_stands r.timers r.core.1.book r.core.1.ids_drawn (times_of w) t.deadline t.id (from_stands r w has.stands)
     (subst (λ (o : Option TimerValue). IfSome o (Owns w.ids_drawn w.registrations)) has.value_is (has.stands.timers.owned number))
-
-still_found : (w : World) (number : ℕ) (e : TimerEntry) (id : Option ℕ) → find (is_timer number) w.timers ≡ Some e
-    → find (is_timer number) (times_without (times_of w) id).timers ≡ Some e
-still_found w number e id found = found
 
 -- a timer that is left with no registration
 pub over_stands : (r : Replayer) (w : World) (number : ℕ) (t after : TimerValue) (e changed : TimerEntry) (reached : Option ℕ) → Has r w number t e → changed.number ≡ number

@@ -13,16 +13,21 @@ use Rattle.aio_replay.specs.declared.ends.ReplayEnd.{ReplayEnd}
 use Rattle.aio_replay.specs.declared.ends.ReplayEnd.TheVariants as ends
 use Rattle.aio_replay.specs.Driving.{bytes_before}
 
--- What a replay of this input has done where it ended so. The input is read to its end, or a line of it is refused, exactly as its text says,
--- and the output grew by exactly the answers and wakes of the machine run over its steps; or the output grew by a front part of these.
+-- What a command that reads the lines of a trace and writes a text of their steps has done of this input where it ended so. The input is read to
+-- its end, or a line of it is refused, exactly as its text says, and the output grew by exactly the text of its steps; or the output grew by a front
+-- part of that.
+abbrev pub WritesOf : (List Step → List ℕ) → ReplayEnd → List ℕ → Option (List ℕ) → Option (List ℕ) → Option (List ℕ) → Type 0
+WritesOf text ends.Done input left out_old out_new =
+    (left ≡ Some []) × ((trace_of input).refusal ≡ None) × Appends out_old out_new (text (trace_of input).steps)
+WritesOf text (ends.Refused line reason) input left out_old out_new =
+    ((trace_of input).refusal ≡ Some (record { line = line; reason = reason })) × Appends out_old out_new (text (trace_of input).steps)
+WritesOf text (ends.ReadFault fault) input left out_old out_new = AppendsPart out_old out_new (text (trace_of input).steps)
+WritesOf text (ends.WriteFault fault) input left out_old out_new = AppendsPart out_old out_new (text (trace_of input).steps)
+WritesOf text ends.OutOfMemory input left out_old out_new = AppendsPart out_old out_new (text (trace_of input).steps)
+
+-- a replay writes the answers and wakes of the machine run over the steps
 abbrev pub Replayed : ReplayEnd → List ℕ → Option (List ℕ) → Option (List ℕ) → Option (List ℕ) → Type 0
-Replayed ends.Done input left out_old out_new =
-    (left ≡ Some []) × ((trace_of input).refusal ≡ None) × Appends out_old out_new (output (trace_of input).steps)
-Replayed (ends.Refused line reason) input left out_old out_new =
-    ((trace_of input).refusal ≡ Some (record { line = line; reason = reason })) × Appends out_old out_new (output (trace_of input).steps)
-Replayed (ends.ReadFault fault) input left out_old out_new = AppendsPart out_old out_new (output (trace_of input).steps)
-Replayed (ends.WriteFault fault) input left out_old out_new = AppendsPart out_old out_new (output (trace_of input).steps)
-Replayed ends.OutOfMemory input left out_old out_new = AppendsPart out_old out_new (output (trace_of input).steps)
+Replayed = WritesOf output
 
 abbrev pub tells_read_fault : ReplayEnd → Bool
 tells_read_fault (ends.ReadFault fault) = true

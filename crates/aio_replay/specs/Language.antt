@@ -1,10 +1,11 @@
 -- What depends on the version of the trace language, and what the driver of lines asks of it.
-use Rattle.std.specs.Prelude.{◌≡◌, ℕ, ◌+◌, ◌<◌, ◌≤◌, Bool, true, false, List, [], ◌∷◌, ◌++◌, length, Option, None, Some, Result, Ok, Err}
+use Rattle.std.specs.Prelude.{◌≡◌, ℕ, ◌+◌, ◌<◌, ◌≤◌, Bool, true, false, List, [], ◌∷◌, ◌++◌, length, Option, Some, Result, Ok, Err}
 use Rattle.std.specs.Option.{option_map}
 use Rattle.aio_base.specs.declared.steps.Step.{Step}
 use Rattle.aio_base.specs.declared.steps.Reason.{Reason}
 use Rattle.aio_base.specs.declared.steps.Reason.TheVariants as reason
 use Rattle.aio_base.specs.Lines.{fault_of, step_read}
+use Rattle.aio_replay.specs.Replaying.{step_limit}
 use Rattle.aio_base.specs.Trace.{IsInRange, Trace, complete, refused, with_step, lines_of, is_header, line_limit, reason_of, trace_from, trace_of}
 
 -- Which first line is the header; how many lines a trace may have, the header among them; which step a line reads as, and why a line that reads as
@@ -26,7 +27,7 @@ ReadsAs l text (Err why) = l.refusal text ≡ Some why
 -- An input says what its lines say one by one: the first is the header, each later one is read, and one past the limit is refused.
 pub record SaysByLines (l : Language) : Type 0 where
   pub some : 1 ≤ l.limit
-  pub few : l.limit ≤ 1000000
+  pub few : l.limit ≤ step_limit
   pub headed : (input text : List ℕ) (lines : List (List ℕ)) → lines_of input ≡ text ∷ lines → l.is_header text ≡ true → l.trace input ≡ l.from 2 lines
   pub headless : (input text : List ℕ) (lines : List (List ℕ)) → lines_of input ≡ text ∷ lines → l.is_header text ≡ false
       → l.trace input ≡ refused 1 reason.Header

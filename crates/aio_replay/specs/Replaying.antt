@@ -45,6 +45,10 @@ Replays s answer wakes old new = (w : World) → StandsFor old w → Gives (scri
 
 -- ## How much is counted
 
+-- How many steps a run has at most, of any version of the trace language. So many spend neither rounds nor ids of timers nor tickets.
+abbrev pub step_limit : ℕ
+step_limit = 4000000
+
 -- so many steps were run at most, and at most as many rounds begun, timer ids drawn and numbers given to listeners
 pub record IsCounted (bound : ℕ) (w : World) : Type 0 where
   pub steps : w.pos ≤ bound

@@ -26,6 +26,7 @@ pub struct Summary {
 impl Summary {
     ghost use Rattle.aio_base.specs.Generated.{tells_pending, tells_ready, tells_round};
     ghost use Rattle.aio_base.specs.Refusals.{is_refusal};
+    ghost use Rattle.aio_replay.specs.Replaying.{step_limit};
     ghost use Rattle.aio_replay.specs.Summing.{AreAtMost};
 
     /// The summary of no steps.
@@ -44,8 +45,8 @@ impl Summary {
 
     /// Counts one step more, which was answered so and woke so many wakers.
     pub(crate) fn count(&mut self, answer: Answer, wakes: usize)
-        requires few { AreAtMost 1000000 self.old }
-        requires few_wakes { self.old.wakes + wakes ≤ 1000000 }
+        requires few { AreAtMost step_limit self.old }
+        requires few_wakes { self.old.wakes + wakes ≤ step_limit }
         ensures steps { self.new.steps ≡ self.old.steps + 1 }
         ensures ready { self.new.ready
             ≡ self.old.ready + (if tells_ready answer then 1 else 0) }

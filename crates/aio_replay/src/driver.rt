@@ -39,7 +39,7 @@ impl Driver {
     ghost use Rattle.aio_replay.specs.Driving.{is_read_fault, is_write_fault};
     ghost use Rattle.aio_replay.specs.Driving.{BlockWent, StopsBy, IfStopped, EndsSo};
     ghost use Rattle.aio_replay.specs.Language.{SaysByLines};
-    ghost use Rattle.aio_replay.specs.Replaying.{IsWithin};
+    ghost use Rattle.aio_replay.specs.Replaying.{IsWithin, step_limit};
     ghost use Rattle.aio_replay.specs.Steps.{Answers, Standing, LineTaken, StandsOrEnds};
     ghost use Rattle.aio_replay.specs.Steps.{IfEnded, Opens};
 
@@ -71,7 +71,7 @@ impl Driver {
     /// memory ran out; then the text is as it was.
     fn answer(&mut self, step: &Step) -> Result<(), AllocError>
         requires range { IsInRange step.now }
-        requires within { IsWithin 1000000 self.old.replayer }
+        requires within { IsWithin step_limit self.old.replayer }
         requires none { self.old.wakes.items ≡ [] }
         ensures answers { OnOk result (Answers step.now self.old.replayer self.new.replayer
             self.old.text.items self.new.text.items) }

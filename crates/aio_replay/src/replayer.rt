@@ -4,7 +4,7 @@
 ghost use Rattle.std.specs.Prelude.{◌≡◌, ◌+◌, ℕ, [], IfOk, OnOk};
 ghost use Rattle.aio_base.specs.Trace.{IsInRange};
 ghost use Rattle.aio_base.specs.World.{opening};
-ghost use Rattle.aio_replay.specs.Replaying.{StandsFor, Replays, IsWithin};
+ghost use Rattle.aio_replay.specs.Replaying.{StandsFor, Replays, IsWithin, step_limit};
 
 mod calls;
 mod clock;
@@ -46,12 +46,12 @@ impl Replayer {
     }
 
     /// Runs a step of a trace: its answer, and its wakes in order in `wakes`, which is empty.
-    /// `AllocError` where memory ran out. A trace of 1,000,000 steps spends no rounds, tickets or
+    /// `AllocError` where memory ran out. So many steps as a run may have spend no rounds, tickets or
     /// ids.
     #[inline(always)]
     pub(crate) fn step(&mut self, step: &Step, wakes: &mut Vec<Waker>) -> Result<Answer, AllocError>
         requires range { IsInRange step.now }
-        requires within { IsWithin 1000000 self.old }
+        requires within { IsWithin step_limit self.old }
         requires none { wakes.old.items ≡ [] }
         ensures replays { IfOk result (λ answer.
             Replays step.now answer wakes.new.items self.old self.new) }
@@ -72,7 +72,7 @@ impl Replayer {
     #[inline(always)]
     fn run(&mut self, step: &Step, wakes: &mut Vec<Waker>) -> Result<Answer, AllocError>
         requires range { IsInRange step.now }
-        requires within { IsWithin 1000000 self.old }
+        requires within { IsWithin step_limit self.old }
         requires none { wakes.old.items ≡ [] }
         ensures { IfOk result (λ answer.
             Replays step.now answer wakes.new.items self.old self.new) }

@@ -27,12 +27,14 @@ pub fn summary(alloc: Global, n: u32, seed: u64) -> Result<Summary, OutOfMemory>
     };
     let mut wakes = Vec::new(alloc);
     let mut summary = Summary::new();
-    for step in gen_steps(n, seed) {
-        wakes.clear();
+    let mut steps = gen_steps(n, seed);
+    for _ in 0..n {
+        let step = steps.next_step();
         match replayer.step(&step, &mut wakes) {
             Ok(answer) => summary.count(answer, wakes.len()),
             Err(_) => return Err(OutOfMemory),
         }
+        wakes.clear();
     }
     Ok(summary)
 }

@@ -1,4 +1,5 @@
 pub mod Bodies
+pub mod LeadingRuns
 pub mod LineLaws
 pub mod LineNumbers
 pub mod LineWords

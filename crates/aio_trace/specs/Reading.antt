@@ -1,5 +1,5 @@
 -- What the words of a line read as, place by place: a step, or the first fault.
-use Rattle.std.specs.Prelude.{ℕ, true, false, nat_le, nat_lt, if◌then◌else◌, List, [], ◌∷◌, length, Option, None, Some, Result, Ok, Err, codes, bytes_eq}
+use Rattle.std.specs.Prelude.{◌≡◌, ℕ, ◌<◌, Bool, true, false, not, ◌==◌, get_or, nat_le, nat_lt, if◌then◌else◌, List, [], ◌∷◌, length, Option, None, Some, Result, Ok, Err, codes, bytes_eq}
 use Rattle.std.specs.List.{list_all}
 use Rattle.aio_base.specs.declared.names.Dir.{Dir}
 use Rattle.aio_base.specs.declared.names.Dir.TheVariants.{Read, Write}
@@ -18,6 +18,14 @@ infixl 10 ◌>>=◌
 abbrev pub ◌>>=◌ : {A B : Type 0} → Result A LineFault → (A → Result B LineFault) → Result B LineFault
 Err f >>= next = Err f
 Ok x >>= next = next x
+
+-- whether a byte is another than this one
+abbrev pub is_other : ℕ → ℕ → Bool
+is_other byte b = not (b == byte)
+
+-- the bytes of a text before this place are all this byte
+abbrev pub IsRun : ℕ → List ℕ → ℕ → Type 0
+IsRun byte text at = (k : ℕ) → k < at → get_or text k 0 ≡ byte
 
 -- what was read of a first word, with the words behind it
 abbrev pub Taken : Type 0 → Type 0
@@ -157,6 +165,31 @@ begin_of words = take_limit words >>= λ l. ended (step.Begin l.0) l.1
 
 -- ## Lines
 
+-- the commands of faults and of rounds
+abbrev pub round_command_named : List ℕ → Option Command
+round_command_named word =
+    if bytes_eq word (codes "fault") then Some command.Fault
+    else (if bytes_eq word (codes "interrupt") then Some command.Interrupt
+    else (if bytes_eq word (codes "begin") then Some command.Begin
+    else (if bytes_eq word (codes "wait") then Some command.Wait
+    else (if bytes_eq word (codes "handle") then Some command.Handle
+    else (if bytes_eq word (codes "finish") then Some command.Finish
+    else (if bytes_eq word (codes "react") then Some command.React else None))))))
+
+-- these and the commands of the end of a timer, of the clock and of an event
+abbrev pub clock_command_named : List ℕ → Option Command
+clock_command_named word =
+    if bytes_eq word (codes "end") then Some command.End
+    else (if bytes_eq word (codes "now") then Some command.Now
+    else (if bytes_eq word (codes "event") then Some command.Event else round_command_named word))
+
+-- these and the commands that make, poll and set a timer
+abbrev pub timer_command_named : List ℕ → Option Command
+timer_command_named word =
+    if bytes_eq word (codes "timer") then Some command.Timer
+    else (if bytes_eq word (codes "tick") then Some command.Tick
+    else (if bytes_eq word (codes "set") then Some command.Set else clock_command_named word))
+
 -- the command that a line's first word names
 abbrev pub command_named : List ℕ → Option Command
 command_named word =
@@ -165,20 +198,7 @@ command_named word =
     else (if bytes_eq word (codes "poll") then Some command.Poll
     else (if bytes_eq word (codes "new") then Some command.New
     else (if bytes_eq word (codes "step") then Some command.Step
-    else (if bytes_eq word (codes "drop") then Some command.Drop
-    else (if bytes_eq word (codes "timer") then Some command.Timer
-    else (if bytes_eq word (codes "tick") then Some command.Tick
-    else (if bytes_eq word (codes "set") then Some command.Set
-    else (if bytes_eq word (codes "end") then Some command.End
-    else (if bytes_eq word (codes "now") then Some command.Now
-    else (if bytes_eq word (codes "event") then Some command.Event
-    else (if bytes_eq word (codes "fault") then Some command.Fault
-    else (if bytes_eq word (codes "interrupt") then Some command.Interrupt
-    else (if bytes_eq word (codes "begin") then Some command.Begin
-    else (if bytes_eq word (codes "wait") then Some command.Wait
-    else (if bytes_eq word (codes "handle") then Some command.Handle
-    else (if bytes_eq word (codes "finish") then Some command.Finish
-    else (if bytes_eq word (codes "react") then Some command.React else None))))))))))))))))))
+    else (if bytes_eq word (codes "drop") then Some command.Drop else timer_command_named word)))))
 
 -- what a line with this command and these words behind it reads as
 abbrev pub step_of : Command → List (List ℕ) → Result Step LineFault

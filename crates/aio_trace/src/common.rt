@@ -5,7 +5,7 @@
 ghost use Rattle.std.specs.Prelude.{◌≡◌, ◌<◌, ◌≤◌, ◌+◌, ◌^◌, ℕ, [], None, Ok, Some, IfSome, OnSome, length};
 ghost use Rattle.aio_base.specs.World.{last_moment};
 ghost use Rattle.aio_base.specs.Lines.{last_number, words_in};
-ghost use Rattle.aio_trace.specs.Reading.{begin_of, event_of, fault_line_of, listener_poll_of, new_of, poll_of, set_every_of, set_of, step_of_words, take_direction, take_flags, take_limit, take_number, take_period, tick_of, timer_of};
+ghost use Rattle.aio_trace.specs.Reading.{begin_of, event_of, fault_line_of, listener_poll_of, new_of, poll_of, set_of, step_of_words, take_direction, take_flags, take_number, take_period, tick_of, timer_of};
 
 use crate::reading::moment_at;
 use aio_base::{Dir, Event, Interest, Key, Moment, Step, Waker, Which};
@@ -164,20 +164,13 @@ fn set_step(places: &[u8]) -> Option<Step>
     let (timer, choice) = first_number(places)?;
     match choice {
         [b'a', b't', b' ', places @ ..] => Some(Step::SetAt(timer, whole_moment(places)?)),
-        [b'e', b'v', b'e', b'r', b'y', b' ', places @ ..] => set_every_step(timer, places),
+        [b'e', b'v', b'e', b'r', b'y', b' ', places @ ..] => {
+            let (first, rest) = first_nanoseconds(places)?;
+            let period = whole_period(rest)?;
+            Some(Step::SetEvery(timer, moment_at(first), period))
+        }
         _ => None,
     }
-}
-
-/// The step of a line `set N every T P`, read behind its choice.
-#[inline(always)]
-fn set_every_step(timer: u32, places: &[u8]) -> Option<Step>
-    ensures read { IfSome result (λ s. set_every_of timer (words_in places.now) ≡ Ok s) }
-    ensures short { OnSome result (length places.now ≤ 38) }
-{
-    let (first, rest) = first_nanoseconds(places)?;
-    let period = whole_period(rest)?;
-    Some(Step::SetEvery(timer, moment_at(first), period))
 }
 
 /// The step of a line `begin L`, read behind its command.
@@ -188,7 +181,7 @@ fn begin_step(places: &[u8]) -> Option<Step>
 {
     match places {
         b"none" => Some(Step::Begin(None)),
-        _ => Some(Step::Begin(Some(whole_limit(places)?))),
+        _ => Some(Step::Begin(Some(whole_nanoseconds(places)?))),
     }
 }
 
@@ -279,16 +272,6 @@ fn whole_period(text: &[u8]) -> Option<u64>
         return None;
     }
     Some(period)
-}
-
-/// The limit in nanoseconds that is the one word of a text.
-#[inline(always)]
-fn whole_limit(text: &[u8]) -> Option<u64>
-    ensures read { IfSome result (λ limit.
-        take_limit (words_in text.now) ≡ Ok (Some limit, [])) }
-    ensures short { OnSome result (length text.now ≤ 19) }
-{
-    whole_nanoseconds(text)
 }
 
 /// The number of at most so many digits at the front of a text, up to a space or the end of the

@@ -10,6 +10,7 @@ mod answer_lines;
 mod common;
 pub mod laws;
 mod reading;
+mod runs;
 mod step_lines;
 mod words;
 mod writing;

@@ -8,7 +8,7 @@ ghost use Rattle.aio_base.specs.Lines.{Reads, body_of, fault_of, is_allowed, las
 ghost use Rattle.aio_base.specs.Trace.{is_header};
 ghost use Rattle.aio_base.specs.declared.steps.LineFault.{LineFault};
 ghost use Rattle.aio_base.specs.declared.steps.Step.{Step};
-ghost use Rattle.aio_trace.specs.Reading.{begin_of, command_named, del_of, dir_of, drop_of, end_of, event_of, fault_chosen, fault_line_of, flags_of_word, limit_of, line_read, listener_poll_of, new_of, now_of, poll_of, set_at_of, set_chosen, set_every_of, set_of, step_of, step_of_words, take_direction, take_flags, take_limit, take_number, take_period, tick_of, timer_at_of, timer_chosen, timer_every_of, timer_of};
+ghost use Rattle.aio_trace.specs.Reading.{begin_of, clock_command_named, command_named, del_of, dir_of, drop_of, end_of, event_of, fault_chosen, fault_line_of, flags_of_word, limit_of, line_read, listener_poll_of, new_of, now_of, poll_of, round_command_named, set_at_of, set_chosen, set_every_of, set_of, step_of, step_of_words, take_direction, take_flags, take_limit, take_number, take_period, tick_of, timer_at_of, timer_chosen, timer_command_named, timer_every_of, timer_of};
 
 use crate::common::common_step;
 use crate::words::{ended, next_number, next_word};
@@ -158,12 +158,39 @@ fn read_command(word: &[u8]) -> Option<Command>
         b"new" => Some(Command::New),
         b"step" => Some(Command::Step),
         b"drop" => Some(Command::Drop),
+        _ => read_timer_command(word),
+    }
+}
+
+/// The same of the commands that make, poll and set a timer, and of those that follow in the list.
+fn read_timer_command(word: &[u8]) -> Option<Command>
+    ensures { result ≡ timer_command_named word.now }
+{
+    match word {
         b"timer" => Some(Command::Timer),
         b"tick" => Some(Command::Tick),
         b"set" => Some(Command::Set),
+        _ => read_clock_command(word),
+    }
+}
+
+/// The same of the end of a timer, of the clock and of an event, and of those that follow in the list.
+fn read_clock_command(word: &[u8]) -> Option<Command>
+    ensures { result ≡ clock_command_named word.now }
+{
+    match word {
         b"end" => Some(Command::End),
         b"now" => Some(Command::Now),
         b"event" => Some(Command::Event),
+        _ => read_round_command(word),
+    }
+}
+
+/// The same of the commands of faults and of rounds.
+fn read_round_command(word: &[u8]) -> Option<Command>
+    ensures { result ≡ round_command_named word.now }
+{
+    match word {
         b"fault" => Some(Command::Fault),
         b"interrupt" => Some(Command::Interrupt),
         b"begin" => Some(Command::Begin),

@@ -1,10 +1,11 @@
 //! The words of a line's body, taken from its front one after the other. It takes no memory, and
-//! looks at each byte once.
+//! looks at each byte once, at those of a long run of spaces or zeros by blocks.
 
 ghost use Rattle.std.specs.Prelude.{◌≡◌, ◌<◌, ◌≤◌, ◌^◌, [], ◌∷◌, Ok, Err, false, length, slice_index, MatchOption, MatchResult};
 ghost use Rattle.aio_base.specs.Lines.{is_blank, words_in};
 ghost use Rattle.aio_trace.specs.Reading.{ended, take_number};
 
+use crate::runs::leading_run;
 use aio_base::{LineFault, Step};
 
 /// Whether a byte parts words: a space or a tab.
@@ -19,8 +20,8 @@ fn skip_blanks(text: &[u8]) -> &[u8]
     ensures words { words_in result.now ≡ words_in text.now }
     ensures first { 0 < length result.now → is_blank (slice_index result.now 0) ≡ false }
 {
-    for (at, byte) in text.iter().enumerate() {
-        if !is_blank(*byte) {
+    for at in leading_run(text, b' ')..text.len() {
+        if !is_blank(text[at]) {
             return &text[at..];
         }
     }
@@ -57,15 +58,16 @@ pub(crate) fn next_number(text: &[u8], most: u64) -> Result<(u64, &[u8]), LineFa
         return Err(LineFault::Count);
     }
     let mut value: u64 = 0;
-    for (at, byte) in text.iter().enumerate() {
-        if *byte < b'0' || *byte > b'9' {
-            return if is_blank(*byte) {
+    for at in leading_run(text, b'0')..text.len() {
+        let byte = text[at];
+        if byte < b'0' || byte > b'9' {
+            return if is_blank(byte) {
                 Ok((value, &text[at + 1..]))
             } else {
                 Err(LineFault::Number)
             };
         }
-        value = 10 * value + u64::from(*byte - b'0');
+        value = 10 * value + u64::from(byte - b'0');
         if value > most {
             return Err(LineFault::Number);
         }

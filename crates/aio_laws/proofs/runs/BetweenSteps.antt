@@ -7,23 +7,8 @@ use Rattle.aio_base.specs.World.{Registration, World, opening}
 use Rattle.aio_base.specs.Runs.{PolledStep, outcome_of, world_of, scripted}
 use Rattle.aio_laws.specs.Storings.{storings_of}
 use Rattle.aio_laws.specs.Succession.{StoringsFollow}
-use Rattle.aio_laws.specs.Calls.{CallsFollow}
-use Rattle.aio_laws.specs.Clock.{ClockIsSet}
-use Rattle.aio_laws.specs.Counts.{CountsRise}
-use Rattle.aio_laws.specs.Drawn.{DrawsFollow}
-use Rattle.aio_laws.specs.FailedArms.{BrokenFollows}
-use Rattle.aio_laws.specs.Handling.{HandledIsNoted}
-use Rattle.aio_laws.specs.Marks.{MarksFollow}
-use Rattle.aio_laws.specs.Others.{OthersStand}
-use Rattle.aio_laws.specs.Sources.{SourcesFollow}
-use Rattle.aio_laws.specs.Own.{KeepsItsOwn}
-use Rattle.aio_base.specs.Refusals.{RefusalLeaves}
-use Rattle.aio_laws.specs.RoundArming.{RoundArming}
-use Rattle.aio_laws.specs.RoundCounts.{RoundsFollow}
-use Rattle.aio_laws.specs.RoundHands.{HandFollows}
-use Rattle.aio_base.specs.Timers.{after_pass}
-use Rattle.aio_laws.specs.Arming.{UnbrokenAsTold}
-use Rattle.aio_laws.specs.Between.{MakesPass, is_of_timer, RegistrationsFollow, StandsBetween, StandsAfter}
+use Rattle.aio_base.specs.Timers.{AllAbove}
+use Rattle.aio_laws.specs.Between.{MakesPass, is_of_timer, StepStands, StandsBetween, StandsAfter}
 use Rattle.aio_laws.proofs.steps.Answering.{answer_fits}
 use Rattle.aio_laws.proofs.steps.Calling.{calls_follow}
 use Rattle.aio_laws.proofs.timers.Awaiting.{run_waits_for_timers}
@@ -56,12 +41,6 @@ one_more : (w : World) (before : List PolledStep) (last : PolledStep) → world_
 one_more w [] last = refl
 one_more w (first ∷ before) last = one_more (outcome_of w first).world before last
 
-last_registers : (run before : List PolledStep) (last : PolledStep) → run ≡ before ++ last ∷ [] → is_of_timer last.step ≡ false
-    → RegistrationsFollow (world_of opening before) last.step (world_of opening run)
-last_registers run before last is other =
-    let w = world_of opening before in
-    subst (RegistrationsFollow w last.step) (sym (ap (world_of opening) is ∙ one_more opening before last)) (step_leaves_registered w last.step last.answers other)
-
 -- a step that makes a pass is not of a timer
 pass_is_other : (w : World) (s : Step) → makes_pass w s ≡ true → is_of_timer s ≡ false
 pass_is_other w step.Add passes = refl
@@ -87,11 +66,34 @@ pass_is_other w step.Handle passes = refl
 pass_is_other w step.Finish passes = refl
 pass_is_other w step.React passes = refl
 
-last_passes : (run before : List PolledStep) (last : PolledStep) → run ≡ before ++ last ∷ [] → MakesPass (world_of opening before) last.step
-    → (world_of opening run).registrations ≡ after_pass (world_of opening before).now (world_of opening before).registrations
-last_passes run before last is passes =
-    let w = world_of opening before in
-    (last_registers run before last is (pass_is_other w last.step (pass_is_made w last.step passes))).pass passes
+passes_above : (w : World) (s : PolledStep) → MakesPass w s.step → AllAbove w.now (outcome_of w s).world.registrations
+passes_above w s passes =
+    let left = (step_leaves_registered w s.step s.answers (pass_is_other w s.step (pass_is_made w s.step passes))).pass passes in
+    All-same (λ (r : Registration). w.now < r.deadline) _ _ left (pass_leaves w.now w.registrations)
+
+-- each step of the machine stands, from any world and for any answers
+pub step_stands : (w : World) (s : PolledStep) → StepStands w s (outcome_of w s)
+step_stands w s = record {
+  passed = passes_above w s;
+  others = step_leaves_registered w s.step s.answers;
+  counted = counts_rise w s.step s.answers;
+  drawn = draws_follow w s.step s.answers;
+  unbroken = step_leaves_unbroken w s.step s.answers;
+  rounds = rounds_follow w s.step s.answers;
+  hand = hand_follows w s.step s.answers;
+  clock = clock_is_set w s.step s.answers;
+  noted = handled_is_noted w s.step s.answers;
+  alone = others_stand w s.step s.answers;
+  marked = marks_follow w s.step s.answers;
+  sources = sources_follow w s.step s.answers;
+  ready = ready_is_told w s.step s.answers;
+  fits = answer_fits w s.step s.answers;
+  calls = calls_follow w s.step s.answers;
+  broken = broken_follows w s.step s.answers;
+  rearmed = round_arming w s.step s.answers;
+  own = keeps_its_own w s.step s.answers;
+  refused = refusal_leaves w s.step s.answers;
+}
 
 pub stands_between : (run : List PolledStep) → StandsBetween run
 stands_between run = record {
@@ -100,60 +102,10 @@ stands_between run = record {
   once = run_once run;
   distinct = run_has_no_doubles run;
   timed = run_registers_timers run;
-  follows = λ before last is. subst (λ r. StoringsFollow (world_of opening before) last.step last.answers (storings_of opening before) (storings_of opening r)) (sym is) (run_follows before last);
-  passed = λ before last is passes.
-      let w = world_of opening before in
-      All-same (λ (r : Registration). w.now < r.deadline) _ _ (last_passes run before last is passes) (pass_leaves w.now w.registrations);
-  others = λ before last is other. last_registers run before last is other;
-  counted = λ before last is.
-      subst (CountsRise (world_of opening before)) (sym (ap (world_of opening) is ∙ one_more opening before last))
-      (counts_rise (world_of opening before) last.step last.answers);
-  drawn = λ before last is.
-      let w = world_of opening before in
-      subst (DrawsFollow w last.step (outcome_of w last).answer) (sym (ap (world_of opening) is ∙ one_more opening before last)) (draws_follow w last.step last.answers);
   polled = run_polls_in_order run;
   registered = run_waits_for_timers run;
-  unbroken = λ before last is.
-      let w = world_of opening before in
-      subst (UnbrokenAsTold w last.step last.answers (outcome_of w last).answer) (sym (ap (world_of opening) is ∙ one_more opening before last)) (step_leaves_unbroken w last.step last.answers);
-  rounds = λ before last is.
-      let w = world_of opening before in
-      subst (RoundsFollow w last.step last.answers (outcome_of w last).answer) (sym (ap (world_of opening) is ∙ one_more opening before last)) (rounds_follow w last.step last.answers);
-  hand = λ before last is.
-      let w = world_of opening before in
-      subst (HandFollows w last.step last.answers (outcome_of w last).answer) (sym (ap (world_of opening) is ∙ one_more opening before last)) (hand_follows w last.step last.answers);
-  clock = λ before last is.
-      let w = world_of opening before in
-      subst (ClockIsSet w last.step (outcome_of w last).answer) (sym (ap (world_of opening) is ∙ one_more opening before last)) (clock_is_set w last.step last.answers);
-  noted = λ before last is.
-      let w = world_of opening before in
-      subst (HandledIsNoted w last.step last.answers) (sym (ap (world_of opening) is ∙ one_more opening before last)) (handled_is_noted w last.step last.answers);
-  alone = λ before last is.
-      let w = world_of opening before in
-      subst (OthersStand w last.step last.answers) (sym (ap (world_of opening) is ∙ one_more opening before last)) (others_stand w last.step last.answers);
-  marked = λ before last is.
-      let w = world_of opening before in
-      subst (MarksFollow w last.step (outcome_of w last).answer) (sym (ap (world_of opening) is ∙ one_more opening before last)) (marks_follow w last.step last.answers);
-  sources = λ before last is.
-      let w = world_of opening before in
-      subst (SourcesFollow w last.step (outcome_of w last).answer) (sym (ap (world_of opening) is ∙ one_more opening before last)) (sources_follow w last.step last.answers);
-  ready = λ before last is. ready_is_told (world_of opening before) last.step last.answers;
-  fits = λ before last is. answer_fits (world_of opening before) last.step last.answers;
-  calls = λ before last is.
-      let w = world_of opening before in
-      subst (CallsFollow w last.step last.answers (outcome_of w last).answer (outcome_of w last).calls) (sym (ap (world_of opening) is ∙ one_more opening before last)) (calls_follow w last.step last.answers);
-  broken = λ before last is.
-      let w = world_of opening before in
-      subst (BrokenFollows w last.step last.answers (outcome_of w last).answer (outcome_of w last).calls) (sym (ap (world_of opening) is ∙ one_more opening before last)) (broken_follows w last.step last.answers);
-  rearmed = λ before last is.
-      let w = world_of opening before in
-      subst (RoundArming w last.step last.answers (outcome_of w last).calls) (sym (ap (world_of opening) is ∙ one_more opening before last)) (round_arming w last.step last.answers);
-  own = λ before last is.
-      let w = world_of opening before in
-      subst (KeepsItsOwn w last.step (outcome_of w last).answer) (sym (ap (world_of opening) is ∙ one_more opening before last)) (keeps_its_own w last.step last.answers);
-  refused = λ before last is.
-      let w = world_of opening before in
-      subst (RefusalLeaves w (outcome_of w last).answer (outcome_of w last).wakes) (sym (ap (world_of opening) is ∙ one_more opening before last)) (refusal_leaves w last.step last.answers);
+  follows = λ before last is. subst (λ r. StoringsFollow (world_of opening before) last.step last.answers (storings_of opening before) (storings_of opening r)) (sym is) (run_follows before last);
+  step = λ before last is. record { leaves = ap (world_of opening) is ∙ one_more opening before last; stands = step_stands (world_of opening before) last };
 }
 
 pub stands_after : (steps : List Step) → StandsAfter steps

@@ -41,11 +41,6 @@ drop_goes w number (Some entry) answers there = record {
   never = λ told. absurd cc;
 }
 
--- a registration that goes leaves the timers
-unregistered_timers : (w : World) (id : Option ℕ) → (unregistered w id).timers ≡ w.timers
-unregistered_timers w None = refl
-unregistered_timers w (Some id) = refl
-
 end_goes : (w : World) (number : ℕ) (found : Option TimerEntry) (answers : List PollerAnswer) → find (is_timer number) w.timers ≡ found
     → GivesUp (HasTimer w.timers number) (HasTimer (end_timer w found answers).world.timers number) answer.Ended answer.NoTimer
     (end_timer w found answers).answer

@@ -5,7 +5,7 @@
 
 ghost use Rattle.std.specs.Prelude.{◌≡◌, [], IfOk, IfSome};
 ghost use Rattle.aio_base.specs.declared.steps.Step.TheVariants as step;
-ghost use Rattle.aio_replay.specs.Replaying.{Replays, IsWithin};
+ghost use Rattle.aio_replay.specs.Replaying.{Replays, IsWithin, step_limit};
 ghost use Rattle.aio_replay.specs.Replies.{reply_answer};
 
 use super::Replayer;
@@ -59,7 +59,7 @@ impl Replayer {
 
     /// Makes a listener of a direction of a source. `AllocError` where memory ran out.
     pub fn new_listener(&mut self, key: Key, dir: Dir) -> Result<Answer, AllocError>
-        requires { IsWithin 1000000 self.old }
+        requires { IsWithin step_limit self.old }
         ensures { IfOk result (λ answer.
             Replays (step.New key dir) answer [] self.old self.new) }
     {
@@ -69,7 +69,7 @@ impl Replayer {
     /// Polls a listener with a waker. `AllocError` where its first poll finds no memory for it.
     #[inline(always)]
     pub fn step_listener(&mut self, number: u32, waker: Waker) -> Result<Answer, AllocError>
-        requires { IsWithin 1000000 self.old }
+        requires { IsWithin step_limit self.old }
         ensures { IfOk result (λ answer.
             Replays (step.StepEar number waker) answer [] self.old self.new) }
     {
@@ -79,7 +79,7 @@ impl Replayer {
     /// The same, with the answer in one byte.
     #[inline(never)]
     fn poll_listener(&mut self, number: u32, waker: Waker) -> PollReply
-        requires { IsWithin 1000000 self.old }
+        requires { IsWithin step_limit self.old }
         ensures { IfSome (reply_answer result) (λ answer.
             Replays (step.StepEar number waker) answer [] self.old self.new) }
     {

@@ -2,7 +2,7 @@
 
 ghost use Rattle.std.specs.Prelude.{◌≡◌, [], if◌then◌else◌, IfOk, OnOk};
 ghost use Rattle.aio_base.specs.declared.steps.Step.TheVariants as step;
-ghost use Rattle.aio_replay.specs.Replaying.{Replays, IsWithin};
+ghost use Rattle.aio_replay.specs.Replaying.{Replays, IsWithin, step_limit};
 
 use super::Replayer;
 use crate::replies::{told_begin, told_finish, told_handle, told_react, told_wait};
@@ -14,7 +14,7 @@ impl Replayer {
     /// ran out.
     #[inline(always)]
     pub fn begin(&mut self, given: Option<u64>) -> Result<Answer, AllocError>
-        requires { IsWithin 1000000 self.old }
+        requires { IsWithin step_limit self.old }
         ensures { IfOk result (λ answer.
             Replays (step.Begin given) answer [] self.old self.new) }
     {
@@ -56,7 +56,7 @@ impl Replayer {
     #[inline(always)]
     pub fn react(&mut self, wakes: &mut Vec<Waker>) -> Result<Answer, AllocError>
         requires none { wakes.old.items ≡ [] }
-        requires within { IsWithin 1000000 self.old }
+        requires within { IsWithin step_limit self.old }
         ensures { IfOk result (λ answer.
             Replays step.React answer wakes.new.items self.old self.new) }
     {

@@ -5,8 +5,14 @@ use Rattle.aio_base.specs.Lines.{is_blank, words_in}
 use Rattle.aio_trace.specs.Reading.{take_number}
 use Rattle.aio_trace.proofs.LineWords.{not_at_first, words_past_blank}
 use Rattle.aio_trace.proofs.LineNumbers.{number_at_blank, number_at_end, number_with_other, number_too_great, one_more_digit, one_digit_more}
+use Rattle.aio_trace.proofs.LeadingRuns.{zeros_of_number}
 use Rattle.aio_trace.proofs.words.next_number.Goals as goal
 use Rattle.aio_trace.proofs.words.next_number.Goals.{then-byte-lt48-via-then-byte-lt48, then-byte-lt48-via-else-byte-lt48+then-byte-gt57}
+
+pub loop-at-init : goal.loop-at-init
+loop-at-init c =
+    let zeros = zeros_of_number c.skip_blanks-text.result.now c.leading_run-at.result c.leading_run-at.ensures.within c.leading_run-at.ensures.same in
+    record { digits = zeros.digits; value = zeros.value; small = omega arith }
 
 pub returns-then-is_blank : goal.returns-then-is_blank
 returns-then-is_blank c =

@@ -4,6 +4,7 @@ use Rattle.aio_replay.proofs.Counting.{within_more}
 use Rattle.aio_replay.proofs.DrivingLemmas.{Sends-all}
 use Rattle.aio_replay.proofs.StepLemmas.{closes, refuses_line, goes_on, flushed, stops_in_step, leaves_more, stops_between}
 use Rattle.aio_replay.proofs.driver.Driver.answer_line.Goals as goal
+use Rattle.aio_replay.specs.Replaying.{step_limit}
 
 pub returns-in-Err-clause-goes_on : goal.returns-in-Err-clause-goes_on
 returns-in-Err-clause-goes_on g c = λ input told first taken.
@@ -16,7 +17,7 @@ answer-requires-clause-range g c =
     c.requires.says.in_range c.line.result.now c.in-Ok.step (rw c.in-Ok.is at c.read_line.ensures)
 
 pub answer-requires-clause-within : goal.answer-requires-clause-within
-answer-requires-clause-within g c = within_more c.args.line 1000000 _ (omega (arith, c.requires.limit, c.requires.says.few)) c.requires.within
+answer-requires-clause-within g c = within_more c.args.line step_limit _ (omega (arith, c.requires.limit, c.requires.says.few)) c.requires.within
 
 pub returns-in-Err-answer-clause-goes_on : goal.returns-in-Err-answer-clause-goes_on
 returns-in-Err-answer-clause-goes_on g c = λ input told first taken.

@@ -1,4 +1,3 @@
-use Rattle.std.proofs.Common.{Some}
 use Rattle.aio_base.specs.declared.steps.Step.TheVariants as step
 use Rattle.aio_replay.specs.Replaying.{Replays}
 use Rattle.aio_replay.specs.Replies.{reply_answer}

@@ -1,13 +1,13 @@
 use Rattle.std.proofs.Common.{List, IfOk, sym, subst}
 use Rattle.aio_base.specs.declared.names.Waker.{Waker}
 use Rattle.aio_base.specs.declared.steps.Step.TheVariants as step
-use Rattle.aio_replay.specs.Replaying.{Replays}
+use Rattle.aio_replay.specs.Replaying.{Replays, step_limit}
 use Rattle.aio_replay.proofs.Calling.{told_round, reacted_wakes}
 use Rattle.aio_replay.proofs.Refusing.{few_rounds, reacted}
 use Rattle.aio_replay.proofs.replayer.Replayer.react.Goals as goal
 
 pub told_react-requires : goal.told_react-requires
-told_react-requires c = reacted c.args.self.now.core.1 c.react-reacted.result (few_rounds 1000000 c.args.self.now c.requires.within) c.react-reacted.ensures.cause
+told_react-requires c = reacted c.args.self.now.core.1 c.react-reacted.result (few_rounds step_limit c.args.self.now c.requires.within) c.react-reacted.ensures.cause
 
 pub returns : goal.returns
 returns c =
