@@ -117,8 +117,8 @@ fn spells(rt: &impl Abort, alloc: Global, line: &str, step: Step) {
 
 #[test]
 fn each_form_reads_as_its_step_and_is_written_so(rt: HostRuntime) {
-    for (line, step) in STEPS {
-        spells(&rt, rt.alloc(), line, step);
+    for (line, step) in &STEPS {
+        spells(&rt, rt.alloc(), line, *step);
     }
 }
 
@@ -161,8 +161,8 @@ const OTHER_SPELLINGS: [(&str, Step); 7] = [
 
 #[test]
 fn other_spellings_read_as_the_same_step(rt: HostRuntime) {
-    for (line, step) in OTHER_SPELLINGS {
-        reads(&rt, line, Ok(step));
+    for (line, step) in &OTHER_SPELLINGS {
+        reads(&rt, line, Ok(*step));
     }
 }
 
@@ -352,8 +352,8 @@ fn answers(rt: &impl Abort, alloc: Global, answer: &Answer, line: &str) {
 
 #[test]
 fn each_answer_is_written(rt: HostRuntime) {
-    for (answer, line) in ANSWERS {
-        answers(&rt, rt.alloc(), &answer, line);
+    for (answer, line) in &ANSWERS {
+        answers(&rt, rt.alloc(), answer, line);
     }
 }
 

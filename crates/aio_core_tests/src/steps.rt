@@ -13,7 +13,7 @@ const LONGEST: u64 = 1_000_000_000_000_000_000;
 
 /// Whether the period or the limit of a step, if it has one, is one that a line can spell, as
 /// `write_line` asks.
-pub fn is_in_range(step: &Step) -> bool
+pub(crate) fn is_in_range(step: &Step) -> bool
     ensures { IsTrue result ↔ IsInRange step.now }
 {
     match *step {
@@ -30,7 +30,7 @@ pub fn is_in_range(step: &Step) -> bool
 /// # Errors
 ///
 /// `OutOfMemory` where there is no memory for the line.
-pub fn read_back(alloc: Global, step: &Step) -> Result<Result<Step, LineFault>, OutOfMemory>
+pub(crate) fn read_back(alloc: Global, step: &Step) -> Result<Result<Step, LineFault>, OutOfMemory>
     requires { IsInRange step.now }
     ensures { HasSpelling step.now → IfOk result (λ read. read ≡ Ok step.now) }
 {

@@ -8,3 +8,13 @@ use std::process::Abort;
 pub(crate) fn same<T: Debug + Drop + PartialEq>(rt: &impl Abort, found: T, wanted: T) {
     assert_eq!(rt; found, wanted);
 }
+
+/// Asserts the same of one row of a table, which is told where the two differ.
+pub(crate) fn same_in<T: Debug + Drop + PartialEq>(
+    rt: &impl Abort,
+    row: &str,
+    found: T,
+    wanted: T,
+) {
+    assert_eq!(rt; found, wanted, "in the row: {row}");
+}

@@ -1,11 +1,12 @@
 //! What no clause says of connections in memory: that they are made with ample memory, and what their calls come
 //! to one after the other, through the bounds.
 
-use crate::asserts::same;
+use crate::asserts::{same, same_in};
 use crate::connections::Act::{Add, Arm, Faults, Read, Remove, Write};
 use crate::connections::Came::{Blocked, Counted, Done, Failed, Went};
-use crate::peers::{ENDS, Peer, SILENT, TORN};
+use crate::peers::{TORN, sure_connection};
 use aio_base::{Conn, Did, Interest, Key};
+use aio_conns::{ENDS, Peer, SILENT};
 use std::alloc::Global;
 use std::process::Abort;
 use std::test::Fail;
@@ -95,129 +96,128 @@ fn comes_of<C: Conn>(act: Act, conn: &mut C, heard: &mut Vec<u8>) -> Came {
     }
 }
 
-/// Asserts that what these calls come to is what stands beside each, and that the reads gave this text.
-fn calls<C: Conn>(rt: &impl Abort, alloc: Global, conn: &mut C, rows: &[(Act, Came)], text: &str) {
-    let mut heard = Vec::new(alloc);
-    for (act, came) in rows {
-        same(rt, comes_of(*act, conn, &mut heard), *came);
-    }
-    same(rt, heard.as_slice(), text.as_bytes());
+/// A connection in memory: what its other end does, the calls with what comes of each, and which texts were read
+/// and sent then.
+struct Row {
+    shows: &'static str,
+    peer: Peer<'static>,
+    calls: &'static [(Act, Came)],
+    read: &'static str,
+    sent: &'static str,
 }
 
-/// Asserts what these calls come to over a connection to this peer whose calls may fail: the answers, what the
-/// reads gave, and what was sent.
-fn plays(
-    rt: &impl Abort,
-    alloc: Global,
-    peer: &Peer,
-    rows: &[(Act, Came)],
-    texts: (&str, &str),
-) -> Result<(), Fail> {
-    let mut conn = peer.connection(alloc)?;
-    calls(rt, alloc, &mut conn, rows, texts.0);
-    same(rt, conn.sent(), texts.1.as_bytes());
+/// Asserts that what the calls of a row come to is what stands beside each, and that the reads gave its text.
+fn calls<C: Conn>(rt: &impl Abort, alloc: Global, conn: &mut C, row: &Row) {
+    let mut heard = Vec::new(alloc);
+    for (act, came) in row.calls {
+        same_in(rt, row.shows, comes_of(*act, conn, &mut heard), *came);
+    }
+    same(rt, heard.as_slice(), row.read.as_bytes());
+}
+
+/// Asserts what the calls of a row come to over a connection whose calls may fail, and what was sent.
+fn plays(rt: &impl Abort, alloc: Global, row: &Row) -> Result<(), Fail> {
+    let mut conn = row.peer.connection(alloc)?;
+    calls(rt, alloc, &mut conn, row);
+    same(rt, conn.sent(), row.sent.as_bytes());
     Ok(())
 }
 
 /// The same over a connection of which no call fails.
-fn plays_surely(
-    rt: &impl Abort,
-    alloc: Global,
-    peer: &Peer,
-    rows: &[(Act, Came)],
-    texts: (&str, &str),
-) -> Result<(), Fail> {
-    let mut conn = peer.sure_connection(alloc)?;
-    calls(rt, alloc, &mut conn, rows, texts.0);
-    same(rt, conn.sent(), texts.1.as_bytes());
+fn plays_surely(rt: &impl Abort, alloc: Global, row: &Row) -> Result<(), Fail> {
+    let mut conn = sure_connection(alloc, &row.peer)?;
+    calls(rt, alloc, &mut conn, row);
+    same(rt, conn.sent(), row.sent.as_bytes());
     Ok(())
 }
 
-/// Both of them.
-fn plays_both(
-    rt: &impl Abort,
-    alloc: Global,
-    peer: &Peer,
-    rows: &[(Act, Came)],
-    texts: (&str, &str),
-) -> Result<(), Fail> {
-    plays(rt, alloc, peer, rows, texts)?;
-    plays_surely(rt, alloc, peer, rows, texts)
-}
-
-const PIECES: [(Act, Came); 8] = [
-    (Read(2), Went(2)),
-    (Read(2), Blocked),
-    (Read(1), Went(1)),
-    (Read(4), Went(2)),
-    (Read(4), Went(0)),
-    (Read(1), Went(0)),
-    (Remove, Done),
-    (Faults, Counted(0)),
+/// Connections of which no call fails.
+const SURE: &[Row] = &[
+    Row {
+        shows: "pieces are read in order and a block once",
+        peer: TORN,
+        calls: &[
+            (Read(2), Went(2)),
+            (Read(2), Blocked),
+            (Read(1), Went(1)),
+            (Read(4), Went(2)),
+            (Read(4), Went(0)),
+            (Read(1), Went(0)),
+            (Remove, Done),
+            (Faults, Counted(0)),
+        ],
+        read: "ab\ncd",
+        sent: "",
+    },
+    Row {
+        shows: "writes are taken up to the room",
+        peer: Peer {
+            at_once: 2,
+            room: 5,
+            ..ENDS
+        },
+        calls: &[
+            (Write("abcd"), Went(2)),
+            (Write("x"), Went(1)),
+            (Write("yz"), Went(2)),
+            (Write("u"), Blocked),
+            (Write("uv"), Blocked),
+        ],
+        read: "",
+        sent: "abxyz",
+    },
+    Row {
+        shows: "a piece without bytes is passed over",
+        peer: Peer {
+            blocks: true,
+            last: b"abc",
+            ..SILENT
+        },
+        calls: &[
+            (Read(4), Blocked),
+            (Read(2), Went(2)),
+            (Read(4), Went(1)),
+            (Read(4), Blocked),
+            (Read(4), Blocked),
+        ],
+        read: "abc",
+        sent: "",
+    },
 ];
 
 #[test]
-fn pieces_are_read_in_order_and_a_block_once(rt: HostRuntime) -> Result<(), Fail> {
-    plays_both(&rt, rt.alloc(), &TORN, &PIECES, ("ab\ncd", ""))
+fn a_connection_gives_its_pieces_and_takes_what_has_room(rt: HostRuntime) -> Result<(), Fail> {
+    for row in SURE {
+        plays(&rt, rt.alloc(), row)?;
+        plays_surely(&rt, rt.alloc(), row)?;
+    }
+    Ok(())
 }
 
-const LATE: Peer = Peer {
-    blocks: true,
-    then: "abc",
-    ..SILENT
+/// A connection of which each second call fails, of the first eight.
+const UNSURE: Row = Row {
+    shows: "calls of all kinds are numbered together",
+    peer: Peer {
+        fails: &[2, 4, 6, 8],
+        ..TORN
+    },
+    calls: &[
+        (Add, Done),
+        (Arm, Failed),
+        (Arm, Done),
+        (Read(4), Failed),
+        (Read(4), Went(2)),
+        (Write("x"), Failed),
+        (Write("yz"), Went(2)),
+        (Remove, Failed),
+        (Remove, Done),
+        (Faults, Counted(4)),
+    ],
+    read: "ab",
+    sent: "yz",
 };
-
-const PASSED_OVER: [(Act, Came); 5] = [
-    (Read(4), Blocked),
-    (Read(2), Went(2)),
-    (Read(4), Went(1)),
-    (Read(4), Blocked),
-    (Read(4), Blocked),
-];
-
-#[test]
-fn a_piece_without_bytes_is_passed_over(rt: HostRuntime) -> Result<(), Fail> {
-    plays(&rt, rt.alloc(), &LATE, &PASSED_OVER, ("abc", ""))
-}
-
-const NARROW: Peer = Peer {
-    at_once: 2,
-    room: 5,
-    ..ENDS
-};
-
-const TAKEN: [(Act, Came); 5] = [
-    (Write("abcd"), Went(2)),
-    (Write("x"), Went(1)),
-    (Write("yz"), Went(2)),
-    (Write("u"), Blocked),
-    (Write("uv"), Blocked),
-];
-
-#[test]
-fn writes_are_taken_up_to_the_room(rt: HostRuntime) -> Result<(), Fail> {
-    plays_both(&rt, rt.alloc(), &NARROW, &TAKEN, ("", "abxyz"))
-}
-
-const UNSURE: Peer = Peer {
-    fails: &[2, 4, 6, 8],
-    ..TORN
-};
-
-const NUMBERED: [(Act, Came); 10] = [
-    (Add, Done),
-    (Arm, Failed),
-    (Arm, Done),
-    (Read(4), Failed),
-    (Read(4), Went(2)),
-    (Write("x"), Failed),
-    (Write("yz"), Went(2)),
-    (Remove, Failed),
-    (Remove, Done),
-    (Faults, Counted(4)),
-];
 
 #[test]
 fn calls_of_all_kinds_are_numbered_together(rt: HostRuntime) -> Result<(), Fail> {
-    plays(&rt, rt.alloc(), &UNSURE, &NUMBERED, ("ab", "yz"))
+    plays(&rt, rt.alloc(), &UNSURE)
 }

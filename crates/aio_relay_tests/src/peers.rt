@@ -1,107 +1,36 @@
-//! Connections in memory, made of rows: each says what the other end does.
+//! Connections in memory of the tests.
 
 ghost use Rattle.std.specs.Prelude.{◌^◌, ◌<◌, IfOk};
 ghost use Rattle.aio_conns.specs.Given.{total_bytes};
 
-use aio_conns::{MemConn, Piece, SureConn};
-use std::alloc::{AllocError, Global};
+use aio_conns::{ENDS, Peer, Piece, SureConn};
+use std::alloc::Global;
 use std::test::Fail;
 
-/// What the other end of a connection does.
-#[derive(Clone, Copy)]
-pub(crate) struct Peer {
-    /// What it sends first: texts, each so many times.
-    pub(crate) first: &'static [(usize, &'static str)],
-    /// Whether a read is blocked once after that.
-    pub(crate) blocks: bool,
-    /// What it sends at last.
-    pub(crate) then: &'static str,
-    /// Whether it ends.
-    pub(crate) ends: bool,
-    /// How many bytes it takes at once.
-    pub(crate) at_once: u32,
-    /// How many it takes in all.
-    pub(crate) room: u32,
-    /// The numbers of the calls that fail.
-    pub(crate) fails: &'static [u64],
-}
-
-/// How many bytes are taken in all where that has no bound.
-const NO_BOUND: u32 = u32::MAX;
-
-/// Sends nothing and ends.
-pub(crate) const ENDS: Peer = Peer {
-    first: &[],
-    blocks: false,
-    then: "",
-    ends: true,
-    at_once: 4096,
-    room: NO_BOUND,
-    fails: &[],
-};
-
-/// Sends nothing and never ends.
-pub(crate) const SILENT: Peer = Peer {
-    ends: false,
-    ..ENDS
-};
-
 /// Sends a line in two pieces, and then the front of another.
-pub(crate) const TORN: Peer = Peer {
-    first: &[(1, "ab")],
+pub(crate) const TORN: Peer<'static> = Peer {
+    first: b"ab",
     blocks: true,
-    then: "\ncd",
+    last: b"\ncd",
     ..ENDS
 };
 
-/// Writes a text behind others.
-fn append(to: &mut Vec<u8>, text: &str, times: usize) -> Result<(), AllocError> {
-    for _ in 0..times {
-        to.extend_from_slice(text.as_bytes())?;
-    }
-    Ok(())
-}
-
-/// Texts, each so many times.
-fn repeated(alloc: Global, texts: &[(usize, &str)]) -> Result<Vec<u8>, AllocError> {
-    let mut bytes = Vec::new(alloc);
-    for (times, text) in texts {
-        append(&mut bytes, text, *times)?;
-    }
-    Ok(bytes)
-}
-
-/// These bytes, and then these, between which a read is blocked where it is asked for.
-fn pieces(alloc: Global, first: Vec<u8>, blocks: bool, then: Vec<u8>) -> Result<Vec<Piece>, Fail>
+/// What a peer sends, piece by piece, between which a read is blocked where it is asked for.
+fn pieces(alloc: Global, peer: &Peer<'_>) -> Result<Vec<Piece>, Fail>
     ensures { IfOk result (λ pieces. total_bytes pieces.items < 2 ^ 64) }
 {
-    let first = Piece::Bytes(first);
-    let then = Piece::Bytes(then);
-    if blocks {
-        Ok(vec![in alloc; first, Piece::Block, then]?)
+    let first = Piece::Bytes(peer.first.to_vec(alloc)?);
+    let last = Piece::Bytes(peer.last.to_vec(alloc)?);
+    if peer.blocks {
+        Ok(vec![in alloc; first, Piece::Block, last]?)
     } else {
-        Ok(vec![in alloc; first, then]?)
+        Ok(vec![in alloc; first, last]?)
     }
 }
 
-impl Peer {
-    /// A connection to this peer whose calls may fail.
-    pub(crate) fn connection(&self, alloc: Global) -> Result<MemConn, Fail> {
-        let first = repeated(alloc, self.first)?;
-        let then = repeated(alloc, &[(1, self.then)])?;
-        let pieces = pieces(alloc, first, self.blocks, then)?;
-        let mut fails = Vec::new(alloc);
-        fails.extend_from_slice(self.fails)?;
-        let at_once = self.at_once.max(1);
-        Ok(MemConn::new(alloc, pieces, self.ends, at_once, self.room, fails)?)
-    }
-
-    /// A connection to this peer of which no call fails.
-    pub(crate) fn sure_connection(&self, alloc: Global) -> Result<SureConn, Fail> {
-        let first = repeated(alloc, self.first)?;
-        let then = repeated(alloc, &[(1, self.then)])?;
-        let pieces = pieces(alloc, first, self.blocks, then)?;
-        let at_once = self.at_once.max(1);
-        Ok(SureConn::new(alloc, pieces, self.ends, at_once, self.room)?)
-    }
+/// A connection to a peer of which no call fails.
+pub(crate) fn sure_connection(alloc: Global, peer: &Peer<'_>) -> Result<SureConn, Fail> {
+    let pieces = pieces(alloc, peer)?;
+    let at_once = peer.at_once.max(1);
+    Ok(SureConn::new(alloc, pieces, peer.ends, at_once, peer.room)?)
 }

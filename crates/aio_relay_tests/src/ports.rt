@@ -1,9 +1,8 @@
 //! What no clause says of a port in memory: which connection comes when.
 
 use crate::asserts::same;
-use crate::peers::{ENDS, Peer};
 use aio_base::{Conn, Did, Failed, Faults, Port};
-use aio_conns::{MemConn, MemPort};
+use aio_conns::{ENDS, MemConn, MemPort, Peer};
 use std::alloc::Global;
 use std::process::Abort;
 use std::sync::Wait;
@@ -31,12 +30,16 @@ where
 }
 
 /// A connection that gives this text.
-fn giving(alloc: Global, text: &'static str) -> Result<MemConn, Fail> {
-    Peer { then: text, ..ENDS }.connection(alloc)
+fn giving(alloc: Global, text: &str) -> Result<MemConn, Fail> {
+    let peer = Peer {
+        last: text.as_bytes(),
+        ..ENDS
+    };
+    Ok(peer.connection(alloc)?)
 }
 
 /// A port of connections that give these texts.
-fn port_of(alloc: Global, texts: &[&'static str]) -> Result<MemPort, Fail> {
+fn port_of(alloc: Global, texts: &[&str]) -> Result<MemPort, Fail> {
     let mut conns = Vec::new(alloc);
     for text in texts {
         conns.push(giving(alloc, text)?)?;

@@ -2,11 +2,11 @@
 
 ghost use Rattle.std.specs.Prelude.{◌<◌};
 
-use crate::asserts::same;
+use crate::asserts::same_in;
 use crate::hosts::{ListHost, Trouble};
-use crate::peers::{Peer, SILENT};
-use aio_base::{Conn, Cx, Key, Moment, Poll, Task};
-use aio_conns::MemConn;
+use aio_base::{Conn, CountFault, Cx, Key, Moment, Poll, Task};
+use aio_conns::{MemConn, Peer, SILENT};
+use aio_future::TryFault;
 use aio_react::Host;
 use aio_relay::{MemEnd, Pair, PairEnd, Side};
 use aio_source::{SourceCell, SourceState};
@@ -14,28 +14,34 @@ use std::alloc::Global;
 use std::process::Abort;
 use std::test::Fail;
 
-/// A pair that is to be made.
+/// A pair that is to be made, what is done with it, and what comes of each act.
 #[derive(Clone, Copy)]
-pub(crate) struct Row {
+pub(crate) struct Row<'a> {
+    /// What it shows.
+    pub(crate) shows: &'static str,
     /// What the other end of side A does.
-    pub(crate) a: Peer,
+    pub(crate) a: Peer<'a>,
     /// What that of side B does.
-    pub(crate) b: Peer,
+    pub(crate) b: Peer<'a>,
     /// What its host meets.
     pub(crate) trouble: Trouble,
     /// Its idle time.
     pub(crate) idle: u64,
     /// The moment from which on it counts.
     pub(crate) start: u64,
+    /// The acts, with what comes of each.
+    pub(crate) acts: &'a [(Act, Came)],
 }
 
 /// Two connections over which nothing comes.
-pub(crate) const QUIET: Row = Row {
+pub(crate) const QUIET: Row<'static> = Row {
+    shows: "",
     a: SILENT,
     b: SILENT,
     trouble: Trouble::Nothing,
     idle: 1000,
     start: 0,
+    acts: &[],
 };
 
 /// What is done with a pair.
@@ -62,8 +68,16 @@ pub(crate) enum Came {
     Waits,
     /// It is idle: the moment of the last byte, and that of the poll.
     Idles(u64, u64),
-    /// It ends otherwise.
-    Ends(PairEnd),
+    /// It ends, and so many bytes were written to sides A and B.
+    Ended(u64, u64),
+    /// A line of a side is too long, at this place.
+    TooLong(Side, u64),
+    /// A call of a connection failed.
+    Fails(TryFault),
+    /// The host's notifier failed.
+    NotifyFails(CountFault),
+    /// There was no memory.
+    NoMemory,
     /// One timer is registered, for this moment with this waker.
     One(u64, u32),
     /// So many timers are registered, not one.
@@ -114,7 +128,7 @@ pub(crate) fn pair_of<C: Conn + Drop>(
 
 impl Relay {
     /// The pair of a row, with a new host.
-    fn new(alloc: Global, row: &Row, start: Moment) -> Result<Relay, Fail> {
+    fn new(alloc: Global, row: &Row<'_>, start: Moment) -> Result<Relay, Fail> {
         let a = row.a.connection(alloc)?;
         let b = row.b.connection(alloc)?;
         let host = ListHost::new(alloc, row.trouble);
@@ -160,9 +174,9 @@ impl Relay {
     }
 
     /// Asserts that what these acts come to is what stands beside each.
-    fn plays(&mut self, rt: &impl Abort, rows: &[(Act, Came)]) {
-        for (act, came) in rows {
-            same(rt, self.act(rt, *act), *came);
+    fn plays(&mut self, rt: &impl Abort, row: &Row<'_>) {
+        for (act, came) in row.acts {
+            same_in(rt, row.shows, self.act(rt, *act), *came);
         }
     }
 }
@@ -172,12 +186,25 @@ pub(crate) fn poll<H: Host, T: Task<H>>(task: &mut T, host: &mut H, cx: Cx) -> P
     task.poll(host, cx)
 }
 
+/// What the end of a pair is in a table.
+fn end_told(end: PairEnd) -> Came {
+    match end {
+        PairEnd::Ended { to_a, to_b } => Came::Ended(to_a, to_b),
+        PairEnd::Idle { last, now } => Came::Idles(last.get(), now.get()),
+        PairEnd::TooLong { side, at } => Came::TooLong(side, at),
+        PairEnd::ReadFault(fault) => Came::Fails(TryFault::Read(fault)),
+        PairEnd::WriteFault(fault) => Came::Fails(TryFault::Write(fault)),
+        PairEnd::ArmFault(fault) => Came::Fails(TryFault::Arm(fault)),
+        PairEnd::NotifyFault(fault) => Came::NotifyFails(fault),
+        PairEnd::OutOfMemory => Came::NoMemory,
+    }
+}
+
 /// What the answer to a poll comes to.
 fn came_of(answer: Poll<PairEnd>) -> Came {
-    match &answer {
+    match answer {
         Poll::Pending => Came::Waits,
-        Poll::Ready(PairEnd::Idle { last, now }) => Came::Idles(last.get(), now.get()),
-        Poll::Ready(end) => Came::Ends(*end),
+        Poll::Ready(end) => end_told(end),
     }
 }
 
@@ -186,18 +213,17 @@ pub(crate) fn moment(rt: &impl Abort, nanoseconds: u64) -> Moment {
     Moment::new(nanoseconds).expect(rt, "the moment is at most 10^18")
 }
 
-/// Makes the pair of a row, and asserts that what these acts come to is what stands beside each.
-pub(crate) fn plays(
-    rt: &impl Abort,
-    alloc: Global,
-    row: &Row,
-    rows: &[(Act, Came)],
-) -> Result<(), Fail> {
-    match Relay::new(alloc, row, moment(rt, row.start)) {
-        Ok(mut relay) => {
-            relay.plays(rt, rows);
-            Ok(())
-        }
-        Err(fault) => Err(fault),
+/// Makes the pair of a row, and asserts that what its acts come to is what stands beside each.
+pub(crate) fn plays(rt: &impl Abort, alloc: Global, row: &Row<'_>) -> Result<(), Fail> {
+    let mut relay = Relay::new(alloc, row, moment(rt, row.start))?;
+    relay.plays(rt, row);
+    Ok(())
+}
+
+/// The same of each row of a table.
+pub(crate) fn plays_each(rt: &impl Abort, alloc: Global, rows: &[Row<'_>]) -> Result<(), Fail> {
+    for row in rows {
+        plays(rt, alloc, row)?;
     }
+    Ok(())
 }

@@ -3,12 +3,11 @@
 
 ghost use Rattle.std.specs.Prelude.{◌≡◌};
 
-use crate::asserts::same;
-use crate::peers::{ENDS, Peer, SILENT};
+use crate::asserts::same_in;
 use crate::tries::Act::{Event, Listen, PollReadable, PollWritable, Read, Write};
 use crate::tries::Came::{Failed, Other, Ready, Took, Waits, Went};
 use aio_base::{ArmFault, CountFault, Dir, Interest, Key, Waker};
-use aio_conns::MemConn;
+use aio_conns::{ENDS, MemConn, Peer, SILENT};
 use aio_future::{Async, Poll, Tried, TryFault};
 use aio_source::{ListenRefusal, Polled, SourceCell, SourceState};
 use std::alloc::Global;
@@ -137,27 +136,29 @@ fn comes_of(act: Act, cell: &mut SourceCell<MemConn>, taken: &mut Vec<Waker>) ->
     }
 }
 
-/// Asserts that what these acts come to is what stands beside each.
-fn plays_over(
-    rt: &impl Abort,
-    cell: &mut SourceCell<MemConn>,
-    rows: &[(Act, Came)],
-    taken: &mut Vec<Waker>,
-) {
-    for (act, came) in rows {
-        same(rt, comes_of(*act, cell, taken), *came);
+/// An entered source: what the other end of its connection does, and its acts with what comes of each.
+struct Row {
+    shows: &'static str,
+    peer: Peer<'static>,
+    acts: &'static [(Act, Came)],
+}
+
+/// Asserts that what the acts of a row come to over this source is what stands beside each.
+fn plays_over(rt: &impl Abort, cell: &mut SourceCell<MemConn>, row: &Row, taken: &mut Vec<Waker>) {
+    for (act, came) in row.acts {
+        same_in(rt, row.shows, comes_of(*act, cell, taken), *came);
     }
 }
 
 const KEY: Key = Key(3);
 
-/// Asserts that what these acts come to over a connection to this peer is what stands beside each.
-fn plays(rt: &impl Abort, alloc: Global, peer: &Peer, rows: &[(Act, Came)]) -> Result<(), Fail> {
+/// The same over a new source.
+fn plays(rt: &impl Abort, alloc: Global, row: &Row) -> Result<(), Fail> {
     let mut taken = Vec::with_capacity(alloc, 8)?;
-    let io = peer.connection(alloc)?;
+    let io = row.peer.connection(alloc)?;
     let state = SourceState::new(alloc, KEY);
     let mut cell = SourceCell { state, io };
-    plays_over(rt, &mut cell, rows, &mut taken);
+    plays_over(rt, &mut cell, row, &mut taken);
     Ok(())
 }
 
@@ -174,175 +175,165 @@ const FIRST_ARM: ArmFault = ArmFault {
     after: 1,
 };
 
-const BLOCKED_ONCE: Peer = Peer {
+/// Is blocked once, then sends two bytes, and ends.
+const BLOCKED_ONCE: Peer<'static> = Peer {
     blocks: true,
-    then: "ab",
+    last: b"ab",
     ..ENDS
 };
 
-const TRIES_AGAIN: [(Act, Came); 4] = [
-    (PollReadable(1), Waits(None)),
-    (Event(Interest::READ), Took(Some(1))),
-    (Read(2), Went(2)),
-    (Read(2), Went(0)),
-];
-
-const SECOND_READ_FAILS: Peer = Peer {
-    fails: &[3],
-    ..BLOCKED_ONCE
-};
-
-const FAILS_AGAIN: [(Act, Came); 4] = [
-    (PollReadable(1), Waits(None)),
-    (Event(Interest::READ), Took(Some(1))),
-    (Read(2), Failed(TryFault::Read(FIRST))),
-    (Read(2), Went(2)),
-];
-
-#[test]
-fn a_blocked_read_is_tried_again_where_the_source_is_ready(rt: HostRuntime) -> Result<(), Fail> {
-    plays(&rt, rt.alloc(), &BLOCKED_ONCE, &TRIES_AGAIN)
-}
-
-#[test]
-fn a_second_read_that_fails_is_told(rt: HostRuntime) -> Result<(), Fail> {
-    plays(&rt, rt.alloc(), &SECOND_READ_FAILS, &FAILS_AGAIN)
-}
-
-const FOURTH_FAILS: Peer = Peer {
+/// Nothing comes, nothing is taken, and the fourth call fails.
+const FOURTH_FAILS: Peer<'static> = Peer {
     fails: &[4],
     room: 0,
     ..SILENT
 };
 
-const FIFTH_FAILS: Peer = Peer {
+/// The same where the fifth call fails.
+const FIFTH_FAILS: Peer<'static> = Peer {
     fails: &[5],
     room: 0,
     ..SILENT
 };
 
-// The poll arms first, then come two reads, and the fourth call is an arm.
-const READS_ARM_FOURTH: [(Act, Came); 3] = [
-    (PollReadable(1), Waits(None)),
-    (Event(Interest::READ), Took(Some(1))),
-    (Read(2), Failed(TryFault::Arm(FIRST_ARM))),
-];
-
-// There is no fifth call before the next read.
-const READS_END_FOURTH: [(Act, Came); 4] = [
-    (PollReadable(1), Waits(None)),
-    (Event(Interest::READ), Took(Some(1))),
-    (Read(2), Waits(None)),
-    (Read(2), Failed(TryFault::Read(FIRST))),
-];
-
-const WRITES_ARM_FOURTH: [(Act, Came); 3] = [
-    (PollWritable(1), Waits(None)),
-    (Event(Interest::WRITE), Took(Some(1))),
-    (Write("ab", 2), Failed(TryFault::Arm(FIRST_ARM))),
-];
-
-const WRITES_END_FOURTH: [(Act, Came); 4] = [
-    (PollWritable(1), Waits(None)),
-    (Event(Interest::WRITE), Took(Some(1))),
-    (Write("ab", 2), Waits(None)),
-    (Write("ab", 2), Failed(TryFault::Write(FIRST))),
-];
-
-#[test]
-fn a_read_arms_after_two_tries(rt: HostRuntime) -> Result<(), Fail> {
-    plays(&rt, rt.alloc(), &FOURTH_FAILS, &READS_ARM_FOURTH)
-}
-
-#[test]
-fn a_read_is_tried_twice_at_most(rt: HostRuntime) -> Result<(), Fail> {
-    plays(&rt, rt.alloc(), &FIFTH_FAILS, &READS_END_FOURTH)
-}
-
-#[test]
-fn a_write_arms_after_two_tries(rt: HostRuntime) -> Result<(), Fail> {
-    plays(&rt, rt.alloc(), &FOURTH_FAILS, &WRITES_ARM_FOURTH)
-}
-
-#[test]
-fn a_write_is_tried_twice_at_most(rt: HostRuntime) -> Result<(), Fail> {
-    plays(&rt, rt.alloc(), &FIFTH_FAILS, &WRITES_END_FOURTH)
-}
-
-const REPLACED: [(Act, Came); 7] = [
-    (Read(1), Waits(None)),
-    (Read(2), Waits(Some(1))),
-    (Read(2), Waits(None)),
-    (PollReadable(3), Waits(Some(2))),
-    (Event(Interest::READ), Took(Some(3))),
-    (PollReadable(4), Ready),
-    (PollReadable(4), Waits(None)),
-];
-
-const NARROW: Peer = Peer {
-    at_once: 2,
-    room: 3,
-    ..SILENT
-};
-
-const REPLACED_BY_WRITES: [(Act, Came); 8] = [
-    (Write("abc", 1), Went(2)),
-    (Write("cd", 1), Went(1)),
-    (Write("d", 1), Waits(None)),
-    (Write("d", 2), Waits(Some(1))),
-    (PollWritable(3), Waits(Some(2))),
-    (Event(Interest::BOTH), Took(Some(3))),
-    (PollWritable(4), Ready),
-    (Write("d", 4), Waits(None)),
-];
-
-#[test]
-fn a_waker_that_another_replaces_is_handed_out(rt: HostRuntime) -> Result<(), Fail> {
-    plays(&rt, rt.alloc(), &SILENT, &REPLACED)
-}
-
-#[test]
-fn a_waker_that_another_write_replaces_is_handed_out(rt: HostRuntime) -> Result<(), Fail> {
-    plays(&rt, rt.alloc(), &NARROW, &REPLACED_BY_WRITES)
-}
-
-const FIRST_ARM_FAILS: Peer = Peer {
+/// Nothing comes, and the first call fails.
+const FIRST_ARM_FAILS: Peer<'static> = Peer {
     fails: &[1],
     ..SILENT
 };
 
-const ARMS_AGAIN: [(Act, Came); 4] = [
-    (PollWritable(1), Failed(TryFault::Arm(FIRST_ARM))),
-    (PollWritable(2), Waits(Some(1))),
-    (Write("ab", 2), Went(2)),
-    (Read(5), Waits(None)),
-];
-
-const LISTENER_STAYS: [(Act, Came); 3] = [
-    (Listen(1), Failed(TryFault::Arm(FIRST_ARM))),
-    (Event(Interest::READ), Took(Some(1))),
-    (Event(Interest::READ), Took(None)),
+/// Entered sources, each over a new connection.
+const ROWS: &[Row] = &[
+    Row {
+        shows: "a blocked read is tried again where the source is ready",
+        peer: BLOCKED_ONCE,
+        acts: &[
+            (PollReadable(1), Waits(None)),
+            (Event(Interest::READ), Took(Some(1))),
+            (Read(2), Went(2)),
+            (Read(2), Went(0)),
+        ],
+    },
+    Row {
+        shows: "a second read that fails is told",
+        peer: Peer {
+            fails: &[3],
+            ..BLOCKED_ONCE
+        },
+        acts: &[
+            (PollReadable(1), Waits(None)),
+            (Event(Interest::READ), Took(Some(1))),
+            (Read(2), Failed(TryFault::Read(FIRST))),
+            (Read(2), Went(2)),
+        ],
+    },
+    // The poll arms first, then come two reads, and the fourth call is an arm.
+    Row {
+        shows: "a read arms after two tries",
+        peer: FOURTH_FAILS,
+        acts: &[
+            (PollReadable(1), Waits(None)),
+            (Event(Interest::READ), Took(Some(1))),
+            (Read(2), Failed(TryFault::Arm(FIRST_ARM))),
+        ],
+    },
+    // There is no fifth call before the next read.
+    Row {
+        shows: "a read is tried twice at most",
+        peer: FIFTH_FAILS,
+        acts: &[
+            (PollReadable(1), Waits(None)),
+            (Event(Interest::READ), Took(Some(1))),
+            (Read(2), Waits(None)),
+            (Read(2), Failed(TryFault::Read(FIRST))),
+        ],
+    },
+    Row {
+        shows: "a write arms after two tries",
+        peer: FOURTH_FAILS,
+        acts: &[
+            (PollWritable(1), Waits(None)),
+            (Event(Interest::WRITE), Took(Some(1))),
+            (Write("ab", 2), Failed(TryFault::Arm(FIRST_ARM))),
+        ],
+    },
+    Row {
+        shows: "a write is tried twice at most",
+        peer: FIFTH_FAILS,
+        acts: &[
+            (PollWritable(1), Waits(None)),
+            (Event(Interest::WRITE), Took(Some(1))),
+            (Write("ab", 2), Waits(None)),
+            (Write("ab", 2), Failed(TryFault::Write(FIRST))),
+        ],
+    },
+    Row {
+        shows: "a waker that another replaces is handed out",
+        peer: SILENT,
+        acts: &[
+            (Read(1), Waits(None)),
+            (Read(2), Waits(Some(1))),
+            (Read(2), Waits(None)),
+            (PollReadable(3), Waits(Some(2))),
+            (Event(Interest::READ), Took(Some(3))),
+            (PollReadable(4), Ready),
+            (PollReadable(4), Waits(None)),
+        ],
+    },
+    Row {
+        shows: "a waker that another write replaces is handed out",
+        peer: Peer {
+            at_once: 2,
+            room: 3,
+            ..SILENT
+        },
+        acts: &[
+            (Write("abc", 1), Went(2)),
+            (Write("cd", 1), Went(1)),
+            (Write("d", 1), Waits(None)),
+            (Write("d", 2), Waits(Some(1))),
+            (PollWritable(3), Waits(Some(2))),
+            (Event(Interest::BOTH), Took(Some(3))),
+            (PollWritable(4), Ready),
+            (Write("d", 4), Waits(None)),
+        ],
+    },
+    Row {
+        shows: "a waiter stays where its arm failed",
+        peer: FIRST_ARM_FAILS,
+        acts: &[
+            (PollWritable(1), Failed(TryFault::Arm(FIRST_ARM))),
+            (PollWritable(2), Waits(Some(1))),
+            (Write("ab", 2), Went(2)),
+            (Read(5), Waits(None)),
+        ],
+    },
+    Row {
+        shows: "a listener stays where its arm failed",
+        peer: FIRST_ARM_FAILS,
+        acts: &[
+            (Listen(1), Failed(TryFault::Arm(FIRST_ARM))),
+            (Event(Interest::READ), Took(Some(1))),
+            (Event(Interest::READ), Took(None)),
+        ],
+    },
+    Row {
+        shows: "a listener waits until an event of its direction",
+        peer: SILENT,
+        acts: &[
+            (Listen(1), Waits(None)),
+            (Listen(2), Waits(None)),
+            (Event(Interest::WRITE), Took(None)),
+            (Event(Interest::READ), Took(Some(1))),
+            (Event(Interest::READ), Took(None)),
+        ],
+    },
 ];
 
 #[test]
-fn a_waiter_stays_where_its_arm_failed(rt: HostRuntime) -> Result<(), Fail> {
-    plays(&rt, rt.alloc(), &FIRST_ARM_FAILS, &ARMS_AGAIN)
-}
-
-#[test]
-fn a_listener_stays_where_its_arm_failed(rt: HostRuntime) -> Result<(), Fail> {
-    plays(&rt, rt.alloc(), &FIRST_ARM_FAILS, &LISTENER_STAYS)
-}
-
-const LISTENS: [(Act, Came); 5] = [
-    (Listen(1), Waits(None)),
-    (Listen(2), Waits(None)),
-    (Event(Interest::WRITE), Took(None)),
-    (Event(Interest::READ), Took(Some(1))),
-    (Event(Interest::READ), Took(None)),
-];
-
-#[test]
-fn a_listener_waits_until_an_event_of_its_direction(rt: HostRuntime) -> Result<(), Fail> {
-    plays(&rt, rt.alloc(), &SILENT, &LISTENS)
+fn a_source_is_tried_twice_at_most_and_waits_armed(rt: HostRuntime) -> Result<(), Fail> {
+    for row in ROWS {
+        plays(&rt, rt.alloc(), row)?;
+    }
+    Ok(())
 }

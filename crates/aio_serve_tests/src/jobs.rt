@@ -7,13 +7,15 @@ use aio_base::{Gate, Job, Spawner};
 use aio_places::{CallerSpawner, OpenGate, ThreadSpawner};
 use std::alloc::Global;
 use std::sync::Wait;
+use std::sync::atomic::{AtomicU32, Ordering};
 use std::test::Fail;
-use std::thread::Threads;
+use std::thread::{Threads, yield_now};
 
-/// A job that ends with its number.
+/// A job that ends with its number, once others had so many turns.
 #[derive(Drop)]
 struct Numbered {
     number: u64,
+    turns: usize,
 }
 
 impl Job for Numbered {
@@ -24,17 +26,21 @@ impl Job for Numbered {
     ghost may_end = { λ job end. end ≡ job.number };
 
     fn run<R: Wait + Threads + Sync + Send + Copy>(self, _rt: &R) -> u64 {
+        for _ in 0..self.turns {
+            yield_now();
+        }
         self.number
     }
 }
 
-/// Jobs of these numbers.
+/// Jobs of these numbers. The earlier ones take longer.
 fn jobs(alloc: Global, numbers: &[u64]) -> Result<Vec<Numbered>, Fail> {
     let mut jobs = Vec::new(alloc);
+    let mut turns: usize = 1000;
     for number in numbers {
-        if jobs.push(Numbered { number: *number }).is_err() {
-            return Err(Fail::from("no room"));
-        }
+        turns = turns.saturating_sub(50);
+        let number = *number;
+        jobs.push(Numbered { number, turns })?;
     }
     Ok(jobs)
 }
@@ -49,17 +55,75 @@ fn ends<S: Spawner, R: Wait + Threads + Sync + Send + Copy>(
     Ok(spawner.run_all(alloc, rt, jobs(alloc, numbers)?)?)
 }
 
-/// The numbers of sixteen jobs.
-const SIXTEEN: [u64; 16] = [9, 8, 7, 6, 5, 4, 3, 2, 1, 0, 10, 11, 12, 13, 14, 15];
+/// The numbers of no job, of three, and of sixteen.
+const NUMBERS: &[&[u64]] = &[
+    &[],
+    &[3, 1, 2],
+    &[9, 8, 7, 6, 5, 4, 3, 2, 1, 0, 10, 11, 12, 13, 14, 15],
+];
 
 #[test]
 fn the_ends_of_jobs_stand_in_their_order(rt: HostRuntime) -> Result<(), Fail> {
-    for numbers in [[].as_slice(), [3, 1, 2].as_slice(), SIXTEEN.as_slice()] {
+    for numbers in NUMBERS {
         let on_the_caller = ends(&mut CallerSpawner, rt.alloc(), &&rt, numbers)?;
         let on_threads = ends(&mut ThreadSpawner, rt.alloc(), &&rt, numbers)?;
-        same(&rt, on_the_caller.as_slice(), numbers);
-        same(&rt, on_threads.as_slice(), numbers);
+        same(&rt, on_the_caller.as_slice(), *numbers);
+        same(&rt, on_threads.as_slice(), *numbers);
     }
+    Ok(())
+}
+
+/// How often a job looks at the flag of another.
+const MOST_LOOKS: u32 = 10_000_000;
+
+/// A job that sets its flag, and ends with whether it saw that of another.
+#[derive(Drop)]
+struct Meeting<'a> {
+    own: &'a AtomicU32,
+    other: &'a AtomicU32,
+}
+
+impl Job for Meeting<'_> {
+    ghost use Rattle.std.specs.Prelude.{⊤};
+
+    type End = bool;
+
+    ghost may_end = { λ job end. ⊤ };
+
+    fn run<R: Wait + Threads + Sync + Send + Copy>(self, _rt: &R) -> bool {
+        self.own.store(1, Ordering::SeqCst);
+        for _ in 0..MOST_LOOKS {
+            if self.other.load(Ordering::SeqCst) == 1 {
+                return true;
+            }
+            yield_now();
+        }
+        false
+    }
+}
+
+/// What two jobs come to that wait for each other.
+fn meet<S: Spawner, R: Wait + Threads + Sync + Send + Copy>(
+    spawner: &mut S,
+    alloc: Global,
+    rt: &R,
+) -> Result<Vec<bool>, Fail> {
+    let (one, two) = (AtomicU32::new(0), AtomicU32::new(0));
+    let first = Meeting {
+        own: &one,
+        other: &two,
+    };
+    let second = Meeting {
+        own: &two,
+        other: &one,
+    };
+    Ok(spawner.run_all(alloc, rt, vec![in alloc; first, second]?)?)
+}
+
+#[test]
+fn two_jobs_on_threads_run_side_by_side(rt: HostRuntime) -> Result<(), Fail> {
+    let met = meet(&mut ThreadSpawner, rt.alloc(), &&rt)?;
+    same(&rt, met.as_slice(), [true, true].as_slice());
     Ok(())
 }
 

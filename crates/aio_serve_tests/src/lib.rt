@@ -6,8 +6,6 @@
 #[cfg(test)]
 mod asserts;
 #[cfg(test)]
-mod connections;
-#[cfg(test)]
 mod gates;
 #[cfg(test)]
 mod jobs;
@@ -15,8 +13,6 @@ mod jobs;
 mod moments;
 #[cfg(test)]
 mod pairs;
-#[cfg(test)]
-mod reactors;
 #[cfg(test)]
 mod rows;
 #[cfg(test)]

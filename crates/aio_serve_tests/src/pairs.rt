@@ -2,10 +2,9 @@
 //! serves it to its end.
 
 use crate::asserts::same;
-use crate::connections::sends;
 use crate::moments::moment;
 use aio_base::Key;
-use aio_conns::SureConn;
+use aio_conns::{ENDS, MemConn, Peer, SILENT};
 use aio_devices::{MemClock, MemNotify, MemWait, clock_until};
 use aio_park::Thread;
 use aio_places::SourceEnd;
@@ -15,11 +14,11 @@ use std::process::Abort;
 use std::sync::{Arc, Wait};
 use std::test::Fail;
 
-/// A thread of a reactor of its own, whose sources have connections that never fail.
-pub(crate) type Server<R> = Thread<R, MemNotify, SureConn, MemWait, MemClock>;
+/// A thread of a reactor of its own, whose sources have connections in memory.
+pub(crate) type Server<R> = Thread<R, MemNotify, MemConn, MemWait, MemClock>;
 
 /// An end over a source of such a reactor.
-pub(crate) type End = SourceEnd<SureConn, MemWait>;
+pub(crate) type End = SourceEnd<MemConn, MemWait>;
 
 /// The idle time of the pairs.
 pub(crate) const IDLE: u64 = 1000;
@@ -34,9 +33,35 @@ pub(crate) fn server<R: Wait + Copy + Abort>(
     Ok(Thread::new(alloc, rt, 1, MemWait::new(2), MemNotify::new(), clock)?)
 }
 
-/// An end over a new source of the thread's reactor.
-pub(crate) fn end_over<R: Wait + Copy>(server: &Server<R>, conn: SureConn) -> Result<End, Fail> {
+/// What the other ends of the connections of sides A and B do.
+pub(crate) type Sides = [Peer<'static>; 2];
+
+/// Side A sends two bytes of a line, then nothing for once, and then its end and two bytes more. Side B is blocked
+/// once and ends.
+pub(crate) const HALTING: Sides = [
+    Peer {
+        first: b"ab",
+        blocks: true,
+        last: b"\ncd",
+        ..ENDS
+    },
+    Peer {
+        blocks: true,
+        ..ENDS
+    },
+];
+
+/// An end over a new source of the thread's reactor, with a connection to this peer.
+pub(crate) fn end_over<R: Wait + Copy>(
+    server: &Server<R>,
+    alloc: Global,
+    peer: &Peer<'_>,
+) -> Result<End, Fail> {
     let shared = Arc::try_clone(&server.host.shared)?;
+    let Ok(conn) = peer.connection(alloc) else {
+        drop(shared);
+        return Err(Fail::from("no connection"));
+    };
     match server.host.insert_source(conn) {
         Ok(token) => Ok(SourceEnd::new(shared, token)),
         Err(_) => Err(Fail::from("no source")),
@@ -46,11 +71,12 @@ pub(crate) fn end_over<R: Wait + Copy>(server: &Server<R>, conn: SureConn) -> Re
 /// Ends over two connections.
 pub(crate) fn ends_over<R: Wait + Copy>(
     server: &Server<R>,
-    sides: (SureConn, SureConn),
+    alloc: Global,
+    sides: &Sides,
 ) -> Result<(End, End), Fail> {
-    let (a, b) = sides;
-    let a = end_over(server, a)?;
-    let b = end_over(server, b)?;
+    let [a, b] = sides;
+    let a = end_over(server, alloc, a)?;
+    let b = end_over(server, alloc, b)?;
     Ok((a, b))
 }
 
@@ -83,7 +109,7 @@ fn served<R: Wait + Copy>(
 }
 
 /// Whether a connection was sent just this text.
-fn has(conn: &SureConn, text: &str) -> bool {
+fn has(conn: &MemConn, text: &str) -> bool {
     conn.sent() == text.as_bytes()
 }
 
@@ -100,42 +126,37 @@ fn was_sent<R: Wait + Copy>(server: &Server<R>, end: End, text: &str) -> bool {
 fn relayed<R: Wait + Copy>(
     server: &mut Server<R>,
     alloc: Global,
-    sides: (SureConn, SureConn),
+    sides: &Sides,
     text: &str,
 ) -> Result<(PairEnd, bool), Fail> {
-    let ends = ends_over(server, sides)?;
+    let ends = ends_over(server, alloc, sides)?;
     let pair = pair_of(alloc, ends)?;
     let (end, b) = served(server, pair)?;
     Ok((end, was_sent(server, b, text)))
 }
 
-/// Two connections: side A sends a text, then nothing for once, and then another text; side B sends
-/// nothing. They end then, where that is asked for.
-pub(crate) fn sides(
-    alloc: Global,
-    first: &str,
-    then: &str,
-    ends: bool,
-) -> Result<(SureConn, SureConn), Fail> {
-    let a = sends(alloc, first, then, ends)?;
-    let b = sends(alloc, "", "", ends)?;
-    Ok((a, b))
-}
-
 #[test]
 fn a_thread_serves_a_pair_to_its_end(rt: HostRuntime) -> Result<(), Fail> {
-    let sides = sides(rt.alloc(), "ab", "\ncd", true)?;
     let mut server = server(&rt, rt.alloc(), 1000)?;
-    let found = relayed(&mut server, rt.alloc(), sides, "ab\n")?;
+    let found = relayed(&mut server, rt.alloc(), &HALTING, "ab\n")?;
     same(&rt, found, (PairEnd::Ended { to_a: 0, to_b: 3 }, true));
     Ok(())
 }
 
+/// Side A sends a line, and nothing comes after that.
+const FALLS_SILENT: Sides = [
+    Peer {
+        first: b"x\n",
+        blocks: true,
+        ..SILENT
+    },
+    SILENT,
+];
+
 #[test]
 fn a_pair_over_silent_connections_ends_idle(rt: HostRuntime) -> Result<(), Fail> {
-    let sides = sides(rt.alloc(), "x\n", "", false)?;
     let mut server = server(&rt, rt.alloc(), 20)?;
-    let found = relayed(&mut server, rt.alloc(), sides, "x\n")?;
+    let found = relayed(&mut server, rt.alloc(), &FALLS_SILENT, "x\n")?;
     let last = moment(0)?;
     let now = moment(IDLE)?;
     same(&rt, found, (PairEnd::Idle { last, now }, true));
@@ -144,13 +165,13 @@ fn a_pair_over_silent_connections_ends_idle(rt: HostRuntime) -> Result<(), Fail>
 
 /// The key of a new source of a thread's reactor, which stays in it.
 pub(crate) fn next_key<R: Wait + Copy>(server: &Server<R>, alloc: Global) -> Result<Key, Fail> {
-    let end = end_over(server, sends(alloc, "", "", true)?)?;
+    let end = end_over(server, alloc, &ENDS)?;
     Ok(end.into_token().key())
 }
 
 /// The keys of a source that joins beside another, and of one that joins once that other was closed.
 fn keys_beside<R: Wait + Copy>(server: &Server<R>, alloc: Global) -> Result<(Key, Key), Fail> {
-    let closed = end_over(server, sends(alloc, "", "", true)?)?;
+    let closed = end_over(server, alloc, &ENDS)?;
     let beside = next_key(server, alloc)?;
     if closed.close(&server.host.rt).is_err() {
         return Err(Fail::from("not closed"));

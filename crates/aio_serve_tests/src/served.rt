@@ -2,12 +2,11 @@
 //! which order the gate is told of their ends, and that the keys of their sources are free then.
 
 use crate::asserts::same;
-use crate::connections::sends_at_once;
 use crate::gates::NotingGate;
 use crate::moments::moment;
-use crate::pairs::{IDLE, Server, ends_over, next_key, server, sides};
+use crate::pairs::{HALTING, IDLE, Server, Sides, ends_over, next_key, server};
 use aio_base::{ArmFault, Key};
-use aio_conns::SureConn;
+use aio_conns::{ENDS, MemConn, Peer};
 use aio_devices::MemWait;
 use aio_park::Group;
 use aio_places::Place;
@@ -19,14 +18,14 @@ use std::sync::Wait;
 use std::test::Fail;
 use std::thread::Threads;
 
-/// What stands in a slot, of pairs over connections that never fail.
-type SureServed<'g> = Served<'g, SureConn, MemWait, NotingGate>;
+/// What stands in a slot, of pairs over connections in memory.
+type MemServed<'g> = Served<'g, MemConn, MemWait, NotingGate>;
 
-/// The slots of a worker whose pairs are over connections that never fail.
-type Slots<'g> = Group<SureServed<'g>, PairEnd>;
+/// The slots of a worker whose pairs are over connections in memory.
+type Slots<'g> = Group<MemServed<'g>, PairEnd>;
 
 /// The place of a pair over such connections.
-pub(crate) type SurePlace = Place<SureConn, MemWait>;
+pub(crate) type MemPlace = Place<MemConn, MemWait>;
 
 /// The fault of an arm.
 pub(crate) fn arm_fault() -> ArmFault {
@@ -38,7 +37,7 @@ pub(crate) fn arm_fault() -> ArmFault {
 }
 
 /// The place of a pair that is refused.
-pub(crate) fn refused_place(number: u32) -> SurePlace {
+pub(crate) fn refused_place(number: u32) -> MemPlace {
     Place {
         number,
         sides: Err(arm_fault()),
@@ -48,10 +47,11 @@ pub(crate) fn refused_place(number: u32) -> SurePlace {
 /// The place of a pair over two connections.
 pub(crate) fn place_over<R: Wait + Copy>(
     server: &Server<R>,
+    alloc: Global,
     number: u32,
-    sides: (SureConn, SureConn),
-) -> Result<SurePlace, Fail> {
-    let ends = ends_over(server, sides)?;
+    sides: &Sides,
+) -> Result<MemPlace, Fail> {
+    let ends = ends_over(server, alloc, sides)?;
     Ok(Place {
         number,
         sides: Ok(ends),
@@ -61,9 +61,9 @@ pub(crate) fn place_over<R: Wait + Copy>(
 /// What stands in the slot of a place.
 fn served_at<'g>(
     alloc: Global,
-    place: SurePlace,
+    place: MemPlace,
     gate: &'g NotingGate,
-) -> Result<SureServed<'g>, Fail> {
+) -> Result<MemServed<'g>, Fail> {
     match Served::new(alloc, place, IDLE, moment(0)?, gate) {
         Ok(served) => Ok(served),
         Err(_) => Err(Fail::from("no pair")),
@@ -71,7 +71,7 @@ fn served_at<'g>(
 }
 
 /// Adds a slot.
-fn seat<'g>(slots: &mut Slots<'g>, served: SureServed<'g>) -> Result<(), Fail> {
+fn seat<'g>(slots: &mut Slots<'g>, served: MemServed<'g>) -> Result<(), Fail> {
     match slots.add(served) {
         Ok(_) => Ok(()),
         Err(_) => Err(Fail::from("no slot")),
@@ -79,7 +79,7 @@ fn seat<'g>(slots: &mut Slots<'g>, served: SureServed<'g>) -> Result<(), Fail> {
 }
 
 /// Slots for a place, and behind it for a pair that is refused, with number 2.
-fn slots_of<'g>(alloc: Global, place: SurePlace, gate: &'g NotingGate) -> Result<Slots<'g>, Fail> {
+fn slots_of<'g>(alloc: Global, place: MemPlace, gate: &'g NotingGate) -> Result<Slots<'g>, Fail> {
     let mut slots = Group::new(alloc, 0);
     seat(&mut slots, served_at(alloc, place, gate)?)?;
     seat(&mut slots, served_at(alloc, refused_place(2), gate)?)?;
@@ -102,10 +102,10 @@ fn ends_of<R: Wait + Threads + Sync + Send + Copy>(
 fn serve_two<R: Wait + Threads + Sync + Send + Copy>(
     server: &mut Server<R>,
     alloc: Global,
-    sides: (SureConn, SureConn),
+    sides: &Sides,
     gate: &NotingGate,
 ) -> Result<Vec<PairEnd>, Fail> {
-    let place = place_over(server, 1, sides)?;
+    let place = place_over(server, alloc, 1, sides)?;
     let slots = slots_of(alloc, place, gate)?;
     ends_of(server, slots)
 }
@@ -125,7 +125,7 @@ type Outcome = (Vec<PairEnd>, u32, (Key, Key));
 fn outcome<R: Wait + Threads + Sync + Send + Copy + Abort>(
     rt: R,
     alloc: Global,
-    sides: (SureConn, SureConn),
+    sides: &Sides,
 ) -> Result<Outcome, Fail> {
     let gate = NotingGate::new();
     let mut server = server(rt, alloc, 1000)?;
@@ -146,24 +146,24 @@ fn two_ends() -> [PairEnd; 2] {
 fn a_refused_pair_asks_no_gate_and_ends_while_another_is_blocked(
     rt: HostRuntime,
 ) -> Result<(), Fail> {
-    let sides = sides(rt.alloc(), "ab", "\ncd", true)?;
-    let (ends, digits, _keys) = outcome(&rt, rt.alloc(), sides)?;
+    let (ends, digits, _keys) = outcome(&rt, rt.alloc(), &HALTING)?;
     same(&rt, ends.as_slice(), two_ends().as_slice());
     same(&rt, digits, 176);
     Ok(())
 }
 
-/// Two connections that send the same without a halt.
-fn prompt_sides(alloc: Global) -> Result<(SureConn, SureConn), Fail> {
-    let a = sends_at_once(alloc, "ab\ncd")?;
-    let b = sends_at_once(alloc, "")?;
-    Ok((a, b))
-}
+/// Side A sends the same without a halt.
+const PROMPT: Sides = [
+    Peer {
+        first: b"ab\ncd",
+        ..ENDS
+    },
+    ENDS,
+];
 
 #[test]
 fn a_pair_asks_the_gate_before_a_first_poll_that_ends_it(rt: HostRuntime) -> Result<(), Fail> {
-    let sides = prompt_sides(rt.alloc())?;
-    let (ends, digits, _keys) = outcome(&rt, rt.alloc(), sides)?;
+    let (ends, digits, _keys) = outcome(&rt, rt.alloc(), &PROMPT)?;
     same(&rt, ends.as_slice(), two_ends().as_slice());
     same(&rt, digits, 167);
     Ok(())
@@ -171,8 +171,7 @@ fn a_pair_asks_the_gate_before_a_first_poll_that_ends_it(rt: HostRuntime) -> Res
 
 #[test]
 fn the_keys_of_a_pair_are_free_after_its_end(rt: HostRuntime) -> Result<(), Fail> {
-    let sides = sides(rt.alloc(), "ab", "\ncd", true)?;
-    let (_ends, _digits, keys) = outcome(&rt, rt.alloc(), sides)?;
+    let (_ends, _digits, keys) = outcome(&rt, rt.alloc(), &HALTING)?;
     same(&rt, keys, (Key(0), Key(1)));
     Ok(())
 }

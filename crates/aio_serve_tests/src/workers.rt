@@ -2,10 +2,10 @@
 
 use crate::asserts::same;
 use crate::gates::NotingGate;
-use crate::pairs::{IDLE, Server, server, sides};
-use crate::served::{SurePlace, arm_fault, place_over, refused_place};
+use crate::pairs::{HALTING, IDLE, Server, Sides, server};
+use crate::served::{MemPlace, arm_fault, place_over, refused_place};
 use aio_base::Job;
-use aio_conns::SureConn;
+use aio_conns::MemConn;
 use aio_devices::{MemClock, MemNotify, MemWait};
 use aio_park::Thread;
 use aio_relay::PairEnd;
@@ -18,11 +18,11 @@ use std::sync::Wait;
 use std::test::Fail;
 use std::thread::Threads;
 
-/// A worker whose pairs are over connections that never fail.
-type SureWorker<'g> = Worker<'g, MemNotify, MemClock, SureConn, MemWait, NotingGate>;
+/// A worker whose pairs are over connections in memory.
+type MemWorker<'g> = Worker<'g, MemNotify, MemClock, MemConn, MemWait, NotingGate>;
 
 /// The place of a pair that is refused, with number 1, and behind it this one.
-fn places_of(alloc: Global, place: SurePlace) -> Result<VecDeque<SurePlace>, Fail> {
+fn places_of(alloc: Global, place: MemPlace) -> Result<VecDeque<MemPlace>, Fail> {
     let mut places = VecDeque::new(alloc);
     if places.push_back(refused_place(1)).is_err() || places.push_back(place).is_err() {
         return Err(Fail::from("no room"));
@@ -34,9 +34,9 @@ fn places_of(alloc: Global, place: SurePlace) -> Result<VecDeque<SurePlace>, Fai
 fn alone<'g, R: Wait + Copy>(
     server: Server<R>,
     alloc: Global,
-    places: VecDeque<SurePlace>,
+    places: VecDeque<MemPlace>,
     gate: &'g NotingGate,
-) -> Result<SureWorker<'g>, Fail> {
+) -> Result<MemWorker<'g>, Fail> {
     let Thread {
         host,
         clock,
@@ -53,11 +53,11 @@ fn alone<'g, R: Wait + Copy>(
 fn worker_of<'g, R: Wait + Copy + Abort>(
     rt: R,
     alloc: Global,
-    sides: (SureConn, SureConn),
+    sides: &Sides,
     gate: &'g NotingGate,
-) -> Result<SureWorker<'g>, Fail> {
+) -> Result<MemWorker<'g>, Fail> {
     let server = server(rt, alloc, 1000)?;
-    let place = place_over(&server, 2, sides)?;
+    let place = place_over(&server, alloc, 2, sides)?;
     let places = places_of(alloc, place)?;
     alone(server, alloc, places, gate)
 }
@@ -65,7 +65,7 @@ fn worker_of<'g, R: Wait + Copy + Abort>(
 /// The ends of a worker's pairs.
 fn ends_of<R: Wait + Threads + Sync + Send + Copy>(
     rt: &R,
-    worker: SureWorker<'_>,
+    worker: MemWorker<'_>,
 ) -> Result<Vec<PairEnd>, Fail> {
     match worker.run(rt) {
         Ok(ends) => Ok(ends),
@@ -76,8 +76,7 @@ fn ends_of<R: Wait + Threads + Sync + Send + Copy>(
 #[test]
 fn a_worker_serves_its_places_in_their_order(rt: HostRuntime) -> Result<(), Fail> {
     let gate = NotingGate::new();
-    let sides = sides(rt.alloc(), "ab", "\ncd", true)?;
-    let worker = worker_of(&rt, rt.alloc(), sides, &gate)?;
+    let worker = worker_of(&rt, rt.alloc(), &HALTING, &gate)?;
     let ends = ends_of(&&rt, worker)?;
     let wanted = [
         PairEnd::ArmFault(arm_fault()),

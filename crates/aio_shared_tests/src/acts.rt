@@ -78,6 +78,18 @@ pub(crate) enum Came {
     Other,
 }
 
+/// A thread with a source of its own in a new reactor: what it does, and what comes of each act.
+pub(crate) struct Row {
+    /// What it shows.
+    pub(crate) shows: &'static str,
+    /// How many keys have an event in each wait, 1,024 at most, where the wait is no other.
+    pub(crate) keys: u32,
+    /// The moment at which its clock stands, in nanoseconds.
+    pub(crate) now: u64,
+    /// The acts, with what comes of each.
+    pub(crate) acts: &'static [(Act, Came)],
+}
+
 /// What an insert came to.
 pub(crate) fn inserted(answer: Result<TimerId, InsertRefusal>) -> Came {
     match answer {

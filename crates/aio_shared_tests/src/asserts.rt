@@ -9,6 +9,16 @@ pub(crate) fn same<T: Debug + Drop + PartialEq>(rt: &impl Abort, found: T, wante
     assert_eq!(rt; found, wanted);
 }
 
+/// Asserts the same of one row of a table, which is told where the two differ.
+pub(crate) fn same_in<T: Debug + Drop + PartialEq>(
+    rt: &impl Abort,
+    row: &str,
+    found: T,
+    wanted: T,
+) {
+    assert_eq!(rt; found, wanted, "in the row: {row}");
+}
+
 /// Takes a type of which threads may share a value.
 pub(crate) fn may_be_shared<T: Send + Sync>() {}
 

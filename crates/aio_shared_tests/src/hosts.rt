@@ -1,6 +1,6 @@
 //! A thread's way into a reactor, as these tests use it.
 
-ghost use Rattle.std.specs.Prelude.{◌≡◌, ◌<◌, IfOk};
+ghost use Rattle.std.specs.Prelude.{◌≡◌, ◌<◌, ◌≤◌, IfOk};
 ghost use Rattle.aio_shared.specs.Cells.{IsIdle};
 ghost use Rattle.aio_shared.specs.OneCell.{IsCellOf};
 
@@ -36,18 +36,21 @@ fn clock(alloc: Global, now: u64) -> Result<MemClock, OutOfMemory> {
     }
 }
 
-/// The first way into a new reactor of one parker over this wait, with this notifier and a clock at this moment.
+/// The first way into a new reactor of so many parkers over this wait, with this notifier and a clock at this moment.
 pub(crate) fn enter<R: Wait + Copy, N: Notify + Drop, A: Arm + Drop, W: EventWait + Drop>(
     rt: R,
     alloc: Global,
-    wait: W,
-    notifier: N,
+    parkers: u32,
+    devices: (W, N),
     now: u64,
 ) -> Result<Caller<R, N, A, W>, OutOfMemory>
-    ensures { IfOk result (λ made. made.host.member.ops.number ≡ 0) }
+    requires { (1 ≤ parkers) × (parkers ≤ 16) }
+    ensures number { IfOk result (λ made. made.host.member.ops.number ≡ 0) }
+    ensures parkers { IfOk result (λ made. made.host.shared.words.parkers ≡ parkers) }
 {
+    let (wait, notifier) = devices;
     let clock = clock(alloc, now)?;
-    let Ok((shared, member)) = Shared::new(alloc, 1, wait, notifier) else {
+    let Ok((shared, member)) = Shared::new(alloc, parkers, wait, notifier) else {
         drop(clock);
         return Err(OutOfMemory);
     };

@@ -2,8 +2,8 @@
 
 ghost use Rattle.std.specs.Prelude.{◌≡◌, ◌<◌, false};
 
-use crate::acts::{Act, Came, inserted, polled, reacted, removed, replaced, woken};
-use crate::asserts::same;
+use crate::acts::{Act, Came, Row, inserted, polled, reacted, removed, replaced, woken};
+use crate::asserts::same_in;
 use crate::hosts::{
     Caller, count_and_wake, enter, insert, insert_times, react, react_again, remove,
 };
@@ -75,10 +75,10 @@ impl<R: Wait, N: Notify, A: Arm, W: EventWait> Caller<R, N, A, W> {
         }
     }
 
-    /// Asserts that what these acts come to is what stands beside each.
-    pub(crate) fn plays(&mut self, rt: &impl Abort, rows: &[(Act, Came)]) {
-        for (act, came) in rows {
-            same(rt, self.act(*act), *came);
+    /// Asserts that what the acts of a row come to is what stands beside each.
+    pub(crate) fn plays(&mut self, rt: &impl Abort, row: &Row) {
+        for (act, came) in row.acts {
+            same_in(rt, row.shows, self.act(*act), *came);
         }
     }
 }
@@ -105,7 +105,7 @@ pub(crate) fn owner_over<R: Wait + Copy, N: Notify + Drop, A: Arm + Drop, W: Eve
     now: u64,
 ) -> Result<Owner<R, N, A, W>, Fail> {
     let (notifier, io, wait) = devices;
-    let caller = enter(rt, alloc, wait, notifier, now)?;
+    let caller = enter(rt, alloc, 1, (wait, notifier), now)?;
     Ok(Owner::new(caller, io)?)
 }
 
@@ -166,25 +166,24 @@ impl<R: Wait, N: Notify, A: Arm, W: EventWait> Owner<R, N, A, W> {
         }
     }
 
-    /// Asserts that what these acts come to is what stands beside each.
-    pub(crate) fn plays(&mut self, rt: &impl Abort, rows: &[(Act, Came)]) {
-        for (act, came) in rows {
-            same(rt, self.act(*act), *came);
+    /// Asserts that what the acts of a row come to is what stands beside each.
+    pub(crate) fn plays(&mut self, rt: &impl Abort, row: &Row) {
+        for (act, came) in row.acts {
+            same_in(rt, row.shows, self.act(*act), *came);
         }
     }
 }
 
-/// Makes a new reactor over these devices for a thread whose clock stands at this moment, inserts its
-/// connection, and asserts that what these acts come to is what stands beside each.
+/// Makes a new reactor over these devices for the thread of a row, inserts its connection, and asserts that what
+/// the acts come to is what stands beside each.
 pub(crate) fn plays<R: Wait + Abort, N: Notify + Drop, A: Arm + Drop, W: EventWait + Drop>(
     rt: &R,
     alloc: Global,
     devices: (N, A, W),
-    now: u64,
-    rows: &[(Act, Came)],
+    row: &Row,
 ) -> Result<(), Fail> {
-    let mut owner = owner_over(rt, alloc, devices, now)?;
-    owner.plays(rt, rows);
+    let mut owner = owner_over(rt, alloc, devices, row.now)?;
+    owner.plays(rt, row);
     drop(owner);
     Ok(())
 }

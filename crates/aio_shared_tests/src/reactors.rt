@@ -1,18 +1,18 @@
-//! What no clause says of a whole reactor: that its parts work together with ample memory, up to the limits
-//! of parkers and of operations.
+//! What no clause says of a whole reactor: that its parts work together with ample memory, up to the limit
+//! of parkers.
 
 ghost use Rattle.std.specs.Prelude.{◌<◌};
 ghost use Rattle.aio_words.specs.Seats.{Belongs};
 
-use crate::acts::Act::{InsertTimes, PollBlocking, React, Take};
-use crate::acts::Came::{Mask, Replaced, Round, Times};
-use crate::acts::{Act, Came, FIRST_FAULT};
+use crate::acts::Act::React;
+use crate::acts::Came::Round;
+use crate::acts::Row;
 use crate::asserts::{may_be_sent, may_be_shared, same};
-use crate::owners::{owner_over, plays};
+use crate::owners::owner_over;
 use crate::scripts::one_by_one;
 use aio_base::{Interest, Poll, Waker};
-use aio_devices::{FailingNotify, MemNotify, MemWait, ScriptedWait, SureArm};
-use aio_shared::{Member, PollFault, RoundCell, Shared};
+use aio_devices::{MemNotify, MemWait, ScriptedWait, SureArm};
+use aio_shared::{Member, RoundCell, Shared};
 use aio_words::{Pass, Words};
 use std::alloc::Global;
 use std::process::Abort;
@@ -58,24 +58,16 @@ fn the_last_slot_of_the_last_of_16_parkers_is_woken(rt: HostRuntime) -> Result<(
     Ok(())
 }
 
-const ALL_OF_A_FULL_QUEUE: [(Act, Came); 3] = [
-    (InsertTimes(5, 1001), Times(1001)),
-    (React, Round(0, 1001)),
-    (Take, Mask(1)),
-];
-
-// One timer more than the queue of operations holds.
-#[test]
-fn a_full_queue_refuses_no_timer(rt: HostRuntime) -> Result<(), Fail> {
-    let devices = (MemNotify::new(), SureArm::new(7), MemWait::new(0));
-    plays(&rt, rt.alloc(), devices, 5, &ALL_OF_A_FULL_QUEUE)
-}
-
-const SECOND_TAKES: [(Act, Came); 3] = [
-    (React, Round(1, 0)),
-    (React, Round(1, 1)),
-    (React, Round(1, 0)),
-];
+const SECOND_TAKES: Row = Row {
+    shows: "an event takes the waiters of its source",
+    keys: 0,
+    now: 30,
+    acts: &[
+        (React, Round(1, 0)),
+        (React, Round(1, 1)),
+        (React, Round(1, 0)),
+    ],
+};
 
 /// Polls a source and raises the number of its connection, asserts what rounds over this wait come to, and
 /// that the number stayed.
@@ -94,16 +86,4 @@ fn polls_and_plays<R: Wait + Abort>(rt: &R, alloc: Global, wait: ScriptedWait) -
 fn an_event_takes_the_waiters_of_its_source(rt: HostRuntime) -> Result<(), Fail> {
     let wait = one_by_one(rt.alloc(), &[1, 0, 0], Interest::BOTH)?;
     polls_and_plays(&rt, rt.alloc(), wait)
-}
-
-const TELLS_OF_THE_REPLACED: [(Act, Came); 2] = [
-    (PollBlocking, Replaced(PollFault::Notify(FIRST_FAULT))),
-    (Take, Mask(8)),
-];
-
-// The thread of the waker that was replaced may not know of it.
-#[test]
-fn a_poll_tells_that_the_replaced_waker_could_not_be_told(rt: HostRuntime) -> Result<(), Fail> {
-    let devices = (FailingNotify::new(), SureArm::new(7), MemWait::new(0));
-    plays(&rt, rt.alloc(), devices, 5, &TELLS_OF_THE_REPLACED)
 }

@@ -16,7 +16,7 @@ use std::sync::Wait;
 
 /// Blocks parker 0 and looks at its mask. Whether the seat waits now: then the look found no woken slot. Else
 /// it blocks.
-fn waits_for_first(words: &Words, seat: &mut RoundSeat) -> bool
+pub(crate) fn waits_for_first(words: &Words, seat: &mut RoundSeat) -> bool
     requires { Belongs words.now seat.old × (seat.old.view.mode ≡ mode.Idle) × (0 < words.now.parkers) }
     ensures words { seat.new.words ≡ seat.old.words }
     ensures mode { seat.new.view.mode ≡ (if result then mode.Wait 0 else mode.Block 0) }
@@ -49,7 +49,7 @@ fn react_where_waiting<R: Wait, N: Notify, A: Arm, W: EventWait>(
 }
 
 /// Unblocks parker 0 by the seat of a cell.
-fn unblock_in<N: Notify, A: Arm, W: EventWait>(
+pub(crate) fn unblock_in<N: Notify, A: Arm, W: EventWait>(
     shared: &Shared<A, W>,
     m: &Member<N, W>,
     cell: &mut RoundCell<W>,

@@ -206,7 +206,7 @@ fn work_in_new<R: Threads + Wait + Sync>(
     job: Job,
 ) -> Result<(Tally, (Came, Came)), Fail> {
     let wait = keys_in_turn(alloc, pairs)?;
-    let mut first = enter(rt, alloc, wait, MemNotify::new(), 10)?;
+    let mut first = enter(rt, alloc, 1, (wait, MemNotify::new()), 10)?;
     let worked = work_beside(rt, alloc, &mut first, threads, job);
     drop(first);
     worked

@@ -1,5 +1,5 @@
 //! Tests of the sources of a reactor that threads share, over the devices in memory: that they join it, start
-//! with it, and are closed beside other threads.
+//! with it, and are closed beside other threads; and of a source in a lock of its own.
 //!
 //! They stand above that crate, so that it is not proved a second time for its tests, and all of them belong
 //! to the test build.
@@ -12,6 +12,8 @@
 mod asserts;
 #[cfg(test)]
 mod calls;
+#[cfg(test)]
+mod cells;
 #[cfg(test)]
 mod closing;
 #[cfg(test)]

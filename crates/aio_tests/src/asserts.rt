@@ -12,6 +12,16 @@ pub(crate) fn same<T: Debug + Drop + PartialEq>(rt: &impl Abort, found: T, wante
     assert_eq!(rt; found, wanted);
 }
 
+/// Asserts the same of one row of a table, which is told where the two differ.
+pub(crate) fn same_in<T: Debug + Drop + PartialEq>(
+    rt: &impl Abort,
+    row: &str,
+    found: T,
+    wanted: T,
+) {
+    assert_eq!(rt; found, wanted, "in the row: {row}");
+}
+
 /// The moment so many nanoseconds after the clock's start.
 pub(crate) fn moment(rt: &impl Abort, nanoseconds: u64) -> Moment
     ensures { result ≡ nanoseconds }

@@ -6,44 +6,48 @@ use crate::cores::Act::{
     Add, Begin, Finish, Give, Handle, Insert, Listen, React, Step, Ticker, Wait, Woken,
 };
 use crate::cores::Came::{Begun, Done, Ended, Key, Number, Pending, Reacted, Refused, Woke};
-use crate::cores::{Act, Came, comes_of, new_core, plays, plays_anew};
+use crate::cores::{Act, Came, Row, comes_of, new_core, plays, plays_anew};
 use aio_base::{Dir, Waited};
 use aio_react::{Core, CoreRefusal};
 use aio_script::ScriptPoller;
 use std::test::Fail;
 
-const WAITS_FOR_NOTHING: [(Act, Came); 7] = [
-    (Insert(13, 7), Done),
-    (Begin(10, Some(5)), Begun(1, Some(3))),
-    (Wait, Came::Waited(Waited::Given(0))),
-    (Finish(13), Ended(None)),
-    (Woken, Woke(1, Some(7))),
-    (Ticker, Number(1)),
-    (Finish(13), Refused(CoreRefusal::NoRound)),
+/// Rounds of a new core.
+const ROWS: &[Row] = &[
+    Row {
+        shows: "a round that waits for nothing wakes what is due at its end",
+        acts: &[
+            (Insert(13, 7), Done),
+            (Begin(10, Some(5)), Begun(1, Some(3))),
+            (Wait, Came::Waited(Waited::Given(0))),
+            (Finish(13), Ended(None)),
+            (Woken, Woke(1, Some(7))),
+            (Ticker, Number(1)),
+            (Finish(13), Refused(CoreRefusal::NoRound)),
+        ],
+    },
+    // The third round, once begun, has nothing to handle and locks out whole rounds.
+    Row {
+        shows: "a whole round wakes what is due and locks out no later one",
+        acts: &[
+            (Insert(10, 7), Done),
+            (Handle, Refused(CoreRefusal::NoRound)),
+            (React(10, Some(5)), Reacted(1, 0, None)),
+            (React(10, Some(5)), Reacted(2, 0, None)),
+            (Woken, Woke(0, None)),
+            (Begin(10, None), Begun(3, None)),
+            (Handle, Refused(CoreRefusal::NothingInHand)),
+            (React(10, None), Refused(CoreRefusal::Locked)),
+        ],
+    },
 ];
 
 #[test]
-fn a_round_that_waits_for_nothing_wakes_what_is_due_at_its_end(
-    rt: HostRuntime,
-) -> Result<(), Fail> {
-    plays_anew(&rt, rt.alloc(), &WAITS_FOR_NOTHING)
-}
-
-// The third round, once begun, has nothing to handle and locks out whole rounds.
-const REACTS_AND_LOCKS: [(Act, Came); 8] = [
-    (Insert(10, 7), Done),
-    (Handle, Refused(CoreRefusal::NoRound)),
-    (React(10, Some(5)), Reacted(1, 0, None)),
-    (React(10, Some(5)), Reacted(2, 0, None)),
-    (Woken, Woke(0, None)),
-    (Begin(10, None), Begun(3, None)),
-    (Handle, Refused(CoreRefusal::NothingInHand)),
-    (React(10, None), Refused(CoreRefusal::Locked)),
-];
-
-#[test]
-fn a_whole_round_wakes_what_is_due_and_locks_out_no_later_one(rt: HostRuntime) -> Result<(), Fail> {
-    plays_anew(&rt, rt.alloc(), &REACTS_AND_LOCKS)
+fn rounds_of_a_core_wake_what_is_due(rt: HostRuntime) -> Result<(), Fail> {
+    for row in ROWS {
+        plays_anew(&rt, rt.alloc(), row)?;
+    }
+    Ok(())
 }
 
 /// Has so many listeners of the source wait for its read direction. How many do.

@@ -1,7 +1,7 @@
 //! A core over the poller in memory, as the rows of a table use it. Each call goes through the bound of the
 //! poller alone.
 
-use crate::asserts::same;
+use crate::asserts::{same, same_in};
 use crate::hosts::insert;
 use aio_base::{
     ArmFault, Dir, Event, EventWait, Interest, Key, Moment, Poll, Poller, Waited, Waker, Which,
@@ -270,9 +270,19 @@ pub(crate) fn plays(rt: &impl Abort, core: &mut Core<ScriptPoller>, rows: &[(Act
     }
 }
 
-/// Asserts it over a new core.
-pub(crate) fn plays_anew(rt: &impl Abort, alloc: Global, rows: &[(Act, Came)]) -> Result<(), Fail> {
+/// What is done with a new core, and what comes of each act.
+pub(crate) struct Row {
+    /// What it shows.
+    pub(crate) shows: &'static str,
+    /// The acts, with what comes of each.
+    pub(crate) acts: &'static [(Act, Came)],
+}
+
+/// Asserts that what the acts of a row come to is what stands beside each.
+pub(crate) fn plays_anew(rt: &impl Abort, alloc: Global, row: &Row) -> Result<(), Fail> {
     let mut core = new_core(alloc)?;
-    plays(rt, &mut core, rows);
+    for (act, came) in row.acts {
+        same_in(rt, row.shows, comes_of(&mut core, *act), *came);
+    }
     Ok(())
 }

@@ -1,6 +1,6 @@
 //! A timer over a host of its own, as the rows of a table use it.
 
-use crate::asserts::same;
+use crate::asserts::same_in;
 use crate::hosts::{LAST_ID, ListHost, PASS};
 use aio_base::{Moment, Waker};
 use aio_future::{Poll, Timer, TimerFault};
@@ -162,9 +162,9 @@ impl Hosted {
     }
 
     /// Asserts that what these acts come to is what stands beside each.
-    pub(crate) fn plays(&mut self, rt: &impl Abort, rows: &[(Act, Came)]) {
+    pub(crate) fn plays(&mut self, rt: &impl Abort, shows: &str, rows: &[(Act, Came)]) {
         for (act, came) in rows {
-            same(rt, self.act(*act), *came);
+            same_in(rt, shows, self.act(*act), *came);
         }
     }
 }

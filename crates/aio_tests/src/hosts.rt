@@ -1,37 +1,33 @@
-//! A host of timers and tasks, and code over the bounds of hosts. That they are proved shows that the traits
-//! can be met, and that such code knows what its calls have done.
+//! A host of timers, and code over the bounds of hosts. That they are proved shows that the traits can be met.
 
-ghost use Rattle.std.specs.Prelude.{◌≡◌, ◌-◌, ◌^◌, ◌≤◌, false, IfSome};
-ghost use Rattle.aio_react.specs.Hosts.{NotifierTells, next_id, wake_fault};
+ghost use Rattle.std.specs.Prelude.{◌≡◌, ◌-◌, ◌^◌, ◌≤◌, false};
+ghost use Rattle.aio_react.specs.Hosts.{NotifierTells, wake_fault};
 
 use aio_base::{CountFault, Later, Moment, OutOfMemory, TimerId, Waker};
-use aio_react::{Host, InsertRefusal, TimerHost};
+use aio_react::{InsertRefusal, TimerHost};
 use std::alloc::Global;
 
 /// The id after which a pass draws none.
-pub const LAST_ID: u64 = 0xff_ffff_ffff;
+pub(crate) const LAST_ID: u64 = 0xff_ffff_ffff;
 
 /// The number of its pass.
-pub const PASS: u64 = 3;
+pub(crate) const PASS: u64 = 3;
 
 /// A deadline with its waker, and the id under which it is registered.
-pub type Registered = (Moment, Waker, TimerId);
+pub(crate) type Registered = (Moment, Waker, TimerId);
 
-/// A host in its third pass that keeps its registrations in the order in which they came, and counts what
-/// else it does. It refuses what it is told to refuse, and its notifier fails where it is told to.
+/// A host in its third pass that keeps its registrations in the order in which they came, and the ids
+/// that it drew. It refuses what it is told to refuse, and its notifier fails where it is told to.
 #[derive(Drop)]
-pub struct ListHost {
+pub(crate) struct ListHost {
     /// What is registered.
-    pub registered: Vec<Registered>,
+    pub(crate) registered: Vec<Registered>,
     /// How many ids it has drawn.
-    pub drawn: u64,
-    /// How many timers it has taken out.
-    pub removals: u64,
+    pub(crate) drawn: u64,
     /// Whether it has no memory for a registration.
-    pub refuses_insert: bool,
+    pub(crate) refuses_insert: bool,
     /// Whether it has no memory to take one out.
-    pub refuses_removal: bool,
-    wakes: u64,
+    pub(crate) refuses_removal: bool,
     notifier_fails: bool,
     faults: u64,
     ghost bound: { drawn ≤ 2 ^ 40 - 1 },
@@ -58,8 +54,6 @@ impl ListHost {
     fn notify(&mut self) -> Result<(), CountFault>
         ensures notifier { NotifierTells false self.old.faults self.new.faults (wake_fault result) }
         ensures drawn { self.new.drawn ≡ self.old.drawn }
-        ensures removals { self.new.removals ≡ self.old.removals }
-        ensures registered { self.new.registered.items ≡ self.old.registered.items }
     {
         let before = self.faults;
         if self.notifier_fails {
@@ -74,12 +68,9 @@ impl ListHost {
 }
 
 impl TimerHost for ListHost {
-    ghost use Rattle.std.specs.Prelude.{◌≡◌, ◌+◌, ◌++◌, ◌∷◌, []};
-
     ghost rules = { record {
-      inserted = λ old at waker id new.
-          new.registered.items ≡ old.registered.items ++ (at, waker, id) ∷ [];
-      removed = λ old at id new. new.removals ≡ old.removals + 1;
+      inserted = λ old at waker id new. Unit {0};
+      removed = λ old at id new. Unit {0};
       insert_refused = λ old at waker new. Unit {0};
       removal_refused = λ old at id new. Unit {0};
       faults = λ h. h.faults;
@@ -105,32 +96,17 @@ impl TimerHost for ListHost {
     }
 
     fn remove_timer(&mut self, at: Moment, id: TimerId) -> Result<(), OutOfMemory> {
-        if self.refuses_removal || self.removals == u64::MAX {
+        if self.refuses_removal {
             return Err(OutOfMemory);
         }
         self.registered.retain(|r| r.0 != at || r.2 != id);
-        self.removals += 1;
         Ok(())
     }
 }
 
-impl Host for ListHost {
-    fn ticker(&mut self) -> u64 {
-        self.removals
-    }
-
-    fn wake(&mut self, _waker: Waker) -> Result<(), CountFault> {
-        self.wakes = self.wakes.saturating_add(1);
-        self.notify()
-    }
-}
-
 /// Registers a timer, where there is an id and nothing fails.
-pub fn insert<H: TimerHost>(host: &mut H, at: Moment, waker: Waker) -> Option<TimerId>
-    ensures inserted { IfSome result (λ id. H.rules.inserted host.old at waker id host.new) }
-    ensures id { IfSome result (λ id.
-        id ≡ next_id (H.rules.pass host.old) (H.rules.drawn host.old)) }
-    ensures later { H.is_later host.old host.new }
+pub(crate) fn insert<H: TimerHost>(host: &mut H, at: Moment, waker: Waker) -> Option<TimerId>
+    ensures { H.is_later host.old host.new }
 {
     if host.ids_left() {
         host.insert_timer(at, waker).ok()
@@ -140,16 +116,13 @@ pub fn insert<H: TimerHost>(host: &mut H, at: Moment, waker: Waker) -> Option<Ti
 }
 
 /// Registers a timer with each of two wakers, and takes the first out again.
-pub fn insert_two<H: TimerHost>(
+pub(crate) fn insert_two<H: TimerHost>(
     host: &mut H,
     at: Moment,
     first: Waker,
     second: Waker,
 ) -> Option<(TimerId, TimerId)>
-    ensures calls { IfSome result (λ ids. (one two : H)
-        × H.rules.inserted host.old at first ids.0 one
-        × H.rules.inserted one at second ids.1 two × H.rules.removed two at ids.0 host.new) }
-    ensures later { H.is_later host.old host.new }
+    ensures { H.is_later host.old host.new }
 {
     let one = insert(host, at, first)?;
     let two = insert(host, at, second)?;
@@ -157,27 +130,15 @@ pub fn insert_two<H: TimerHost>(
     Some((one, two))
 }
 
-/// Counts the rounds, and wakes a task.
-pub fn count_and_wake<H: Host>(host: &mut H, waker: Waker) -> (u64, Result<(), CountFault>)
-    ensures later { H.is_later host.old host.new }
-    ensures sure { H.notifier_is_sure host.new ≡ H.notifier_is_sure host.old }
-    ensures ids { H.rules.drawn host.new ≡ H.rules.drawn host.old }
-{
-    let rounds = host.ticker();
-    (rounds, host.wake(waker))
-}
-
 /// A host that has drawn so many ids and done nothing else, whose notifier fails or does not.
-pub fn make_host(alloc: Global, drawn: u64, notifier_fails: bool) -> ListHost
+pub(crate) fn make_host(alloc: Global, drawn: u64, notifier_fails: bool) -> ListHost
     requires { drawn ≤ 2 ^ 40 - 1 }
 {
     ListHost {
         registered: Vec::new(alloc),
         drawn,
-        removals: 0,
         refuses_insert: false,
         refuses_removal: false,
-        wakes: 0,
         notifier_fails,
         faults: 0,
     }

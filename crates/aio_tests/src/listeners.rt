@@ -1,57 +1,12 @@
-//! What no clause says of a core's listeners: that their calls succeed with ample memory, through the
+//! What no clause says of a core's sources and listeners: that their calls succeed with ample memory, through the
 //! bounds of the poller, and how they follow one another.
 
-use crate::cores::Act::{Add, Del, FailArm, Listen, Step, Unlisten};
-use crate::cores::Came::{Done, Key, Number, Pending, Refused, Unarmed};
-use crate::cores::{Act, Came, plays_anew};
+use crate::cores::Act::{Add, Del, FailArm, Listen, Live, Poll, Step, Unlisten};
+use crate::cores::Came::{Done, Is, Key, Number, Pending, Refused, Unarmed};
+use crate::cores::{Row, plays_anew};
 use aio_base::{ArmFault, Dir};
-use aio_react::CoreRefusal::{InUse, NoListener};
+use aio_react::CoreRefusal::{InUse, NoListener, NoSource};
 use std::test::Fail;
-
-// The second is given up, and its number is nobody's, as those before the first and behind the third.
-const ARE_GIVEN_UP: [(Act, Came); 23] = [
-    (Step(1, 11), Refused(NoListener)),
-    (Add, Key(0)),
-    (Listen(0, Dir::Read), Number(1)),
-    (Listen(0, Dir::Read), Number(2)),
-    (Listen(0, Dir::Read), Number(3)),
-    (Step(1, 11), Pending(None)),
-    (Step(2, 12), Pending(None)),
-    (Step(3, 13), Pending(None)),
-    (Step(1, 14), Pending(None)),
-    (Unlisten(2), Done),
-    (Unlisten(2), Refused(NoListener)),
-    (Step(0, 12), Refused(NoListener)),
-    (Step(2, 12), Refused(NoListener)),
-    (Step(4, 12), Refused(NoListener)),
-    (Listen(0, Dir::Read), Number(4)),
-    (Step(4, 14), Pending(None)),
-    (Del(0), Refused(InUse)),
-    (Unlisten(1), Done),
-    (Del(0), Refused(InUse)),
-    (Unlisten(3), Done),
-    (Del(0), Refused(InUse)),
-    (Unlisten(4), Done),
-    (Del(0), Done),
-];
-
-#[test]
-fn listeners_wait_until_they_are_given_up(rt: HostRuntime) -> Result<(), Fail> {
-    plays_anew(&rt, rt.alloc(), &ARE_GIVEN_UP)
-}
-
-const IS_GIVEN_UP_UNPOLLED: [(Act, Came); 5] = [
-    (Add, Key(0)),
-    (Listen(0, Dir::Write), Number(1)),
-    (Unlisten(1), Done),
-    (Step(1, 11), Refused(NoListener)),
-    (Del(0), Done),
-];
-
-#[test]
-fn a_listener_that_was_not_polled_is_given_up(rt: HostRuntime) -> Result<(), Fail> {
-    plays_anew(&rt, rt.alloc(), &IS_GIVEN_UP_UNPOLLED)
-}
 
 /// The first fault of the poller, in an arm.
 const FIRST: ArmFault = ArmFault {
@@ -67,18 +22,91 @@ const SECOND: ArmFault = ArmFault {
     after: 2,
 };
 
-const STAYS: [(Act, Came); 8] = [
-    (Add, Key(0)),
-    (Listen(0, Dir::Read), Number(1)),
-    (FailArm, Done),
-    (Step(1, 11), Unarmed(FIRST)),
-    (FailArm, Done),
-    (Step(1, 11), Unarmed(SECOND)),
-    (Step(1, 11), Pending(None)),
-    (Unlisten(1), Done),
+/// Sources and listeners of a new core.
+const ROWS: &[Row] = &[
+    // The second is given up, and its number is nobody's, as those before the first and behind the third.
+    Row {
+        shows: "listeners wait until they are given up",
+        acts: &[
+            (Step(1, 11), Refused(NoListener)),
+            (Add, Key(0)),
+            (Listen(0, Dir::Read), Number(1)),
+            (Listen(0, Dir::Read), Number(2)),
+            (Listen(0, Dir::Read), Number(3)),
+            (Step(1, 11), Pending(None)),
+            (Step(2, 12), Pending(None)),
+            (Step(3, 13), Pending(None)),
+            (Step(1, 14), Pending(None)),
+            (Unlisten(2), Done),
+            (Unlisten(2), Refused(NoListener)),
+            (Step(0, 12), Refused(NoListener)),
+            (Step(2, 12), Refused(NoListener)),
+            (Step(4, 12), Refused(NoListener)),
+            (Listen(0, Dir::Read), Number(4)),
+            (Step(4, 14), Pending(None)),
+            (Del(0), Refused(InUse)),
+            (Unlisten(1), Done),
+            (Del(0), Refused(InUse)),
+            (Unlisten(3), Done),
+            (Del(0), Refused(InUse)),
+            (Unlisten(4), Done),
+            (Del(0), Done),
+        ],
+    },
+    Row {
+        shows: "a listener that was not polled is given up",
+        acts: &[
+            (Add, Key(0)),
+            (Listen(0, Dir::Write), Number(1)),
+            (Unlisten(1), Done),
+            (Step(1, 11), Refused(NoListener)),
+            (Del(0), Done),
+        ],
+    },
+    Row {
+        shows: "a listener stays where its arm failed",
+        acts: &[
+            (Add, Key(0)),
+            (Listen(0, Dir::Read), Number(1)),
+            (FailArm, Done),
+            (Step(1, 11), Unarmed(FIRST)),
+            (FailArm, Done),
+            (Step(1, 11), Unarmed(SECOND)),
+            (Step(1, 11), Pending(None)),
+            (Unlisten(1), Done),
+        ],
+    },
+    Row {
+        shows: "the key of a source that left is the next",
+        acts: &[
+            (Add, Key(0)),
+            (Add, Key(1)),
+            (Del(2), Refused(NoSource)),
+            (Del(0), Done),
+            (Live(0), Is(false)),
+            (Live(1), Is(true)),
+            (Add, Key(0)),
+            (Add, Key(2)),
+            (Listen(1, Dir::Read), Number(1)),
+            (Del(1), Refused(InUse)),
+        ],
+    },
+    Row {
+        shows: "a poll waits and hands out whom it replaces",
+        acts: &[
+            (Add, Key(0)),
+            (Poll(0, 1), Pending(None)),
+            (Poll(0, 2), Pending(Some(1))),
+            (Poll(0, 2), Pending(None)),
+            (Poll(1, 3), Refused(NoSource)),
+        ],
+    },
 ];
 
 #[test]
-fn a_listener_stays_where_its_arm_failed(rt: HostRuntime) -> Result<(), Fail> {
-    plays_anew(&rt, rt.alloc(), &STAYS)
+fn sources_and_listeners_of_a_core_come_and_go(rt: HostRuntime) -> Result<(), Fail> {
+    for row in ROWS {
+        plays_anew(&rt, rt.alloc(), row)?;
+    }
+    Ok(())
 }

@@ -2,8 +2,8 @@
 //! through the bounds of its poller.
 
 use crate::asserts::{moment, same};
-use crate::cores::Act::{Live, Ticker, Wait, Waits, Woken};
-use crate::cores::Came::{Is, Number, Refused, Woke};
+use crate::cores::Act::{Live, React, Ticker, Wait, Waits, Woken};
+use crate::cores::Came::{Is, Number, Reacted, Refused, Woke};
 use crate::cores::{Act, Came, new_core, plays};
 use crate::hosts::insert_two;
 use aio_base::{TimerId, Waker};
@@ -18,11 +18,18 @@ const HAS_NOTHING: [(Act, Came); 5] = [
     (Wait, Refused(CoreRefusal::NoRound)),
 ];
 
+// The first of two timers was taken out again.
+const WAKES_THE_SECOND: [(Act, Came); 2] = [
+    (React(10, Some(0)), Reacted(1, 0, None)),
+    (Woken, Woke(1, Some(2))),
+];
+
 #[test]
 fn a_new_core_has_nothing_and_hosts_timers(rt: HostRuntime) -> Result<(), Fail> {
     let mut core = new_core(rt.alloc())?;
     plays(&rt, &mut core, &HAS_NOTHING);
     let ids = insert_two(&mut core, moment(&rt, 10), Waker(1), Waker(2));
     same(&rt, ids, Some((TimerId(1), TimerId(2))));
+    plays(&rt, &mut core, &WAKES_THE_SECOND);
     Ok(())
 }

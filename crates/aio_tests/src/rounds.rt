@@ -194,9 +194,7 @@ fn wait_of(alloc: Global, answers: &[Answer]) -> Result<ScriptedWait, AllocError
 
 /// A connection whose arms with these numbers fail.
 fn arm_of(alloc: Global, fails: &[u64]) -> Result<FailingArm, AllocError> {
-    let mut numbers = Vec::new(alloc);
-    numbers.extend_from_slice(fails)?;
-    Ok(FailingArm::new(0, numbers))
+    Ok(FailingArm::new(0, fails.to_vec(alloc)?))
 }
 
 /// What a wait and the handling of its event come to.

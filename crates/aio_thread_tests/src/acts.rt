@@ -11,6 +11,8 @@ pub(crate) enum Act {
     Rest(u64),
     /// Blocks until a timer of this moment fires.
     Sleep(u64),
+    /// The same with the moment after the number of its parker.
+    SleepInTurn,
     /// Blocks on a task that wakes itself at each poll, and ends at the poll with this number.
     WakeItself(u64),
     /// Blocks on so many meetings with the thread of this parker.

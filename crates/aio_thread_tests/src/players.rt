@@ -68,6 +68,14 @@ fn sleep<R: Wait + Copy, N: Notify, W: EventWait, C: Clock>(
     }
 }
 
+/// Blocks until a timer fires at the moment after the number of its parker.
+fn sleep_in_turn<R: Wait + Copy, N: Notify, W: EventWait, C: Clock>(
+    thread: &mut Sleeper<R, N, W, C>,
+) -> Came {
+    let at = u64::from(thread.parker) + 1;
+    done(sleep(thread, at) == Came::Ended(at))
+}
+
 /// Blocks on a task that wakes itself.
 fn wake_itself<R: Wait + Copy, N: Notify, W: EventWait, C: Clock>(
     thread: &mut Sleeper<R, N, W, C>,
@@ -251,6 +259,7 @@ impl<R: Wait + Copy, N: Notify, W: EventWait, C: Clock> Player<'_, R, N, W, C> {
         match act {
             Act::Rest(slots) => rest(thread, slots),
             Act::Sleep(at) => sleep(thread, at),
+            Act::SleepInTurn => sleep_in_turn(thread),
             Act::WakeItself(last) => wake_itself(thread, last),
             Act::Meet(other, times) => meet(thread, other, times, false),
             Act::MeetLater(other, times) => meet(thread, other, times, true),

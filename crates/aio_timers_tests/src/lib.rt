@@ -1,14 +1,15 @@
 //! Tests of the book of registered timers, by its public calls alone.
 //!
-//! They stand above that crate, so that it is not proved a second time for its tests. Of other code there
-//! are three calls over plain numbers. They have contracts, so that wrong ones are refused.
+//! They stand above that crate, so that it is not proved a second time for its tests. All of them belong to
+//! the test build.
 #![tactic(auto)]
 
 #[cfg(test)]
 mod asserts;
 #[cfg(test)]
 mod books;
-pub mod calls;
+#[cfg(test)]
+mod calls;
 #[cfg(test)]
 mod played;
 #[cfg(test)]

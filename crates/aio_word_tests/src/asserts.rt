@@ -18,3 +18,19 @@ pub(crate) fn moment(rt: &impl Abort, nanoseconds: u64) -> Moment
 {
     Moment::new(nanoseconds).expect(rt, "the moment is at most 10^18")
 }
+
+/// Asserts the same of one row of a table, which is told where the two differ.
+pub(crate) fn same_in<T: Debug + Drop + PartialEq>(
+    rt: &impl Abort,
+    row: &str,
+    found: T,
+    wanted: T,
+) {
+    assert_eq!(rt; found, wanted, "in the row: {row}");
+}
+
+/// Takes a value that threads may share.
+pub(crate) fn may_be_shared<T: Send + Sync>(_value: &T) {}
+
+/// Takes a value that may go to another thread.
+pub(crate) fn may_be_sent<T: Send>(_value: &T) {}

@@ -5,8 +5,10 @@ ghost use Rattle.std.specs.Prelude.{◌≡◌};
 
 use crate::asserts::{moment, same};
 use aio_base::{Moment, TimerId, Waker};
-use aio_ops::{OpPass, Ops};
+use aio_ops::{OpPass, Ops, PassRefusal};
 use aio_timers::{TimerBook, TimerOp};
+use std::alloc::Global;
+use std::process::Abort;
 use std::sync::Wait;
 use std::test::Fail;
 use std::thread::{Threads, join};
@@ -21,6 +23,20 @@ struct Pusher<'a> {
 }
 
 impl<'a> Pusher<'a> {
+    /// A thread by one more pass.
+    fn new<R: Wait>(
+        rt: &R,
+        ops: &'a Ops,
+        pass: &mut OpPass,
+        at: Moment,
+    ) -> Result<Pusher<'a>, PassRefusal>
+        requires { (pass.old.queue ≡ ops.now) × (pass.old.number ≡ 0) }
+        ensures { (pass.new.queue ≡ pass.old.queue) × (pass.new.number ≡ 0) }
+    {
+        let pass = ops.pass(rt, pass)?;
+        Ok(Pusher { ops, pass, at })
+    }
+
     /// Registers a timer. One where the queue took the operation, else none.
     fn insert<R: Wait>(&mut self, rt: &R, id: u64) -> u32 {
         let op = TimerOp::Insert(self.at, TimerId(id), Waker(7));
@@ -72,6 +88,18 @@ struct Drainer<'a> {
 }
 
 impl<'a> Drainer<'a> {
+    /// A thread by this pass, with an empty book.
+    fn new(alloc: Global, ops: &'a Ops, pass: OpPass) -> Drainer<'a>
+        requires { pass.queue ≡ ops.now }
+    {
+        Drainer {
+            ops,
+            pass,
+            book: TimerBook::new(alloc),
+            taken: 0,
+        }
+    }
+
     /// Drains the queue.
     fn drain<R: Wait>(&mut self, rt: &R) {
         if let Ok(count) = self.ops.drain(rt, &mut self.pass, &mut self.book) {
@@ -130,52 +158,45 @@ fn remove_beside_drains<'a, R: Threads + Wait + Sync>(
     )
 }
 
+/// How many operations two threads pushed while a third drained the queue, how many it took, and how many timers
+/// were registered then.
+fn insert_in_new<R: Threads + Wait + Sync + Abort>(
+    rt: &R,
+    alloc: Global,
+) -> Result<((u32, u32), (u32, usize)), Fail> {
+    let (ops, mut pass) = Ops::new(alloc)?;
+    let one = Pusher::new(rt, &ops, &mut pass, moment(rt, 30))?;
+    let other = Pusher::new(rt, &ops, &mut pass, moment(rt, 40))?;
+    let drainer = Drainer::new(alloc, &ops, pass);
+    let (pushed, drainer) = insert_beside_drains(rt, one, other, drainer);
+    Ok((pushed, drainer.ends(rt)))
+}
+
 #[test]
 fn each_operation_of_two_threads_is_applied_once(rt: HostRuntime) -> Result<(), Fail> {
-    let (ops, mut pass) = Ops::new(rt.alloc())?;
-    let ops = &ops;
-    let of_one = ops.pass(&rt, &mut pass)?;
-    let of_other = ops.pass(&rt, &mut pass)?;
-    let one = Pusher {
-        ops,
-        pass: of_one,
-        at: moment(&rt, 30),
-    };
-    let other = Pusher {
-        ops,
-        pass: of_other,
-        at: moment(&rt, 40),
-    };
-    let drainer = Drainer {
-        ops,
-        pass,
-        book: TimerBook::new(rt.alloc()),
-        taken: 0,
-    };
-    let (pushed, drainer) = insert_beside_drains(&rt, one, other, drainer);
-    same(&rt, pushed, (400, 400));
-    same(&rt, drainer.ends(&rt), (800, 800));
+    same(
+        &rt,
+        insert_in_new(&rt, rt.alloc())?,
+        ((400, 400), (800, 800)),
+    );
     Ok(())
+}
+
+/// The same of one thread that registers and unregisters a timer.
+fn remove_in_new<R: Threads + Wait + Sync + Abort>(
+    rt: &R,
+    alloc: Global,
+) -> Result<(u32, (u32, usize)), Fail> {
+    let (ops, mut pass) = Ops::new(alloc)?;
+    let pusher = Pusher::new(rt, &ops, &mut pass, moment(rt, 30))?;
+    let drainer = Drainer::new(alloc, &ops, pass);
+    let (pushed, drainer) = remove_beside_drains(rt, pusher, drainer);
+    Ok((pushed, drainer.ends(rt)))
 }
 
 #[test]
 fn a_timer_that_one_pass_removed_is_out_of_the_book(rt: HostRuntime) -> Result<(), Fail> {
-    let (ops, mut pass) = Ops::new(rt.alloc())?;
-    let ops = &ops;
-    let pusher = Pusher {
-        ops,
-        pass: ops.pass(&rt, &mut pass)?,
-        at: moment(&rt, 30),
-    };
-    let drainer = Drainer {
-        ops,
-        pass,
-        book: TimerBook::new(rt.alloc()),
-        taken: 0,
-    };
-    let (pushed, drainer) = remove_beside_drains(&rt, pusher, drainer);
-    same(&rt, pushed, 1000);
-    same(&rt, drainer.ends(&rt), (1000, 0));
+    same(&rt, remove_in_new(&rt, rt.alloc())?, (1000, (1000, 0)));
     Ok(())
 }
 
@@ -186,22 +207,17 @@ fn push_and_leave<R: Wait>(rt: &R, mut pusher: Pusher) -> u32 {
     first.saturating_add(pusher.insert(rt, 2))
 }
 
+/// How many of these a new queue took, how many operations were drained after that, and how many timers were
+/// registered then.
+fn leave_in_new<R: Wait + Abort>(rt: &R, alloc: Global) -> Result<(u32, (u32, usize)), Fail> {
+    let (ops, mut pass) = Ops::new(alloc)?;
+    let pusher = Pusher::new(rt, &ops, &mut pass, moment(rt, 30))?;
+    let pushed = push_and_leave(rt, pusher);
+    Ok((pushed, Drainer::new(alloc, &ops, pass).ends(rt)))
+}
+
 #[test]
 fn what_a_pass_leaves_behind_is_applied_in_its_order(rt: HostRuntime) -> Result<(), Fail> {
-    let (ops, mut pass) = Ops::new(rt.alloc())?;
-    let ops = &ops;
-    let pusher = Pusher {
-        ops,
-        pass: ops.pass(&rt, &mut pass)?,
-        at: moment(&rt, 30),
-    };
-    let drainer = Drainer {
-        ops,
-        pass,
-        book: TimerBook::new(rt.alloc()),
-        taken: 0,
-    };
-    same(&rt, push_and_leave(&rt, pusher), 3);
-    same(&rt, drainer.ends(&rt), (3, 1));
+    same(&rt, leave_in_new(&rt, rt.alloc())?, (3, (3, 1)));
     Ok(())
 }

@@ -1,5 +1,5 @@
 //! Tests of what threads share below the shared reactor: the words, the lock whose tokens know what it holds,
-//! a source in that lock, and the queue of operations on timers.
+//! and the queue of operations on timers.
 //!
 //! They stand above those crates, so that none of them is proved a second time for its tests. All of them
 //! belong to the test build.
@@ -7,10 +7,6 @@
 
 #[cfg(test)]
 mod asserts;
-#[cfg(test)]
-mod cells;
-#[cfg(test)]
-mod clocks;
 #[cfg(test)]
 mod draining;
 #[cfg(test)]

@@ -6,7 +6,7 @@ ghost use Rattle.std.specs.List.{range_with_len};
 ghost use Rattle.aio_rules.specs.SharedLock.{first_owner, second_owner};
 ghost use Rattle.aio_lock.specs.Tokens.{owner_of};
 
-use crate::asserts::same;
+use crate::asserts::{may_be_sent, may_be_shared, same};
 use aio_base::{Noted, OutOfMemory};
 use aio_lock::{Lock, Owner};
 use std::alloc::Global;
@@ -14,8 +14,6 @@ use std::process::Abort;
 use std::sync::Wait;
 use std::test::Fail;
 use std::thread::{Threads, join};
-
-fn works_for_threads<L: Send + Sync, O: Send>(_lock: &L, _token: &O) {}
 
 /// Two lists, each of which is the note of its number.
 #[derive(Drop)]
@@ -81,7 +79,8 @@ fn add_to_one<R: Wait>(
 /// Takes the value out for a visit, and puts it back.
 fn visit_once<R: Wait>(rt: &R, lock: &Lock<Lists>) {
     let (lists, visit) = lock.visit(rt);
-    works_for_threads(lock, &visit);
+    may_be_shared(lock);
+    may_be_sent(&visit);
     lock.leave(visit, lists);
 }
 
@@ -100,7 +99,7 @@ fn add_and_join<R: Wait>(
     add_to_one(rt, lock, &mut one, 8)?;
     visit_once(rt, lock);
     lock.join(&mut zero, one);
-    works_for_threads(lock, &zero);
+    may_be_sent(&zero);
     Ok(lock.take(rt, &mut zero))
 }
 

@@ -2,7 +2,7 @@
 
 ghost use Rattle.std.specs.Prelude.{◌≡◌, IfOk};
 
-use crate::asserts::{moment, same};
+use crate::asserts::{may_be_sent, may_be_shared, moment, same, same_in};
 use aio_base::{Moment, OutOfMemory, TimerId, Waker};
 use aio_ops::{OpPass, Ops, PassRefusal};
 use aio_timers::{TimerBook, TimerOp};
@@ -11,10 +11,6 @@ use std::process::Abort;
 use std::sync::Wait;
 use std::test::Fail;
 use std::thread::{Threads, join};
-
-fn may_be_shared<T: Send + Sync>(_value: &T) {}
-
-fn may_be_sent<T: Send>(_value: &T) {}
 
 /// Registers a timer.
 fn insert(at: Moment) -> TimerOp {
@@ -155,10 +151,10 @@ impl Drainer {
         }
     }
 
-    /// Asserts that what these acts come to is what stands beside each.
-    fn plays<R: Wait + Abort>(&mut self, rt: &R, rows: &[(Act, Came)]) {
-        for (act, came) in rows {
-            same(rt, self.act(rt, *act), *came);
+    /// Asserts that what the acts of a row come to is what stands beside each.
+    fn plays<R: Wait + Abort>(&mut self, rt: &R, row: &Row) {
+        for (act, came) in row.acts {
+            same_in(rt, row.shows, self.act(rt, *act), *came);
         }
     }
 
@@ -171,65 +167,70 @@ impl Drainer {
     }
 }
 
-/// Asserts that what these acts on a new queue come to is what stands beside each.
-fn plays<R: Wait + Abort>(rt: &R, alloc: Global, rows: &[(Act, Came)]) -> Result<(), Fail> {
+/// What is done with a new queue, and what comes of each act.
+struct Row {
+    shows: &'static str,
+    acts: &'static [(Act, Came)],
+}
+
+const ROWS: &[Row] = &[
+    Row {
+        shows: "operations are applied in the order of their pushes",
+        acts: &[
+            (Act::Insert, Came::Done),
+            (Act::Remove, Came::Done),
+            (Act::DrainInto, Came::Taken(2)),
+            (Act::Count, Came::Timers(0)),
+            (Act::Remove, Came::Done),
+            (Act::Insert, Came::Done),
+            (Act::DrainInto, Came::Taken(2)),
+            (Act::Count, Came::Timers(1)),
+        ],
+    },
+    Row {
+        shows: "a full queue hands the operation back",
+        acts: &[
+            (Act::InsertTimes(1000), Came::Taken(1000)),
+            (Act::Remove, Came::Back),
+            (Act::DrainInto, Came::Taken(1000)),
+            (Act::Count, Came::Timers(1)),
+            (Act::DrainInto, Came::Taken(0)),
+        ],
+    },
+    Row {
+        shows: "an operation that is kept out of the queue is applied",
+        acts: &[
+            (Act::ApplyInsert, Came::Done),
+            (Act::Drain, Came::Taken(0)),
+            (Act::Count, Came::Timers(1)),
+        ],
+    },
+    Row {
+        shows: "an operation is applied after those that are queued",
+        acts: &[
+            (Act::Insert, Came::Done),
+            (Act::ApplyRemove, Came::Done),
+            (Act::Drain, Came::Taken(0)),
+            (Act::Count, Came::Timers(0)),
+        ],
+    },
+];
+
+/// Asserts that what the acts of a row come to is what stands beside each.
+fn plays<R: Wait + Abort>(rt: &R, alloc: Global, row: &Row) -> Result<(), Fail> {
     let mut drainer = Drainer::new(alloc, moment(rt, 30))?;
     may_be_shared(&drainer.ops);
     may_be_sent(&drainer.pass);
-    drainer.plays(rt, rows);
+    drainer.plays(rt, row);
     Ok(())
 }
 
-const REMOVED_LAST_AND_FIRST: [(Act, Came); 8] = [
-    (Act::Insert, Came::Done),
-    (Act::Remove, Came::Done),
-    (Act::DrainInto, Came::Taken(2)),
-    (Act::Count, Came::Timers(0)),
-    (Act::Remove, Came::Done),
-    (Act::Insert, Came::Done),
-    (Act::DrainInto, Came::Taken(2)),
-    (Act::Count, Came::Timers(1)),
-];
-
 #[test]
-fn operations_are_applied_in_the_order_of_their_pushes(rt: HostRuntime) -> Result<(), Fail> {
-    plays(&rt, rt.alloc(), &REMOVED_LAST_AND_FIRST)
-}
-
-const ONE_TOO_MANY: [(Act, Came); 5] = [
-    (Act::InsertTimes(1000), Came::Taken(1000)),
-    (Act::Remove, Came::Back),
-    (Act::DrainInto, Came::Taken(1000)),
-    (Act::Count, Came::Timers(1)),
-    (Act::DrainInto, Came::Taken(0)),
-];
-
-#[test]
-fn a_full_queue_hands_the_operation_back(rt: HostRuntime) -> Result<(), Fail> {
-    plays(&rt, rt.alloc(), &ONE_TOO_MANY)
-}
-
-const APPLIED_ALONE: [(Act, Came); 3] = [
-    (Act::ApplyInsert, Came::Done),
-    (Act::Drain, Came::Taken(0)),
-    (Act::Count, Came::Timers(1)),
-];
-
-#[test]
-fn an_operation_that_is_kept_out_of_the_queue_is_applied(rt: HostRuntime) -> Result<(), Fail> {
-    plays(&rt, rt.alloc(), &APPLIED_ALONE)
-}
-
-const APPLIED_LAST: [(Act, Came); 4] = [
-    (Act::Insert, Came::Done),
-    (Act::ApplyRemove, Came::Done),
-    (Act::Drain, Came::Taken(0)),
-    (Act::Count, Came::Timers(0)),
-];
-
-#[test]
-fn an_operation_is_applied_after_those_that_are_queued(rt: HostRuntime) -> Result<(), Fail> {
-    plays(&rt, rt.alloc(), &APPLIED_LAST)
+fn each_operation_is_applied_once_in_its_order(rt: HostRuntime) -> Result<(), Fail> {
+    for row in ROWS {
+        plays(&rt, rt.alloc(), row)?;
+    }
+    Ok(())
 }
 
 /// The number of one more pass of a queue.
@@ -294,10 +295,13 @@ fn push_beside<R: Threads + Wait + Sync>(
     Ok(push_on_two_threads(rt, &drainer.ops, one, other, drainer.at))
 }
 
-const ALL_OF_BOTH: [(Act, Came); 2] = [
-    (Act::DrainInto, Came::Taken(800)),
-    (Act::Count, Came::Timers(1)),
-];
+const ALL_OF_BOTH: Row = Row {
+    shows: "what two threads push is drained once",
+    acts: &[
+        (Act::DrainInto, Came::Taken(800)),
+        (Act::Count, Came::Timers(1)),
+    ],
+};
 
 #[test]
 fn what_two_threads_push_is_drained_once(rt: HostRuntime) -> Result<(), Fail> {

@@ -5,9 +5,9 @@ ghost use Rattle.std.specs.Thread.{IsSync};
 ghost use Rattle.aio_rules.specs.declared.seats.Mode.TheVariants as mode;
 ghost use Rattle.aio_words.specs.Seats.{Belongs};
 
-use crate::asserts::same;
+use crate::asserts::{may_be_sent, may_be_shared, same, same_in};
 use aio_base::{CountFault, Notify, OutOfMemory, Waker};
-use aio_devices::{FailingNotify, MemNotify, fault_after};
+use aio_devices::{FailingNotify, MemNotify};
 use aio_words::{Pass, RoundSeat, Words};
 use std::alloc::Global;
 use std::process::Abort;
@@ -16,6 +16,12 @@ use std::sync::atomic::{AtomicU64, Ordering};
 use std::test::Fail;
 use std::thread;
 use std::thread::{Threads, join};
+
+/// The first fault of a notifier.
+const FIRST_FAULT: CountFault = CountFault {
+    before: 0,
+    after: 1,
+};
 
 // How often each of the 64 slots is woken while its thread parks.
 const ROUNDS: u64 = 200;
@@ -67,8 +73,6 @@ enum Came {
 fn another<N: Notify>(notifier: &N) -> Result<N, OutOfMemory> {
     notifier.twin()
 }
-
-fn works_for_threads<W: Send + Sync, S: Send, P: Send>(_words: &W, _seat: &S, _pass: &P) {}
 
 /// Wakes these slots in order. Whether no call failed.
 fn wake_each<N: Notify>(words: &Words, p: &mut Pass, slots: &[u32], notifier: &mut N) -> bool
@@ -394,18 +398,73 @@ fn try_anew<R: Threads + Wait + Sync>(
     trial: Trial,
 ) -> Result<Came, OutOfMemory> {
     let (words, mut seat, mut pass) = Words::new(alloc, 2)?;
-    works_for_threads(&words, &seat, &pass);
+    may_be_shared(&words);
+    may_be_sent(&seat);
+    may_be_sent(&pass);
     Ok(tried(rt, &words, &mut seat, &mut pass, trial))
 }
 
-/// Asserts what comes of it at new words of two parkers.
-fn comes_to<R: Threads + Wait + Sync + Abort>(
-    rt: &R,
-    alloc: Global,
+/// What is tried at new words of two parkers, and what comes of it.
+struct Row {
+    shows: &'static str,
     trial: Trial,
-    wanted: Came,
-) -> Result<(), Fail> {
-    same(rt, try_anew(rt, alloc, trial)?, wanted);
+    came: Came,
+}
+
+const ROWS: [Row; 8] = [
+    Row {
+        shows: "slots of a parker are taken together",
+        trial: Trial::TakeTogether,
+        came: Came::Taken([40, 0], 0),
+    },
+    Row {
+        shows: "one wake ends a wait",
+        trial: Trial::WakeAWait,
+        came: Came::Found(1, 1),
+    },
+    Row {
+        shows: "a wait is told once",
+        trial: Trial::TellAWait,
+        came: Came::Told([1, 2, 2, 3]),
+    },
+    Row {
+        shows: "a failing notifier leaves the slot woken",
+        trial: Trial::WakeUntold,
+        came: Came::Untold(FIRST_FAULT, 128),
+    },
+    Row {
+        shows: "passes see each round that began",
+        trial: Trial::BeginTwo,
+        came: Came::Begun([1, 2], [0, 2, 2, 2]),
+    },
+    Row {
+        shows: "a wake before the park is found",
+        trial: Trial::ParkAfterAWake,
+        came: Came::Parked(1 << 40),
+    },
+    Row {
+        shows: "a wake of a high slot ends a sleep",
+        trial: Trial::ParkBeside,
+        came: Came::Parked(1 << 40),
+    },
+    Row {
+        shows: "no wake of 64 slots is lost",
+        trial: Trial::WakeFromTwo,
+        came: Came::Gathered(ROUNDS),
+    },
+];
+
+/// Asserts what comes of it at new words of two parkers.
+fn plays<R: Threads + Wait + Sync + Abort>(rt: &R, alloc: Global, row: &Row) -> Result<(), Fail> {
+    same_in(rt, row.shows, try_anew(rt, alloc, row.trial)?, row.came);
+    Ok(())
+}
+
+#[test]
+fn wakes_come_once_to_waits_and_parks(rt: HostRuntime) -> Result<(), Fail> {
+    for row in &ROWS {
+        plays(&rt, rt.alloc(), row)?;
+    }
     Ok(())
 }
 
@@ -421,56 +480,4 @@ fn woken_at_one(alloc: Global) -> Result<(bool, u64), OutOfMemory> {
 fn words_of_one_parker_have_64_slots(rt: HostRuntime) -> Result<(), Fail> {
     same(&rt, woken_at_one(rt.alloc())?, (true, 1 | 1 << 63));
     Ok(())
-}
-
-#[test]
-fn slots_of_a_parker_are_taken_together(rt: HostRuntime) -> Result<(), Fail> {
-    comes_to(
-        &rt,
-        rt.alloc(),
-        Trial::TakeTogether,
-        Came::Taken([40, 0], 0),
-    )
-}
-
-#[test]
-fn one_wake_ends_a_wait(rt: HostRuntime) -> Result<(), Fail> {
-    comes_to(&rt, rt.alloc(), Trial::WakeAWait, Came::Found(1, 1))
-}
-
-#[test]
-fn a_wait_is_told_once(rt: HostRuntime) -> Result<(), Fail> {
-    comes_to(&rt, rt.alloc(), Trial::TellAWait, Came::Told([1, 2, 2, 3]))
-}
-
-#[test]
-fn a_failing_notifier_leaves_the_slot_woken(rt: HostRuntime) -> Result<(), Fail> {
-    let untold = Came::Untold(fault_after(0), 128);
-    comes_to(&rt, rt.alloc(), Trial::WakeUntold, untold)
-}
-
-#[test]
-fn passes_see_each_round_that_began(rt: HostRuntime) -> Result<(), Fail> {
-    let begun = Came::Begun([1, 2], [0, 2, 2, 2]);
-    comes_to(&rt, rt.alloc(), Trial::BeginTwo, begun)
-}
-
-#[test]
-fn a_wake_before_the_park_is_found(rt: HostRuntime) -> Result<(), Fail> {
-    comes_to(
-        &rt,
-        rt.alloc(),
-        Trial::ParkAfterAWake,
-        Came::Parked(1 << 40),
-    )
-}
-
-#[test]
-fn a_wake_of_a_high_slot_ends_a_sleep(rt: HostRuntime) -> Result<(), Fail> {
-    comes_to(&rt, rt.alloc(), Trial::ParkBeside, Came::Parked(1 << 40))
-}
-
-#[test]
-fn no_wake_of_64_slots_is_lost(rt: HostRuntime) -> Result<(), Fail> {
-    comes_to(&rt, rt.alloc(), Trial::WakeFromTwo, Came::Gathered(ROUNDS))
 }

@@ -1,91 +1,141 @@
-//! What no clause says of a worker after the fault of an arm in a round: that it goes on, and polls its pairs
-//! again without a wait.
+//! What no clause says of workers after the fault of an arm in a round: that they go on, and that each slot of
+//! each of them is woken, so that their pairs are polled again without an event.
 
 use crate::asserts::same;
-use aio_base::{Event, EventWait, Interest, Key, Moment, Parts};
-use aio_conns::{ENDS, MemPort, Peer, SILENT};
-use aio_devices::{MemNotify, ScriptedWait, WaitAnswer, clock_until, fault_after};
-use aio_pairs::PairEnd;
-use aio_serve::{CallerSpawner, OpenGate, serve};
+use crate::gates::{NotingGate, Until};
+use crate::rows::{ALONE, End, HALTS, Row, moment, plays, still_clock};
+use aio_base::{Event, EventWait, Interest, Key, Placement};
+use aio_conns::{ENDS, Peer, SILENT};
+use aio_devices::{ScriptedWait, WaitAnswer, clock_until};
+use aio_serve::OpenGate;
 use std::alloc::Global;
+use std::process::Abort;
 use std::sync::Wait;
 use std::test::Fail;
 use std::thread::Threads;
 
-/// The connections of two pairs.
+/// Gives one event of a connection, and nothing after that.
+fn gives_once(alloc: Global, key: u32, on: Interest) -> Result<ScriptedWait, Fail> {
+    let event = Event { key: Key(key), on };
+    let answer = WaitAnswer::Gives(vec![in alloc; event]?);
+    Ok(ScriptedWait::new(vec![in alloc; answer]?))
+}
+
+/// Two pairs of one worker.
 ///
 /// Side A of the first takes two bytes of a line and sends nothing: so its add, two reads, two writes and an
 /// arm for each direction come to seven calls, and then it waits in both directions. The eighth is the arm
 /// of a round that had an event of one of them. It fails, and so does the read after it.
 ///
-/// Side A of the second is blocked once.
-const PEERS: [Peer<'static>; 4] = [
-    Peer {
-        room: 2,
-        fails: &[8, 9],
-        ..SILENT
-    },
-    Peer {
-        first: b"abc\n",
-        ..ENDS
-    },
-    Peer {
-        first: b"ab",
-        blocks: true,
-        last: b"\ncd",
-        ..ENDS
-    },
-    ENDS,
-];
+/// Side A of the second is blocked once. No event comes for it: its slot is woken for the fault alone.
+const OF_ONE_WORKER: Row<'static> = Row {
+    shows: "a worker goes on with each pair after the fault of an arm",
+    peers: &[
+        Peer {
+            room: 2,
+            fails: &[8, 9],
+            ..SILENT
+        },
+        Peer {
+            first: b"abc\n",
+            ..ENDS
+        },
+        HALTS,
+        ENDS,
+    ],
+    ends: &[End::ReadFault(1), End::Ended(3)],
+    ..ALONE
+};
 
-/// A port that hands out the connections of the pairs.
-fn port(alloc: Global) -> Result<MemPort, Fail> {
-    let mut conns = Vec::new(alloc);
-    for peer in PEERS {
-        conns.push(peer.connection(alloc)?)?;
-    }
-    Ok(MemPort::new(conns))
-}
-
-/// Gives one event, that the first connection can be read, and nothing after that.
-fn wait(alloc: Global) -> Result<ScriptedWait, Fail> {
-    let event = Event {
-        key: Key(0),
-        on: Interest::READ,
-    };
-    let answer = WaitAnswer::Gives(vec![in alloc; event]?);
-    Ok(ScriptedWait::new(vec![in alloc; answer]?))
-}
-
-/// The ends of the two pairs by one worker, and how often it waited. Its clock comes to the idle time once it
-/// was looked at a thousand times.
-fn served<R: Wait + Threads + Sync + Send + Copy>(
+/// How often the worker waited. Its clock comes to the idle time once it was looked at a thousand times.
+fn waits_of_one<R: Wait + Threads + Sync + Send + Copy + Abort>(
     rt: &R,
     alloc: Global,
-) -> Result<(Vec<PairEnd>, u64), Fail> {
-    let mut wait = wait(alloc)?;
-    let idle = Moment::new(1000).ok_or("no moment")?;
-    let parts = Parts {
-        port: &mut port(alloc)?,
-        wait: &mut wait,
-        notify: &mut MemNotify::new(),
-        clock: &mut clock_until(alloc, 1000, idle)?,
-        gate: &mut OpenGate,
-        spawner: &mut CallerSpawner,
-    };
-    match serve(rt, alloc, parts, 1, 1000, 2) {
-        Ok(ends) => Ok((ends, wait.waits())),
-        Err(_) => Err(Fail::from("the server stopped")),
-    }
+) -> Result<u64, Fail> {
+    let mut wait = gives_once(alloc, 0, Interest::READ)?;
+    let mut clock = clock_until(alloc, 1000, moment(1000)?)?;
+    let devices = (&mut wait, &mut clock, &mut OpenGate);
+    plays(rt, alloc, &OF_ONE_WORKER, devices)?;
+    Ok(wait.waits())
 }
 
-// No event comes for the second pair: its slot is woken for the fault alone.
 #[test]
 fn a_worker_goes_on_with_each_pair_after_the_fault_of_an_arm(rt: HostRuntime) -> Result<(), Fail> {
-    let (ends, waits) = served(&&rt, rt.alloc())?;
-    let failed = PairEnd::ReadFault(fault_after(1));
-    let ended = PairEnd::Ended { to_a: 0, to_b: 3 };
-    same(&rt, ends.as_slice(), [failed, ended].as_slice());
-    same(&rt, waits, 1);
+    same(&rt, waits_of_one(&&rt, rt.alloc())?, 1);
+    Ok(())
+}
+
+/// Six pairs of two workers, of which each has three.
+///
+/// Side A of pair 4 sends nothing: after its add, a read and an arm it waits for its reading. The fourth call is
+/// the arm of a round that had an event which nobody waits for. It fails, and so does the read after it.
+///
+/// The others are blocked once, and no event comes for them.
+const OF_TWO_WORKERS: Row<'static> = Row {
+    shows: "each slot of each worker is woken after the fault of an arm",
+    peers: &[
+        Peer {
+            first: b"a",
+            ..HALTS
+        },
+        ENDS,
+        HALTS,
+        ENDS,
+        Peer {
+            first: b"abc",
+            ..HALTS
+        },
+        ENDS,
+        Peer {
+            fails: &[4, 5],
+            ..SILENT
+        },
+        SILENT,
+        Peer {
+            first: b"abcde",
+            ..HALTS
+        },
+        ENDS,
+        Peer {
+            first: b"abcdef",
+            ..HALTS
+        },
+        ENDS,
+    ],
+    workers: 2,
+    placement: Placement::Threads,
+    ends: &[
+        End::Ended(2),
+        End::Ended(3),
+        End::Ended(4),
+        End::ReadFault(1),
+        End::Ended(6),
+        End::Ended(7),
+    ],
+    ..ALONE
+};
+
+/// The first worker begins once the second has polled pair 4, and the second goes on once a pair of the first had
+/// its end: so it is the first that makes the round.
+const IN_TURN: &[(u32, Until)] = &[(1, Until::Begun(6)), (6, Until::Ended(1))];
+
+/// Asserts it. The pairs that were held and let go, as bits.
+fn let_go_of_two<R: Wait + Threads + Sync + Send + Copy + Abort>(
+    rt: &R,
+    alloc: Global,
+) -> Result<u32, Fail> {
+    let mut wait = gives_once(alloc, 6, Interest::WRITE)?;
+    let mut gate = NotingGate::new(IN_TURN);
+    let devices = (&mut wait, &mut still_clock(alloc)?, &mut gate);
+    plays(rt, alloc, &OF_TWO_WORKERS, devices)?;
+    Ok(gate.let_go())
+}
+
+// No time passes: a pair that was not woken would never end.
+#[test]
+fn each_slot_of_each_worker_is_woken_after_the_fault_of_an_arm(
+    rt: HostRuntime,
+) -> Result<(), Fail> {
+    same(&rt, let_go_of_two(&&rt, rt.alloc())?, 1 << 1 | 1 << 6);
     Ok(())
 }

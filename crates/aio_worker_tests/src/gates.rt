@@ -1,4 +1,4 @@
-//! A gate that notes which pairs have their ends, and may hold one for another.
+//! A gate that notes what pairs come to, and may hold one for another.
 
 use aio_base::Gate;
 use std::sync::Wait;
@@ -8,44 +8,75 @@ use std::thread::{Threads, yield_now};
 /// How often a held pair looks whether it may go on.
 const MOST_LOOKS: u32 = 10_000_000;
 
-/// A gate that notes the pairs that had their ends, in their order, each number a digit behind those before.
-/// Where it holds, pair 1 goes on once pair 2 had its end, and it notes that it came to that.
+/// How far another pair is to come until a held one may go on.
+#[derive(Clone, Copy)]
+pub(crate) enum Until {
+    /// It is about to be polled for the first time.
+    Begun(u32),
+    /// It had its end.
+    Ended(u32),
+}
+
+/// A gate that notes the pairs that had their ends, in their order, each number a digit behind those before,
+/// and which pairs it let go that it had to hold.
 #[derive(Drop)]
 pub(crate) struct NotingGate {
-    holds: bool,
-    passed: AtomicU32,
+    holds: &'static [(u32, Until)],
+    begun: AtomicU32,
+    ended: AtomicU32,
+    digits: AtomicU32,
     let_go: AtomicU32,
 }
 
+/// The bit of a pair.
+fn bit(pair: u32) -> u32 {
+    1 << (pair % 32)
+}
+
+/// Sets the bit of a pair.
+fn note(pairs: &AtomicU32, pair: u32) {
+    pairs.fetch_or(bit(pair), Ordering::SeqCst);
+}
+
+/// Whether the bit of a pair is set.
+fn is_noted(pairs: &AtomicU32, pair: u32) -> bool {
+    pairs.load(Ordering::SeqCst) & bit(pair) != 0
+}
+
 impl NotingGate {
-    /// A gate that was not called yet, and holds pair 1 or none.
-    pub(crate) fn new(holds: bool) -> NotingGate {
+    /// A gate that was not called yet, and holds these pairs until another one has come so far.
+    pub(crate) fn new(holds: &'static [(u32, Until)]) -> NotingGate {
         NotingGate {
             holds,
-            passed: AtomicU32::new(0),
+            begun: AtomicU32::new(0),
+            ended: AtomicU32::new(0),
+            digits: AtomicU32::new(0),
             let_go: AtomicU32::new(0),
         }
     }
 
     /// The pairs that had their ends so far, as the digits of a number.
-    pub(crate) fn passed_pairs(&self) -> u32 {
-        self.passed.load(Ordering::SeqCst)
+    pub(crate) fn ended_pairs(&self) -> u32 {
+        self.digits.load(Ordering::SeqCst)
     }
 
-    /// How many pairs it held and let go.
+    /// Which pairs it held and let go, as bits.
     pub(crate) fn let_go(&self) -> u32 {
         self.let_go.load(Ordering::SeqCst)
     }
-}
 
-impl Gate for NotingGate {
-    fn hold<R: Wait + Threads + Sync + Send + Copy>(&self, _rt: &R, pair: u32) -> bool {
-        if !self.holds || pair != 1 {
-            return true;
+    /// Whether another pair has come so far.
+    fn has_come(&self, until: Until) -> bool {
+        match until {
+            Until::Begun(pair) => is_noted(&self.begun, pair),
+            Until::Ended(pair) => is_noted(&self.ended, pair),
         }
+    }
+
+    /// Holds a pair until another has come so far. Whether that came.
+    fn wait_until(&self, until: Until) -> bool {
         for _ in 0..MOST_LOOKS {
-            if self.passed_pairs() == 2 {
-                self.let_go.store(1, Ordering::SeqCst);
+            if self.has_come(until) {
                 return true;
             }
             yield_now();
@@ -53,8 +84,33 @@ impl Gate for NotingGate {
         false
     }
 
+    /// For what a pair is held.
+    fn held_until(&self, pair: u32) -> Option<Until> {
+        for (held, until) in self.holds {
+            if *held == pair {
+                return Some(*until);
+            }
+        }
+        None
+    }
+}
+
+impl Gate for NotingGate {
+    fn hold<R: Wait + Threads + Sync + Send + Copy>(&self, _rt: &R, pair: u32) -> bool {
+        note(&self.begun, pair);
+        match self.held_until(pair) {
+            Some(until) if self.wait_until(until) => {
+                note(&self.let_go, pair);
+                true
+            }
+            Some(_) => false,
+            None => true,
+        }
+    }
+
     fn passed(&self, pair: u32) {
-        let after = self.passed_pairs().wrapping_mul(10).wrapping_add(pair);
-        self.passed.store(after, Ordering::SeqCst);
+        let after = self.ended_pairs().wrapping_mul(10).wrapping_add(pair);
+        self.digits.store(after, Ordering::SeqCst);
+        note(&self.ended, pair);
     }
 }

@@ -8,7 +8,7 @@ mod asserts;
 #[cfg(test)]
 mod gates;
 #[cfg(test)]
-mod pairs;
+mod rows;
 #[cfg(test)]
 mod servers;
 #[cfg(test)]

@@ -2,266 +2,307 @@
 //! and that whoever ends, or stops for a fault, leaves no other one parked for good. Where that went
 //! wrong the tests would not end.
 
-ghost use Rattle.std.specs.Prelude.{◌≤◌, ◌*◌};
-
 use crate::asserts::same;
-use crate::gates::NotingGate;
-use crate::pairs::{FIRST_FAULT, add, add_pair, ended};
-use aio_base::{ArmFault, Gate, Key, Moment, Parts, Spawner};
+use crate::gates::{NotingGate, Until};
+use crate::rows::{ALONE, End, HALTS, Row, moment, plays, served, still_clock};
+use aio_base::{ArmFault, Gate, Key, Parts, Placement};
 use aio_conns::{ENDS, MemConn, MemPort, Peer, SILENT};
-use aio_devices::{FailingWait, MemNotify, clock_at};
-use aio_pairs::{PairEnd, Side};
-use aio_serve::{CallerSpawner, OpenGate, ServeFault, ThreadSpawner, serve};
+use aio_devices::{FailingWait, MemNotify, clock_until, fault_after};
+use aio_pairs::PairEnd;
+use aio_serve::{OpenGate, ServeFault, ThreadSpawner, serve};
 use std::alloc::Global;
+use std::process::Abort;
 use std::sync::Wait;
 use std::test::Fail;
 use std::thread::Threads;
 
-/// After how many nanoseconds without a byte a pair ends.
-const IDLE: u64 = 1000;
+/// Two workers on threads.
+const TWO: Row<'static> = Row {
+    workers: 2,
+    placement: Placement::Threads,
+    ..ALONE
+};
 
-/// What so many workers come to over these connections, with a clock that stands at 0.
-fn served<R: Wait + Threads + Sync + Send + Copy, G: Gate + Sync, S: Spawner + Drop>(
+/// Asserts what the pairs of a row come to, over a wait that gives events of each key and a clock that stands
+/// still, with this gate.
+fn plays_with<R: Wait + Threads + Sync + Send + Copy + Abort, G: Gate + Sync>(
     rt: &R,
     alloc: Global,
-    conns: Vec<MemConn>,
-    mut wait: FailingWait,
+    row: &Row<'_>,
     gate: &mut G,
-    mut spawner: S,
-    workers: u32,
-    pairs: u32,
-) -> Result<Result<Vec<PairEnd>, ServeFault>, Fail>
-    requires workers { (1 ≤ workers) × (workers ≤ 16) }
-    requires pairs { (1 ≤ pairs) × (pairs ≤ 64 * workers) }
-{
-    let mut port = MemPort::new(conns);
-    let mut notify = MemNotify::new();
-    let mut clock = clock_at(alloc, Moment::new(0).ok_or("no moment")?)?;
-    let parts = Parts {
-        port: &mut port,
-        wait: &mut wait,
-        notify: &mut notify,
-        clock: &mut clock,
-        gate,
-        spawner: &mut spawner,
-    };
-    Ok(serve(rt, alloc, parts, workers, IDLE, pairs))
+) -> Result<(), Fail> {
+    let mut wait = FailingWait::new(14, Vec::new(alloc));
+    plays(rt, alloc, row, (&mut wait, &mut still_clock(alloc)?, gate))
 }
+
+const SIDE_BY_SIDE: Row<'static> = Row {
+    shows: "pairs of two workers are served side by side",
+    peers: &[HALTS, ENDS, HALTS, ENDS],
+    ends: &[End::Ended(3), End::Ended(3)],
+    ..TWO
+};
 
 #[test]
 fn pairs_of_two_workers_are_served_side_by_side(rt: HostRuntime) -> Result<(), Fail> {
-    let alloc = rt.alloc();
-    let mut conns = Vec::new(alloc);
-    add_pair(&mut conns, alloc, b"ab")?;
-    add_pair(&mut conns, alloc, b"ab")?;
-    let mut gate = NotingGate::new(true);
-    let ends = served(
-        &&rt,
-        alloc,
-        conns,
-        FailingWait::new(4, Vec::new(alloc)),
-        &mut gate,
-        ThreadSpawner,
-        2,
-        2,
-    )?;
-    same(&rt, ends, Ok(vec![in alloc; ended(3), ended(3)]?));
-    same(&rt, (gate.let_go(), gate.passed_pairs()), (1, 21));
+    let mut gate = NotingGate::new(&[(1, Until::Ended(2))]);
+    plays_with(&&rt, rt.alloc(), &SIDE_BY_SIDE, &mut gate)?;
+    same(&rt, (gate.let_go(), gate.ended_pairs()), (1 << 1, 21));
     Ok(())
 }
-
-/// Bytes that are one too many for a line whose end is still to come.
-const LONG: &[u8] = &[b'a'; 4096];
 
 /// Seven pairs, of which the third sends a line that is too long, the sixth fails its first read, and each
 /// other one sends another number of bytes.
-fn seven_pairs(alloc: Global) -> Result<Vec<MemConn>, Fail> {
-    let mut conns = Vec::new(alloc);
-    add_pair(&mut conns, alloc, b"")?;
-    add_pair(&mut conns, alloc, b"a")?;
-    add(
-        &mut conns,
-        alloc,
-        Peer {
-            first: LONG,
-            ..ENDS
-        },
-    )?;
-    add_pair(&mut conns, alloc, b"abc")?;
-    add_pair(&mut conns, alloc, b"abcd")?;
-    add(
-        &mut conns,
-        alloc,
-        Peer {
-            fails: &[2],
-            ..ENDS
-        },
-    )?;
-    add_pair(&mut conns, alloc, b"abcdef")?;
-    Ok(conns)
-}
+const SEVEN: [Peer<'static>; 14] = [
+    Peer {
+        first: b"",
+        ..HALTS
+    },
+    ENDS,
+    Peer {
+        first: b"a",
+        ..HALTS
+    },
+    ENDS,
+    Peer {
+        first: &[b'a'; 4096],
+        ..ENDS
+    },
+    ENDS,
+    Peer {
+        first: b"abc",
+        ..HALTS
+    },
+    ENDS,
+    Peer {
+        first: b"abcd",
+        ..HALTS
+    },
+    ENDS,
+    Peer {
+        fails: &[2],
+        ..ENDS
+    },
+    ENDS,
+    Peer {
+        first: b"abcdef",
+        ..HALTS
+    },
+    ENDS,
+];
 
-/// Seven pairs over three workers that run by this spawner.
-fn seven_ends<R: Wait + Threads + Sync + Send + Copy, S: Spawner + Drop>(
-    rt: &R,
-    alloc: Global,
-    spawner: S,
-) -> Result<Result<Vec<PairEnd>, ServeFault>, Fail> {
-    let conns = seven_pairs(alloc)?;
-    served(
-        rt,
-        alloc,
-        conns,
-        FailingWait::new(14, Vec::new(alloc)),
-        &mut OpenGate,
-        spawner,
-        3,
-        7,
-    )
-}
+/// What these come to.
+const SEVEN_ENDS: [End; 7] = [
+    End::Ended(1),
+    End::Ended(2),
+    End::TooLong(4096),
+    End::Ended(4),
+    End::Ended(5),
+    End::ReadFault(0),
+    End::Ended(7),
+];
+
+/// Servers whose pairs each come to their ends, whoever serves them.
+const ROWS: &[Row<'static>] = &[
+    Row {
+        shows: "one worker on a thread serves all pairs",
+        peers: &[HALTS, ENDS, HALTS, ENDS],
+        workers: 1,
+        ends: &[End::Ended(3), End::Ended(3)],
+        ..TWO
+    },
+    Row {
+        shows: "ends stand in the order of the pairs, on threads",
+        peers: &SEVEN,
+        workers: 3,
+        ends: &SEVEN_ENDS,
+        ..TWO
+    },
+    Row {
+        shows: "ends stand in the order of the pairs, on the caller",
+        peers: &SEVEN,
+        workers: 3,
+        ends: &SEVEN_ENDS,
+        ..ALONE
+    },
+    Row {
+        shows: "workers without pairs end at once",
+        peers: &[
+            Peer {
+                first: b"a",
+                ..HALTS
+            },
+            ENDS,
+            HALTS,
+            ENDS,
+        ],
+        workers: 16,
+        ends: &[End::Ended(2), End::Ended(3)],
+        ..TWO
+    },
+    // The add is the first call of a connection.
+    Row {
+        shows: "a connection that cannot join ends its pair alone",
+        peers: &[
+            HALTS,
+            ENDS,
+            Peer {
+                fails: &[1],
+                ..HALTS
+            },
+            ENDS,
+            HALTS,
+            ENDS,
+            HALTS,
+            ENDS,
+        ],
+        ends: &[
+            End::Ended(3),
+            End::ArmFault(2),
+            End::Ended(3),
+            End::Ended(3),
+        ],
+        ..TWO
+    },
+];
 
 #[test]
 fn ends_stand_in_the_order_of_the_pairs_whoever_serves_them(rt: HostRuntime) -> Result<(), Fail> {
-    let alloc = rt.alloc();
-    let too_long = PairEnd::TooLong {
-        side: Side::A,
-        at: 4096,
-    };
-    let wanted = [
-        ended(1),
-        ended(2),
-        too_long,
-        ended(4),
-        ended(5),
-        PairEnd::ReadFault(FIRST_FAULT),
-        ended(7),
-    ];
-    let on_threads = seven_ends(&&rt, alloc, ThreadSpawner)?
-        .ok()
-        .ok_or("stopped")?;
-    let on_the_caller = seven_ends(&&rt, alloc, CallerSpawner)?
-        .ok()
-        .ok_or("stopped")?;
-    same(&rt, on_threads.as_slice(), wanted.as_slice());
-    same(&rt, on_the_caller.as_slice(), wanted.as_slice());
-    Ok(())
-}
-
-#[test]
-fn one_worker_on_a_thread_serves_all_pairs(rt: HostRuntime) -> Result<(), Fail> {
-    let alloc = rt.alloc();
-    let mut conns = Vec::new(alloc);
-    add_pair(&mut conns, alloc, b"ab")?;
-    add_pair(&mut conns, alloc, b"ab")?;
-    let wait = FailingWait::new(4, Vec::new(alloc));
-    let ends = served(&&rt, alloc, conns, wait, &mut OpenGate, ThreadSpawner, 1, 2)?;
-    same(&rt, ends, Ok(vec![in alloc; ended(3), ended(3)]?));
+    for row in ROWS {
+        plays_with(&&rt, rt.alloc(), row, &mut OpenGate)?;
+    }
     Ok(())
 }
 
 /// Pair 1 ends at its first poll, the others after rounds.
-fn uneven_pairs(alloc: Global) -> Result<Vec<MemConn>, Fail> {
-    let mut conns = Vec::new(alloc);
-    add(
-        &mut conns,
-        alloc,
+const UNEVEN: Row<'static> = Row {
+    shows: "a worker that ends leaves nobody parked",
+    peers: &[
         Peer {
             first: b"x\n",
             ..ENDS
         },
-    )?;
-    for text in [b"a".as_slice(), b"ab".as_slice(), b"abc".as_slice()] {
-        add_pair(&mut conns, alloc, text)?;
-    }
-    Ok(conns)
-}
+        ENDS,
+        Peer {
+            first: b"a",
+            ..HALTS
+        },
+        ENDS,
+        HALTS,
+        ENDS,
+        Peer {
+            first: b"abc",
+            ..HALTS
+        },
+        ENDS,
+    ],
+    workers: 4,
+    ends: &[End::Ended(2), End::Ended(2), End::Ended(3), End::Ended(4)],
+    ..TWO
+};
 
 #[test]
 fn a_worker_that_ends_leaves_nobody_parked(rt: HostRuntime) -> Result<(), Fail> {
-    let alloc = rt.alloc();
     for _time in 0..200 {
-        let conns = uneven_pairs(alloc)?;
-        let ends = served(
-            &&rt,
-            alloc,
-            conns,
-            FailingWait::new(8, Vec::new(alloc)),
-            &mut OpenGate,
-            ThreadSpawner,
-            4,
-            4,
-        )?;
-        let ends = ends.ok().ok_or("stopped")?;
-        same(
-            &rt,
-            ends.as_slice(),
-            [ended(2), ended(2), ended(3), ended(4)].as_slice(),
-        );
+        plays_with(&&rt, rt.alloc(), &UNEVEN, &mut OpenGate)?;
     }
     Ok(())
+}
+
+/// No event ever comes for pair 2: only the time that passes ends it.
+const IDLE_AT_LAST: Row<'static> = Row {
+    shows: "a pair is idle though the worker that made rounds has ended",
+    peers: &[HALTS, ENDS, SILENT, SILENT],
+    ends: &[End::Ended(3), End::Idle(0, 1000)],
+    ..TWO
+};
+
+/// Over a wait that gives events of the connections of pair 1 alone, and a clock that comes to the idle time once
+/// it was looked at a thousand times.
+fn idles_at_last<R: Wait + Threads + Sync + Send + Copy + Abort>(
+    rt: &R,
+    alloc: Global,
+) -> Result<(), Fail> {
+    let mut wait = FailingWait::new(2, Vec::new(alloc));
+    let mut clock = clock_until(alloc, 1000, moment(1000)?)?;
+    plays(
+        rt,
+        alloc,
+        &IDLE_AT_LAST,
+        (&mut wait, &mut clock, &mut OpenGate),
+    )
 }
 
 #[test]
-fn workers_without_pairs_end_at_once(rt: HostRuntime) -> Result<(), Fail> {
-    let alloc = rt.alloc();
-    let mut conns = Vec::new(alloc);
-    add_pair(&mut conns, alloc, b"a")?;
-    add_pair(&mut conns, alloc, b"ab")?;
-    let ends = served(
-        &&rt,
-        alloc,
-        conns,
-        FailingWait::new(4, Vec::new(alloc)),
-        &mut OpenGate,
-        ThreadSpawner,
-        16,
-        2,
-    )?;
-    let ends = ends.ok().ok_or("stopped")?;
-    same(&rt, ends.as_slice(), [ended(2), ended(3)].as_slice());
+fn a_worker_that_ends_leaves_time_to_the_others(rt: HostRuntime) -> Result<(), Fail> {
+    for _time in 0..20 {
+        idles_at_last(&&rt, rt.alloc())?;
+    }
     Ok(())
 }
 
-/// Three pairs that send nothing and never end, over workers of which each one's wait fails.
-fn failing_ends<R: Wait + Threads + Sync + Send + Copy>(
+/// Three pairs that send nothing and never end, each of another worker.
+const NOTHING_COMES: Row<'static> = Row {
+    peers: &[SILENT; 6],
+    workers: 3,
+    ..TWO
+};
+
+/// What they come to over a wait that fails.
+fn stopped<R: Wait + Threads + Sync + Send + Copy>(
     rt: &R,
     alloc: Global,
 ) -> Result<Result<Vec<PairEnd>, ServeFault>, Fail> {
-    let mut conns = Vec::new(alloc);
-    for _side in 0..6 {
-        conns.push(SILENT.connection(alloc)?)?;
-    }
-    let mut fails = Vec::new(alloc);
-    fails.extend_from_slice(&[1, 2, 3, 4, 5, 6])?;
-    served(
-        rt,
-        alloc,
-        conns,
-        FailingWait::new(6, fails),
-        &mut OpenGate,
-        ThreadSpawner,
-        3,
-        3,
-    )
+    let fails = [1, 2, 3, 4, 5, 6].to_vec(alloc)?;
+    let mut wait = FailingWait::new(6, fails);
+    let devices = (&mut wait, &mut still_clock(alloc)?, &mut OpenGate);
+    served(rt, alloc, &NOTHING_COMES, devices)
 }
 
 #[test]
 fn a_worker_that_stops_for_a_fault_leaves_nobody_parked(rt: HostRuntime) -> Result<(), Fail> {
     for _time in 0..100 {
-        let stopped = failing_ends(&&rt, rt.alloc())?;
+        let stopped = stopped(&&rt, rt.alloc())?;
         same(&rt, matches!(stopped, Err(ServeFault::Wait(_))), true);
     }
     Ok(())
 }
 
-/// Four pairs over two workers, of which the second one's side A fails its call of this number.
+/// What two workers on threads come to over the connections of four pairs.
+fn served_over<R: Wait + Threads + Sync + Send + Copy>(
+    rt: &R,
+    alloc: Global,
+    conns: Vec<MemConn>,
+) -> Result<Result<Vec<PairEnd>, ServeFault>, Fail> {
+    let mut port = MemPort::new(conns);
+    let mut wait = FailingWait::new(8, Vec::new(alloc));
+    let mut notify = MemNotify::new();
+    let mut clock = still_clock(alloc)?;
+    let parts = Parts {
+        port: &mut port,
+        wait: &mut wait,
+        notify: &mut notify,
+        clock: &mut clock,
+        gate: &mut OpenGate,
+        spawner: &mut ThreadSpawner,
+    };
+    Ok(serve(rt, alloc, parts, 2, 1000, 4))
+}
+
+/// Adds a pair of which side A is this peer, and side B sends nothing and ends.
+fn add(conns: &mut Vec<MemConn>, alloc: Global, peer: Peer<'_>) -> Result<(), Fail> {
+    conns.push(peer.connection(alloc)?)?;
+    conns.push(ENDS.connection(alloc)?)?;
+    Ok(())
+}
+
+/// The ends of four pairs over two workers, of which the second one's side A fails these calls.
 fn ends_with_a_failing_call<R: Wait + Threads + Sync + Send + Copy>(
     rt: &R,
     alloc: Global,
     fails: &[u64],
 ) -> Result<Vec<PairEnd>, Fail> {
     let mut conns = Vec::new(alloc);
-    add_pair(&mut conns, alloc, b"ab")?;
+    add(&mut conns, alloc, HALTS)?;
     let failing = Peer {
         first: b"ab",
         blocks: true,
@@ -270,11 +311,9 @@ fn ends_with_a_failing_call<R: Wait + Threads + Sync + Send + Copy>(
         ..ENDS
     };
     add(&mut conns, alloc, failing)?;
-    add_pair(&mut conns, alloc, b"ab")?;
-    add_pair(&mut conns, alloc, b"ab")?;
-    let wait = FailingWait::new(8, Vec::new(alloc));
-    let ends = served(rt, alloc, conns, wait, &mut OpenGate, ThreadSpawner, 2, 4)?;
-    Ok(ends.ok().ok_or("stopped")?)
+    add(&mut conns, alloc, HALTS)?;
+    add(&mut conns, alloc, HALTS)?;
+    Ok(served_over(rt, alloc, conns)?.ok().ok_or("stopped")?)
 }
 
 /// The fault of an arm of the third connection.
@@ -284,21 +323,17 @@ const THIRD_ARM: ArmFault = ArmFault {
     after: 1,
 };
 
-// The add is the first call of a connection.
-#[test]
-fn a_connection_that_cannot_join_ends_its_pair_alone(rt: HostRuntime) -> Result<(), Fail> {
-    let ends = ends_with_a_failing_call(&&rt, rt.alloc(), &[1])?;
-    let wanted = [ended(3), PairEnd::ArmFault(THIRD_ARM), ended(3), ended(3)];
-    same(&rt, ends.as_slice(), wanted.as_slice());
-    Ok(())
-}
-
 /// Whether a pair ended by what a failing call of its side A can bring about.
 fn is_of_a_failing_call(end: &PairEnd) -> bool {
-    *end == PairEnd::ReadFault(FIRST_FAULT)
+    *end == PairEnd::ReadFault(fault_after(0))
         || *end == PairEnd::ArmFault(THIRD_ARM)
-        || *end == PairEnd::WriteFault(FIRST_FAULT)
-        || *end == ended(3)
+        || *end == PairEnd::WriteFault(fault_after(0))
+        || *end == ended()
+}
+
+/// The end of the other pairs.
+fn ended() -> PairEnd {
+    PairEnd::Ended { to_a: 0, to_b: 3 }
 }
 
 #[test]
@@ -309,7 +344,7 @@ fn a_failing_call_ends_its_own_pair_at_most(rt: HostRuntime) -> Result<(), Fail>
             return Err(Fail::from("not four ends"));
         };
         same(&rt, is_of_a_failing_call(second), true);
-        same(&rt, [*first, *third, *fourth], [ended(3); 3]);
+        same(&rt, [*first, *third, *fourth], [ended(); 3]);
     }
     Ok(())
 }

@@ -1,0 +1,122 @@
+//! What no clause says of the wakes by which a thread hands over: which slots of three parkers are woken, also
+//! where the notifier fails.
+
+ghost use Rattle.std.specs.Prelude.{◌≡◌, ◌<◌, IfOk};
+ghost use Rattle.aio_rules.specs.declared.seats.Mode.TheVariants as mode;
+ghost use Rattle.aio_shared.specs.Members.{IsMemberOf};
+ghost use Rattle.aio_shared.specs.OneCell.{IsCellOf};
+
+use crate::acts::FIRST_FAULT;
+use crate::asserts::same;
+use crate::seats::{unblock_in, waits_for_first};
+use aio_base::{Arm, CountFault, EventWait, Notify, OutOfMemory};
+use aio_devices::{FailingNotify, MemWait, SureArm};
+use aio_shared::{Inside, Member, RoundCell, Shared};
+use std::alloc::Global;
+use std::process::Abort;
+use std::sync::{Arc, Wait};
+use std::test::Fail;
+
+/// A way into a reactor whose notifier fails.
+type Untold<R> = Inside<R, FailingNotify, SureArm, MemWait>;
+
+/// The way into a new reactor of three parkers.
+fn enter_three<R: Wait + Drop>(rt: R, alloc: Global) -> Result<Untold<R>, OutOfMemory>
+    ensures { IfOk result (λ host. host.shared.words.parkers ≡ 3) }
+{
+    let Ok((shared, member)) = Shared::new(alloc, 3, MemWait::new(0), FailingNotify::new()) else {
+        return Err(OutOfMemory);
+    };
+    match Arc::new(alloc, shared) {
+        Ok(shared) => Ok(Inside { rt, shared, member }),
+        Err(_) => Err(OutOfMemory),
+    }
+}
+
+/// Takes the masks of the first three parkers.
+fn masks<R: Wait, N: Notify, A: Arm, W: EventWait>(host: &mut Inside<R, N, A, W>) -> [u64; 3]
+    requires { 2 < host.old.shared.words.parkers }
+    ensures { host.new.shared ≡ host.old.shared }
+{
+    let words = host.shared.words();
+    let pass = host.member.words_pass();
+    [
+        words.take(pass, 0),
+        words.take(pass, 1),
+        words.take(pass, 2),
+    ]
+}
+
+/// Wakes every slot where the seat waits for parker 0 then, and leaves the seat blocking it. `None` where it does
+/// not wait.
+fn wake_where_waiting<N: Notify, A: Arm, W: EventWait>(
+    shared: &Shared<A, W>,
+    m: &mut Member<N, W>,
+    cell: &mut RoundCell<W>,
+) -> Option<Result<(), CountFault>>
+    requires parker { 0 < shared.now.words.parkers }
+    requires member { IsMemberOf shared.now m.old }
+    requires cell { IsCellOf m.old.claim cell.old }
+    requires idle { cell.old.seat.view.mode ≡ mode.Idle }
+    ensures member { IsMemberOf shared.now m.new }
+    ensures claim { m.new.claim ≡ m.old.claim }
+    ensures cell { IsCellOf m.new.claim cell.new }
+    ensures blocks { cell.new.seat.view.mode ≡ mode.Block 0 }
+{
+    if !waits_for_first(shared.words(), cell.seat()) {
+        return None;
+    }
+    let told = shared.wake_all_slots(m);
+    shared.words().waited(cell.seat());
+    Some(told)
+}
+
+/// Takes the round cell, wakes every slot in a wait, and gives the cell back.
+fn wake_in_a_wait<R: Wait, N: Notify, A: Arm, W: EventWait>(
+    host: &mut Inside<R, N, A, W>,
+) -> Option<Result<(), CountFault>>
+    requires { 0 < host.old.shared.words.parkers }
+    ensures { host.new.shared ≡ host.old.shared }
+{
+    let mut cell = host.shared.take_round(&host.rt, &mut host.member);
+    let told = wake_where_waiting(&host.shared, &mut host.member, &mut cell);
+    unblock_in(&host.shared, &host.member, &mut cell);
+    host.shared.give_round(&host.rt, &mut host.member, cell);
+    told
+}
+
+/// The masks once the member of parker 1 handed over, and once it woke every slot; what that answers in a wait,
+/// and the masks after it.
+fn found<R: Wait, N: Notify, A: Arm, W: EventWait>(
+    host: &mut Inside<R, N, A, W>,
+) -> ([[u64; 3]; 3], Option<Result<(), CountFault>>)
+    requires { 2 < host.old.shared.words.parkers }
+{
+    let _not_called = host.shared.wake_other_parkers(&mut host.member, 1);
+    let others = masks(host);
+    let _not_called = host.shared.wake_all_slots(&mut host.member);
+    let all = masks(host);
+    let told = wake_in_a_wait(host);
+    ([others, all, masks(host)], told)
+}
+
+/// The same in a new reactor.
+fn found_in_new<R: Wait + Drop>(
+    rt: R,
+    alloc: Global,
+) -> Result<([[u64; 3]; 3], Option<Result<(), CountFault>>), OutOfMemory> {
+    let mut host = enter_three(rt, alloc)?;
+    let found = found(&mut host);
+    drop(host);
+    Ok(found)
+}
+
+#[test]
+fn a_thread_wakes_the_other_parkers_or_all_slots_though_it_cannot_tell(
+    rt: HostRuntime,
+) -> Result<(), Fail> {
+    let (masks, told) = found_in_new(&rt, rt.alloc())?;
+    same(&rt, masks, [[1, 0, 1], [u64::MAX; 3], [u64::MAX; 3]]);
+    same(&rt, told, Some(Err(FIRST_FAULT)));
+    Ok(())
+}
