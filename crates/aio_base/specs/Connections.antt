@@ -26,11 +26,12 @@ Takes None (Some new) bytes = ⊥
 Takes (Some old) None bytes = ⊥
 Takes (Some old) (Some new) bytes = old ≡ bytes ++ new
 
--- What was sent grows by these bytes where it is told before and after. It may cease to be told, and what is not told stays untold.
+-- What was sent grows by these bytes where it is told before and after. It may cease to be told only where a byte was sent, and what is not told stays
+-- untold.
 abbrev pub Joins : Option (List ℕ) → Option (List ℕ) → List ℕ → Type 0
 Joins None None bytes = ⊤
 Joins None (Some new) bytes = ⊥
-Joins (Some old) None bytes = ⊤
+Joins (Some old) None bytes = bytes ≢ []
 Joins (Some old) (Some new) bytes = new ≡ old ++ bytes
 
 -- A read took these bytes. What it means that it was blocked, and that it found the end, is given; a prompt connection is never blocked.

@@ -128,11 +128,17 @@ reads-keep old room answer bytes giving is h =
 -- ## Writes
 
 joins-by : (before after : Bool) (old new bytes : List ℕ) → new ≡ (if after then old ++ bytes else old) → (IsTrue after → IsTrue before)
-    → Joins (if before then Some old else None) (if after then Some new else None) bytes
-joins-by true true old new bytes is later = is
-joins-by true false old new bytes is later = tt
-joins-by false true old new bytes is later = absurd (false≢true (later refl))
-joins-by false false old new bytes is later = tt
+    → (bytes ≡ [] → after ≡ before) → Joins (if before then Some old else None) (if after then Some new else None) bytes
+joins-by true true old new bytes is later keeps = is
+joins-by true false old new bytes is later keeps = λ none. false≢true (keeps none)
+joins-by false true old new bytes is later keeps = absurd (false≢true (later refl))
+joins-by false false old new bytes is later keeps = tt
+
+-- a write that takes no byte of a piece that has some takes none at all
+takes-none : (count : ℕ) (piece : List ℕ) → 0 < length piece → take count piece ≡ [] → count ≡ 0
+takes-none zero piece some none = refl
+takes-none (suc count) [] some none = absurd (omega (arith, some))
+takes-none (suc count) (byte ∷ piece) some none = absurd (omega (arith, ap length none))
 
 count-told : (count : ℕ) → did_count (Ok (told_count count)) ≡ count
 count-told zero = refl
@@ -140,15 +146,18 @@ count-told (suc count) = refl
 
 -- what a connection tells after a write
 pub writes-tell : (old : ConnValue) (piece : List ℕ) (answer : Did) (sending : SendingValue) → IsConn old
-    → Writes old.sending piece answer sending → (old.sending.room ≡ None → ¬ (answer ≡ Blocked))
+    → 0 < length piece → Writes old.sending piece answer sending → (old.sending.room ≡ None → ¬ (answer ≡ Blocked))
     → WriteTells (telling_of old) (telling_of (record old { sending = sending })) (take (did_count (Ok answer)) piece)
     (◌≡◌ {A = Result Did Failed} (Ok answer) (Ok Blocked))
-writes-tell old piece answer sending is h never =
+writes-tell old piece answer sending is some h never =
+    let taken = take (count_taken old.sending (length piece)) piece in
     let count : did_count (Ok answer) ≡ count_taken old.sending (length piece) =
     ap (λ (d : Did). did_count (Ok d)) h.told ∙ count-told (count_taken old.sending (length piece)) in
     record {
       joined = subst (λ n. Joins (told_sent old.sending) (told_sent sending) (take n piece)) (sym count)
-          (joins-by old.sending.tells sending.tells old.sending.sent sending.sent (take (count_taken old.sending (length piece)) piece) h.sent h.tells);
+          (joins-by old.sending.tells sending.tells old.sending.sent sending.sent taken h.sent h.tells
+          (λ (none : taken ≡ []). ap (λ (s : SendingValue). s.tells)
+          (h.stays (h.told ∙ ap told_count (takes-none (count_taken old.sending (length piece)) piece some none)))));
       left = refl;
       ends = refl;
       prompt = refl;

@@ -13,4 +13,4 @@ returns-clause-told c =
     subst (λ (before : ConnValue). WriteTells (telling_of before) (telling_of (record old { sending = c.write.new.self }))
     (take (did_count (Ok c.write.result)) c.args.piece.now) (◌≡◌ {A = Result Did Failed} (Ok c.write.result) (Ok Blocked)))
     c.self.view_is
-    (writes-tell old c.args.piece.now c.write.result c.write.new.self c.self.invariant c.write.ensures.writes c.write.ensures.never)
+    (writes-tell old c.args.piece.now c.write.result c.write.new.self c.self.invariant c.requires c.write.ensures.writes c.write.ensures.never)
