@@ -10,7 +10,7 @@ use Rattle.aio_source.specs.declared.source.SourceCell.{SourceCell}
 use Rattle.aio_react.specs.declared.round.RoundFault.{RoundFault}
 use Rattle.aio_react.specs.declared.round.RoundFault.TheVariants.{Wait, Arm}
 use Rattle.aio_react.specs.Rounds.{RoundValue, handled, skipped, taken_first}
-use Rattle.aio_sources.specs.Events.{HandlesBy, HandlesByKey, HandlesEach, HandlesOne, KeepsFault, HandlesSome}
+use Rattle.aio_sources.specs.Events.{HandlesAt, HandlesBy, HandlesByKey, HandlesEach, HandlesOne, KeepsFault}
 
 keeps_itself : (all_sure : Bool) (f : Option RoundFault) → KeepsFault all_sure f f
 keeps_itself all_sure (Some fault) = refl
@@ -75,11 +75,7 @@ each_and_one : (all_sure : Bool) (keys : List ℕ) (events : List Event) (event 
 each_and_one all_sure keys [] event r s t each one = (t, subst (λ (x : RoundValue). HandlesOne all_sure keys event x t) each one, refl)
 each_and_one all_sure keys (first ∷ events) event r s t (mid, was, each) one = (mid, was, each_and_one all_sure keys events event mid s t each one)
 
--- some events were handled by a table with these keys
-abbrev pub HandlesWith : Bool → List ℕ → RoundValue → RoundValue → Type 0
-HandlesWith all_sure keys old new = (some : HandlesSome all_sure old new) × (some.keys ≡ keys)
-
-pub handles_itself : (all_sure : Bool) (keys : List ℕ) (r : RoundValue) → HandlesWith all_sure keys r r
+pub handles_itself : (all_sure : Bool) (keys : List ℕ) (r : RoundValue) → HandlesAt keys all_sure r r
 handles_itself all_sure keys r = (
   record {
     keys = keys;
@@ -97,8 +93,8 @@ handles_itself all_sure keys r = (
   refl,
 )
 
-pub handles_further : (all_sure : Bool) (keys : List ℕ) (r s t : RoundValue) → HandlesWith all_sure keys r s → (event : Event) → HandlesOne all_sure keys event s t
-    → HandlesWith all_sure keys r t
+pub handles_further : (all_sure : Bool) (keys : List ℕ) (r s t : RoundValue) → HandlesAt keys all_sure r s → (event : Event) → HandlesOne all_sure keys event s t
+    → HandlesAt keys all_sure r t
 handles_further all_sure keys r s t (x, is) event y = let lets = one_lets all_sure keys event s t y in (
   record {
     keys = keys;

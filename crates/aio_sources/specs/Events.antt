@@ -74,3 +74,7 @@ pub record HandlesSome (all_sure : Bool) (old new : RoundValue) : Type 0 where
   pub number : new.number ≡ old.number
   pub limit : new.limit ≡ old.limit
   pub last : new.last ≡ old.last
+
+-- The same at a table with these keys: the events were handled by sources of this table, and those that were skipped are of keys that it has not.
+abbrev pub HandlesAt : List ℕ → Bool → RoundValue → RoundValue → Type 0
+HandlesAt keys all_sure old new = (some : HandlesSome all_sure old new) × (some.keys ≡ keys)

@@ -6,7 +6,7 @@ ghost use Rattle.std.specs.List.Sorted.{IsStrictlyIncreasing};
 ghost use Rattle.std.specs.Arc.{arc_value};
 ghost use Rattle.aio_base.specs.declared.names.Event.{Event};
 ghost use Rattle.aio_sources.specs.Sources.{Adds, FailsToAdd, IsLeastFree, live_keys, outside, with_key, without_key};
-ghost use Rattle.aio_sources.specs.Events.{HandlesByKey, HandlesOne, HandlesSome};
+ghost use Rattle.aio_sources.specs.Events.{HandlesAt, HandlesByKey, HandlesOne};
 
 use crate::sealed::{Sealed, SharedLock, SourceLock, add_source, handle_in};
 use crate::sources::SourceRef;
@@ -261,10 +261,10 @@ impl<A: Arm> SourceTable<A> {
         handled
     }
 
-    /// Handles each event in hand of a round, as `handle` does. `OutOfMemory` leaves in hand what was not
-    /// handled.
+    /// Handles each event in hand of a round, as `handle` does: by this table's source of its key, or it
+    /// is skipped where this table has none. `OutOfMemory` leaves in hand what was not handled.
     pub fn handle_each<R: Wait>(&self, rt: &R, round: &mut Round) -> Result<(), OutOfMemory>
-        ensures handled { HandlesSome A.all_sure round.old round.new }
+        ensures handled { HandlesAt self.now A.all_sure round.old round.new }
         ensures none_left { OnOk result (round.new.hand ≡ []) }
     {
         while round.in_hand() > 0 {
