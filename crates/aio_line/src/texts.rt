@@ -1,6 +1,7 @@
 //! The text of a relay.
 
-ghost use Rattle.std.specs.Prelude.{◌≡◌, ◌++◌, codes, decimal, IfOk, OnOk};
+ghost use Rattle.std.specs.Prelude.{◌≡◌, ◌++◌, codes, decimal, IfOk, OnErr, OnOk};
+ghost use Rattle.aio_trace.specs.Writing.{KeepsFront};
 ghost use Rattle.aio_line.specs.Texts.{listening_line, outcome_text, pair_line, pair_lines, side_text};
 
 use aio_pairs::{PairEnd, Side};
@@ -41,9 +42,25 @@ pub fn pair_lines(alloc: Global, ends: &[PairEnd]) -> Result<Vec<u8>, AllocError
 ///
 /// # Errors
 ///
-/// `AllocError` where memory ran out; a part of the line may stand behind the text then.
+/// `AllocError` where memory ran out; the text is as it was then.
 pub fn push_pair_line(text: &mut Vec<u8>, number: u64, end: PairEnd) -> Result<(), AllocError>
-    ensures { OnOk result (text.new.items ≡ text.old.items ++ pair_line number end) }
+    ensures ok { OnOk result (text.new.items ≡ text.old.items ++ pair_line number end) }
+    ensures err { OnErr result (text.new.items ≡ text.old.items) }
+{
+    let written = text.len();
+    match push_pair(text, number, end) {
+        Ok(()) => Ok(()),
+        Err(refused) => {
+            text.truncate(written);
+            Err(refused)
+        }
+    }
+}
+
+/// The same, where a part of the line may stand behind the text once memory ran out.
+fn push_pair(text: &mut Vec<u8>, number: u64, end: PairEnd) -> Result<(), AllocError>
+    ensures ok { OnOk result (text.new.items ≡ text.old.items ++ pair_line number end) }
+    ensures kept { OnErr result (KeepsFront text.old.items text.new.items) }
 {
     push_numbered(text, b"pair ", number)?;
     text.push(b' ')?;
@@ -55,7 +72,8 @@ pub fn push_pair_line(text: &mut Vec<u8>, number: u64, end: PairEnd) -> Result<(
 /// Writes what a pair came to behind a text.
 #[tactic(auto, unfolding(crate::specs::Texts::outcome_text))]
 fn push_outcome(text: &mut Vec<u8>, end: PairEnd) -> Result<(), AllocError>
-    ensures { OnOk result (text.new.items ≡ text.old.items ++ outcome_text end) }
+    ensures ok { OnOk result (text.new.items ≡ text.old.items ++ outcome_text end) }
+    ensures kept { OnErr result (KeepsFront text.old.items text.new.items) }
 {
     match end {
         PairEnd::Ended { to_a, to_b } => push_two(text, b"ended ", to_a, to_b),
@@ -71,8 +89,9 @@ fn push_outcome(text: &mut Vec<u8>, end: PairEnd) -> Result<(), AllocError>
 
 /// Writes which side has a line that is too long, and after how many of its bytes.
 fn push_too_long(text: &mut Vec<u8>, side: Side, at: u64) -> Result<(), AllocError>
-    ensures { OnOk result (text.new.items
+    ensures ok { OnOk result (text.new.items
         ≡ text.old.items ++ (codes "too long " ++ side_text side ++ codes " " ++ decimal at)) }
+    ensures kept { OnErr result (KeepsFront text.old.items text.new.items) }
 {
     match side {
         Side::A => push_numbered(text, b"too long a ", at),
@@ -82,8 +101,9 @@ fn push_too_long(text: &mut Vec<u8>, side: Side, at: u64) -> Result<(), AllocErr
 
 /// Writes a word and two numbers with a space between them.
 fn push_two(text: &mut Vec<u8>, word: &[u8], first: u64, second: u64) -> Result<(), AllocError>
-    ensures { OnOk result (text.new.items
+    ensures ok { OnOk result (text.new.items
         ≡ text.old.items ++ (word.now ++ decimal first ++ codes " " ++ decimal second)) }
+    ensures kept { OnErr result (KeepsFront text.old.items text.new.items) }
 {
     push_numbered(text, word, first)?;
     push_numbered(text, b" ", second)
@@ -91,7 +111,8 @@ fn push_two(text: &mut Vec<u8>, word: &[u8], first: u64, second: u64) -> Result<
 
 /// Writes a word and a number.
 fn push_numbered(text: &mut Vec<u8>, word: &[u8], number: u64) -> Result<(), AllocError>
-    ensures { OnOk result (text.new.items ≡ text.old.items ++ (word.now ++ decimal number)) }
+    ensures ok { OnOk result (text.new.items ≡ text.old.items ++ (word.now ++ decimal number)) }
+    ensures kept { OnErr result (KeepsFront text.old.items text.new.items) }
 {
     let mut digits = Buffer::new();
     text.extend_from_slice(word)?;
