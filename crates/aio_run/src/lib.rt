@@ -17,5 +17,5 @@ mod stressing;
 mod texts;
 
 pub use commands::Command;
-pub use program::run;
+pub use program::{run, run_gen, run_replay, run_sum};
 pub use status::{Status, Which6, Why};

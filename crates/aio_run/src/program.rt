@@ -81,9 +81,9 @@ const USAGE: &[u8] =
 /// 257 times the lines that a trace may have, and one line more. Of a refused line it is at most 257
 /// bytes, behind the lines before it.
 ///
-/// The parts below that are handed no runtime are proved to return. Of this call itself no clause
-/// says so, since what is handed a runtime may wait: it is seen from its body, which hands it to a relay
-/// and to `stress` alone.
+/// No clause of this call says that it returns, since what is handed a runtime may wait. It hands that to
+/// a relay and to `stress` alone: the other commands are `run_replay`, `run_gen` and `run_sum`, which are
+/// handed none, and so are proved to return where the calls of `input` and `out` do.
 pub fn run<R: Wait + Threads + Sync + Send + Copy, S: Source, K: Sink, E: Sink, D: Devices>(
     rt: &R,
     alloc: Global,
@@ -179,8 +179,9 @@ where
     }
 }
 
-/// Replays the trace of an input, and lets go of the core that ran it.
-fn run_replay<S: Source, K: Sink>(alloc: Global, input: &mut S, out: &mut K) -> Why
+/// The command `replay`: replays the trace of an input, and lets go of the core that ran it. It is handed
+/// no runtime, so it can't wait.
+pub fn run_replay<S: Source, K: Sink>(alloc: Global, input: &mut S, out: &mut K) -> Why
     ensures usage { result ≢ Why.Usage }
     ensures no_device { exit_of result < 6 }
     ensures replays { (bytes : List ℕ) → S.remaining input.old ≡ Some bytes
@@ -210,8 +211,9 @@ fn cause_of(end: ReplayEnd) -> Why
     }
 }
 
-/// Writes the trace of the first `n` steps that the seed gives.
-fn run_gen<K: Sink>(alloc: Global, n: u32, seed: u64, out: &mut K) -> Why
+/// The command `gen`: writes the trace of the first `n` steps that the seed gives. It is handed no
+/// runtime, so it can't wait.
+pub fn run_gen<K: Sink>(alloc: Global, n: u32, seed: u64, out: &mut K) -> Why
     requires few { n ≤ 999999 }
     requires seed { seed < 2 ^ 48 }
     ensures writes { WritesText result (K.contents out.old) (K.contents out.new)
@@ -225,8 +227,9 @@ fn run_gen<K: Sink>(alloc: Global, n: u32, seed: u64, out: &mut K) -> Why
     cause_of_text(sent, before, out.faults())
 }
 
-/// Runs the first `n` steps that the seed gives, and writes what their run comes to.
-fn run_sum<K: Sink>(alloc: Global, n: u32, seed: u64, out: &mut K) -> Why
+/// The command `sum`: runs the first `n` steps that the seed gives, and writes what their run comes to.
+/// It is handed no runtime, so it can't wait.
+pub fn run_sum<K: Sink>(alloc: Global, n: u32, seed: u64, out: &mut K) -> Why
     requires few { n ≤ 999999 }
     requires seed { seed < 2 ^ 48 }
     ensures writes { WritesText result (K.contents out.old) (K.contents out.new)
