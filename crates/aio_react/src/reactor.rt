@@ -35,6 +35,11 @@ const IDS: u64 = 0xff_ffff_ffff;
 ///
 /// Contracts see the poller beside plain lists and numbers. Each listener's source lives, counts it
 /// and holds the ticket of its first poll.
+///
+/// The poller may be hostile: it may give events of any keys and directions, and each of its calls may
+/// fail. Each call of a core then returns where the poller's calls do, a refusal is one of those that the
+/// call names, and an event that finds no memory stays in hand for the next `handle`. That a poller gives
+/// its events, that those it gives did happen, time and progress are not promised.
 #[derive(Drop)]
 pub struct Core<P> {
     poller: P,
