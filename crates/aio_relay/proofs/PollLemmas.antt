@@ -137,6 +137,8 @@ module _ {E : Type 0} (step : E → EndCall → E → Type 0) (told : E → Tell
         tally_a = p.tally_a;
         tally_b = p.tally_b;
         exchanged = record { more_a = p.exchanged.more_a; more_b = p.exchanged.more_b; exchange = p.exchanged.exchange; is_over = λ q. p.exchanged.is_over (less q) };
+        most_of_a = p.most_of_a;
+        most_of_b = p.most_of_b;
         last = p.last;
         idle = p.idle;
       }))

@@ -15,7 +15,7 @@ use Rattle.aio_future.specs.Timers.{TimerValue, new_timer}
 use Rattle.aio_future.specs.declared.tried.TryFault.{TryFault}
 use Rattle.aio_pairs.specs.Backlogs.{SideState, fresh_side}
 use Rattle.aio_pairs.specs.Calls.{EndCall, HostGoesOn, RoseIn}
-use Rattle.aio_pairs.specs.Exchanges.{Exchanged, IsLongThere, OneFailed, try_fault_of, went_over}
+use Rattle.aio_pairs.specs.Exchanges.{Exchanged, IsLongThere, OneFailed, block, try_fault_of, went_over}
 use Rattle.aio_pairs.specs.Fits.{ToGive, Fits, to_give}
 use Rattle.aio_pairs.specs.Lines.{lines, longest_line, unfinished}
 use Rattle.aio_pairs.specs.declared.outcomes.PairEnd.{PairEnd}
@@ -99,12 +99,14 @@ abbrev pub last_after : (moved : ℕ) → (last now : ℕ) → ℕ
 last_after zero last now = last
 last_after (suc more) last now = max last now
 
--- What passed between the two ends in a poll at this moment. The timer and the count of polls are another matter.
+-- What passed between the two ends in a poll at this moment: of each side a block was read at most. The timer and the count of polls are another matter.
 pub record Passed {E : Type 0} (step : E → EndCall → E → Type 0) (told : E → Telling) (sure : E → Bool) (count : E → ℕ) (old new : PairState E) (now : ℕ)
     (over : Type 0) (fault : Option TryFault) : Type 0 where
   pub tally_a : Tally
   pub tally_b : Tally
   pub exchanged : Exchanged step told sure count old.a old.b new.a new.b old.from_a old.from_b new.from_a new.from_b tally_a tally_b over fault
+  pub most_of_a : length (went_over Read exchanged.exchange.a_calls) ≤ block
+  pub most_of_b : length (went_over Read exchanged.exchange.b_calls) ≤ block
   pub last : new.last ≡ last_after (bytes_moved exchanged.exchange.a_calls exchanged.exchange.b_calls) old.last now
   pub idle : new.idle ≡ old.idle
 

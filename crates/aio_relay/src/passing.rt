@@ -28,6 +28,8 @@ pub fn exchange<H: Host, E: End<H>>(
     ensures passes { BothGoOn E.end_step E.telling E.is_sure E.fault_count a.old b.old a.new b.new
         from_a.old from_b.old from_a.new from_b.new tally_a.old tally_b.old tally_a.new tally_b.new
         (IsOk result) (failure_in result) }
+    ensures most_of_a { tally_a.new.read ≤ BLOCK }
+    ensures most_of_b { tally_b.new.read ≤ BLOCK }
     ensures short { IsOk result → (length (unfinished from_a.new.backlog) < LONGEST)
         × (length (unfinished from_b.new.backlog) < LONGEST) }
     ensures reason { IfErr result (IsReason (IsLongThere from_a.new from_b.new)
@@ -62,6 +64,8 @@ fn turn<H: Host, E: End<H>>(
     ensures passes { BothGoOn E.end_step E.telling E.is_sure E.fault_count a.old b.old a.new b.new
         from_a.old from_b.old from_a.new from_b.new tally_a.old tally_b.old tally_a.new tally_b.new
         (result ≡ Ok true) (failure_in result) }
+    ensures most_of_a { tally_a.new.read ≤ BLOCK }
+    ensures most_of_b { tally_b.new.read ≤ BLOCK }
     ensures room { result ≡ Ok false → (tally_a.new.read < BLOCK) × (tally_b.new.read < BLOCK) }
     ensures less { result ≡ Ok false → work_left from_a.new tally_a.new + work_left from_b.new tally_b.new
         < work_left from_a.old tally_a.old + work_left from_b.old tally_b.old }

@@ -44,6 +44,8 @@ returns-clause-passed g c =
       tally_a = n.tally_a;
       tally_b = n.tally_b;
       exchanged = record { more_a = e.more_a; more_b = e.more_b; exchange = x; is_over = λ ok. e.is_over (over ok) };
+      most_of_a = omega (arith, x.forth.tally_read, c.exchange-passed.ensures.most_of_a);
+      most_of_b = omega (arith, x.back.tally_read, c.exchange-passed.ensures.most_of_b);
       last = c.last_after-self-inside.ensures
           ∙ ap (λ (m : Bool). if m || c.has_moved-moved_b.result then max p.last c.args.now else p.last) c.has_moved-moved_a.ensures
           ∙ ap (λ (m : Bool). if (n.tally_a.wrote || nat_lt 0 n.tally_a.read) || m then max p.last c.args.now else p.last) c.has_moved-moved_b.ensures
