@@ -1,7 +1,7 @@
 //! Connections are accepted before any is served.
 
 ghost use Rattle.std.specs.Prelude.{◌≡◌, true, length, IfOk, IfErr};
-ghost use Rattle.aio_serve.specs.Accepted.{HandedOut};
+ghost use Rattle.aio_serve.specs.Accepted.{HandedAtMost, HandedOut};
 ghost use Rattle.aio_serve.specs.Servers.{HasServeCause};
 
 use crate::server::ServeFault;
@@ -27,6 +27,7 @@ where
     ensures first { IfOk result (λ conns.
         HandedOut (P.waiting port.old) conns.items (P.waiting port.new)) }
     ensures count { IfOk result (λ conns. length conns.items ≡ count) }
+    ensures handed { HandedAtMost count (P.waiting port.old) (P.waiting port.new) }
     ensures cause { IfErr result (HasServeCause
         (P.fault_count port.old) (P.fault_count port.new) true true) }
 {

@@ -2,7 +2,7 @@
 //! answers how each pair ended.
 
 ghost use Rattle.std.specs.Prelude.{◌≡◌, ◌≤◌, ◌*◌, ◌^◌, List, length, IfOk, IfErr, IfSome, OnOk};
-ghost use Rattle.aio_serve.specs.Accepted.{HandedOut};
+ghost use Rattle.aio_serve.specs.Accepted.{HandedAtMost, HandedOut};
 ghost use Rattle.aio_serve.specs.Places.{EndsFit};
 ghost use Rattle.aio_serve.specs.Servers.{HasServeCause, fault_of_worker};
 
@@ -46,7 +46,8 @@ pub enum ServeFault {
 /// `Port` where an accept failed, before any pair is served; `Wait` only where the lent wait is not
 /// sure, and `Notify` only where the lent notifier is not; `OutOfMemory` where memory ran out. Where
 /// several workers stop for a fault, that of the first of them is told, once all have stopped. A fault
-/// of a connection ends its own pair alone.
+/// of a connection ends its own pair alone. Whatever the answer, the port handed out its first
+/// connections, two for each pair at most.
 pub fn serve<
     R: Wait + Threads + Sync + Send + Copy,
     P: Port,
@@ -71,6 +72,8 @@ where
     ensures accepted { OnOk result ((conns : List P.C)
         × HandedOut (P.waiting parts.entry.port.now) conns (P.waiting parts.exit.0.now)
         × (length conns ≡ 2 * pairs)) }
+    ensures handed { HandedAtMost (2 * pairs)
+        (P.waiting parts.entry.port.now) (P.waiting parts.exit.0.now) }
     ensures ends { IfOk result (λ ends. IfSome (P.waiting parts.entry.port.now) (λ conns.
         EndsFit P.C.telling P.C.is_sure (record {
           bounds = C.bounds parts.entry.clock.now;
