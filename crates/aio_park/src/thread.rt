@@ -1,6 +1,6 @@
 //! A thread of a reactor, which runs tasks.
 
-ghost use Rattle.std.specs.Prelude.{◌≡◌, ℕ, ◌+◌, ◌<◌, ◌≤◌, length, Err, IfOk, IfErr, OnOk, OnErr};
+ghost use Rattle.std.specs.Prelude.{◌≡◌, ◌↔◌, ℕ, ◌+◌, ◌<◌, ◌≤◌, length, Err, IfOk, IfErr, OnOk, OnErr};
 ghost use Rattle.aio_ops.specs.Passes.{pass_limit};
 ghost use Rattle.aio_shared.specs.Notifying.{NotifiesAsWon};
 ghost use Rattle.aio_shared.specs.HandOver.{all_slots, first_slots_but};
@@ -77,7 +77,7 @@ impl<R: Wait + Copy, N: Notify + Drop, A: Arm + Drop, W: EventWait + Drop, C: Dr
     ///
     /// # Errors
     ///
-    /// `PassesSpent` only where 2^24 members were made, and otherwise `OutOfMemory` where memory ran out.
+    /// `PassesSpent` exactly where 2^24 members were made, and otherwise `OutOfMemory` where memory ran out.
     /// On both this thread is as it was.
     pub fn another(&mut self, parker: u32, clock: C) -> Result<Thread<R, N, A, W, C>, PassRefusal>
         requires first { self.old.host.member.ops.number ≡ 0 }
@@ -90,12 +90,15 @@ impl<R: Wait + Copy, N: Notify + Drop, A: Arm + Drop, W: EventWait + Drop, C: Dr
         ensures counted { OnOk result (self.new.host ≡ record self.old.host {
           member = with_one_more_made self.old.host.member;
         }) }
-        ensures spent { result ≡ Err PassRefusal.PassesSpent
-            → self.old.host.member.ops.splits ≡ pass_limit }
+        ensures spent { (result ≡ Err PassRefusal.PassesSpent)
+            ↔ (self.old.host.member.ops.splits ≡ pass_limit) }
         ensures refused { OnErr result (self.new.host ≡ self.old.host) }
         ensures first { self.new.host.member.ops.number ≡ 0 }
         ensures kept { (self.new.parker ≡ self.old.parker) × (self.new.clock ≡ self.old.clock) }
     {
+        if self.host.member.is_spent() {
+            return Err(PassRefusal::PassesSpent);
+        }
         let rt = self.host.rt;
         let Ok(shared) = Arc::try_clone(&self.host.shared) else {
             return Err(PassRefusal::OutOfMemory);

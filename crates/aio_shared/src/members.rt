@@ -1,6 +1,6 @@
 //! The members of a reactor, one for each thread.
 
-ghost use Rattle.std.specs.Prelude.{◌≡◌, ◌↔◌, ℕ, ◌+◌, ◌^◌, ◌≤◌, IsTrue, Err, IfOk, OnOk, OnErr};
+ghost use Rattle.std.specs.Prelude.{◌≡◌, ◌==◌, ◌↔◌, ℕ, ◌+◌, ◌^◌, ◌≤◌, IsTrue, Err, IfOk, OnOk, OnErr};
 ghost use Rattle.std.specs.Borrow.{sem};
 ghost use Rattle.aio_rules.specs.SharedWords.{after};
 ghost use Rattle.aio_rules.specs.WordCalls.{wake_steps};
@@ -144,5 +144,12 @@ impl<N, W: EventWait> Member<N, W> {
         ensures value { result.now ≡ self.old.pass }
     {
         &mut self.pass
+    }
+
+    /// Whether no further member can be made, as far as this one has counted them: it counts 2^24.
+    pub fn is_spent(&self) -> bool
+        ensures { result ≡ (self.now.ops.splits == pass_limit) }
+    {
+        self.ops.is_spent()
     }
 }
