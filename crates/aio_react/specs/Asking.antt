@@ -2,13 +2,14 @@
 use Rattle.std.specs.Prelude.{◌≡◌, ℕ, Bool, List, [], ◌∷◌, Option, None, Some, option_map, Result}
 use Rattle.aio_base.specs.declared.names.Dir.{Dir}
 use Rattle.aio_base.specs.declared.names.Event.{Event}
+use Rattle.aio_base.specs.declared.names.Interest.{Interest}
 use Rattle.aio_base.specs.declared.names.Waker.{Waker}
 use Rattle.aio_base.specs.declared.outcomes.ArmFault.{ArmFault}
 use Rattle.aio_base.specs.declared.outcomes.Failed.{Failed}
 use Rattle.aio_base.specs.Devices.{ArmCall, Interests}
 use Rattle.aio_listen.specs.declared.ticket.Ticket.{Ticket}
-use Rattle.aio_source.specs.Lent.{UsesArm, arm_of, arm_answer}
-use Rattle.aio_source.specs.Rules.{Prepared, Polling, polling, polling_again, listening_first}
+use Rattle.aio_source.specs.Lent.{UsesArm, arm_of, arm_answer, asked_by}
+use Rattle.aio_source.specs.Rules.{Prepared, part_of, polling, polling_again, listening_first}
 use Rattle.aio_source.specs.Values.{SourceValue}
 use Rattle.aio_source.specs.declared.answers.Listened.{Listened}
 use Rattle.aio_react.specs.declared.entries.Listener.{Listener}
@@ -25,11 +26,12 @@ abbrev pub UsesPoller : {S : Type 0} → (S → ArmCall → Result (Unit {0}) Fa
 UsesPoller step tells rest count is_sure None armed old new = new ≡ old
 UsesPoller step tells rest count is_sure (Some p) armed old new = UsesArm step tells rest count is_sure p.arms (arm_of p.source) (arm_answer armed) old new
 
--- a source's part of a poll before the poller is armed
-abbrev pub part_of : Polling → Prepared
-part_of p = record { source = p.source; arms = p.arms }
+-- the interest for which such a call arms the poller, and none where it leaves it alone
+abbrev pub asked_of : Option Prepared → Option Interest
+asked_of None = None
+asked_of (Some p) = asked_by p
 
--- of a poll of a key
+-- a source's part of a poll of a key before the poller is armed
 abbrev pub poll_part : CoreValue → ℕ → Dir → Waker → Option Prepared
 poll_part core key dir waker = option_map (λ (e : SourceEntry). part_of (polling e.source dir waker core.ticker)) (entry_at core.sources key)
 

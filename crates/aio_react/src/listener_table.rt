@@ -194,6 +194,17 @@ impl ListenerTable {
         self.first_polls[at] = first_poll_of(listener.first);
     }
 
+    /// The listener under a number, where there is one.
+    pub(crate) fn get(&self, number: u64) -> Option<Listener>
+        ensures { result ≡ value_of self.now number }
+    {
+        if number == 0 || number > self.seats.len() as u64 {
+            return None;
+        }
+        let at = number as usize - 1;
+        listener_in(self.seats[at].open(), self.first_polls[at])
+    }
+
     /// Takes the listener under a number out, where there is one.
     pub(crate) fn take(&mut self, number: u64) -> Option<Listener>
         ensures value { result ≡ value_of self.old number }

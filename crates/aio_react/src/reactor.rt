@@ -8,6 +8,7 @@ ghost use Rattle.aio_react.specs.Cores.{new_core, entry_at};
 ghost use Rattle.aio_react.specs.Replies.{empty_hand_refusal};
 ghost use Rattle.aio_react.specs.Standing.{AgreesWithArmed, Stands};
 
+mod asks;
 mod listeners;
 mod polls;
 mod reacting;

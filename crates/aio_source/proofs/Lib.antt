@@ -1,3 +1,4 @@
 pub mod WaiterLemmas
 pub mod Taking
 pub mod Noting
+pub mod AskLemmas

@@ -134,6 +134,10 @@ polling s dir waker ticker =
     else (if is_waker waker d.waiter then record { ready = false; replaced = None; source = s; arms = s.broken }
     else record { ready = false; replaced = d.waiter; source = with_source_direction s dir (stored waker ticker d); arms = is_idle d || s.broken })
 
+-- what a poll comes to before the poller is armed
+abbrev pub part_of : Polling → Prepared
+part_of p = record { source = p.source; arms = p.arms }
+
 -- a listener's first poll, by the ticket that it drew; where it drew none nothing changes
 abbrev pub listening_first : SourceValue → Dir → Waker → Option Ticket → Prepared
 listening_first s dir waker None = record { source = s; arms = false }

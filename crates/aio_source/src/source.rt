@@ -7,6 +7,8 @@ ghost use Rattle.aio_source.specs.Rules.{new_source, is_above, waiters_of, waite
 ghost use Rattle.aio_source.specs.Lent.{arm_answer, fault_of, UsesArm, arm_of, settled};
 ghost use Rattle.aio_source.specs.Answers.{poll_answer, armed_in, armed_first, listened_in, ticket_in};
 
+mod asks;
+
 use crate::answers::{ListenRefusal, Listened, Polled};
 use crate::arming::Arming;
 use crate::directions::Directions;
