@@ -37,8 +37,8 @@ asked_still s dir waits =
 polling_step : (ready held : Bool) (s : SourceValue) (dir : Dir) (waker : Waker) (ticker : ℕ)
     → ready ≡ false → (held ≡ true → is_idle (direction_of s.directions dir) ≡ false)
     → asked_by (part_of (if ready then record { ready = true; replaced = None; source = s; arms = false }
-        else (if held then record { ready = false; replaced = None; source = s; arms = s.broken }
-        else record { ready = false; replaced = (direction_of s.directions dir).waiter; source = record s { directions = with_direction s.directions dir (stored waker ticker (direction_of s.directions dir)) }; arms = is_idle (direction_of s.directions dir) || s.broken })))
+    else (if held then record { ready = false; replaced = None; source = s; arms = s.broken }
+    else record { ready = false; replaced = (direction_of s.directions dir).waiter; source = record s { directions = with_direction s.directions dir (stored waker ticker (direction_of s.directions dir)) }; arms = is_idle (direction_of s.directions dir) || s.broken })))
     ≡ asked_with s dir
 polling_step true held s dir waker ticker unready waits = cc
 polling_step false true s dir waker ticker unready waits = asked_still s dir (waits refl)

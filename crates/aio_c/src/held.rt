@@ -1,0 +1,12 @@
+//! What a handle holds.
+
+use aio_react::Core;
+use aio_script::ScriptPoller;
+
+/// A core over the poller in memory: what the system's poller is asked and what it gives is told to
+/// that one call by call.
+#[derive(Drop)]
+pub struct Held {
+    /// The core.
+    pub core: Core<ScriptPoller>,
+}

@@ -1,0 +1,63 @@
+//! What the system's poller answered is told to the poller in memory.
+
+ghost use Rattle.std.specs.Prelude.{◌≡◌, ◌++◌, [], ◌∷◌, true};
+ghost use Rattle.aio_script.specs.Script.{with_failure};
+ghost use Rattle.aio_c.specs.Codes.{which_of};
+
+use crate::Handle;
+use crate::answers::{memory_code, which_of};
+use aio_base::{Event, Interest, Key};
+
+/// An event of the system's poller, for the next wait.
+#[unsafe(no_mangle)]
+pub extern "C" fn aio_give(h: Handle, out: &mut Handle, key: u32, read: bool, write: bool) -> u32
+    ensures core { out.new.home.core.1 ≡ h.home.core.1 }
+    ensures given { result ≡ 0 → out.new.home.core.0
+        ≡ record h.home.core.0 {
+          noted = h.home.core.0.noted ++ record {
+            key = record { 0 = key };
+            on = record { read = read; write = write };
+          } ∷ [];
+        } }
+    ensures refused { result ≡ 13 → out.new.home ≡ h.home }
+{
+    let mut held = h.open();
+    let event = Event {
+        key: Key(key),
+        on: Interest { read, write },
+    };
+    let told = held.core.poller().give(event);
+    *out = Handle::close(held);
+    memory_code(told)
+}
+
+/// The next call of this kind of the poller fails, as the system's did: 0 for a registration, 1
+/// for an arm, 2 for a removal, and each other number for a wait.
+#[unsafe(no_mangle)]
+pub extern "C" fn aio_fail_next(h: Handle, out: &mut Handle, kind: u32)
+    ensures { out.new.home.core ≡ (
+      record h.home.core.0 {
+        due = with_failure (which_of kind) h.home.core.0.due;
+      },
+      h.home.core.1,
+    ) }
+{
+    let mut held = h.open();
+    held.core.poller().fail_next(which_of(kind));
+    *out = Handle::close(held);
+}
+
+/// The next wait of the poller that does not fail is interrupted, as the system's was.
+#[unsafe(no_mangle)]
+pub extern "C" fn aio_interrupt_next(h: Handle, out: &mut Handle)
+    ensures { out.new.home.core ≡ (
+      record h.home.core.0 {
+        due = record h.home.core.0.due { interrupt = true };
+      },
+      h.home.core.1,
+    ) }
+{
+    let mut held = h.open();
+    held.core.poller().interrupt_next();
+    *out = Handle::close(held);
+}

@@ -1,0 +1,123 @@
+//! The sections of a round.
+
+ghost use Rattle.std.specs.Prelude.{◌≡◌, length, slice_set};
+ghost use Rattle.aio_react.specs.Asking.{asked_of, handle_part};
+ghost use Rattle.aio_c.specs.Codes.{begin_answer, wait_answer, handle_answer, finish_answer, ask_answer, moment_at, limit_in};
+ghost use Rattle.aio_c.specs.Promises.{Crossed, BeginPromises, WaitPromises, HandlePromises, FinishPromises, written};
+
+use crate::Handle;
+use crate::answers::{
+    AskAnswer, BeginAnswer, FinishAnswer, HandleAnswer, WaitAnswer, ask_answer, begin_answer,
+    finish_answer, handle_answer, limit_in, moment_at, wait_answer,
+};
+use aio_base::Waker;
+
+/// How many rounds have begun.
+#[unsafe(no_mangle)]
+pub extern "C" fn aio_ticker(h: Handle, out: &mut Handle) -> u64
+    ensures value { result ≡ h.home.core.1.ticker }
+    ensures same { out.new.home ≡ h.home }
+{
+    let held = h.open();
+    let ticker = held.core.ticker();
+    *out = Handle::close(held);
+    ticker
+}
+
+/// Begins a round at a moment, with a limit for its waits where `limited` says so, in nanoseconds.
+#[unsafe(no_mangle)]
+pub extern "C" fn aio_begin(
+    h: Handle,
+    out: &mut Handle,
+    now: u64,
+    limited: bool,
+    limit: u64,
+) -> BeginAnswer
+    ensures { Crossed begin_answer (λ told. BeginPromises h.home.core (moment_at now)
+        (limit_in limited limit) told out.new.home.core) result }
+{
+    let mut held = h.open();
+    let told = held.core.begin(moment_at(now), limit_in(limited, limit));
+    *out = Handle::close(held);
+    begin_answer(told)
+}
+
+/// Waits once: the events that the poller was given are in hand then.
+#[unsafe(no_mangle)]
+pub extern "C" fn aio_wait(h: Handle, out: &mut Handle) -> WaitAnswer
+    ensures { Crossed wait_answer
+        (λ told. WaitPromises h.home.core told out.new.home.core) result }
+{
+    let mut held = h.open();
+    let told = held.core.wait();
+    *out = Handle::close(held);
+    wait_answer(told)
+}
+
+/// Handles the first event in hand.
+#[unsafe(no_mangle)]
+pub extern "C" fn aio_handle(h: Handle, out: &mut Handle) -> HandleAnswer
+    ensures { Crossed handle_answer
+        (λ told. HandlePromises h.home.core told out.new.home.core) result }
+{
+    let mut held = h.open();
+    let told = held.core.handle();
+    *out = Handle::close(held);
+    handle_answer(told)
+}
+
+/// What `aio_handle` would ask of the poller now, where it is not refused.
+#[unsafe(no_mangle)]
+pub extern "C" fn aio_handle_asks(h: Handle, out: &mut Handle) -> AskAnswer
+    ensures asks { result ≡ ask_answer (asked_of (handle_part h.home.core.1)) }
+    ensures same { out.new.home ≡ h.home }
+{
+    let held = h.open();
+    let asked = held.core.handle_asks();
+    *out = Handle::close(held);
+    ask_answer(asked)
+}
+
+/// Ends the round at a moment.
+#[unsafe(no_mangle)]
+pub extern "C" fn aio_finish(h: Handle, out: &mut Handle, now: u64) -> FinishAnswer
+    ensures { Crossed (λ told. finish_answer told (length out.new.home.core.1.round.taken))
+        (λ told. FinishPromises h.home.core (moment_at now) told out.new.home.core) result }
+{
+    let mut held = h.open();
+    let told = held.core.finish(moment_at(now));
+    let wakers = held.core.woken().len() as u64;
+    *out = Handle::close(held);
+    finish_answer(told, wakers)
+}
+
+/// Writes the wakers that the last finish has to wake, in order, as far as there is room.
+#[unsafe(no_mangle)]
+pub extern "C" fn aio_woken(h: Handle, out: &mut Handle, wakers: &mut [u32])
+    ensures written { wakers.new ≡ written 0 h.home.core.1.round.taken wakers.old }
+    ensures same { out.new.home ≡ h.home }
+{
+    let held = h.open();
+    write_wakers(held.core.woken(), wakers);
+    *out = Handle::close(held);
+}
+
+/// Writes the numbers of wakers one after the other, as far as there is room.
+fn write_wakers(woken: &[Waker], slots: &mut [u32])
+    ensures { slots.new ≡ written 0 woken.now slots.old }
+{
+    let mut at = 0;
+    for waker in woken {
+        write_at(slots, at, waker.0);
+        at += 1;
+    }
+}
+
+/// Writes a number at a place, where it is there.
+fn write_at(slots: &mut [u32], at: usize, number: u32)
+    ensures { slots.new ≡ slice_set slots.old at number }
+{
+    if at < slots.len() {
+        slots[at] = number;
+    }
+}
