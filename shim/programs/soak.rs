@@ -1,0 +1,125 @@
+//! 8 threads with 25 socket pairs each: every pair sends a byte there and one back 400 times,
+//! beside timers, as a task with a waker of its own. A round trip that is not made within the time
+//! of the first argument in seconds, 20 where there is none, ends the program with status 1.
+use async_io::{Async, Timer};
+use futures_lite::io::{AsyncReadExt, AsyncWriteExt};
+use futures_lite::FutureExt;
+use std::collections::VecDeque;
+use std::future::{poll_fn, Future};
+use std::os::unix::net::UnixStream;
+use std::pin::Pin;
+use std::sync::{Arc, Mutex};
+use std::task::{Context, Poll, Wake, Waker};
+use std::time::{Duration, Instant};
+
+const THREADS: usize = 8;
+const PAIRS: usize = 25;
+const TRIPS: u32 = 400;
+
+type Work = Pin<Box<dyn Future<Output = ()> + Send>>;
+
+/// The tasks of one thread that are to be polled, and the waker of that thread.
+#[derive(Default)]
+struct Queue {
+    tasks: VecDeque<Arc<Task>>,
+    thread: Option<Waker>,
+}
+
+struct Task {
+    work: Mutex<Option<Work>>,
+    queue: Arc<Mutex<Queue>>,
+}
+
+impl Wake for Task {
+    fn wake(self: Arc<Task>) {
+        let queue = self.queue.clone();
+        let thread = {
+            let mut queue = queue.lock().unwrap();
+            queue.tasks.push_back(self);
+            queue.thread.take()
+        };
+        if let Some(thread) = thread {
+            thread.wake();
+        }
+    }
+}
+
+/// Polls each task that was woken, until all have ended.
+async fn run_all(works: Vec<Work>) {
+    let queue = Arc::new(Mutex::new(Queue::default()));
+    let mut left = works.len();
+    for work in works {
+        let task = Task { work: Mutex::new(Some(work)), queue: queue.clone() };
+        queue.lock().unwrap().tasks.push_back(Arc::new(task));
+    }
+    poll_fn(|cx| loop {
+        let task = {
+            let mut queue = queue.lock().unwrap();
+            queue.thread = Some(cx.waker().clone());
+            match queue.tasks.pop_front() {
+                Some(task) => task,
+                None => return Poll::Pending,
+            }
+        };
+        let waker = Waker::from(task.clone());
+        let mut work = task.work.lock().unwrap();
+        if let Some(future) = work.as_mut() {
+            if future.as_mut().poll(&mut Context::from_waker(&waker)).is_ready() {
+                *work = None;
+                left -= 1;
+                if left == 0 {
+                    return Poll::Ready(());
+                }
+            }
+        }
+    })
+    .await
+}
+
+async fn trips(mut near: Async<UnixStream>, mut far: Async<UnixStream>, patience: Duration) {
+    let mut byte = [0];
+    for trip in 0..TRIPS {
+        if trip % 50 == 0 {
+            Timer::after(Duration::from_micros(200)).await;
+        }
+        let start = Instant::now();
+        let one = async {
+            near.write_all(b"x").await.unwrap();
+            far.readable().await.unwrap();
+            far.read_exact(&mut byte).await.unwrap();
+            far.write_all(b"y").await.unwrap();
+            near.read_exact(&mut byte).await.unwrap();
+            true
+        };
+        let late = async {
+            Timer::after(patience).await;
+            false
+        };
+        // the timer wakes a task whose own wake was lost, which then may find its byte
+        if !one.or(late).await || start.elapsed() >= patience {
+            println!("a wake was lost");
+            std::process::exit(1);
+        }
+    }
+}
+
+fn main() {
+    let seconds = std::env::args().nth(1).map_or(20, |word| word.parse().unwrap());
+    let start = Instant::now();
+    let threads: Vec<_> = (0..THREADS)
+        .map(|_| {
+            std::thread::spawn(move || {
+                let works = (0..PAIRS).map(|_| {
+                    let (near, far) = Async::<UnixStream>::pair().unwrap();
+                    Box::pin(trips(near, far, Duration::from_secs(seconds))) as Work
+                });
+                async_io::block_on(run_all(works.collect()))
+            })
+        })
+        .collect();
+    for thread in threads {
+        thread.join().unwrap();
+    }
+    let made = THREADS * PAIRS * TRIPS as usize;
+    println!("{made} round trips in {} ms", start.elapsed().as_millis());
+}

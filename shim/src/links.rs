@@ -1,0 +1,227 @@
+//! The core beside what a program has in place of its numbers: sources by their keys, and wakers.
+//! Nothing of this file is proved.
+use super::aio::Core;
+use super::Source;
+use std::collections::HashSet;
+use std::mem;
+use std::sync::Arc;
+use std::task::Waker;
+
+/// No number.
+const NONE: u32 = u32::MAX;
+
+/// The numbers of wakers are below this, so that one lies beside a timer's id in 64 bits.
+const NUMBERS: usize = 1 << 24;
+
+/// Where in the core the number of a waker may stand.
+#[derive(Clone, Copy, PartialEq, Eq)]
+pub(super) enum Home {
+    None,
+    /// The poll waiter of a direction of the source of this key.
+    Poll(u32, bool),
+    Listener(u64),
+    Timer(u64),
+}
+
+struct Slot {
+    waker: Option<Waker>,
+    home: Home,
+}
+
+/// A source with the numbers of its poll waiters, and its listeners.
+pub(super) struct Place {
+    source: Arc<Source>,
+    polled: [u32; 2],
+    listeners: HashSet<u64>,
+}
+
+/// The core, and all that its numbers stand for.
+pub(super) struct Links {
+    pub(super) core: Core,
+    /// Whether a round runs: begun, and not yet ended.
+    pub(super) runs: bool,
+    /// How many events of the running round were handled.
+    pub(super) handled: usize,
+    places: Vec<Option<Place>>,
+    slots: Vec<Slot>,
+    free: Vec<u32>,
+    /// Numbers that were given up while a round runs. Its pass may have taken them of timers, so
+    /// they are free only when it has ended.
+    given_up: Vec<u32>,
+    woken: Vec<u32>,
+    #[cfg(aio_loses_wakes)]
+    lost: u64,
+}
+
+impl Links {
+    pub(super) fn new() -> Links {
+        Links {
+            core: Core::new().expect("no memory for the core"),
+            runs: false,
+            handled: 0,
+            places: Vec::new(),
+            slots: Vec::new(),
+            free: Vec::new(),
+            given_up: Vec::new(),
+            woken: Vec::new(),
+            #[cfg(aio_loses_wakes)]
+            lost: 0,
+        }
+    }
+
+    // ## Sources
+
+    /// The new source of a key.
+    pub(super) fn place(&mut self, source: Arc<Source>) {
+        let at = source.key as usize;
+        while self.places.len() <= at {
+            self.places.push(None);
+        }
+        let polled = [NONE; 2];
+        self.places[at] = Some(Place { source, polled, listeners: HashSet::new() });
+    }
+
+    /// Takes the place of a key out, with each listener that is left, as of a future that was
+    /// forgotten. What is answered is to be dropped outside of the lock.
+    pub(super) fn unplace(&mut self, key: u32) -> (Option<Place>, Vec<Option<Waker>>) {
+        let Some(place) = self.places[key as usize].take() else {
+            return (None, Vec::new());
+        };
+        let mut dropped = Vec::new();
+        for listener in &place.listeners {
+            self.core.unlisten(*listener);
+            for number in 0..self.slots.len() as u32 {
+                dropped.push(self.give_up_of(number, Home::Listener(*listener)));
+            }
+        }
+        for number in place.polled {
+            if number != NONE {
+                dropped.push(self.give_up(number));
+            }
+        }
+        (Some(place), dropped)
+    }
+
+    pub(super) fn source(&self, key: u32) -> Option<Arc<Source>> {
+        let place = self.places.get(key as usize)?.as_ref()?;
+        Some(place.source.clone())
+    }
+
+    // ## Listeners
+
+    pub(super) fn listen(&mut self, key: u32, listener: u64) {
+        if let Some(Some(place)) = self.places.get_mut(key as usize) {
+            place.listeners.insert(listener);
+        }
+    }
+
+    pub(super) fn unlisten(&mut self, key: u32, listener: u64) {
+        self.core.unlisten(listener);
+        if let Some(Some(place)) = self.places.get_mut(key as usize) {
+            place.listeners.remove(&listener);
+        }
+    }
+
+    // ## Wakers
+
+    /// A number for a waker, which no call of the core can still hold for another.
+    pub(super) fn number(&mut self, waker: Waker, home: Home) -> u32 {
+        let slot = Slot { waker: Some(waker), home };
+        if let Some(number) = self.free.pop() {
+            self.slots[number as usize] = slot;
+            return number;
+        }
+        assert!(self.slots.len() < NUMBERS, "all numbers of wakers are given");
+        self.slots.push(slot);
+        self.slots.len() as u32 - 1
+    }
+
+    /// Says where a number stands.
+    pub(super) fn settle(&mut self, number: u32, home: Home) {
+        self.slots[number as usize].home = home;
+    }
+
+    /// Gives a number up, and answers its waker, to be dropped or woken outside of the lock.
+    pub(super) fn give_up(&mut self, number: u32) -> Option<Waker> {
+        let slot = &mut self.slots[number as usize];
+        let waker = slot.waker.take()?;
+        slot.home = Home::None;
+        if self.runs {
+            self.given_up.push(number);
+        } else {
+            self.free.push(number);
+        }
+        Some(waker)
+    }
+
+    /// The same where the number still stands there: it may have been woken, and given again.
+    pub(super) fn give_up_of(&mut self, number: u32, home: Home) -> Option<Waker> {
+        let stands = self.slots.get(number as usize)?.home == home;
+        stands.then(|| self.give_up(number)).flatten()
+    }
+
+    /// The number with which a waker polls: that of the poll waiter exactly where both wake the
+    /// same task, otherwise a new one.
+    pub(super) fn poll_number(&mut self, key: u32, write: bool, waker: &Waker) -> u32 {
+        if let Some(Some(place)) = self.places.get(key as usize) {
+            let kept = place.polled[write as usize];
+            if kept != NONE {
+                if let Some(held) = &self.slots[kept as usize].waker {
+                    if held.will_wake(waker) {
+                        return kept;
+                    }
+                }
+            }
+        }
+        self.number(waker.clone(), Home::Poll(key, write))
+    }
+
+    /// The poll waiter of a direction has this number now.
+    pub(super) fn keep_poll(&mut self, key: u32, write: bool, number: u32) {
+        if let Some(Some(place)) = self.places.get_mut(key as usize) {
+            place.polled[write as usize] = number;
+        }
+    }
+
+    /// Gives up the number of a poll that was ready, unless it is the poll waiter's.
+    pub(super) fn give_up_new(&mut self, key: u32, write: bool, number: u32) -> Option<Waker> {
+        let place = self.places.get(key as usize)?.as_ref()?;
+        if place.polled[write as usize] == number {
+            return None;
+        }
+        self.give_up(number)
+    }
+
+    /// Takes the wakers of the round that ended; their numbers and those given up meanwhile are
+    /// free from now on.
+    pub(super) fn take_woken(&mut self, count: u64, wakers: &mut Vec<Waker>) {
+        let mut woken = mem::take(&mut self.woken);
+        if count > 0 {
+            self.core.woken(count, &mut woken);
+        } else {
+            woken.clear();
+        }
+        self.runs = false;
+        for number in &woken {
+            if let Home::Poll(key, write) = self.slots[*number as usize].home {
+                self.keep_poll(key, write, NONE);
+            }
+            if let Some(waker) = self.give_up(*number) {
+                #[cfg(aio_loses_wakes)]
+                if self.loses() {
+                    continue;
+                }
+                wakers.push(waker);
+            }
+        }
+        self.woken = woken;
+        self.free.append(&mut self.given_up);
+    }
+
+    /// Whether a control run loses this wake: one of 5,000.
+    #[cfg(aio_loses_wakes)]
+    fn loses(&mut self) -> bool {
+        self.lost += 1;
+        self.lost % 5_000 == 0
+    }
+}

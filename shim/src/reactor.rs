@@ -1,0 +1,427 @@
+//! The reactor of this crate, whose decisions a proved core makes: which call arms the poller, who
+//! is ready, whom a round wakes, when a wait ends. This file carries them out: it holds the
+//! poller, the wakers and the locks, and makes the wait. Nothing of it is proved.
+use std::borrow::Borrow;
+use std::fmt;
+use std::future::Future;
+use std::io;
+use std::marker::PhantomData;
+use std::panic;
+use std::pin::Pin;
+use std::sync::atomic::{AtomicUsize, Ordering};
+use std::sync::{Arc, Mutex, MutexGuard};
+use std::task::{Context, Poll, Waker};
+use std::time::{Duration, Instant};
+
+use async_lock::OnceCell;
+use polling::{Event, Events, Poller};
+
+mod aio;
+mod links;
+mod unix;
+
+use aio::AskAnswer;
+use links::{Home, Links};
+pub use unix::Registration;
+
+/// The last moment of the core, in nanoseconds from the start: 31 years later.
+const LAST_MOMENT: u128 = 1_000_000_000_000_000_000;
+
+/// The bits of a timer's number that are its id; those above name its waker.
+const ID_BITS: u32 = 40;
+
+/// The one reactor of a program.
+pub(crate) struct Reactor {
+    pub(crate) poller: Poller,
+    ticker: AtomicUsize,
+    /// Held by the thread that makes a round.
+    events: Mutex<Events>,
+    links: Mutex<Links>,
+    start: Instant,
+}
+
+impl Reactor {
+    pub(crate) fn get() -> &'static Reactor {
+        static REACTOR: OnceCell<Reactor> = OnceCell::new();
+        REACTOR.get_or_init_blocking(|| {
+            crate::driver::init();
+            Reactor {
+                poller: Poller::new().expect("the system gives no poller"),
+                ticker: AtomicUsize::new(0),
+                events: Mutex::new(Events::new()),
+                links: Mutex::new(Links::new()),
+                start: Instant::now(),
+            }
+        })
+    }
+
+    fn links(&self) -> MutexGuard<'_, Links> {
+        self.links.lock().unwrap()
+    }
+
+    /// A moment as the core counts it.
+    fn moment(&self, at: Instant) -> u64 {
+        nanoseconds(at.saturating_duration_since(self.start))
+    }
+
+    pub(crate) fn ticker(&self) -> usize {
+        self.ticker.load(Ordering::SeqCst)
+    }
+
+    pub(crate) fn insert_io(&self, registration: Registration) -> io::Result<Arc<Source>> {
+        let mut links = self.links();
+        let added = links.core.add();
+        if added.code != aio::DONE {
+            return Err(refused(added.code));
+        }
+        if let Err(error) = registration.add(&self.poller, added.key as usize) {
+            links.core.del(added.key);
+            return Err(error);
+        }
+        let source = Arc::new(Source { registration, key: added.key });
+        links.place(source.clone());
+        Ok(source)
+    }
+
+    pub(crate) fn remove_io(&self, source: &Source) -> io::Result<()> {
+        let mut links = self.links();
+        let (place, dropped) = links.unplace(source.key);
+        let removed = source.registration.delete(&self.poller);
+        if removed.is_err() {
+            links.core.fail_next(aio::REMOVE);
+        }
+        links.core.del(source.key);
+        drop(links);
+        drop((place, dropped));
+        removed
+    }
+
+    /// Answers a number that names the timer and its waker.
+    pub(crate) fn insert_timer(&self, when: Instant, waker: &Waker) -> usize {
+        let waker = waker.clone();
+        let at = self.moment(when);
+        let mut links = self.links();
+        let number = links.number(waker, Home::None);
+        let timer = links.core.insert_timer(at, number);
+        assert!(timer.code == aio::DONE, "no timer: {}", refused(timer.code));
+        links.settle(number, Home::Timer(timer.number));
+        drop(links);
+        self.notify();
+        (timer.number | u64::from(number) << ID_BITS) as usize
+    }
+
+    pub(crate) fn remove_timer(&self, when: Instant, timer: usize) {
+        let id = timer as u64 & ((1 << ID_BITS) - 1);
+        let number = (timer as u64 >> ID_BITS) as u32;
+        let mut links = self.links();
+        links.core.remove_timer(self.moment(when), id);
+        let dropped = links.give_up_of(number, Home::Timer(id));
+        drop(links);
+        drop(dropped);
+    }
+
+    pub(crate) fn notify(&self) {
+        self.poller.notify().expect("the poller takes no notice");
+    }
+
+    pub(crate) fn lock(&self) -> ReactorLock<'_> {
+        ReactorLock { reactor: self, events: self.events.lock().unwrap() }
+    }
+
+    pub(crate) fn try_lock(&self) -> Option<ReactorLock<'_>> {
+        let events = self.events.try_lock().ok()?;
+        Some(ReactorLock { reactor: self, events })
+    }
+
+    /// Arms the system's poller as a call of the core is about to; a failure is told to the core,
+    /// for that call to answer it.
+    fn arm(&self, links: &mut Links, source: &Source, asked: &AskAnswer) -> io::Result<()> {
+        if !asked.arms {
+            return Ok(());
+        }
+        let mut event = Event::none(source.key as usize);
+        event.readable = asked.read;
+        event.writable = asked.write;
+        let armed = source.registration.modify(&self.poller, event);
+        if armed.is_err() {
+            links.core.fail_next(aio::ARM);
+        }
+        armed
+    }
+}
+
+/// The right to make rounds.
+pub(crate) struct ReactorLock<'a> {
+    reactor: &'a Reactor,
+    events: MutexGuard<'a, Events>,
+}
+
+impl ReactorLock<'_> {
+    /// One round, which waits for at most `timeout`.
+    pub(crate) fn react(&mut self, timeout: Option<Duration>) -> io::Result<()> {
+        let mut wakers = Vec::new();
+        let answer = self.round(timeout, &mut wakers);
+        for waker in wakers {
+            // a waker that panics keeps none of the others from being woken
+            panic::catch_unwind(|| waker.wake()).ok();
+        }
+        answer
+    }
+
+    fn round(&mut self, timeout: Option<Duration>, wakers: &mut Vec<Waker>) -> io::Result<()> {
+        let reactor = self.reactor;
+        let mut links = reactor.links();
+        if links.runs {
+            // memory ran out in a round before this one, which is ended first
+            self.end(&mut links, wakers)?;
+        }
+        let begun = links
+            .core
+            .begin(reactor.moment(Instant::now()), timeout.map(nanoseconds));
+        if begun.code != aio::DONE {
+            return Err(refused(begun.code));
+        }
+        links.runs = true;
+        links.handled = 0;
+        reactor.ticker.store(begun.number as usize, Ordering::SeqCst);
+        drop(links);
+        self.events.clear();
+        let limit = begun.limited.then(|| Duration::from_nanos(begun.limit));
+        let waited = reactor.poller.wait(&mut self.events, limit);
+        let mut links = reactor.links();
+        let failed = self.tell(&mut links, waited);
+        links.core.wait();
+        let ended = self.end(&mut links, wakers);
+        failed.and(ended)
+    }
+
+    /// Tells the poller in memory what the wait gave.
+    fn tell(&self, links: &mut Links, waited: io::Result<usize>) -> io::Result<()> {
+        match waited {
+            Ok(_) => {
+                for event in self.events.iter() {
+                    let code = links
+                        .core
+                        .give(event.key as u32, event.readable, event.writable);
+                    assert!(code == aio::DONE, "no event: {}", refused(code));
+                }
+                Ok(())
+            }
+            Err(error) if error.kind() == io::ErrorKind::Interrupted => {
+                links.core.interrupt_next();
+                Ok(())
+            }
+            Err(error) => {
+                links.core.fail_next(aio::WAIT);
+                Err(error)
+            }
+        }
+    }
+
+    /// Handles each event in hand, ends the round, and takes the wakers that it has to wake.
+    fn end(&self, links: &mut Links, wakers: &mut Vec<Waker>) -> io::Result<()> {
+        let reactor = self.reactor;
+        let mut first = Ok(());
+        for event in self.events.iter().skip(links.handled) {
+            let asked = links.core.handle_asks();
+            if let Some(source) = links.source(event.key as u32) {
+                let armed = reactor.arm(links, &source, &asked);
+                first = first.and(armed);
+            }
+            let code = links.core.handle().code;
+            if code != aio::DONE && code != aio::ARM_FAULT {
+                return Err(refused(code));
+            }
+            links.handled += 1;
+        }
+        let ended = links.core.finish(reactor.moment(Instant::now()));
+        if ended.code != aio::DONE {
+            return Err(refused(ended.code));
+        }
+        links.take_woken(ended.wakers, wakers);
+        first
+    }
+}
+
+fn nanoseconds(duration: Duration) -> u64 {
+    duration.as_nanos().min(LAST_MOMENT) as u64
+}
+
+/// The error that tells a refusal of the core.
+fn refused(code: u32) -> io::Error {
+    let text = match code {
+        11 => "4,096 sources are registered",
+        13 => "memory ran out",
+        _ => "the core refused the call",
+    };
+    io::Error::new(io::ErrorKind::Other, text)
+}
+
+/// A registered source.
+#[derive(Debug)]
+pub(crate) struct Source {
+    registration: Registration,
+    key: u32,
+}
+
+impl Source {
+    pub(crate) fn poll_readable(&self, cx: &mut Context<'_>) -> Poll<io::Result<()>> {
+        self.poll_direction(false, cx)
+    }
+
+    pub(crate) fn poll_writable(&self, cx: &mut Context<'_>) -> Poll<io::Result<()>> {
+        self.poll_direction(true, cx)
+    }
+
+    fn poll_direction(&self, write: bool, cx: &mut Context<'_>) -> Poll<io::Result<()>> {
+        let reactor = Reactor::get();
+        let mut links = reactor.links();
+        let asked = links.core.poll_asks(self.key, write);
+        let armed = reactor.arm(&mut links, self, &asked);
+        let number = links.poll_number(self.key, write, cx.waker());
+        let polled = links.core.poll(self.key, write, number);
+        if polled.code == aio::READY {
+            let dropped = links.give_up_new(self.key, write, number);
+            drop(links);
+            drop(dropped);
+            return Poll::Ready(Ok(()));
+        }
+        if polled.code != aio::DONE && polled.code != aio::ARM_FAULT {
+            return Poll::Ready(Err(refused(polled.code)));
+        }
+        links.keep_poll(self.key, write, number);
+        let replaced = match polled.wakes {
+            true => links.give_up(polled.waker),
+            false => None,
+        };
+        drop(links);
+        if let Some(waker) = replaced {
+            panic::catch_unwind(|| waker.wake()).ok();
+        }
+        match armed {
+            Ok(()) => Poll::Pending,
+            Err(error) => Poll::Ready(Err(error)),
+        }
+    }
+
+    pub(crate) fn readable<T>(handle: &crate::Async<T>) -> Readable<'_, T> {
+        Readable(Ready::new(handle, false))
+    }
+
+    pub(crate) fn readable_owned<T>(handle: Arc<crate::Async<T>>) -> ReadableOwned<T> {
+        ReadableOwned(Ready::new(handle, false))
+    }
+
+    pub(crate) fn writable<T>(handle: &crate::Async<T>) -> Writable<'_, T> {
+        Writable(Ready::new(handle, true))
+    }
+
+    pub(crate) fn writable_owned<T>(handle: Arc<crate::Async<T>>) -> WritableOwned<T> {
+        WritableOwned(Ready::new(handle, true))
+    }
+}
+
+/// The four public futures, each a listener of one direction.
+macro_rules! futures {
+    ($($name:ident $(<$life:lifetime>)? of $held:ty, $what:literal;)*) => {
+        $(
+            #[doc = $what]
+            #[must_use = "a future waits only where it is polled"]
+            pub struct $name<$($life,)? T>(Ready<$held, T>);
+
+            impl<$($life,)? T> Future for $name<$($life,)? T> {
+                type Output = io::Result<()>;
+
+                fn poll(mut self: Pin<&mut Self>, cx: &mut Context<'_>) -> Poll<Self::Output> {
+                    Pin::new(&mut self.0).poll(cx)
+                }
+            }
+
+            impl<$($life,)? T> fmt::Debug for $name<$($life,)? T> {
+                fn fmt(&self, f: &mut fmt::Formatter<'_>) -> fmt::Result {
+                    f.debug_struct(stringify!($name)).finish()
+                }
+            }
+        )*
+    };
+}
+
+futures! {
+    Readable<'a> of &'a crate::Async<T>, "Waits until a borrowed source is readable.";
+    ReadableOwned of Arc<crate::Async<T>>, "Waits until a shared source is readable.";
+    Writable<'a> of &'a crate::Async<T>, "Waits until a borrowed source is writable.";
+    WritableOwned of Arc<crate::Async<T>>, "Waits until a shared source is writable.";
+}
+
+/// A listener of a direction, which joins the core at its first poll.
+struct Ready<H: Borrow<crate::Async<T>>, T> {
+    handle: H,
+    write: bool,
+    listener: Option<u64>,
+    number: Option<u32>,
+    _source: PhantomData<fn() -> T>,
+}
+
+impl<H: Borrow<crate::Async<T>>, T> Unpin for Ready<H, T> {}
+
+impl<H: Borrow<crate::Async<T>>, T> Ready<H, T> {
+    fn new(handle: H, write: bool) -> Ready<H, T> {
+        Ready { handle, write, listener: None, number: None, _source: PhantomData }
+    }
+}
+
+impl<H: Borrow<crate::Async<T>>, T> Future for Ready<H, T> {
+    type Output = io::Result<()>;
+
+    fn poll(mut self: Pin<&mut Self>, cx: &mut Context<'_>) -> Poll<Self::Output> {
+        let this = &mut *self;
+        let reactor = Reactor::get();
+        let source: &Source = &this.handle.borrow().source;
+        let mut links = reactor.links();
+        let listener = match this.listener {
+            Some(listener) => listener,
+            None => {
+                let made = links.core.listen(source.key, this.write);
+                if made.code != aio::DONE {
+                    return Poll::Ready(Err(refused(made.code)));
+                }
+                links.listen(source.key, made.number);
+                this.listener = Some(made.number);
+                made.number
+            }
+        };
+        let home = Home::Listener(listener);
+        let asked = links.core.step_asks(listener);
+        let armed = reactor.arm(&mut links, source, &asked);
+        let number = links.number(cx.waker().clone(), home);
+        let code = links.core.step(listener, number);
+        if code != aio::DONE && code != aio::ARM_FAULT {
+            let dropped = links.give_up(number);
+            drop(links);
+            drop(dropped);
+            return Poll::Ready(if code == aio::READY { Ok(()) } else { Err(refused(code)) });
+        }
+        // one that was woken may have been given again, to this very poll too
+        let old = this.number.replace(number).filter(|old| *old != number);
+        let dropped = old.and_then(|old| links.give_up_of(old, home));
+        drop(links);
+        drop(dropped);
+        match armed {
+            Ok(()) => Poll::Pending,
+            Err(error) => Poll::Ready(Err(error)),
+        }
+    }
+}
+
+impl<H: Borrow<crate::Async<T>>, T> Drop for Ready<H, T> {
+    fn drop(&mut self) {
+        let Some(listener) = self.listener else { return };
+        let reactor = Reactor::get();
+        let mut links = reactor.links();
+        links.unlisten(self.handle.borrow().source.key, listener);
+        let number = self.number;
+        let dropped = number.and_then(|n| links.give_up_of(n, Home::Listener(listener)));
+        drop(links);
+        drop(dropped);
+    }
+}
