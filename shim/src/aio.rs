@@ -72,6 +72,11 @@ pub(super) struct AskAnswer {
     pub write: bool,
 }
 
+impl AskAnswer {
+    /// The poller is left alone.
+    pub(super) const NOTHING: AskAnswer = AskAnswer { arms: false, read: false, write: false };
+}
+
 extern "C" {
     fn aio_new(out: *mut Handle) -> bool;
     fn aio_add(h: Handle, out: *mut Handle) -> KeyAnswer;

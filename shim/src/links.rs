@@ -3,6 +3,7 @@
 use super::aio::Core;
 use super::Source;
 use std::collections::HashSet;
+use std::hash::{BuildHasherDefault, Hasher};
 use std::mem;
 use std::sync::Arc;
 use std::task::Waker;
@@ -32,7 +33,29 @@ struct Slot {
 pub(super) struct Place {
     source: Arc<Source>,
     polled: [u32; 2],
-    listeners: HashSet<u64>,
+    listeners: HashSet<u64, BuildHasherDefault<Numbered>>,
+    /// How many events of the source were handled.
+    events: u64,
+}
+
+/// A hash of numbers that come one after the other, by one multiplication with an odd constant.
+#[derive(Default)]
+struct Numbered(u64);
+
+impl Hasher for Numbered {
+    fn finish(&self) -> u64 {
+        self.0
+    }
+
+    fn write(&mut self, bytes: &[u8]) {
+        for byte in bytes {
+            self.write_u64(self.0 ^ u64::from(*byte));
+        }
+    }
+
+    fn write_u64(&mut self, number: u64) {
+        self.0 = number.wrapping_mul(0x9e37_79b9_7f4a_7c15);
+    }
 }
 
 /// The core, and all that its numbers stand for.
@@ -78,7 +101,8 @@ impl Links {
             self.places.push(None);
         }
         let polled = [NONE; 2];
-        self.places[at] = Some(Place { source, polled, listeners: HashSet::new() });
+        let listeners = HashSet::default();
+        self.places[at] = Some(Place { source, polled, listeners, events: 0 });
     }
 
     /// Takes the place of a key out, with each listener that is left, as of a future that was
@@ -102,9 +126,19 @@ impl Links {
         (Some(place), dropped)
     }
 
-    pub(super) fn source(&self, key: u32) -> Option<Arc<Source>> {
-        let place = self.places.get(key as usize)?.as_ref()?;
-        Some(place.source.clone())
+    /// The source of an event that is about to be handled, which is counted.
+    pub(super) fn source_of_event(&mut self, key: u32) -> Option<&Source> {
+        let place = self.places.get_mut(key as usize)?.as_mut()?;
+        place.events += 1;
+        Some(&place.source)
+    }
+
+    /// How many events of a source were handled.
+    pub(super) fn events_of(&self, key: u32) -> u64 {
+        match self.places.get(key as usize) {
+            Some(Some(place)) => place.events,
+            _ => 0,
+        }
     }
 
     // ## Listeners

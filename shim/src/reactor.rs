@@ -78,7 +78,7 @@ impl Reactor {
             links.core.del(added.key);
             return Err(error);
         }
-        let source = Arc::new(Source { registration, key: added.key });
+        let source = Arc::new(Source { registration, key: added.key, turn: Mutex::new(()) });
         links.place(source.clone());
         Ok(source)
     }
@@ -133,20 +133,34 @@ impl Reactor {
         Some(ReactorLock { reactor: self, events })
     }
 
-    /// Arms the system's poller as a call of the core is about to; a failure is told to the core,
-    /// for that call to answer it.
-    fn arm(&self, links: &mut Links, source: &Source, asked: &AskAnswer) -> io::Result<()> {
-        if !asked.arms {
-            return Ok(());
+    /// The links, with the system's poller armed as the next call of the core on this source asks,
+    /// which `ask` tells; a failure is told to the core, for that call to answer it.
+    ///
+    /// The poller is armed outside of the links' lock, while no other call on the source may arm. An
+    /// event that was handled meanwhile may be the one that was armed for: then it is done again.
+    fn armed<'a>(
+        &'a self,
+        source: &'a Source,
+        mut ask: impl FnMut(&mut Links) -> AskAnswer,
+    ) -> (MutexGuard<'a, ()>, MutexGuard<'a, Links>, io::Result<()>) {
+        let turn = source.turn.lock().unwrap();
+        let mut links = self.links();
+        loop {
+            let asked = ask(&mut links);
+            if !asked.arms {
+                return (turn, links, Ok(()));
+            }
+            let seen = links.events_of(source.key);
+            drop(links);
+            let armed = source.modify(&self.poller, &asked);
+            links = self.links();
+            if links.events_of(source.key) == seen {
+                if armed.is_err() {
+                    links.core.fail_next(aio::ARM);
+                }
+                return (turn, links, armed);
+            }
         }
-        let mut event = Event::none(source.key as usize);
-        event.readable = asked.read;
-        event.writable = asked.write;
-        let armed = source.registration.modify(&self.poller, event);
-        if armed.is_err() {
-            links.core.fail_next(aio::ARM);
-        }
-        armed
     }
 }
 
@@ -170,14 +184,13 @@ impl ReactorLock<'_> {
 
     fn round(&mut self, timeout: Option<Duration>, wakers: &mut Vec<Waker>) -> io::Result<()> {
         let reactor = self.reactor;
+        let now = reactor.moment(Instant::now());
         let mut links = reactor.links();
         if links.runs {
             // memory ran out in a round before this one, which is ended first
-            self.end(&mut links, wakers)?;
+            self.end(&mut links, now, wakers)?;
         }
-        let begun = links
-            .core
-            .begin(reactor.moment(Instant::now()), timeout.map(nanoseconds));
+        let begun = links.core.begin(now, timeout.map(nanoseconds));
         if begun.code != aio::DONE {
             return Err(refused(begun.code));
         }
@@ -188,10 +201,11 @@ impl ReactorLock<'_> {
         self.events.clear();
         let limit = begun.limited.then(|| Duration::from_nanos(begun.limit));
         let waited = reactor.poller.wait(&mut self.events, limit);
+        let now = reactor.moment(Instant::now());
         let mut links = reactor.links();
         let failed = self.tell(&mut links, waited);
         links.core.wait();
-        let ended = self.end(&mut links, wakers);
+        let ended = self.end(&mut links, now, wakers);
         failed.and(ended)
     }
 
@@ -219,22 +233,26 @@ impl ReactorLock<'_> {
     }
 
     /// Handles each event in hand, ends the round, and takes the wakers that it has to wake.
-    fn end(&self, links: &mut Links, wakers: &mut Vec<Waker>) -> io::Result<()> {
+    fn end(&self, links: &mut Links, now: u64, wakers: &mut Vec<Waker>) -> io::Result<()> {
         let reactor = self.reactor;
         let mut first = Ok(());
         for event in self.events.iter().skip(links.handled) {
             let asked = links.core.handle_asks();
-            if let Some(source) = links.source(event.key as u32) {
-                let armed = reactor.arm(links, &source, &asked);
-                first = first.and(armed);
+            let armed = match links.source_of_event(event.key as u32) {
+                Some(source) if asked.arms => source.modify(&reactor.poller, &asked),
+                _ => Ok(()),
+            };
+            if armed.is_err() {
+                links.core.fail_next(aio::ARM);
             }
+            first = first.and(armed);
             let code = links.core.handle().code;
             if code != aio::DONE && code != aio::ARM_FAULT {
                 return Err(refused(code));
             }
             links.handled += 1;
         }
-        let ended = links.core.finish(reactor.moment(Instant::now()));
+        let ended = links.core.finish(now);
         if ended.code != aio::DONE {
             return Err(refused(ended.code));
         }
@@ -262,9 +280,18 @@ fn refused(code: u32) -> io::Error {
 pub(crate) struct Source {
     registration: Registration,
     key: u32,
+    /// Held by the one call that arms for the source.
+    turn: Mutex<()>,
 }
 
 impl Source {
+    fn modify(&self, poller: &Poller, asked: &AskAnswer) -> io::Result<()> {
+        let mut event = Event::none(self.key as usize);
+        event.readable = asked.read;
+        event.writable = asked.write;
+        self.registration.modify(poller, event)
+    }
+
     pub(crate) fn poll_readable(&self, cx: &mut Context<'_>) -> Poll<io::Result<()>> {
         self.poll_direction(false, cx)
     }
@@ -275,14 +302,13 @@ impl Source {
 
     fn poll_direction(&self, write: bool, cx: &mut Context<'_>) -> Poll<io::Result<()>> {
         let reactor = Reactor::get();
-        let mut links = reactor.links();
-        let asked = links.core.poll_asks(self.key, write);
-        let armed = reactor.arm(&mut links, self, &asked);
+        let (turn, mut links, armed) =
+            reactor.armed(self, |links| links.core.poll_asks(self.key, write));
         let number = links.poll_number(self.key, write, cx.waker());
         let polled = links.core.poll(self.key, write, number);
         if polled.code == aio::READY {
             let dropped = links.give_up_new(self.key, write, number);
-            drop(links);
+            drop((links, turn));
             drop(dropped);
             return Poll::Ready(Ok(()));
         }
@@ -294,7 +320,7 @@ impl Source {
             true => links.give_up(polled.waker),
             false => None,
         };
-        drop(links);
+        drop((links, turn));
         if let Some(waker) = replaced {
             panic::catch_unwind(|| waker.wake()).ok();
         }
@@ -377,34 +403,35 @@ impl<H: Borrow<crate::Async<T>>, T> Future for Ready<H, T> {
         let this = &mut *self;
         let reactor = Reactor::get();
         let source: &Source = &this.handle.borrow().source;
-        let mut links = reactor.links();
-        let listener = match this.listener {
-            Some(listener) => listener,
-            None => {
+        let mut refusal = None;
+        let (turn, mut links, armed) = reactor.armed(source, |links| {
+            if this.listener.is_none() {
                 let made = links.core.listen(source.key, this.write);
                 if made.code != aio::DONE {
-                    return Poll::Ready(Err(refused(made.code)));
+                    refusal = Some(refused(made.code));
+                    return AskAnswer::NOTHING;
                 }
                 links.listen(source.key, made.number);
                 this.listener = Some(made.number);
-                made.number
             }
+            this.listener.map_or(AskAnswer::NOTHING, |listener| links.core.step_asks(listener))
+        });
+        let Some(listener) = this.listener else {
+            return Poll::Ready(refusal.map_or(Ok(()), Err));
         };
         let home = Home::Listener(listener);
-        let asked = links.core.step_asks(listener);
-        let armed = reactor.arm(&mut links, source, &asked);
         let number = links.number(cx.waker().clone(), home);
         let code = links.core.step(listener, number);
         if code != aio::DONE && code != aio::ARM_FAULT {
             let dropped = links.give_up(number);
-            drop(links);
+            drop((links, turn));
             drop(dropped);
             return Poll::Ready(if code == aio::READY { Ok(()) } else { Err(refused(code)) });
         }
         // one that was woken may have been given again, to this very poll too
         let old = this.number.replace(number).filter(|old| *old != number);
         let dropped = old.and_then(|old| links.give_up_of(old, home));
-        drop(links);
+        drop((links, turn));
         drop(dropped);
         match armed {
             Ok(()) => Poll::Pending,
