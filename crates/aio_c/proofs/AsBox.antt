@@ -1,4 +1,4 @@
--- The seal and its parts own what a box at the same types owns.
+-- A handle and its parts own as much as a box of what they hold.
 use mir.Syntax.{impl, tnil, dnil}
 use mathlib.Core.List.{[]}
 use denote.Signature.{Slot, plain}

@@ -1,4 +1,4 @@
--- `into_box` hands what the parts own to `from_raw`.
+-- A box is made of its parts again, which give it all that they own.
 use mathlib.Core.Path.{◌≡◌, refl, sym, subst, ap}
 use mathlib.Core.List.{List, [], ◌∷◌, ◌++◌}
 use lib.Dec.{T}
