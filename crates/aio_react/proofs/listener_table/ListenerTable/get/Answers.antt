@@ -26,4 +26,3 @@ returns c =
     ∙ sym (value-there (map opened i.seats.items) i.first_polls.items c.args.number (c.args.number - 1) (opened c.index.result.now) c.index-2.result.now next
     (omega (arith, c.if-number-eq0.false, c.len.ensures, c.if-number-len.false, length-map i.seats.items opened)) (c.self.invariant.0 ∙ sym (length-map i.seats.items opened))
     (opened-read i.seats.items (c.args.number - 1) c.index.result.now c.index.ensures) c.index-2.ensures))
-
