@@ -13,6 +13,8 @@ mod connections;
 #[cfg(test)]
 mod ends;
 #[cfg(test)]
+mod failing_calls;
+#[cfg(test)]
 mod hosts;
 #[cfg(test)]
 mod lines;

@@ -202,7 +202,11 @@ fn the_place_of_a_long_line_counts_from_the_first_byte(rt: HostRuntime) -> Resul
 }
 
 /// Polls a task until it ends, ten times at most.
-fn poll_to_end<H: Host, T: Task<H>>(task: &mut T, host: &mut H, now: Moment) -> Option<T::Output> {
+pub(crate) fn poll_to_end<H: Host, T: Task<H>>(
+    task: &mut T,
+    host: &mut H,
+    now: Moment,
+) -> Option<T::Output> {
     for _ in 0..10 {
         let cx = Cx {
             parker: 0,

@@ -12,6 +12,8 @@ mod cores;
 #[cfg(test)]
 mod devices;
 #[cfg(test)]
+mod failing_calls;
+#[cfg(test)]
 mod generated;
 #[cfg(test)]
 mod kits;

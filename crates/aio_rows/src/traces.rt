@@ -590,10 +590,10 @@ fn waiting(alloc: Global, count: u32) -> Result<(Vec<u8>, Vec<u8>), AllocError> 
 
 #[test]
 fn listeners_and_timers_are_as_many_as_memory_holds(rt: HostRuntime) -> Result<(), Fail> {
-    let (mut trace, mut answers) = waiting(rt.alloc(), 2000)?;
+    let (mut trace, mut answers) = waiting(rt.alloc(), 65_537)?;
     trace.extend_from_slice(b"now 9\nevent 0 r\nreact\n")?;
     answers.extend_from_slice(b"at 9\nnoted\nround 1 events 1 ok\n")?;
-    for _ in 0..2000 {
+    for _ in 0..65_537 {
         answers.extend_from_slice(b"wake 5\nwake 5\n")?;
     }
     Ok(replay_whole(&rt, trace.as_slice(), answers.as_slice())?)

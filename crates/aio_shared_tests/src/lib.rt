@@ -15,6 +15,8 @@ mod asserts;
 #[cfg(test)]
 mod events;
 #[cfg(test)]
+mod floods;
+#[cfg(test)]
 mod hand_over;
 #[cfg(test)]
 mod hosts;

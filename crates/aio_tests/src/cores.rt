@@ -175,7 +175,7 @@ fn react<P: Poller>(core: &mut Core<P>, now: Moment, limit: Option<u64>) -> Came
     }
 }
 
-fn woken<P: Poller>(core: &Core<P>) -> Came {
+pub(crate) fn woken<P: Poller>(core: &Core<P>) -> Came {
     let woken = core.woken();
     Came::Woke(woken.len(), woken.first().map(|waker| waker.0))
 }
@@ -211,7 +211,7 @@ fn fail_arm(core: &mut Core<ScriptPoller>) -> Came {
 }
 
 /// Does this at a moment.
-fn act_at<P: Poller>(core: &mut Core<P>, now: u64, act: Act) -> Came {
+pub(crate) fn act_at<P: Poller>(core: &mut Core<P>, now: u64, act: Act) -> Came {
     let Some(now) = Moment::new(now) else {
         return Came::Other;
     };
@@ -225,7 +225,7 @@ fn act_at<P: Poller>(core: &mut Core<P>, now: u64, act: Act) -> Came {
 }
 
 /// Does this with a source or a listener.
-fn act_on<P: Poller>(core: &mut Core<P>, act: Act) -> Came {
+pub(crate) fn act_on<P: Poller>(core: &mut Core<P>, act: Act) -> Came {
     match act {
         Act::Add => add(core),
         Act::Del(key) => del(core, key),

@@ -13,6 +13,8 @@ mod cores;
 #[cfg(test)]
 mod hosted;
 #[cfg(test)]
+mod hostile_poller;
+#[cfg(test)]
 mod hosts;
 #[cfg(test)]
 mod listeners;

@@ -6,6 +6,8 @@ mod arm_faults;
 #[cfg(test)]
 mod asserts;
 #[cfg(test)]
+mod failing_waits;
+#[cfg(test)]
 mod gates;
 #[cfg(test)]
 mod rows;

@@ -1,0 +1,118 @@
+//! What no clause says of floods: that a round handles as many events as one wait may give, that
+//! events of keys which no source has wake nobody and hold up none that comes after them, and that
+//! timers and listeners are as many as memory holds.
+
+use crate::acts::Act::{InsertTimes, Listen, Look, Poll, React, ReactAgain, Take};
+use crate::acts::Came::{Cell, Mask, Pending, Round, Times};
+use crate::acts::Row;
+use crate::owners::plays;
+use crate::scripts::one_by_one;
+use aio_base::{Dir, Event, Interest, Key};
+use aio_devices::{MemNotify, MemWait, ScriptedWait, SureArm, WaitAnswer};
+use std::alloc::Global;
+use std::test::Fail;
+
+/// Events of 1,024 keys, from this one on.
+fn flood_from(alloc: Global, first: u32) -> Result<WaitAnswer, Fail> {
+    let mut events = Vec::with_capacity(alloc, 1024)?;
+    for number in 0..1024 {
+        events.push(Event {
+            key: Key(first.saturating_add(number)),
+            on: Interest::BOTH,
+        })?;
+    }
+    Ok(WaitAnswer::Gives(events))
+}
+
+/// A wait that gives events of keys which no source has in each of three rounds, and then one of
+/// the first source.
+fn floods(alloc: Global) -> Result<ScriptedWait, Fail> {
+    let mut answers = Vec::with_capacity(alloc, 4)?;
+    for first in [1, 4096, u32::MAX - 1023] {
+        answers.push(flood_from(alloc, first)?)?;
+    }
+    let event = Event {
+        key: Key(0),
+        on: Interest::READ,
+    };
+    answers.push(WaitAnswer::Gives(vec![in alloc; event]?))?;
+    Ok(ScriptedWait::new(answers))
+}
+
+const AFTER_FLOODS: Row = Row {
+    shows: "an event after three floods of strangers wakes its task",
+    keys: 0,
+    now: 5,
+    acts: &[
+        (Poll(Dir::Read, 3), Pending),
+        (React, Round(1024, 0)),
+        (React, Round(1024, 0)),
+        (React, Round(1024, 0)),
+        (Look, Cell(3, true, 3)),
+        (React, Round(1, 1)),
+        (Take, Mask(1 << 3)),
+    ],
+};
+
+#[test]
+fn an_event_after_three_floods_of_strangers_wakes_its_task(rt: HostRuntime) -> Result<(), Fail> {
+    let devices = (MemNotify::new(), SureArm::new(7), floods(rt.alloc())?);
+    plays(&rt, rt.alloc(), devices, &AFTER_FLOODS)
+}
+
+// Whether memory is there for the waker, the run of the test decides.
+const IN_HAND: Row = Row {
+    shows: "one event in hand is handled by this call or the next",
+    keys: 0,
+    now: 5,
+    acts: &[
+        (Poll(Dir::Read, 3), Pending),
+        (ReactAgain, Round(1, 1)),
+        (Take, Mask(1 << 3)),
+    ],
+};
+
+#[test]
+fn one_event_in_hand_is_handled_by_this_call_or_the_next(rt: HostRuntime) -> Result<(), Fail> {
+    let wait = one_by_one(rt.alloc(), &[0], Interest::READ)?;
+    let devices = (MemNotify::new(), SureArm::new(7), wait);
+    plays(&rt, rt.alloc(), devices, &IN_HAND)
+}
+
+/// More timers and more listeners than a number of 16 bits counts.
+const MANY: &[Row] = &[
+    Row {
+        shows: "timers are as many as memory holds",
+        keys: 0,
+        now: 5,
+        acts: &[
+            (InsertTimes(5, 65_537), Times(65_537)),
+            (React, Round(0, 65_537)),
+            (Take, Mask(1)),
+        ],
+    },
+    Row {
+        shows: "listeners are as many as memory holds",
+        keys: 1,
+        now: 5,
+        acts: &[
+            (Listen(65_537), Times(65_537)),
+            (React, Round(1, 65_537)),
+            (Take, Mask(1 << 3)),
+        ],
+    },
+];
+
+#[test]
+fn timers_and_listeners_are_as_many_as_memory_holds(rt: HostRuntime) -> Result<(), Fail> {
+    for row in MANY {
+        let wait = MemWait::new(row.keys.min(1024));
+        plays(
+            &rt,
+            rt.alloc(),
+            (MemNotify::new(), SureArm::new(7), wait),
+            row,
+        )?;
+    }
+    Ok(())
+}
