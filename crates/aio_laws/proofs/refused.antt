@@ -2,6 +2,7 @@
 mod FalseAnswers
 mod FalseArms
 mod FalseDraws
+mod FalseEnds
 mod FalseCalls
 mod FalseInterests
 mod FalseRefusals

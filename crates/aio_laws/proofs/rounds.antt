@@ -1,5 +1,6 @@
 -- What rounds tell, count, hold in hand and note.
 pub mod Noting
+pub mod Resuming
 pub mod RoundAnswers
 pub mod RoundArms
 pub mod RoundEnds

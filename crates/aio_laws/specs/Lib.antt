@@ -24,3 +24,4 @@ pub mod Registered
 pub mod Storings
 pub mod Succession
 pub mod Between
+pub mod Resuming

@@ -23,6 +23,7 @@ ghost use Rattle.aio_laws.specs.Readiness.{ReadyIsTold};
 ghost use Rattle.aio_base.specs.Refusals.{RefusalLeaves, is_refusal, only_counted};
 ghost use Rattle.aio_laws.specs.Registered.{TimersAreRegistered};
 ghost use Rattle.aio_base.specs.Runs.{PolledStep, answers_of, outcome_of, outcome_without_notes, scripted, wakes_of, without_notes, world_of};
+ghost use Rattle.aio_laws.specs.Resuming.{GoesOn, GoesOnAsWhole};
 ghost use Rattle.aio_laws.specs.RoundArming.{RoundArming};
 ghost use Rattle.aio_laws.specs.RoundCounts.{RoundsFollow};
 ghost use Rattle.aio_laws.specs.RoundHands.{HandFollows};
@@ -420,6 +421,22 @@ pub fn a_script_is_a_run()
 /// which an event left a waiter. Where it is refused it takes its position and does nothing else.
 pub fn a_step_stands()
     ensures { (w : World) (s : PolledStep) → StepStands w s (outcome_of w s) }
+{}
+
+/// A round that was stopped loses nothing. Say that it was begun and waited and handled some of its events,
+/// each in a step of its own, and that it then goes on at the same moment: its other events are handled, and
+/// it is ended. Then it comes to what the whole round comes to as one step, with the same answers of the
+/// poller: nobody is woken before the end, and then all whom the whole round wakes, in the same order and
+/// each as often; the same fault is told, the same calls of the poller were made, and the world is the same
+/// but for positions in the past, namely how many steps were run and at which of them an arm failed. So no
+/// event in hand is lost, none is handled twice, and none is taken for that of another.
+///
+/// It does not matter after which event the round was stopped. A core whose round was stopped for want of
+/// memory stands for the world of the sections that were done (`Core::react`), so this says how it goes on.
+/// Rounds that go on wrongly are a table of their own (`proofs/refused/FalseEnds.antt`).
+pub fn a_stopped_round_ends_as_a_whole_one()
+    ensures { (w : World) (given : Option ℕ) (told : PollerAnswer) (done rest : List PolledStep)
+        → GoesOn w given told done rest → GoesOnAsWhole w given told done rest }
 {}
 
 /// After every run, whatever the poller answered in it, each waiter of each live source is covered and
