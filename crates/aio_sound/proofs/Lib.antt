@@ -1,2 +1,3 @@
 mod PastKept
 mod SoundRuns
+mod StoppedRounds
