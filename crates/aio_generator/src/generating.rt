@@ -3,8 +3,9 @@
 ghost use Rattle.std.specs.Prelude.{◌≡◌, ◌+◌, ◌%◌, ◌^◌, ◌<◌, ◌≤◌, ◌∷◌};
 ghost use Rattle.std.specs.Iterator.{YieldsFirst, item_count};
 ghost use Rattle.aio_base.specs.Generated.{after_draws, dir_drawn, draw, drawn, generated_by, generated_of, generated_steps, interest_drawn, listener_drawn, next_state, timer_drawn};
-ghost use Rattle.aio_generator.specs.Generating.{LeavesRoom, StepsLeft, steps_left};
+ghost use Rattle.aio_generator.specs.Generating.{HandsNext, LeavesRoom, StepsLeft, steps_left};
 
+use crate::taking::{HandsOut, StepTaker};
 use aio_base::{Dir, Draws, Event, Interest, Key, Moment, Step, Waker};
 use std::marker::Model;
 
@@ -89,45 +90,61 @@ impl Steps {
         ensures step { steps_left self.old ≡ result ∷ steps_left self.new }
         ensures left { self.new.left + 1 ≡ self.old.left }
     {
-        self.left -= 1;
-        let kind = self.draws.draw() % 16;
-        self.generated(kind)
+        self.hand_next(&mut HandsOut)
     }
 
-    /// The step of a kind, its numbers drawn from left to right.
+    /// Hands the next step, where one is left, to a taker in the arm that drew it, and answers what
+    /// the taker answered. It takes no memory itself.
     #[inline(always)]
-    fn generated(&mut self, kind: u32) -> Step
+    pub fn hand_next<T: StepTaker>(&mut self, taker: &mut T) -> T::Answer
+        requires some { 0 < self.old.left }
+        requires ready { T.is_ready taker.old }
+        ensures taken { HandsNext T.takes taker.old result taker.new
+            (steps_left self.old) (steps_left self.new) }
+        ensures left { self.new.left + 1 ≡ self.old.left }
+    {
+        self.left -= 1;
+        let kind = self.draws.draw() % 16;
+        self.hand(kind, taker)
+    }
+
+    /// Hands the step of a kind to a taker, its numbers drawn from left to right.
+    #[inline(always)]
+    fn hand<T: StepTaker>(&mut self, kind: u32, taker: &mut T) -> T::Answer
         requires kind { kind < 16 }
         requires room { LeavesRoom (self.old.left + 1) self.old.generator }
+        requires ready { T.is_ready taker.old }
         ensures left { self.new.left ≡ self.old.left }
-        ensures step { result ≡ (generated_of kind self.old.generator).step }
+        ensures taken { T.takes taker.old (generated_of kind self.old.generator).step
+            result taker.new }
         ensures after { self.new.generator ≡ (generated_of kind self.old.generator).after }
     {
         match kind {
-            0 => Step::Add,
-            1..=4 => Step::Poll(self.key(), self.direction(), self.waker()),
+            0 => taker.take(Step::Add),
+            1..=4 => taker.take(Step::Poll(self.key(), self.direction(), self.waker())),
             5 => {
                 self.listeners += 1;
-                Step::New(self.key(), self.direction())
+                taker.take(Step::New(self.key(), self.direction()))
             }
-            6 => Step::StepEar(self.listener(), self.waker()),
-            7 => Step::DropEar(self.listener()),
+            6 => taker.take(Step::StepEar(self.listener(), self.waker())),
+            7 => taker.take(Step::DropEar(self.listener())),
             8 => {
                 self.timers += 1;
                 let later = u64::from(self.draws.draw() % 1000);
-                Step::TimerAt(moment_at(self.moment + later))
+                taker.take(Step::TimerAt(moment_at(self.moment + later)))
             }
-            9 => Step::Tick(self.timer(), self.waker()),
-            10 => Step::End(self.timer()),
+            9 => taker.take(Step::Tick(self.timer(), self.waker())),
+            10 => taker.take(Step::End(self.timer())),
             11 => {
                 self.moment += u64::from(self.draws.draw() % 100);
-                Step::Now(moment_at(self.moment))
+                taker.take(Step::Now(moment_at(self.moment)))
             }
-            12 | 13 => Step::Note(Event {
+            12 | 13 => taker.take(Step::Note(Event {
                 key: self.key(),
                 on: self.interest(),
-            }),
-            _ => Step::React,
+            })),
+            14 | 15 => taker.take(Step::React),
+            _ => unreachable!(),
         }
     }
 

@@ -6,5 +6,7 @@
 
 mod generating;
 pub mod laws;
+mod taking;
 
 pub use generating::{Steps, gen_steps};
+pub use taking::StepTaker;

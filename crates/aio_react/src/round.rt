@@ -125,7 +125,7 @@ impl Round {
             Err(refused) => return Err(refused),
         }
         self.taken.clear();
-        book.pass(now, &mut self.taken);
+        pass_over(book, now, &mut self.taken);
         let limit = if self.taken.is_empty() {
             lesser(time_left(book, now), given)
         } else {
@@ -261,7 +261,7 @@ impl Round {
                 Ok(()) => {}
                 Err(refused) => return Err(refused),
             }
-            book.pass(now, &mut self.taken);
+            pass_over(book, now, &mut self.taken);
         }
         self.running = false;
         Ok(self.fault)
@@ -353,13 +353,33 @@ fn make_pass_room(taken: &mut Vec<Waker>, book: &TimerBook, now: Moment) -> Resu
         ≤ vec_capacity taken.new) }
     ensures wanting { OnErr result (due_wakers now book.now.entries ≢ []) }
 {
-    if taken.reserve(book.len()).is_ok() {
+    let timers = book.len();
+    if timers == 0 {
+        return Ok(());
+    }
+    if taken.reserve(timers).is_ok() {
         return Ok(());
     }
     match taken.reserve(book.due_count(now)) {
         Ok(()) => Ok(()),
         Err(_) => Err(OutOfMemory),
     }
+}
+
+/// A pass over the timers, which need not be looked at where there are none.
+#[inline(always)]
+fn pass_over(book: &mut TimerBook, now: Moment, taken: &mut Vec<Waker>)
+    requires { vec_len taken.old + length (due_wakers now book.old.entries)
+        ≤ vec_capacity taken.old }
+    ensures taken { taken.new.items ≡ taken.old.items ++ due_wakers now book.old.entries }
+    ensures entries { book.new.entries ≡ after_pass now book.old.entries }
+    ensures later { All (λ (r : Registration). now < r.deadline) book.new.entries }
+    ensures spare { book.old.spare ≤ book.new.spare }
+{
+    if book.len() == 0 {
+        return;
+    }
+    book.pass(now, taken);
 }
 
 /// Makes room behind `taken` for all waiters of a source.
@@ -372,6 +392,7 @@ fn make_room(taken: &mut Vec<Waker>, s: &SourceState) -> Result<(), OutOfMemory>
         return Ok(());
     }
     match count_waiters(s) {
+        Some(waiting) if taken.capacity() - taken.len() >= waiting as usize => Ok(()),
         Some(waiting) => taken.reserve(waiting as usize).map_err(|_| OutOfMemory),
         None => Err(OutOfMemory),
     }

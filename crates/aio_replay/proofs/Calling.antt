@@ -270,14 +270,7 @@ replayed s now limit answer wakes r new call clock met = called s now limit answ
 
 -- ## Answers that were told
 
--- an answer and the wakes
-pub told_with_wakes : (told : Option Answer) (s : Step) (answer : Answer) (wakes expected : List Waker) (r new : Replayer) → Replays s answer expected r new
-    → IfSome told (λ a. a ≡ answer) → IfSome told (λ a. wakes ≡ expected) → IfSome told (λ a. Replays s a wakes r new)
-told_with_wakes (Some a) s answer wakes expected r new replays is are =
-    subst (λ (x : Answer). Replays s x wakes r new) (sym is) (subst (λ (xs : List Waker). Replays s answer xs r new) (sym are) replays)
-told_with_wakes None s answer wakes expected r new replays is are = tt
-
--- an answer that was told in one byte
+-- an answer that was told
 pub answered_by : {E : Type 0} (answered : Result Answer E) (told : Option Answer) (P : Answer → Type 0) → IfOk answered (λ a. told ≡ Some a) → IfSome told P → IfOk answered P
 answered_by (Ok a) told P is holds = subst (λ (o : Option Answer). IfSome o P) is holds
 answered_by (Err e) told P is holds = tt

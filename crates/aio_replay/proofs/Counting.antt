@@ -10,7 +10,7 @@ use Rattle.aio_base.specs.Machine.{Outcome, is_waker, is_timer, unregistered, re
 use Rattle.aio_base.specs.Script.{script_answers, after_calls, script_step}
 use Rattle.aio_base.specs.World.{PollerAnswer, TimerEntry, World}
 use Rattle.aio_replay.specs.declared.replayer.Replayer.{Replayer}
-use Rattle.aio_replay.specs.Replaying.{Replays, IsCounted, IsWithin}
+use Rattle.aio_replay.specs.Replaying.{Replays, ReplaysInto, IsCounted, IsWithin}
 use Rattle.aio_replay.proofs.Asking.{IsCall, case_does}
 use Rattle.aio_replay.proofs.Calling.{calls_note}
 
@@ -171,7 +171,7 @@ within_more bound more r less within =
     }
 
 -- what was answered, if memory sufficed
-pub each_within : {E : Type 0} (told : Result Answer E) (s : Step) (wakes : List Waker) (old new : Replayer) → IfOk told (λ a. Replays s a wakes old new)
-    → OnOk told ((bound : ℕ) → IsWithin bound old → IsWithin (bound + 1) new)
-each_within (Ok a) s wakes old new replays = λ bound within. within_after s a wakes old new bound replays within
-each_within (Err e) s wakes old new replays = tt
+pub each_within : {W E : Type 0} (holds : W → List Waker → Type 0) (told : Result Answer E) (s : Step) (wakes : W) (old new : Replayer)
+    → IfOk told (λ a. ReplaysInto holds s a wakes old new) → OnOk told ((bound : ℕ) → IsWithin bound old → IsWithin (bound + 1) new)
+each_within holds (Ok a) s wakes old new into = λ bound within. within_after s a into.woken old new bound into.replays within
+each_within holds (Err e) s wakes old new into = tt

@@ -12,6 +12,7 @@ pub mod Scripted
 pub mod Starting
 pub mod StepLemmas
 pub mod SummaryCounts
+pub mod Taking
 pub mod TimerCalls
 pub mod TimerChanges
 pub mod TimerNumbers

@@ -1,25 +1,22 @@
 -- What stands while the steps of a seed are run and counted.
-use Rattle.std.proofs.Common.{◌≡◌, ℕ, zero, suc, ◌+◌, ◌≤◌, Bool, cond, List, [], ◌∷◌, ◌++◌, length, refl, sym, ap, ◌∙◌, subst, append_assoc, append-nil, arith}
+use Rattle.std.proofs.Common.{◌≡◌, ℕ, zero, suc, ◌+◌, ◌<◌, ◌≤◌, Bool, cond, Result, Ok, List, [], ◌∷◌, ◌++◌, length, refl, sym, ap, ◌∙◌, subst, append_assoc, append-nil, arith}
 use Rattle.std.specs.Prelude.{sum_by, if◌then◌else◌}
-use Rattle.std.specs.List.{All}
 use Rattle.std.proofs.lemmas.List.{length-append}
-use Rattle.std.proofs.lemmas.List.Elements.{All-head, All-tail}
 use Rattle.std.proofs.lemmas.List.Sums.{count_by-le-length, sum_by_push}
 use Rattle.aio_base.specs.declared.names.Waker.{Waker}
 use Rattle.aio_base.specs.declared.steps.Answer.{Answer}
 use Rattle.aio_base.specs.declared.steps.Step.{Step}
-use Rattle.aio_base.specs.Generated.{Generator, count_answers, counts_of, generated_by, generated_steps, first_generator, run_counts, steps_from, tells_pending, tells_ready, tells_round}
-use Rattle.aio_base.specs.Lines.{HasSpelling, IsInRange}
+use Rattle.aio_base.specs.Generated.{Generator, RunCounts, count_answers, counts_of, generated_by, generated_steps, first_generator, run_counts, steps_from, tells_pending, tells_ready, tells_round}
 use Rattle.aio_base.specs.Machine.{Outcome}
 use Rattle.aio_base.specs.Refusals.{is_refusal}
 use Rattle.aio_base.specs.Script.{outcomes_from, script_step, world_after}
 use Rattle.aio_base.specs.World.{World, opening}
-use Rattle.aio_generator.specs.Generating.{StepsLeft, steps_left}
-use Rattle.aio_generator.proofs.Ranges.{all_spelled, in_range}
+use Rattle.aio_generator.specs.Generating.{HandsNext, StepsLeft, steps_left}
 use Rattle.aio_replay.specs.declared.counts.Summary.{Summary}
 use Rattle.aio_replay.specs.declared.replayer.Replayer.{Replayer}
 use Rattle.aio_replay.specs.Replaying.{IsWithin, Replays, StandsFor, step_limit}
-use Rattle.aio_replay.specs.Summing.{AreAtMost, counts_told}
+use Rattle.aio_replay.specs.declared.summing.Tally.{Tally}
+use Rattle.aio_replay.specs.Summing.{AreAtMost, HasTallied, IsTallying, Tallies, counts_told}
 use Rattle.aio_replay.proofs.Counting.{within_more}
 use Rattle.aio_replay.proofs.StepLemmas.{world_after-push}
 use Rattle.aio_replay.proofs.WakeCounts.{few_woken}
@@ -40,11 +37,6 @@ all_left n seed left is = sym (length-steps_from left.left left.generator) ∙ a
 
 pub none_left : (left : StepsLeft) → left.left ≡ 0 → steps_left left ≡ []
 none_left left none = ap (λ n. steps_from n left.generator) none
-
--- the step behind some steps that all have spellings
-pub behind : (done : List Step) (s : Step) (rest : List Step) → All HasSpelling (done ++ s ∷ rest) → HasSpelling s
-behind [] s rest all = All-head HasSpelling s rest all
-behind (d ∷ done) s rest all = behind done s rest (All-tail HasSpelling d (done ++ s ∷ rest) all)
 
 -- ## One step more
 
@@ -94,6 +86,16 @@ counts_push old new outcomes o before one = record {
 counts_are : (s : Summary) (outcomes : List Outcome) → AreCounts s outcomes → counts_told s ≡ counts_of outcomes
 counts_are s outcomes c = rw (c.steps, c.ready, c.pending, c.wakes, c.rounds, c.refused) refl
 
+tells_counts : (s : Summary) (outcomes : List Outcome) → counts_told s ≡ counts_of outcomes → AreCounts s outcomes
+tells_counts s outcomes same = record {
+  steps = ap (λ (c : RunCounts). c.steps) same;
+  ready = ap (λ (c : RunCounts). c.ready) same;
+  pending = ap (λ (c : RunCounts). c.pending) same;
+  wakes = ap (λ (c : RunCounts). c.wakes) same;
+  rounds = ap (λ (c : RunCounts). c.rounds) same;
+  refused = ap (λ (c : RunCounts). c.refused) same;
+}
+
 few_counts : (s : Summary) (done : List Step) → AreCounts s (outcomes_from opening done) → length done ≤ step_limit → AreAtMost step_limit s
 few_counts s done counts few =
     let outcomes = outcomes_from opening done in
@@ -107,73 +109,76 @@ few_counts s done counts few =
       refused = omega (arith, counts.refused, count_by-le-length (λ (o : Outcome). is_refusal o.answer) outcomes);
     }
 
+-- ## A tally
+
+-- one step more
+module _ (done : List Step) (t : Tally) (tallied : HasTallied done t) (few : length done < step_limit) where
+  before : AreCounts t.counts (outcomes_from opening done)
+  before = tells_counts t.counts (outcomes_from opening done) tallied.counts
+
+  pub tally_within : IsWithin step_limit t.replayer
+  tally_within = within_more (length done) step_limit t.replayer (omega (arith, few)) tallied.within
+
+  pub tally_few : AreAtMost step_limit t.counts
+  tally_few = few_counts t.counts done before (omega (arith, few))
+
+  -- the wakes of the step are still few
+  pub tally_wakes : (next : Step) (answer : Answer) (wakes : List Waker) (after : Replayer) → Replays next answer wakes t.replayer after
+      → t.counts.wakes + length wakes ≤ step_limit
+  tally_wakes next answer wakes after replays =
+      let o = script_step (world_after opening done) next in
+      let all = few_woken (done ++ next ∷ []) in
+      let pushed = ap (sum_by (λ (o : Outcome). length o.wakes)) (outcomes-push opening done next) ∙ sum_by_push (λ (o : Outcome). length o.wakes) (outcomes_from opening done) o in
+      let here = ap length (replays (world_after opening done) tallied.stands).wakes_are in
+      omega (arith, all, pushed, here, before.wakes, few, length-append done (next ∷ []))
+
+  pub tally_one : (next : Step) (answer : Answer) (wakes : List Waker) (new : Tally) → Replays next answer wakes t.replayer new.replayer
+      → ((bound : ℕ) → IsWithin bound t.replayer → IsWithin (bound + 1) new.replayer) → CountsOne t.counts new.counts answer (length wakes)
+      → HasTallied (done ++ next ∷ []) new
+  tally_one next answer wakes new replays counted one =
+      let w = world_after opening done in
+      let o = script_step w next in
+      let gives = replays w tallied.stands in
+      let same : CountsOne t.counts new.counts o.answer (length o.wakes) =
+      subst (λ a. CountsOne t.counts new.counts a (length o.wakes)) (sym gives.answer_is) (subst (λ ws. CountsOne t.counts new.counts answer (length ws)) (sym gives.wakes_are) one) in
+      record {
+        stands = subst (StandsFor new.replayer) (sym (world_after-push opening done next)) gives.stands;
+        within = subst (λ bound. IsWithin bound new.replayer) (sym (length-append done (next ∷ []))) (counted (length done) tallied.within);
+        counts = counts_are new.counts (outcomes_from opening (done ++ next ∷ []))
+            (subst (AreCounts new.counts) (sym (outcomes-push opening done next)) (counts_push t.counts new.counts (outcomes_from opening done) o before same));
+      }
+
 -- ## The loop
 
 -- the steps done so far are the first of the seed's, and those that are left the others; their run is counted
-pub record Summing (n seed : ℕ) (left : StepsLeft) (s : Summary) (r : Replayer) : Type 0 where
+pub record Summing (n seed : ℕ) (left : StepsLeft) (t : Tally) : Type 0 where
   pub done : List Step
   pub whole : generated_steps n seed ≡ done ++ steps_left left
-  pub stands : StandsFor r (world_after opening done)
-  pub within : IsWithin (length done) r
-  pub counts : AreCounts s (outcomes_from opening done)
+  pub tallied : HasTallied done t
 
-pub sums_none : (n seed : ℕ) (left : StepsLeft) (s : Summary) (r : Replayer) → generated_steps n seed ≡ steps_left left → AreAtMost 0 s → StandsFor r opening → IsWithin 0 r
-    → Summing n seed left s r
-sums_none n seed left s r whole none stands within =
-    let steps = none.steps in let ready = none.ready in let pending = none.pending in let wakes = none.wakes in let rounds = none.rounds in let refused = none.refused in
-    record {
-      done = [];
-      whole = whole;
-      stands = stands;
-      within = within;
-      counts = record { steps = omega arith; ready = omega arith; pending = omega arith; wakes = omega arith; rounds = omega arith; refused = omega arith };
-    }
+pub sums_none : (n seed : ℕ) (left : StepsLeft) (t : Tally) → generated_steps n seed ≡ steps_left left → HasTallied [] t → Summing n seed left t
+sums_none n seed left t whole tallied = record { done = []; whole = whole; tallied = tallied }
 
--- the next step is one of the seed's
-module _ (n seed : ℕ) (left rest : StepsLeft) (s : Summary) (r : Replayer) (sums : Summing n seed left s r) (next : Step) (few : n ≤ 999999)
-    (is_next : steps_left left ≡ next ∷ steps_left rest) where
-  with_next : generated_steps n seed ≡ sums.done ++ next ∷ steps_left rest
-  with_next = sums.whole ∙ ap (λ more. sums.done ++ more) is_next
+module _ (n seed : ℕ) (left : StepsLeft) (t : Tally) (sums : Summing n seed left t) (few : n ≤ 999999) where
+  done_few : length sums.done ≤ 999999
+  done_few = omega (arith, few, length-generated n seed, ap length sums.whole, length-append sums.done (steps_left left))
 
-  pub next_in_range : IsInRange next
-  next_in_range = in_range next (behind sums.done next (steps_left rest) (subst (All HasSpelling) with_next (all_spelled n seed few)))
+  pub sums_ready : IsTallying t
+  sums_ready = record { done = sums.done; tallied = sums.tallied; few = omega (arith, done_few) }
 
-  done_few : length sums.done + 1 ≤ n
-  done_few = omega (arith, length-generated n seed, ap length with_next, length-append sums.done (next ∷ steps_left rest))
-
-  pub sums_within : IsWithin step_limit r
-  sums_within = within_more (length sums.done) step_limit r (omega (arith, done_few)) sums.within
-
-  pub sums_few : AreAtMost step_limit s
-  sums_few = few_counts s sums.done sums.counts (omega (arith, done_few))
-
-  -- the wakes of one step more are still few
-  pub wakes_few : (answer : Answer) (wakes : List Waker) (after : Replayer) → Replays next answer wakes r after → s.wakes + length wakes ≤ step_limit
-  wakes_few answer wakes after replays =
-      let o = script_step (world_after opening sums.done) next in
-      let all = few_woken (sums.done ++ next ∷ []) in
-      let pushed = ap (sum_by (λ (o : Outcome). length o.wakes)) (outcomes-push opening sums.done next) ∙ sum_by_push (λ (o : Outcome). length o.wakes) (outcomes_from opening sums.done) o in
-      let here = ap length (replays (world_after opening sums.done) sums.stands).wakes_are in
-      omega (arith, all, pushed, here, sums.counts.wakes, done_few, length-append sums.done (next ∷ []))
-
-  pub sums_one : (answer : Answer) (wakes : List Waker) (after : Replayer) (new : Summary) → Replays next answer wakes r after
-      → ((bound : ℕ) → IsWithin bound r → IsWithin (bound + 1) after) → CountsOne s new answer (length wakes) → Summing n seed rest new after
-  sums_one answer wakes after new replays counted one =
-      let w = world_after opening sums.done in
-      let o = script_step w next in
-      let gives = replays w sums.stands in
-      let same : CountsOne s new o.answer (length o.wakes) = subst (λ a. CountsOne s new a (length o.wakes)) (sym gives.answer_is) (subst (λ ws. CountsOne s new answer (length ws)) (sym gives.wakes_are) one) in
+  pub sums_one : {E : Type 0} (answer : Result (Unit {0}) E) (unit : Unit {0}) (rest : StepsLeft) (new : Tally) → answer ≡ Ok unit
+      → HandsNext (Tallies {E = E}) t answer new (steps_left left) (steps_left rest) → Summing n seed rest new
+  sums_one {E} answer unit rest new ok hands =
+      let taken : Tallies {E = E} t hands.step (Ok unit) new = subst (λ (a : Result (Unit {0}) E). Tallies t hands.step a new) ok hands.taken in
       record {
-        done = sums.done ++ next ∷ [];
-        whole = with_next ∙ sym (append_assoc sums.done (next ∷ []) (steps_left rest));
-        stands = subst (StandsFor after) (sym (world_after-push opening sums.done next)) gives.stands;
-        within = subst (λ bound. IsWithin bound after) (sym (length-append sums.done (next ∷ []))) (counted (length sums.done) sums.within);
-        counts = subst (AreCounts new) (sym (outcomes-push opening sums.done next)) (counts_push s new (outcomes_from opening sums.done) o sums.counts same);
+        done = sums.done ++ hands.step ∷ [];
+        whole = sums.whole ∙ ap (λ more. sums.done ++ more) hands.first ∙ sym (append_assoc sums.done (hands.step ∷ []) (steps_left rest));
+        tallied = taken sums.done sums.tallied (omega (arith, done_few));
       }
 
 -- all steps are done
-pub sums_all : (n seed : ℕ) (left : StepsLeft) (s : Summary) (r : Replayer) → Summing n seed left s r → steps_left left ≡ [] → counts_told s ≡ run_counts (generated_steps n seed)
+pub sums_all : (n seed : ℕ) (left : StepsLeft) (t : Tally) → Summing n seed left t → steps_left left ≡ [] → counts_told t.counts ≡ run_counts (generated_steps n seed)
 unfolding run_counts
-sums_all n seed left s r sums none =
+sums_all n seed left t sums none =
     let whole : generated_steps n seed ≡ sums.done = sums.whole ∙ ap (λ more. sums.done ++ more) none ∙ append-nil sums.done in
-    counts_are s (outcomes_from opening sums.done) sums.counts ∙ ap (λ steps. counts_of (outcomes_from opening steps)) (sym whole)
+    sums.tallied.counts ∙ ap (λ steps. counts_of (outcomes_from opening steps)) (sym whole)

@@ -19,6 +19,7 @@ pub mod summing;
 mod timer_table;
 pub mod trace;
 mod version;
+mod wakes;
 
 pub use counts::Summary;
 pub use ends::ReplayEnd;

@@ -4,7 +4,7 @@
 ghost use Rattle.std.specs.Prelude.{◌≡◌, ◌+◌, ℕ, [], IfOk, OnOk};
 ghost use Rattle.aio_base.specs.Trace.{IsInRange};
 ghost use Rattle.aio_base.specs.World.{opening};
-ghost use Rattle.aio_replay.specs.Replaying.{StandsFor, Replays, IsWithin, step_limit};
+ghost use Rattle.aio_replay.specs.Replaying.{StandsFor, ReplaysInto, IsWithin, step_limit};
 
 mod calls;
 mod clock;
@@ -12,7 +12,8 @@ mod rounds;
 mod timers;
 
 use crate::timer_table::TimerTable;
-use aio_base::{Answer, OutOfMemory, Step, Waker};
+use crate::wakes::TakesWakes;
+use aio_base::{Answer, OutOfMemory, Step};
 use aio_future::Timer;
 use aio_react::Core;
 use aio_script::{ScriptClock, ScriptPoller};
@@ -45,16 +46,20 @@ impl Replayer {
         })
     }
 
-    /// Runs a step of a trace: its answer, and its wakes in order in `wakes`, which is empty.
+    /// Runs a step of a trace: its answer, and its wakes in order to `wakes`, which has taken none.
     /// `AllocError` where memory ran out. So many steps as a run may have spend no rounds, tickets or
     /// ids.
     #[inline(always)]
-    pub(crate) fn step(&mut self, step: &Step, wakes: &mut Vec<Waker>) -> Result<Answer, AllocError>
+    pub(crate) fn step<W: TakesWakes>(
+        &mut self,
+        step: &Step,
+        wakes: &mut W,
+    ) -> Result<Answer, AllocError>
         requires range { IsInRange step.now }
         requires within { IsWithin step_limit self.old }
-        requires none { wakes.old.items ≡ [] }
+        requires none { W.holds wakes.old [] }
         ensures replays { IfOk result (λ answer.
-            Replays step.now answer wakes.new.items self.old self.new) }
+            ReplaysInto W.holds step.now answer wakes.new self.old self.new) }
         ensures within { OnOk result ((bound : ℕ) → IsWithin bound self.old
             → IsWithin (bound + 1) self.new) }
     {
@@ -68,14 +73,15 @@ impl Replayer {
         self.core
     }
 
-    /// Runs a step; its wakes go into `wakes`, which is empty.
+    /// Runs a step; its wakes go to `wakes`, which has taken none.
     #[inline(always)]
-    fn run(&mut self, step: &Step, wakes: &mut Vec<Waker>) -> Result<Answer, AllocError>
+    #[tactic(auto, using(crate::proofs::Taking::replays_quietly))]
+    fn run<W: TakesWakes>(&mut self, step: &Step, wakes: &mut W) -> Result<Answer, AllocError>
         requires range { IsInRange step.now }
         requires within { IsWithin step_limit self.old }
-        requires none { wakes.old.items ≡ [] }
+        requires none { W.holds wakes.old [] }
         ensures { IfOk result (λ answer.
-            Replays step.now answer wakes.new.items self.old self.new) }
+            ReplaysInto W.holds step.now answer wakes.new self.old self.new) }
     {
         match *step {
             Step::Add => Ok(self.add()),

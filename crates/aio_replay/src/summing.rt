@@ -1,14 +1,15 @@
 //! What the run of a trace comes to that a number describes.
 
-ghost use Rattle.std.specs.Prelude.{◌≡◌, ◌≤◌, ◌<◌, ◌^◌, IfOk};
+ghost use Rattle.std.specs.Prelude.{◌≡◌, ◌≤◌, ◌<◌, ◌^◌, [], IfOk};
 ghost use Rattle.aio_base.specs.Generated.{generated_steps, run_counts};
-ghost use Rattle.aio_replay.specs.Summing.{counts_told};
+ghost use Rattle.aio_replay.specs.Summing.{HasTallied, counts_told};
 
 use crate::counts::Summary;
 use crate::replayer::Replayer;
-use aio_base::OutOfMemory;
-use aio_generator::gen_steps;
-use std::alloc::Global;
+use crate::wakes::WakeCount;
+use aio_base::{OutOfMemory, Step};
+use aio_generator::{StepTaker, gen_steps};
+use std::alloc::{AllocError, Global};
 
 /// Runs the first `n` steps that the seed gives, on a core over the poller in memory as `replay` runs
 /// the steps of a trace, and counts what is answered. The same numbers give the same summary on every
@@ -22,19 +23,53 @@ pub fn summary(alloc: Global, n: u32, seed: u64) -> Result<Summary, OutOfMemory>
     requires seed { seed < 2 ^ 48 }
     ensures { IfOk result (λ summary. counts_told summary ≡ run_counts (generated_steps n seed)) }
 {
-    let Ok(mut replayer) = Replayer::new(alloc) else {
+    let Ok(mut tally) = Tally::new(alloc) else {
         return Err(OutOfMemory);
     };
-    let mut wakes = Vec::new(alloc);
-    let mut summary = Summary::new();
     let mut steps = gen_steps(n, seed);
     for _ in 0..n {
-        let step = steps.next_step();
-        match replayer.step(&step, &mut wakes) {
-            Ok(answer) => summary.count(answer, wakes.len()),
+        match steps.hand_next(&mut tally) {
+            Ok(()) => {}
             Err(_) => return Err(OutOfMemory),
         }
-        wakes.clear();
     }
-    Ok(summary)
+    Ok(tally.counts)
+}
+
+/// A replayer, and what the steps that it ran came to.
+#[derive(Drop)]
+struct Tally {
+    replayer: Replayer,
+    counts: Summary,
+}
+
+impl Tally {
+    /// The tally of no steps. `AllocError` where there is no memory for a replayer.
+    fn new(alloc: Global) -> Result<Tally, AllocError>
+        ensures { IfOk result (HasTallied []) }
+    {
+        Ok(Tally {
+            replayer: Replayer::new(alloc)?,
+            counts: Summary::new(),
+        })
+    }
+}
+
+impl StepTaker for Tally {
+    ghost use Rattle.aio_replay.specs.Summing.{IsTallying, Tallies};
+
+    type Answer = Result<(), AllocError>;
+
+    ghost is_ready = { IsTallying };
+
+    ghost takes = { Tallies };
+
+    /// Runs a step and counts it.
+    #[inline(always)]
+    fn take(&mut self, step: Step) -> Result<(), AllocError> {
+        let mut woken = WakeCount { count: 0 };
+        let answer = self.replayer.step(&step, &mut woken)?;
+        self.counts.count(answer, woken.count);
+        Ok(())
+    }
 }

@@ -49,9 +49,11 @@ impl NotedEvents {
         ensures ok { OnOk result (self.new ≡ self.old ++ event ∷ []) }
         ensures err { OnErr result (self.new ≡ self.old) }
     {
-        if self.events.len() == self.events.capacity() {
-            self.make_room();
+        if self.events.len() < self.events.capacity() {
+            self.events.push_reserved(event);
+            return Ok(());
         }
+        self.make_room();
         match self.events.push(event) {
             Ok(()) => Ok(()),
             Err(_) => Err(OutOfMemory),

@@ -1,6 +1,6 @@
 //! The poller in memory and its calls.
 
-ghost use Rattle.std.specs.Prelude.{◌≡◌, ℕ, [], ◌∷◌, ◌++◌, true, false, OnOk, OnErr, IfOk, length};
+ghost use Rattle.std.specs.Prelude.{◌≡◌, ℕ, ◌+◌, ◌≤◌, [], ◌∷◌, ◌++◌, true, false, OnOk, OnErr, IfOk, length, vec_len, vec_capacity};
 ghost use Rattle.aio_script.specs.Script.{cleared};
 
 use crate::events::NotedEvents;
@@ -222,10 +222,12 @@ impl EventWait for ScriptPoller {
             return Ok(Waited::Interrupted);
         }
         let noted = self.noted.as_slice();
+        if noted.is_empty() {
+            return Ok(Waited::Given(0));
+        }
         let count = noted.len().min(room as usize);
         let given = &noted[..count];
-        clear_interests(&mut self.armed, given);
-        out.extend_from_slice(given).unwrap();
+        give_out(&mut self.armed, given, out);
         self.noted.skip(count);
         Ok(Waited::Given(count as u32))
     }
@@ -245,14 +247,19 @@ impl Poller for ScriptPoller {
     ghost waits_in_rest = { λ a b same. ap (λ rest. slice_index_or rest 0 0) same };
 }
 
-/// Clears the interest of each key that an event names; a key past the last entry has none.
-fn clear_interests(armed: &mut [Interest], events: &[Event])
-    ensures { armed.new ≡ cleared events.now armed.old }
+/// Puts events at the end of `out`, and clears the interest of each key that one of them names; a key
+/// past the last entry has none.
+fn give_out(armed: &mut [Interest], events: &[Event], out: &mut Vec<Event>)
+    requires { vec_len out.old + length events.now ≤ vec_capacity out.old }
+    ensures armed { armed.new ≡ cleared events.now armed.old }
+    ensures out { out.new.items ≡ out.old.items ++ events.now }
+    ensures capacity { vec_capacity out.new ≡ vec_capacity out.old }
 {
     for event in events {
         let index = event.key.0 as usize;
         if index < armed.len() {
             armed[index] = Interest::NONE;
         }
+        out.push_reserved(*event);
     }
 }

@@ -2,11 +2,12 @@
 
 ghost use Rattle.std.specs.Prelude.{◌≡◌, [], if◌then◌else◌, IfOk, OnOk};
 ghost use Rattle.aio_base.specs.declared.steps.Step.TheVariants as step;
-ghost use Rattle.aio_replay.specs.Replaying.{Replays, IsWithin, step_limit};
+ghost use Rattle.aio_replay.specs.Replaying.{Replays, ReplaysInto, IsWithin, step_limit};
 
 use super::Replayer;
 use crate::replies::{told_begin, told_finish, told_handle, told_react, told_wait};
-use aio_base::{Answer, Waker};
+use crate::wakes::TakesWakes;
+use aio_base::Answer;
 use std::alloc::AllocError;
 
 impl Replayer {
@@ -38,44 +39,44 @@ impl Replayer {
         told_handle(self.core.handle())
     }
 
-    /// Ends the running round, whose wakers go into `wakes`, which is empty. `AllocError` where
+    /// Ends the running round, whose wakers go to `wakes`, which has taken none. `AllocError` where
     /// memory ran out.
     #[inline(always)]
-    pub fn finish(&mut self, wakes: &mut Vec<Waker>) -> Result<Answer, AllocError>
-        requires { wakes.old.items ≡ [] }
+    pub fn finish<W: TakesWakes>(&mut self, wakes: &mut W) -> Result<Answer, AllocError>
+        requires { W.holds wakes.old [] }
         ensures { IfOk result (λ answer.
-            Replays step.Finish answer wakes.new.items self.old self.new) }
+            ReplaysInto W.holds step.Finish answer wakes.new self.old self.new) }
     {
         let finished = self.core.finish(self.clock.now());
         self.take_woken(finished.is_ok(), wakes)?;
         told_finish(finished)
     }
 
-    /// A whole round with no limit, whose wakers go into `wakes`, which is empty. `AllocError`
+    /// A whole round with no limit, whose wakers go to `wakes`, which has taken none. `AllocError`
     /// where memory ran out.
     #[inline(always)]
-    pub fn react(&mut self, wakes: &mut Vec<Waker>) -> Result<Answer, AllocError>
-        requires none { wakes.old.items ≡ [] }
+    pub fn react<W: TakesWakes>(&mut self, wakes: &mut W) -> Result<Answer, AllocError>
+        requires none { W.holds wakes.old [] }
         requires within { IsWithin step_limit self.old }
         ensures { IfOk result (λ answer.
-            Replays step.React answer wakes.new.items self.old self.new) }
+            ReplaysInto W.holds step.React answer wakes.new self.old self.new) }
     {
         let reacted = self.core.react(self.clock.now(), None);
         self.take_woken(reacted.is_ok(), wakes)?;
         told_react(reacted)
     }
 
-    /// Where a round has ended, its wakers go into `wakes`, which is empty. `AllocError` where
+    /// Where a round has ended, its wakers go to `wakes`, which has taken none. `AllocError` where
     /// memory ran out.
     #[inline(always)]
-    fn take_woken(&self, ended: bool, wakes: &mut Vec<Waker>) -> Result<(), AllocError>
-        requires { wakes.old.items ≡ [] }
+    fn take_woken<W: TakesWakes>(&self, ended: bool, wakes: &mut W) -> Result<(), AllocError>
+        requires { W.holds wakes.old [] }
         ensures { OnOk result
-            (wakes.new.items ≡ (if ended then self.now.core.1.round.taken else [])) }
+            (W.holds wakes.new (if ended then self.now.core.1.round.taken else [])) }
     {
         let woken = self.core.woken();
         if ended && !woken.is_empty() {
-            wakes.extend_from_slice(woken)?;
+            wakes.take_all(woken)?;
         }
         Ok(())
     }

@@ -1,14 +1,15 @@
-use Rattle.std.proofs.Common.{List, None, Some, IfOk, sym, subst}
+use Rattle.std.proofs.Common.{List, None, Some, refl, subst}
 use Rattle.aio_base.specs.declared.names.Waker.{Waker}
 use Rattle.aio_base.specs.declared.steps.Step.TheVariants as step
-use Rattle.aio_replay.specs.Replaying.{Replays}
 use Rattle.aio_replay.proofs.Calling.{told_met, finished_wakes}
+use Rattle.aio_replay.proofs.Taking.{replays_held}
 use Rattle.aio_replay.proofs.replayer.Replayer.finish.Goals as goal
 
 pub returns : goal.returns
-returns c =
+returns g c =
     let r = c.args.self.now in
     let core = c.finish-finished.new.self in
-    let are = finished_wakes c.finish-finished.result core.1.round c.is_ok.result _ c.is_ok.ensures.value c.in_ok-take_woken.ensures in
-    subst (λ (wakes : List Waker). IfOk c.told_finish.result (λ a. Replays step.Finish a wakes r (record r { core = core }))) (sym are)
+    let are = finished_wakes c.finish-finished.result core.1.round c.is_ok.result _ c.is_ok.ensures.value refl in
+    replays_held g.W.TakesWakes.holds c.told_finish.result step.Finish _ c.take_woken.new.wakes r (record r { core = core })
+    (subst (λ (woken : List Waker). g.W.TakesWakes.holds c.take_woken.new.wakes woken) are c.in_ok-take_woken.ensures)
     (told_met c.told_finish.result _ step.Finish (Some c.now.result) None _ r core tt c.now.ensures c.told_finish.ensures c.finish-finished.ensures.meets)
