@@ -7,9 +7,9 @@ ghost use Rattle.aio_conns.specs.Given.{total_bytes};
 use crate::armed::ArmedKeys;
 use crate::giving::Giving;
 use crate::pieces::{Piece, any_blocks};
-use crate::script::Calls;
 use crate::sending::Sending;
 use aio_base::{Arm, Conn, Did, Failed, Faults, Interest, Key, OutOfMemory, Tells};
+use aio_devices::Script;
 use std::alloc::Global;
 use std::marker::Model;
 
@@ -172,7 +172,7 @@ impl Conn for SureConn {
 #[derive(Drop)]
 pub struct MemConn {
     conn: SureConn,
-    calls: Calls,
+    calls: Script,
 }
 
 impl Model for MemConn {
@@ -204,7 +204,7 @@ impl MemConn {
         let conn = SureConn::new(alloc, reads, ends, at_once, room)?;
         Ok(MemConn {
             conn,
-            calls: Calls::new(fails),
+            calls: Script::new(fails),
         })
     }
 
@@ -252,17 +252,17 @@ impl Arm for MemConn {
     ghost arm_step = { ScriptedArms };
 
     fn add(&mut self, key: Key) -> Result<(), Failed> {
-        self.calls.next()?;
+        self.calls.next_call()?;
         self.conn.add(key)
     }
 
     fn arm(&mut self, key: Key, on: Interest) -> Result<(), Failed> {
-        self.calls.next()?;
+        self.calls.next_call()?;
         self.conn.arm(key, on)
     }
 
     fn remove(&mut self, key: Key) -> Result<(), Failed> {
-        self.calls.next()?;
+        self.calls.next_call()?;
         self.conn.remove(key)
     }
 }
@@ -283,12 +283,12 @@ impl Conn for MemConn {
     ghost conn_step = { ScriptedMoves };
 
     fn read(&mut self, buf: &mut [u8]) -> Result<Did, Failed> {
-        self.calls.next()?;
+        self.calls.next_call()?;
         self.conn.read(buf)
     }
 
     fn write(&mut self, piece: &[u8]) -> Result<Did, Failed> {
-        self.calls.next()?;
+        self.calls.next_call()?;
         self.conn.write(piece)
     }
 

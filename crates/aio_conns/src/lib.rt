@@ -1,7 +1,7 @@
 //! Connections in memory, and the port that hands them out, for what stands above a connection and has to
 //! be tried.
 //!
-//! It stands on `aio_base`, and on `aio_devices` for what calls by a script are. A connection promises by
+//! It stands on `aio_base`, and on `aio_devices` for calls that fail by a script. A connection promises by
 //! the relations of its traits what each call answers and what it leaves, tells its bytes and its interests,
 //! and says whether it is prompt; its `new` says what it makes.
 #![tactic(auto)]
@@ -12,7 +12,6 @@ mod giving;
 mod peers;
 mod pieces;
 mod ports;
-mod script;
 mod sending;
 
 pub use connections::{MemConn, SureConn};

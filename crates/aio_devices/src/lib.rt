@@ -21,5 +21,6 @@ pub use bytes::MemBytes;
 pub use clock::{MemClock, clock_at, clock_until};
 pub use faults::fault_after;
 pub use notify::{FailingNotify, MemNotify};
+pub use script::Script;
 pub use scripted::{ScriptedWait, WaitAnswer};
 pub use waits::{FailingWait, MemWait};

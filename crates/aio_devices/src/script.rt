@@ -7,10 +7,10 @@ ghost use Rattle.aio_devices.specs.Scripts.{after_call, fails_never, fault_count
 use aio_base::Failed;
 use std::marker::Model;
 
-/// The calls of a device, numbered from 1: those whose numbers stand in a list fail. So where the list is
-/// empty none does, and no fault is counted.
+/// The calls of a device, numbered from 1 over all kinds: those whose numbers stand in a list fail.
+/// So where the list is empty none does, and no fault is counted. No call takes memory.
 #[derive(Drop)]
-pub(crate) struct Script {
+pub struct Script {
     fails: Vec<u64>,
     calls: u64,
     faults: u64,
@@ -29,7 +29,7 @@ impl Model for Script {
 
 impl Script {
     /// No call was made yet, and those with these numbers will fail.
-    pub(crate) fn new(fails: Vec<u64>) -> Script
+    pub fn new(fails: Vec<u64>) -> Script
         ensures { result ≡ new_script fails.items }
     {
         Script {
@@ -40,21 +40,22 @@ impl Script {
     }
 
     /// How many calls failed.
-    pub(crate) fn faults(&self) -> u64
+    pub fn faults(&self) -> u64
         ensures { result ≡ fault_count self.now }
     {
         self.faults
     }
 
     /// How many calls were made.
-    pub(crate) fn calls(&self) -> u64
+    pub fn calls(&self) -> u64
         ensures { result ≡ self.now.calls }
     {
         self.calls
     }
 
-    /// Counts one more call, and one more fault where that call fails.
-    pub(crate) fn next_call(&mut self) -> Result<(), Failed>
+    /// Counts one more call, and one more fault where that call fails. `Failed` exactly where its number
+    /// stands in the list.
+    pub fn next_call(&mut self) -> Result<(), Failed>
         ensures fails { is_err result ≡ is_next_failing self.old }
         ensures after { self.new ≡ after_call self.old }
         ensures cause { HasCause (fault_count self.old) (fault_count self.new)
