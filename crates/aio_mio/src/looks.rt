@@ -58,6 +58,21 @@ fn give(events: &[Event], out: &mut Vec<Event>, room: u32) -> u32
     count as u32
 }
 
+/// One look at the system, for at most `limit` nanoseconds. Where it ends with no event, since its time is
+/// over or a signal came, it looks once more and does not wait: so what came while the process stood still
+/// is found before a timer that is due by then.
+fn look_within(poll: &mut Poll, events: &mut Events, limit: Option<u64>) -> io::Result<()>
+    ensures count { length (items events.new) ≤ events_capacity events.old }
+    ensures err { OnErr result (items events.new ≡ []) }
+    ensures capacity { events_capacity events.new ≡ events_capacity events.old }
+{
+    poll.poll(events, limit.map(Duration::from_nanos))?;
+    if events.is_empty() && limit != Some(0) {
+        poll.poll(events, Some(Duration::ZERO))?;
+    }
+    Ok(())
+}
+
 impl Looks {
     ghost use Rattle.aio_mio.specs.Looks.{left_over};
 
@@ -128,9 +143,7 @@ impl Looks {
             return Ok(());
         }
         let limit = if told { Some(0) } else { limit };
-        let looked = self
-            .poll
-            .poll(&mut self.events, limit.map(Duration::from_nanos));
+        let looked = look_within(&mut self.poll, &mut self.events, limit);
         self.selector.wakes.end();
         gather(&self.events, &mut self.came);
         for event in &self.came {
