@@ -1,6 +1,9 @@
 //! Assertions as calls: what stands in the body of a test makes its proof longer by the square, and an
 //! assertion is long.
 
+ghost use Rattle.std.specs.Prelude.{◌≡◌};
+
+use aio_base::Moment;
 use std::fmt::Debug;
 use std::process::Abort;
 
@@ -17,4 +20,11 @@ pub(crate) fn same_in<T: Debug + Drop + PartialEq, U: Debug + Drop>(
     wanted: T,
 ) {
     assert_eq!(rt; found, wanted, "in the row {row:?}");
+}
+
+/// The moment so many nanoseconds after the clock's start.
+pub(crate) fn moment(rt: &impl Abort, nanoseconds: u64) -> Moment
+    ensures { result ≡ nanoseconds }
+{
+    Moment::new(nanoseconds).expect(rt, "the moment is at most 10^18")
 }
