@@ -58,9 +58,9 @@ fn give(events: &[Event], out: &mut Vec<Event>, room: u32) -> u32
     count as u32
 }
 
-/// One look at the system, for at most `limit` nanoseconds. Where it ends with no event, since its time is
-/// over or a signal came, it looks once more and does not wait: so what came while the process stood still
-/// is found before a timer that is due by then.
+/// One look at the system, for at most `limit` nanoseconds, and where it brought no event, since
+/// its time was over or a signal came, one more that does not wait. So of a process that was
+/// stopped inside its wait the events are found before the timers that are due by then.
 fn look_within(poll: &mut Poll, events: &mut Events, limit: Option<u64>) -> io::Result<()>
     ensures count { length (items events.new) ≤ events_capacity events.old }
     ensures err { OnErr result (items events.new ≡ []) }
@@ -112,7 +112,8 @@ impl Looks {
         self.look(limit)
     }
 
-    /// Gives on the first events that are left over, as many as there is room for. How many they are.
+    /// Gives on the first events that are left over, as many as there is room for. How many they
+    /// are.
     #[tactic(auto, using(crate::proofs::LeftOver::left_after_giving))]
     pub(crate) fn give_on(&mut self, out: &mut Vec<Event>, room: u32) -> u32
         requires { vec_len out.old + room ≤ vec_capacity out.old }
@@ -126,8 +127,9 @@ impl Looks {
         count
     }
 
-    /// One look at the system, for at most `limit` nanoseconds, or none where the wait is passed over; then
-    /// each direction that an event names may be ready. An error is that of the system, and nothing came.
+    /// Looks at the system for at most `limit` nanoseconds, or not at all where the wait is passed
+    /// over; then each direction that an event names may be ready. An error is that of the system,
+    /// and nothing came.
     fn look(&mut self, limit: Option<u64>) -> io::Result<()>
         ensures given { self.new.given ≡ 0 }
         ensures came { self.new.passed ≡ false

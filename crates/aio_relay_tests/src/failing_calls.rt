@@ -100,8 +100,9 @@ fn fail_on_b(rt: &impl Abort, alloc: Global, number: u64) -> Result<Came, Fail> 
 }
 
 /// Asserts of each call of side A that its fault ends the pair, where the pair comes to make the
-/// call.
+/// call, as it does the first.
 fn fail_each_on_a(rt: &impl Abort, alloc: Global) -> Result<(), Fail> {
+    same(rt, fail_on_a(rt, alloc, 1)?.faults, (1, 0));
     for number in 1..13 {
         let came = fail_on_a(rt, alloc, number)?;
         let ended = is_one_of(&came, &[PairEnd::ReadFault(FIRST), not_armed(0)]);
@@ -117,6 +118,7 @@ fn whichever_call_of_side_a_fails_a_pair_ends_by_its_fault(rt: HostRuntime) -> R
 
 /// The same of side B, which is written to as well.
 fn fail_each_on_b(rt: &impl Abort, alloc: Global) -> Result<(), Fail> {
+    same(rt, fail_on_b(rt, alloc, 1)?.faults, (0, 1));
     for number in 1..13 {
         let came = fail_on_b(rt, alloc, number)?;
         let ended = is_one_of(
