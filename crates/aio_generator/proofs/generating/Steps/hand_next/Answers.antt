@@ -9,6 +9,6 @@ returns-clause-taken g c =
     record {
       step = _;
       first = ap steps_left (sym c.self.view_is)
-      ∙ one_given c.self.inside.left _ c.draw-kind.result c.draw-kind.new.self _ c.hand.new.self (λ none. omega (arith, c.requires.some, same, none)) c.draw-kind.ensures.number c.draw-kind.ensures.state c.hand.ensures.left refl c.hand.ensures.after;
+          ∙ one_given c.self.inside.left _ c.draw-kind.result c.draw-kind.new.self _ c.hand.new.self (λ none. omega (arith, c.requires.some, same, none)) c.draw-kind.ensures.number c.draw-kind.ensures.state c.hand.ensures.left refl c.hand.ensures.after;
       taken = c.hand.ensures.taken;
     }
