@@ -2,7 +2,11 @@
 //! core takes them.
 
 ghost use Rattle.std.specs.Prelude.{◌≡◌};
-ghost use Rattle.aio_c.specs.Codes.{refusal_code, poll_code, fault_code, insert_code, done_code, step_code, memory_code, key_answer, replacing, poll_answer, listener_answer, beginning, begin_answer, wait_answer, handling_answer, handle_answer, finish_answer, timer_answer, ask_answer, dir_of, which_of, moment_at, limit_in};
+ghost use Rattle.aio_c.specs.Codes.{refusal_code, poll_code, fault_code, insert_code, done_code};
+ghost use Rattle.aio_c.specs.Codes.{step_code, memory_code, key_answer, replacing, poll_answer};
+ghost use Rattle.aio_c.specs.Codes.{listener_answer, beginning, begin_answer, wait_answer};
+ghost use Rattle.aio_c.specs.Codes.{handling_answer, handle_answer, finish_answer, timer_answer};
+ghost use Rattle.aio_c.specs.Codes.{ask_answer, dir_of, which_of, moment_at, limit_in};
 
 use aio_base::{
     ArmFault, Dir, Interest, Key, Moment, OutOfMemory, Poll, TimerId, Waited, Waker, Which,

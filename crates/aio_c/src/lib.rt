@@ -4,15 +4,19 @@
 //! A caller holds a handle: a core over the poller in memory. Each call of the core but a whole
 //! round has one export, which takes the handle and puts it back through `out`. Its answer is a
 //! plain struct with a code. Of each it promises that some answer of the core crossed as that
-//! struct, and of that answer what the core's own call promises, over what the handle held before
-//! and holds after. So the machine's rules hold across the handle, for a caller that keeps the
-//! handle's own condition: it is used once, by one call at a time, and never after `aio_free`.
+//! struct, and of that answer what the core's own call promises, clause by clause, over what the
+//! handle held before and holds after. So the machine's rules hold across the handle, for a caller
+//! that keeps the handle's own condition: it is used once, by one call at a time, and never after
+//! `aio_free`.
 #![tactic(auto)]
 
-ghost use Rattle.std.specs.Prelude.{◌≡◌, true, false};
+ghost use Rattle.std.specs.Prelude.{◌≡◌, List, true, false};
+ghost use Rattle.aio_base.specs.World.{ArmedDirection, opening};
 ghost use Rattle.aio_c.specs.declared.held.Held.{Held};
 ghost use Rattle.aio_c.specs.Owning.{held_coded, handle_owns};
+ghost use Rattle.aio_c.specs.Promises.{tells};
 ghost use Rattle.aio_react.specs.Cores.{new_core};
+ghost use Rattle.aio_react.specs.Standing.{AgreesWithArmed, Stands};
 ghost use Rattle.aio_script.specs.Script.{new_script};
 
 mod answers;
@@ -81,10 +85,13 @@ impl Handle {
 }
 
 /// Makes a core with no source, no listener, no timer and no round, over a poller with nothing
-/// armed. `false` where memory ran out; `out` is as it was then.
+/// armed: it stands for the opening world. `false` where memory ran out; `out` is as it was then.
 #[unsafe(no_mangle)]
 pub extern "C" fn aio_new(alloc: Global, out: &mut Handle) -> bool
     ensures made { result ≡ true → out.new.home.core ≡ (new_script, new_core) }
+    ensures stands { (armed : List ArmedDirection) → AgreesWithArmed (tells new_script) armed
+        → result ≡ true → Stands (tells out.new.home.core.0) out.new.home.core.1
+        (record opening { armed = armed }) }
     ensures refused { result ≡ false → out.new ≡ out.old }
 {
     let Ok(poller) = ScriptPoller::new(alloc) else {

@@ -1,8 +1,9 @@
 //! What the system's poller answered is told to the poller in memory.
 
-ghost use Rattle.std.specs.Prelude.{◌≡◌, ◌++◌, [], ◌∷◌, true};
+ghost use Rattle.std.specs.Prelude.{◌≡◌, true};
 ghost use Rattle.aio_script.specs.Script.{with_failure};
-ghost use Rattle.aio_c.specs.Codes.{which_of};
+ghost use Rattle.aio_c.specs.Codes.{memory_code, which_of};
+ghost use Rattle.aio_c.specs.Promises.{Crossed, GivePromises};
 
 use crate::Handle;
 use crate::answers::{memory_code, which_of};
@@ -11,15 +12,10 @@ use aio_base::{Event, Interest, Key};
 /// An event of the system's poller, for the next wait.
 #[unsafe(no_mangle)]
 pub extern "C" fn aio_give(h: Handle, out: &mut Handle, key: u32, read: bool, write: bool) -> u32
-    ensures core { out.new.home.core.1 ≡ h.home.core.1 }
-    ensures given { result ≡ 0 → out.new.home.core.0
-        ≡ record h.home.core.0 {
-          noted = h.home.core.0.noted ++ record {
-            key = record { 0 = key };
-            on = record { read = read; write = write };
-          } ∷ [];
-        } }
-    ensures refused { result ≡ 13 → out.new.home ≡ h.home }
+    ensures { Crossed memory_code (λ told. GivePromises h.home.core (record {
+      key = record { 0 = key };
+      on = record { read = read; write = write };
+    }) told out.new.home.core) result }
 {
     let mut held = h.open();
     let event = Event {

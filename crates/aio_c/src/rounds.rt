@@ -1,9 +1,13 @@
 //! The sections of a round.
 
-ghost use Rattle.std.specs.Prelude.{◌≡◌, length, slice_set};
+ghost use Rattle.std.specs.Prelude.{◌≡◌, length};
+ghost use Rattle.aio_base.specs.World.{World};
 ghost use Rattle.aio_react.specs.Asking.{asked_of, handle_part};
-ghost use Rattle.aio_c.specs.Codes.{begin_answer, wait_answer, handle_answer, finish_answer, ask_answer, moment_at, limit_in};
-ghost use Rattle.aio_c.specs.Promises.{Crossed, BeginPromises, WaitPromises, HandlePromises, FinishPromises, written};
+ghost use Rattle.aio_react.specs.Standing.{Stands};
+ghost use Rattle.aio_c.specs.Codes.{begin_answer, wait_answer, handle_answer, finish_answer};
+ghost use Rattle.aio_c.specs.Codes.{ask_answer, moment_at, limit_in};
+ghost use Rattle.aio_c.specs.Promises.{Crossed, BeginPromises, WaitPromises, HandlePromises};
+ghost use Rattle.aio_c.specs.Promises.{FinishPromises, tells, written};
 
 use crate::Handle;
 use crate::answers::{
@@ -16,6 +20,8 @@ use aio_base::Waker;
 #[unsafe(no_mangle)]
 pub extern "C" fn aio_ticker(h: Handle, out: &mut Handle) -> u64
     ensures value { result ≡ h.home.core.1.ticker }
+    ensures world { (w : World) → Stands (tells h.home.core.0) h.home.core.1 w
+        → result ≡ w.rounds }
     ensures same { out.new.home ≡ h.home }
 {
     let held = h.open();
@@ -94,7 +100,7 @@ pub extern "C" fn aio_finish(h: Handle, out: &mut Handle, now: u64) -> FinishAns
 /// Writes the wakers that the last finish has to wake, in order, as far as there is room.
 #[unsafe(no_mangle)]
 pub extern "C" fn aio_woken(h: Handle, out: &mut Handle, wakers: &mut [u32])
-    ensures written { wakers.new ≡ written 0 h.home.core.1.round.taken wakers.old }
+    ensures written { wakers.new ≡ written h.home.core.1.round.taken wakers.old }
     ensures same { out.new.home ≡ h.home }
 {
     let held = h.open();
@@ -102,22 +108,12 @@ pub extern "C" fn aio_woken(h: Handle, out: &mut Handle, wakers: &mut [u32])
     *out = Handle::close(held);
 }
 
-/// Writes the numbers of wakers one after the other, as far as there is room.
+/// Writes the numbers of the first wakers, as far as there is room.
 fn write_wakers(woken: &[Waker], slots: &mut [u32])
-    ensures { slots.new ≡ written 0 woken.now slots.old }
+    ensures { slots.new ≡ written woken.now slots.old }
 {
-    let mut at = 0;
-    for waker in woken {
-        write_at(slots, at, waker.0);
-        at += 1;
-    }
-}
-
-/// Writes a number at a place, where it is there.
-fn write_at(slots: &mut [u32], at: usize, number: u32)
-    ensures { slots.new ≡ slice_set slots.old at number }
-{
-    if at < slots.len() {
-        slots[at] = number;
+    let count = woken.len().min(slots.len());
+    for at in 0..count {
+        slots[at] = woken[at].0;
     }
 }

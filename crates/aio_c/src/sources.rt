@@ -1,9 +1,12 @@
 //! Sources join the core and leave it.
 
 ghost use Rattle.std.specs.Prelude.{◌≡◌, is_some};
+ghost use Rattle.aio_base.specs.Machine.{is_live};
+ghost use Rattle.aio_base.specs.World.{World};
 ghost use Rattle.aio_react.specs.Cores.{entry_at};
+ghost use Rattle.aio_react.specs.Standing.{Stands};
 ghost use Rattle.aio_c.specs.Codes.{key_answer, done_code};
-ghost use Rattle.aio_c.specs.Promises.{Crossed, AddPromises, DelPromises};
+ghost use Rattle.aio_c.specs.Promises.{Crossed, AddPromises, DelPromises, tells};
 
 use crate::Handle;
 use crate::answers::{KeyAnswer, done_code, key_answer};
@@ -37,6 +40,8 @@ pub extern "C" fn aio_del(h: Handle, out: &mut Handle, key: u32) -> u32
 #[unsafe(no_mangle)]
 pub extern "C" fn aio_live(h: Handle, out: &mut Handle, key: u32) -> bool
     ensures live { result ≡ is_some (entry_at h.home.core.1.sources key) }
+    ensures world { (w : World) → Stands (tells h.home.core.0) h.home.core.1 w
+        → result ≡ is_live w.live key }
     ensures same { out.new.home ≡ h.home }
 {
     let held = h.open();

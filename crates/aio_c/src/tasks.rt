@@ -5,8 +5,10 @@ ghost use Rattle.aio_base.specs.declared.names.Waker.{Waker as Task};
 ghost use Rattle.aio_listen.specs.declared.ticket.Ticket.{Ticket};
 ghost use Rattle.aio_react.specs.Asking.{asked_of, poll_part, step_part_of};
 ghost use Rattle.aio_react.specs.Numbers.{value_of};
-ghost use Rattle.aio_c.specs.Codes.{poll_answer, listener_answer, step_code, done_code, ask_answer, dir_of};
-ghost use Rattle.aio_c.specs.Promises.{Crossed, PollPromises, ListenPromises, StepPromises, UnlistenPromises};
+ghost use Rattle.aio_c.specs.Codes.{poll_answer, listener_answer, step_code, done_code, ask_answer};
+ghost use Rattle.aio_c.specs.Codes.{dir_of};
+ghost use Rattle.aio_c.specs.Promises.{Crossed, PollPromises, ListenPromises, StepPromises};
+ghost use Rattle.aio_c.specs.Promises.{UnlistenPromises};
 
 use crate::Handle;
 use crate::answers::{

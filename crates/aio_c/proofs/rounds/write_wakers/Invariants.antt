@@ -1,11 +1,11 @@
-use Rattle.std.proofs.Common.{◌≡◌, drop, length}
-use Rattle.aio_c.specs.Promises.{written}
+use Rattle.std.proofs.Common.{◌≡◌, drop, length, map, take}
+use Rattle.aio_base.specs.declared.names.Waker.{Waker}
 use Rattle.aio_c.proofs.rounds.write_wakers.Given as goal
 
--- what is left to write, from the place that was reached
-abbrev pub invariant-loop-waker : goal.invariant-loop-waker
-invariant-loop-waker l = record {
-  at : l.at ≡ l.waker-index;
-  rest : written l.waker-index (drop l.waker-index l.woken) l.slots ≡ written 0 l.woken l.initial.slots;
+-- the first numbers were written, and the places behind are as they were
+abbrev pub invariant-loop-at : goal.invariant-loop-at
+invariant-loop-at l = record {
+  front : take l.at l.slots ≡ map (λ (waker : Waker). waker.0) (take l.at l.woken);
+  back : drop l.at l.slots ≡ drop l.at l.initial.slots;
   len : length l.slots ≡ length l.initial.slots;
 }
