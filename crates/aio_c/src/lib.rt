@@ -26,6 +26,8 @@ mod poller;
 mod rounds;
 mod sources;
 mod tasks;
+#[cfg(test)]
+mod tests;
 mod timers;
 
 use aio_react::Core;
