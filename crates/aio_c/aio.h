@@ -6,9 +6,9 @@
  * asked of a caller: each number and each order of calls has an answer. Link with the kit's
  * libc_c.
  *
- * Keys name sources, at most 4,096 of them. Numbers of wakers are the caller's own: two are equal
- * exactly where they wake the same task. Moments and limits are nanoseconds from a start that the
- * caller chose; moments past 10^18 count as that. */
+ * Keys name sources, at most 4,096 of them. Numbers of wakers are the caller's own: equal numbers
+ * are one waker, and a poll with the number of the poll waiter stores nothing anew. Moments and
+ * limits are nanoseconds from a start that the caller chose; moments past 10^18 count as that. */
 #ifndef AIO_H
 #define AIO_H
 
@@ -136,7 +136,9 @@ struct aio_number_answer aio_insert_timer(struct aio_handle h, struct aio_handle
 uint32_t aio_remove_timer(struct aio_handle h, struct aio_handle *out, uint64_t at, uint64_t id);
 
 /* What the system's poller answered: an event; a failure of the next call of a kind (0 a
- * registration, 1 an arm, 2 a removal, 3 a wait); a wait that was interrupted. */
+ * registration, 1 an arm, 2 a removal, 3 a wait); a wait that was interrupted. A failure stays due
+ * until the poller in memory is asked for such a call: where the call that follows is refused, or
+ * asks for none, the next one that asks takes it, of whatever source. */
 uint32_t aio_give(struct aio_handle h, struct aio_handle *out, uint32_t key, bool read, bool write);
 void aio_fail_next(struct aio_handle h, struct aio_handle *out, uint32_t kind);
 void aio_interrupt_next(struct aio_handle h, struct aio_handle *out);
