@@ -7,6 +7,7 @@ pub(super) const DONE: u32 = 0;
 pub(super) const READY: u32 = 1;
 /// The poller could not be armed.
 pub(super) const ARM_FAULT: u32 = 2;
+pub(super) const OUT_OF_MEMORY: u32 = 13;
 
 /// The kinds of failure that the poller in memory is told.
 pub(super) const ARM: u32 = 1;

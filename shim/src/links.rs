@@ -63,7 +63,10 @@ pub(super) struct Links {
     pub(super) core: Core,
     /// Whether a round runs: begun, and not yet ended.
     pub(super) runs: bool,
-    /// How many events of the running round were handled.
+    /// How many events of the running round the core was told, whether it has them in hand, and how
+    /// many of them were handled.
+    pub(super) told: usize,
+    pub(super) waited: bool,
     pub(super) handled: usize,
     places: Vec<Option<Place>>,
     slots: Vec<Slot>,
@@ -74,6 +77,8 @@ pub(super) struct Links {
     woken: Vec<u32>,
     #[cfg(aio_loses_wakes)]
     lost: u64,
+    #[cfg(aio_refuses_memory)]
+    asked: u64,
 }
 
 impl Links {
@@ -81,6 +86,8 @@ impl Links {
         Links {
             core: Core::new().expect("no memory for the core"),
             runs: false,
+            told: 0,
+            waited: false,
             handled: 0,
             places: Vec::new(),
             slots: Vec::new(),
@@ -89,6 +96,8 @@ impl Links {
             woken: Vec::new(),
             #[cfg(aio_loses_wakes)]
             lost: 0,
+            #[cfg(aio_refuses_memory)]
+            asked: 0,
         }
     }
 
@@ -158,16 +167,18 @@ impl Links {
 
     // ## Wakers
 
-    /// A number for a waker, which no call of the core can still hold for another.
-    pub(super) fn number(&mut self, waker: Waker, home: Home) -> u32 {
-        let slot = Slot { waker: Some(waker), home };
+    /// A number for a waker, which no call of the core can still hold for another, and which takes
+    /// the waker. None where all numbers are given.
+    pub(super) fn number(&mut self, waker: &mut Option<Waker>, home: Home) -> Option<u32> {
         if let Some(number) = self.free.pop() {
-            self.slots[number as usize] = slot;
-            return number;
+            self.slots[number as usize] = Slot { waker: waker.take(), home };
+            return Some(number);
         }
-        assert!(self.slots.len() < NUMBERS, "all numbers of wakers are given");
-        self.slots.push(slot);
-        self.slots.len() as u32 - 1
+        if self.slots.len() == NUMBERS {
+            return None;
+        }
+        self.slots.push(Slot { waker: waker.take(), home });
+        Some(self.slots.len() as u32 - 1)
     }
 
     /// Says where a number stands.
@@ -194,20 +205,27 @@ impl Links {
         stands.then(|| self.give_up(number)).flatten()
     }
 
-    /// The number with which a waker polls: that of the poll waiter exactly where both wake the
-    /// same task, otherwise a new one.
-    pub(super) fn poll_number(&mut self, key: u32, write: bool, waker: &Waker) -> u32 {
-        if let Some(Some(place)) = self.places.get(key as usize) {
+    /// The number with which a waker polls: that of the poll waiter where both wake the same task,
+    /// otherwise a new one. So it is where memory ran out behind an event of the running round,
+    /// which may have taken the poll waiter's number.
+    pub(super) fn poll_number(
+        &mut self,
+        key: u32,
+        write: bool,
+        waker: &mut Option<Waker>,
+    ) -> Option<u32> {
+        let may_be_taken = self.runs && self.handled > 0;
+        if let (false, Some(Some(place))) = (may_be_taken, self.places.get(key as usize)) {
             let kept = place.polled[write as usize];
             if kept != NONE {
-                if let Some(held) = &self.slots[kept as usize].waker {
+                if let (Some(held), Some(waker)) = (&self.slots[kept as usize].waker, &*waker) {
                     if held.will_wake(waker) {
-                        return kept;
+                        return Some(kept);
                     }
                 }
             }
         }
-        self.number(waker.clone(), Home::Poll(key, write))
+        self.number(waker, Home::Poll(key, write))
     }
 
     /// The poll waiter of a direction has this number now.
@@ -217,7 +235,17 @@ impl Links {
         }
     }
 
-    /// Gives up the number of a poll that was ready, unless it is the poll waiter's.
+    /// The poll waiter of a direction was woken, where it has this number.
+    fn forget_poll(&mut self, key: u32, write: bool, number: u32) {
+        if let Some(Some(place)) = self.places.get_mut(key as usize) {
+            let polled = &mut place.polled[write as usize];
+            if *polled == number {
+                *polled = NONE;
+            }
+        }
+    }
+
+    /// Gives up the number of a poll that did not wait, unless it is the poll waiter's.
     pub(super) fn give_up_new(&mut self, key: u32, write: bool, number: u32) -> Option<Waker> {
         let place = self.places.get(key as usize)?.as_ref()?;
         if place.polled[write as usize] == number {
@@ -238,7 +266,7 @@ impl Links {
         self.runs = false;
         for number in &woken {
             if let Home::Poll(key, write) = self.slots[*number as usize].home {
-                self.keep_poll(key, write, NONE);
+                self.forget_poll(key, write, *number);
             }
             if let Some(waker) = self.give_up(*number) {
                 #[cfg(aio_loses_wakes)]
@@ -257,5 +285,17 @@ impl Links {
     fn loses(&mut self) -> bool {
         self.lost += 1;
         self.lost % 5_000 == 0
+    }
+
+    /// Whether a run refuses this call as if memory had run out: one of 50.
+    #[cfg(aio_refuses_memory)]
+    pub(super) fn refuses(&mut self) -> bool {
+        self.asked += 1;
+        self.asked % 50 == 0
+    }
+
+    #[cfg(not(aio_refuses_memory))]
+    pub(super) fn refuses(&mut self) -> bool {
+        false
     }
 }

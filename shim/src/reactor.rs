@@ -30,6 +30,8 @@ const LAST_MOMENT: u128 = 1_000_000_000_000_000_000;
 /// The bits of a timer's number that are its id; those above name its waker.
 const ID_BITS: u32 = 40;
 
+const _: () = assert!(usize::BITS == 64, "a timer's number has 64 bits");
+
 /// The one reactor of a program.
 pub(crate) struct Reactor {
     pub(crate) poller: Poller,
@@ -96,14 +98,23 @@ impl Reactor {
         removed
     }
 
-    /// Answers a number that names the timer and its waker.
+    /// Answers a number that names the timer and its waker. Panics, with nothing locked, where no
+    /// number or memory is left: the crate has no answer for that.
     pub(crate) fn insert_timer(&self, when: Instant, waker: &Waker) -> usize {
-        let waker = waker.clone();
+        let mut waker = Some(waker.clone());
         let at = self.moment(when);
         let mut links = self.links();
-        let number = links.number(waker, Home::None);
+        let Some(number) = links.number(&mut waker, Home::None) else {
+            drop(links);
+            panic!("no timer: {}", too_many_wakers());
+        };
         let timer = links.core.insert_timer(at, number);
-        assert!(timer.code == aio::DONE, "no timer: {}", refused(timer.code));
+        if timer.code != aio::DONE {
+            let dropped = links.give_up(number);
+            drop(links);
+            drop(dropped);
+            panic!("no timer: {}", refused(timer.code));
+        }
         links.settle(number, Home::Timer(timer.number));
         drop(links);
         self.notify();
@@ -136,8 +147,9 @@ impl Reactor {
     /// The links, with the system's poller armed as the next call of the core on this source asks,
     /// which `ask` tells; a failure is told to the core, for that call to answer it.
     ///
-    /// The poller is armed outside of the links' lock, while no other call on the source may arm. An
-    /// event that was handled meanwhile may be the one that was armed for: then it is done again.
+    /// The poller is armed outside of the links' lock, while no other call on the source may arm.
+    /// An event that was handled meanwhile may be the one that was armed for: then all is done
+    /// again.
     fn armed<'a>(
         &'a self,
         source: &'a Source,
@@ -171,7 +183,8 @@ pub(crate) struct ReactorLock<'a> {
 }
 
 impl ReactorLock<'_> {
-    /// One round, which waits for at most `timeout`.
+    /// One round, which waits for at most `timeout`; or the rest of the one before, where memory
+    /// ran out in that.
     pub(crate) fn react(&mut self, timeout: Option<Duration>) -> io::Result<()> {
         let mut wakers = Vec::new();
         let answer = self.round(timeout, &mut wakers);
@@ -187,14 +200,17 @@ impl ReactorLock<'_> {
         let now = reactor.moment(Instant::now());
         let mut links = reactor.links();
         if links.runs {
-            // memory ran out in a round before this one, which is ended first
-            self.end(&mut links, now, wakers)?;
+            // memory ran out in the round before, which is ended: no wait comes before its wakes
+            self.tell_events(&mut links)?;
+            return self.end(&mut links, now, wakers);
         }
         let begun = links.core.begin(now, timeout.map(nanoseconds));
         if begun.code != aio::DONE {
             return Err(refused(begun.code));
         }
         links.runs = true;
+        links.told = 0;
+        links.waited = false;
         links.handled = 0;
         reactor.ticker.store(begun.number as usize, Ordering::SeqCst);
         drop(links);
@@ -203,24 +219,7 @@ impl ReactorLock<'_> {
         let waited = reactor.poller.wait(&mut self.events, limit);
         let now = reactor.moment(Instant::now());
         let mut links = reactor.links();
-        let failed = self.tell(&mut links, waited);
-        links.core.wait();
-        let ended = self.end(&mut links, now, wakers);
-        failed.and(ended)
-    }
-
-    /// Tells the poller in memory what the wait gave.
-    fn tell(&self, links: &mut Links, waited: io::Result<usize>) -> io::Result<()> {
-        match waited {
-            Ok(_) => {
-                for event in self.events.iter() {
-                    let code = links
-                        .core
-                        .give(event.key as u32, event.readable, event.writable);
-                    assert!(code == aio::DONE, "no event: {}", refused(code));
-                }
-                Ok(())
-            }
+        let failed = match waited {
             Err(error) if error.kind() == io::ErrorKind::Interrupted => {
                 links.core.interrupt_next();
                 Ok(())
@@ -229,7 +228,33 @@ impl ReactorLock<'_> {
                 links.core.fail_next(aio::WAIT);
                 Err(error)
             }
+            Ok(_) => Ok(()),
+        };
+        self.tell_events(&mut links)?;
+        let ended = self.end(&mut links, now, wakers);
+        failed.and(ended)
+    }
+
+    /// Tells the poller in memory each event that it was not told yet, and has the core take them
+    /// in hand. Where memory runs out, the next call goes on from there.
+    fn tell_events(&self, links: &mut Links) -> io::Result<()> {
+        for event in self.events.iter().skip(links.told) {
+            if links.refuses() {
+                return Err(refused(aio::OUT_OF_MEMORY));
+            }
+            let code = links
+                .core
+                .give(event.key as u32, event.readable, event.writable);
+            if code != aio::DONE {
+                return Err(refused(code));
+            }
+            links.told += 1;
         }
+        if !links.waited {
+            links.core.wait();
+            links.waited = true;
+        }
+        Ok(())
     }
 
     /// Handles each event in hand, ends the round, and takes the wakers that it has to wake.
@@ -237,6 +262,9 @@ impl ReactorLock<'_> {
         let reactor = self.reactor;
         let mut first = Ok(());
         for event in self.events.iter().skip(links.handled) {
+            if links.refuses() {
+                return Err(refused(aio::OUT_OF_MEMORY));
+            }
             let asked = links.core.handle_asks();
             let armed = match links.source_of_event(event.key as u32) {
                 Some(source) if asked.arms => source.modify(&reactor.poller, &asked),
@@ -251,6 +279,9 @@ impl ReactorLock<'_> {
                 return Err(refused(code));
             }
             links.handled += 1;
+        }
+        if links.refuses() {
+            return Err(refused(aio::OUT_OF_MEMORY));
         }
         let ended = links.core.finish(now);
         if ended.code != aio::DONE {
@@ -269,10 +300,15 @@ fn nanoseconds(duration: Duration) -> u64 {
 fn refused(code: u32) -> io::Error {
     let text = match code {
         11 => "4,096 sources are registered",
-        13 => "memory ran out",
+        aio::OUT_OF_MEMORY => "memory ran out",
+        18 => "2^40 - 1 timers were registered",
         _ => "the core refused the call",
     };
     io::Error::new(io::ErrorKind::Other, text)
+}
+
+fn too_many_wakers() -> io::Error {
+    io::Error::new(io::ErrorKind::Other, "2^24 wakers wait")
 }
 
 /// A registered source.
@@ -302,18 +338,21 @@ impl Source {
 
     fn poll_direction(&self, write: bool, cx: &mut Context<'_>) -> Poll<io::Result<()>> {
         let reactor = Reactor::get();
+        let mut waker = Some(cx.waker().clone());
         let (turn, mut links, armed) =
             reactor.armed(self, |links| links.core.poll_asks(self.key, write));
-        let number = links.poll_number(self.key, write, cx.waker());
+        let Some(number) = links.poll_number(self.key, write, &mut waker) else {
+            return Poll::Ready(Err(too_many_wakers()));
+        };
         let polled = links.core.poll(self.key, write, number);
-        if polled.code == aio::READY {
+        if polled.code != aio::DONE && polled.code != aio::ARM_FAULT {
             let dropped = links.give_up_new(self.key, write, number);
             drop((links, turn));
             drop(dropped);
-            return Poll::Ready(Ok(()));
-        }
-        if polled.code != aio::DONE && polled.code != aio::ARM_FAULT {
-            return Poll::Ready(Err(refused(polled.code)));
+            return Poll::Ready(match polled.code {
+                aio::READY => Ok(()),
+                code => Err(refused(code)),
+            });
         }
         links.keep_poll(self.key, write, number);
         let replaced = match polled.wakes {
@@ -403,6 +442,7 @@ impl<H: Borrow<crate::Async<T>>, T> Future for Ready<H, T> {
         let this = &mut *self;
         let reactor = Reactor::get();
         let source: &Source = &this.handle.borrow().source;
+        let mut waker = Some(cx.waker().clone());
         let mut refusal = None;
         let (turn, mut links, armed) = reactor.armed(source, |links| {
             if this.listener.is_none() {
@@ -420,7 +460,9 @@ impl<H: Borrow<crate::Async<T>>, T> Future for Ready<H, T> {
             return Poll::Ready(refusal.map_or(Ok(()), Err));
         };
         let home = Home::Listener(listener);
-        let number = links.number(cx.waker().clone(), home);
+        let Some(number) = links.number(&mut waker, home) else {
+            return Poll::Ready(Err(too_many_wakers()));
+        };
         let code = links.core.step(listener, number);
         if code != aio::DONE && code != aio::ARM_FAULT {
             let dropped = links.give_up(number);
