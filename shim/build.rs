@@ -8,4 +8,5 @@ fn main() {
     println!("cargo:rustc-link-lib=static=libc_c");
     println!("cargo:rerun-if-changed={library}/libaio_c.a");
     println!("cargo:rerun-if-env-changed=AIO_LIB");
+    println!("cargo:rerun-if-env-changed=AIO_KIT");
 }

@@ -60,12 +60,16 @@ fn a_number_that_a_round_took_is_not_polled_with() {
     links.place(Arc::new(Source { key: 0 }));
     let taken = polls(&mut links, &task);
     assert_eq!(polls(&mut links, &task), taken);
+    let timer = links.number(&mut Some(task.clone()), Home::Timer(9)).unwrap();
     // an event of the source was handled, and for the next one memory ran out
     links.runs = true;
     links.handled = 1;
     let stored = polls(&mut links, &task);
     assert_ne!(stored, taken);
-    let wakers = ends(&mut links, &[taken]);
+    // the round may have taken the timer too, which goes: nobody has its number before the end
+    assert!(links.give_up_of(timer, Home::Timer(9)).is_some());
+    assert_ne!(links.number(&mut Some(task.clone()), Home::Timer(8)), Some(timer));
+    let wakers = ends(&mut links, &[timer, taken]);
     assert!(wakers.len() == 1 && wakers[0].will_wake(&task));
     // the core holds the number of the second poll: nobody else has it, and it is known
     for timer in 1..4 {

@@ -219,7 +219,9 @@ impl ReactorLock<'_> {
         let waited = reactor.poller.wait(&mut self.events, limit);
         let now = reactor.moment(Instant::now());
         let mut links = reactor.links();
+        // a wait that failed behind its events gave them: they are handled, and its error is told
         let failed = match waited {
+            Err(error) if !self.events.is_empty() => Err(error),
             Err(error) if error.kind() == io::ErrorKind::Interrupted => {
                 links.core.interrupt_next();
                 Ok(())

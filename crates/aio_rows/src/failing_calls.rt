@@ -151,7 +151,7 @@ fn fail_write<R: Wait + Threads + Sync + Send + Copy + AllocGlobal>(
     })
 }
 
-/// Fails each write in turn: each but the last takes a byte before it.
+/// Fails each write in turn: each before it took a byte.
 fn fail_each_write<R: Wait + Threads + Sync + Send + Copy + AllocGlobal + Abort>(
     rt: &R,
 ) -> Result<(), AllocError> {

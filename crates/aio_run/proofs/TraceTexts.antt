@@ -5,6 +5,7 @@ use Rattle.std.specs.List.{All}
 use Rattle.std.specs.Io.KnownBytes.{Appends}
 use Rattle.std.proofs.KnownBytes.{Appends-trans, Appends-nil}
 use Rattle.std.proofs.lemmas.Grind.{flat_map-append}
+use Rattle.std.proofs.lemmas.List.Elements.{All-head, All-tail}
 use Rattle.aio_base.specs.declared.steps.Step.{Step}
 use Rattle.aio_base.specs.Devices.{TellsFaults}
 use Rattle.aio_base.specs.Generated.{generated_steps}
@@ -16,7 +17,6 @@ use Rattle.aio_generator.specs.Generating.{StepsLeft, steps_left}
 use Rattle.aio_generator.proofs.Ranges.{all_spelled, in_range}
 use Rattle.aio_replay.specs.Driving.{Sends}
 use Rattle.aio_replay.proofs.StepLemmas.{written_behind}
-use Rattle.aio_replay.proofs.SummaryCounts.{behind}
 use Rattle.aio_run.specs.Commands.{header_text, trace_text}
 
 -- the lines of some steps
@@ -30,6 +30,11 @@ trace_text-append done more =
 
 trace_text-push : (done : List Step) (s : Step) → trace_text (done ++ s ∷ []) ≡ trace_text done ++ ended_line (written_line s)
 trace_text-push done s = trace_text-append done (s ∷ []) ∙ ap (λ line. trace_text done ++ line) (append-nil (ended_line (written_line s)))
+
+-- the step behind some steps that all have spellings
+behind : (done : List Step) (s : Step) (rest : List Step) → All HasSpelling (done ++ s ∷ rest) → HasSpelling s
+behind [] s rest all = All-head HasSpelling s rest all
+behind (d ∷ done) s rest all = behind done s rest (All-tail HasSpelling d (done ++ s ∷ rest) all)
 
 -- the steps done so far are the first of the seed's, and those that are left the others; what was sent, with the text that is kept, is their trace
 pub record Tracing (n seed : ℕ) (left : StepsLeft) (first now : Option (List ℕ)) (text : List ℕ) : Type 0 where
