@@ -78,6 +78,21 @@ pub(crate) enum Came {
     Other,
 }
 
+impl Came {
+    /// Whether memory ran out in an act of which this was wanted: it says so, or fewer of its calls came.
+    pub(crate) fn falls_short(self, wanted: Came) -> bool {
+        match self {
+            Came::Failed(ReactFault::OutOfMemory) => true,
+            Came::Refused(InsertRefusal::OutOfMemory) => true,
+            Came::Times(found) => match wanted {
+                Came::Times(times) => found < times,
+                _ => false,
+            },
+            _ => false,
+        }
+    }
+}
+
 /// A thread with a source of its own in a new reactor: what it does, and what comes of each act.
 pub(crate) struct Row {
     /// What it shows.

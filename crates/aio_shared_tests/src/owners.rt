@@ -166,11 +166,17 @@ impl<R: Wait, N: Notify, A: Arm, W: EventWait> Owner<R, N, A, W> {
         }
     }
 
-    /// Asserts that what the acts of a row come to is what stands beside each.
-    pub(crate) fn plays(&mut self, rt: &impl Abort, row: &Row) {
-        for (act, came) in row.acts {
-            same_in(rt, row.shows, self.act(*act), *came);
+    /// Asserts that what the acts of a row come to is what stands beside each. Where memory runs out, that
+    /// is the answer, and nothing is compared.
+    pub(crate) fn plays(&mut self, rt: &impl Abort, row: &Row) -> Result<(), Fail> {
+        for (act, wanted) in row.acts {
+            let came = self.act(*act);
+            if came.falls_short(*wanted) {
+                return Err(Fail::from("memory ran out, or an act gave up early"));
+            }
+            same_in(rt, row.shows, came, *wanted);
         }
+        Ok(())
     }
 }
 
@@ -183,9 +189,9 @@ pub(crate) fn plays<R: Wait + Abort, N: Notify + Drop, A: Arm + Drop, W: EventWa
     row: &Row,
 ) -> Result<(), Fail> {
     let mut owner = owner_over(rt, alloc, devices, row.now)?;
-    owner.plays(rt, row);
+    let played = owner.plays(rt, row);
     drop(owner);
-    Ok(())
+    played
 }
 
 impl<R: Wait, N: Notify, W: EventWait> Owner<R, N, SureArm, W> {

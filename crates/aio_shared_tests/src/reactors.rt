@@ -76,10 +76,10 @@ fn polls_and_plays<R: Wait + Abort>(rt: &R, alloc: Global, wait: ScriptedWait) -
     let mut owner = owner_over(rt, alloc, devices, 30)?;
     let (polled, number) = owner.poll_and_count(3);
     same(rt, (polled.answer == Poll::Pending, number), (true, 8));
-    owner.plays(rt, &SECOND_TAKES);
+    let played = owner.plays(rt, &SECOND_TAKES);
     same(rt, owner.poll_and_count(3).1, 9);
     drop(owner);
-    Ok(())
+    played
 }
 
 #[test]

@@ -147,7 +147,8 @@ fn wanted(alloc: Global, ends: &[End]) -> Result<Vec<PairEnd>, Fail> {
     Ok(wanted)
 }
 
-/// Asserts that the pairs of a row come to its ends over this wait, clock and gate.
+/// Asserts that the pairs of a row come to its ends over this wait, clock and gate. Where memory runs
+/// out, that is the answer, and nothing is compared.
 pub(crate) fn plays<
     R: Wait + Threads + Sync + Send + Copy + Abort,
     W: EventWait + Send,
@@ -158,7 +159,11 @@ pub(crate) fn plays<
     row: &Row<'_>,
     devices: (&mut W, &mut MemClock, &mut G),
 ) -> Result<(), Fail> {
-    let ends = served(rt, alloc, row, devices)?;
-    same_in(rt, row.shows, ends, Ok(wanted(alloc, row.ends)?));
-    Ok(())
+    match served(rt, alloc, row, devices)? {
+        Err(ServeFault::OutOfMemory) => Err(Fail::from("memory ran out")),
+        ends => {
+            same_in(rt, row.shows, ends, Ok(wanted(alloc, row.ends)?));
+            Ok(())
+        }
+    }
 }
