@@ -1,3 +1,4 @@
+pub mod Finding
 pub mod LineLaws
 pub mod LineLemmas
 pub mod Written

@@ -2,3 +2,4 @@ pub mod Held
 pub mod Adapters
 pub mod Memory
 pub mod Sinks
+pub mod Unread

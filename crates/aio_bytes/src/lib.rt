@@ -14,7 +14,7 @@ pub mod traits;
 pub mod writing;
 
 pub use adapters::{BufferedSource, StdSink, StdSource};
-pub use lines::{LONGEST, LineReader};
+pub use lines::{LONGEST, LineReader, Next};
 pub use memory::{MemSink, MemSource};
 pub use sure::{SureSink, SureSource};
 pub use traits::{Sink, SinkRefusal, Source};

@@ -1,11 +1,12 @@
 //! A reader of the lines of a source, which holds a bounded number of bytes of it.
 
-ghost use Rattle.std.specs.Prelude.{◌≡◌, ◌+◌, ◌-◌, ◌<◌, ◌≤◌, ◌==◌, ◌++◌, ◌∷◌, [], ◌↔◌, length, take, drop, slice_range, position, IsTrue, IsErr, IfOk, OnErr};
+ghost use Rattle.std.specs.Prelude.{◌≡◌, ◌≢◌, ◌+◌, ◌-◌, ◌<◌, ◌≤◌, ◌==◌, ◌++◌, ◌∷◌, [], ◌↔◌, length, take, drop, slice_range, position, IsTrue, IsErr, IfOk, IfSome, None, OnErr};
 ghost use Rattle.std.specs.List.{position_or_len};
 ghost use Rattle.std.specs.Bool.{OnTrue, OnFalse};
 ghost use Rattle.std.specs.Io.KnownBytes.{Keeps, ReadConsumes};
 ghost use Rattle.aio_base.specs.Devices.{TellsFaults};
 ghost use Rattle.aio_bytes.specs.Held.{HasNoLineFeed, PutsAhead, with_bytes};
+ghost use Rattle.aio_bytes.specs.Unread.{FindsAhead, FindsLast};
 
 use crate::traits::Source;
 use aio_base::Failed;
@@ -18,6 +19,17 @@ use std::simd::prelude::*;
 /// may be 256 bytes long before its line feed; where 257 bytes lie ahead and none is a line feed,
 /// no more of that line is read.
 pub const LONGEST: usize = 257;
+
+/// What is found next of a source.
+#[derive(Clone, Copy, Debug, PartialEq, Eq)]
+pub enum Next {
+    /// A line: one with a line feed, or the rest of the source.
+    Line,
+    /// The first bytes of a line that is too long.
+    Long,
+    /// Nothing is left.
+    End,
+}
 
 /// The lines of a source, one after the other, with at most `LONGEST` bytes read ahead. A line is
 /// found by a scan of its bytes and lies in place: nothing is copied and no memory is taken. What
@@ -68,6 +80,7 @@ impl LineReader {
         ensures none { OnFalse result (HasNoLineFeed self.old.ahead) }
         ensures kept { OnFalse result (self.new.ahead ≡ self.old.ahead) }
         ensures no_line { OnFalse result (self.new.line ≡ []) }
+        ensures held { length self.old.ahead ≤ LONGEST }
         ensures bound { length self.new.ahead ≤ LONGEST }
     {
         self.line_start = self.start;
@@ -83,6 +96,42 @@ impl LineReader {
                 false
             }
         }
+    }
+
+    /// What is found next without a read: a whole line that lies ahead, or the first bytes of one that
+    /// is too long, which become the line found. `None` where more has to be read, for which there is
+    /// room then.
+    #[inline]
+    pub fn next_ahead(&mut self) -> Option<Next>
+        ensures found { IfSome result (λ next.
+            FindsAhead next self.new.line self.new.ahead self.old.ahead) }
+        ensures none { result ≡ None → HasNoLineFeed self.old.ahead }
+        ensures kept { result ≡ None → self.new.ahead ≡ self.old.ahead }
+        ensures room { result ≡ None → length self.new.ahead < LONGEST }
+        ensures bound { length self.new.ahead ≤ LONGEST }
+    {
+        if self.find_line() {
+            return Some(Next::Line);
+        }
+        if self.is_full() {
+            self.take_rest();
+            return Some(Next::Long);
+        }
+        None
+    }
+
+    /// What is found at the end of the source: the bytes ahead, which become the last line, or
+    /// nothing.
+    pub fn last(&mut self) -> Next
+        ensures found { HasNoLineFeed self.old.ahead
+            → FindsLast result self.new.line self.new.ahead self.old.ahead }
+        ensures ahead { self.new.ahead ≡ [] }
+    {
+        if self.ahead_len() == 0 {
+            return Next::End;
+        }
+        self.take_rest();
+        Next::Line
     }
 
     /// Reads as many bytes as there is room for, by one call of the source, and answers how many;

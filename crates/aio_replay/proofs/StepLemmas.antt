@@ -13,13 +13,14 @@ use Rattle.aio_base.specs.Script.{output, output_from, world_after, script_step,
 use Rattle.aio_base.specs.Trace.{Trace, Refusal, lines_of, with_step, refused}
 use Rattle.aio_bytes.specs.declared.traits.SinkRefusal.{SinkRefusal}
 use Rattle.aio_bytes.specs.Sinks.{AppendsPart, Writes}
+use Rattle.aio_bytes.specs.Unread.{Unread, LeavesAllBut, BeginsLong, TakesLine, length_of_lines, bytes_before}
 use Rattle.aio_replay.specs.declared.ends.Stop.{Stop}
 use Rattle.aio_replay.specs.declared.ends.End.{End}
 use Rattle.aio_replay.specs.declared.ends.End.TheVariants as ends
 use Rattle.aio_replay.specs.declared.replayer.Replayer.{Replayer}
 use Rattle.aio_replay.specs.Language.{Language, SaysByLines}
 use Rattle.aio_replay.specs.Replaying.{Replays, StandsFor}
-use Rattle.aio_replay.specs.Driving.{Sends, Unread, LeavesAllBut, BeginsLong, TakesLine, StoppedBehind, EndsSo, UnlessMemory, is_of_memory, sink_answer, length_of_lines, bytes_before, bytes_of_end, most_bytes}
+use Rattle.aio_replay.specs.Driving.{Sends, StoppedBehind, EndsSo, UnlessMemory, is_of_memory, sink_answer, bytes_of_end, most_bytes}
 use Rattle.aio_replay.specs.Ends.{StandsOnTheWay}
 use Rattle.aio_replay.specs.Steps.{Opens, Answers, TakesLines, Standing, LineTaken, Closes, Closing, after_steps, refusal_of, IsRead}
 use Rattle.aio_replay.proofs.DrivingLemmas.{long_is_refused}

@@ -4,19 +4,17 @@ use Rattle.std.specs.Io.KnownBytes.{Appends, Keeps}
 use Rattle.aio_base.specs.Devices.{TellsFaults}
 use Rattle.aio_base.specs.declared.outcomes.Failed.{Failed}
 use Rattle.aio_base.specs.Script.{output, world_after}
-use Rattle.aio_base.specs.Trace.{lines_of}
 use Rattle.aio_base.specs.World.{opening}
 use Rattle.aio_base.specs.declared.steps.Step.{Step}
 use Rattle.aio_bytes.specs.declared.traits.SinkRefusal.{SinkRefusal}
 use Rattle.aio_bytes.specs.declared.traits.SinkRefusal.TheVariants as refused
 use Rattle.aio_bytes.specs.Sinks.{RefusedBy, Writes, is_failed}
-use Rattle.aio_bytes.specs.Held.{HasNoLineFeed, PutsAhead}
+use Rattle.aio_bytes.specs.Held.{PutsAhead}
+use Rattle.aio_bytes.specs.Unread.{LeavesAllBut, bytes_before}
 use Rattle.aio_replay.specs.declared.ends.Stop.{Stop}
 use Rattle.aio_replay.specs.declared.ends.Stop.TheVariants as stop
 use Rattle.aio_replay.specs.declared.ends.End.{End}
 use Rattle.aio_replay.specs.declared.ends.End.TheVariants as ends
-use Rattle.aio_replay.specs.declared.ends.Next.{Next}
-use Rattle.aio_replay.specs.declared.ends.Next.TheVariants as next
 use Rattle.aio_replay.specs.declared.replayer.Replayer.{Replayer}
 use Rattle.aio_replay.specs.Language.{Language}
 use Rattle.aio_replay.specs.Replaying.{StandsFor}
@@ -84,47 +82,6 @@ abbrev pub ReadsOnce : {S : Type 0} → (S → ℕ → Result (List ℕ) Failed 
 ReadsOnce read_step old room (Ok count) bytes new = read_step old room (Ok (take count bytes)) new
 ReadsOnce read_step old room (Err s) bytes new = StopsReading read_step old room (is_read_fault s) (is_of_memory s) new
 
--- what a source has left, with the bytes that were read ahead of it
-pub record Unread (told : Option (List ℕ)) (ahead unread : List ℕ) : Type 0 where
-  pub left : List ℕ
-  pub is_left : told ≡ Some left
-  pub whole : unread ≡ ahead ++ left
-
--- a source has the end of these bytes left, and gave at most so many
-pub record LeavesAllBut (count : ℕ) (told : Option (List ℕ)) (unread : List ℕ) : Type 0 where
-  pub taken : List ℕ
-  pub left : List ℕ
-  pub is_left : told ≡ Some left
-  pub whole : unread ≡ taken ++ left
-  pub most : length taken ≤ count
-
--- these bytes begin with a line that is too long: 257 of them without a line feed
-pub record BeginsLong (unread : List ℕ) : Type 0 where
-  pub front : List ℕ
-  pub more : List ℕ
-  pub whole : unread ≡ front ++ more
-  pub long : length front ≡ 257
-  pub no_line_feed : HasNoLineFeed front
-
--- a line was taken of the bytes that were unread, with its line feed where it has one
-pub record TakesLine (told : Option (List ℕ)) (line ahead unread : List ℕ) : Type 0 where
-  pub taken : List ℕ
-  pub rest : List ℕ
-  pub is_rest : Unread told ahead rest
-  pub whole : unread ≡ taken ++ rest
-  pub lines : lines_of unread ≡ line ∷ lines_of rest
-  pub within : length taken ≤ length line + 1
-  pub most : length taken ≤ 257
-  pub held : LeavesAllBut 257 told unread
-
--- what was found next of the bytes that were unread: a line, the first bytes of a line that is too long, or nothing; in any case at most 257
--- bytes of them are out of the source
-abbrev pub FindsNext : Result Next Stop → Option (List ℕ) → List ℕ → List ℕ → List ℕ → Type 0
-FindsNext (Ok next.Line) told line ahead unread = TakesLine told line ahead unread
-FindsNext (Ok next.Long) told line ahead unread = BeginsLong unread × LeavesAllBut 257 told unread
-FindsNext (Ok next.End) told line ahead unread = (unread ≡ []) × (told ≡ Some [])
-FindsNext (Err s) told line ahead unread = LeavesAllBut 257 told unread
-
 -- a front part of the text, perhaps none, went out, and the rest is kept
 pub record Sends (out_old out_new : Option (List ℕ)) (text_old text_new : List ℕ) : Type 0 where
   pub sent : List ℕ
@@ -135,15 +92,6 @@ pub record Sends (out_old out_new : Option (List ℕ)) (text_old text_new : List
 abbrev pub SendsOrStops : {T : Type 0} → Result T Stop → Option (List ℕ) → Option (List ℕ) → List ℕ → List ℕ → Type 0
 SendsOrStops (Ok x) out_old out_new text_old text_new = Sends out_old out_new text_old text_new
 SendsOrStops (Err s) out_old out_new text_old text_new = Writes (sink_answer s) out_old out_new text_old
-
--- the bytes of some lines, each with its line feed
-abbrev pub length_of_lines : List (List ℕ) → ℕ
-length_of_lines [] = 0
-length_of_lines (line ∷ lines) = length line + 1 + length_of_lines lines
-
--- the bytes of an input that stand before the line of this number, counted from 1
-abbrev pub bytes_before : ℕ → List ℕ → ℕ
-bytes_before line input = length_of_lines (take (line - 1) (lines_of input))
 
 -- the bytes of all lines that a trace may have, and of one more, each of at most 256 bytes and its line feed
 abbrev pub most_bytes : Language → ℕ

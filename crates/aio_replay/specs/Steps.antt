@@ -6,11 +6,12 @@ use Rattle.aio_base.specs.World.{World, opening}
 use Rattle.aio_base.specs.Script.{output, world_after, script_step, reply_text}
 use Rattle.aio_base.specs.Trace.{Trace, Refusal, lines_of}
 use Rattle.aio_bytes.specs.Sinks.{Writes}
+use Rattle.aio_bytes.specs.Unread.{Unread, LeavesAllBut, length_of_lines, bytes_before}
 use Rattle.aio_replay.specs.declared.ends.End.{End}
 use Rattle.aio_replay.specs.declared.ends.End.TheVariants as ends
 use Rattle.aio_replay.specs.declared.ends.Stop.{Stop}
 use Rattle.aio_replay.specs.declared.replayer.Replayer.{Replayer}
-use Rattle.aio_replay.specs.Driving.{Unread, LeavesAllBut, EndsSo, IfStopped, sink_answer, length_of_lines, bytes_before, bytes_of_end, most_bytes}
+use Rattle.aio_replay.specs.Driving.{EndsSo, IfStopped, sink_answer, bytes_of_end, most_bytes}
 use Rattle.aio_replay.specs.Language.{Language}
 use Rattle.aio_replay.specs.Replaying.{StandsFor}
 

@@ -4,16 +4,17 @@ ghost use Rattle.std.specs.Prelude.{◌≡◌, ℕ, ◌+◌, ◌-◌, ◌<◌, �
 ghost use Rattle.std.specs.Prelude.{drop, length, vec_len, IfErr, OnOk, OnErr, false, true};
 ghost use Rattle.aio_bytes.specs.Held.{HasNoLineFeed};
 ghost use Rattle.aio_bytes.specs.Sinks.{RefusedBy, Writes, is_failed};
+ghost use Rattle.aio_bytes.specs.Unread.{FindsNext, Unread};
 ghost use Rattle.aio_replay.specs.Driving.{ends_with, Causes, is_read_fault, is_write_fault};
-ghost use Rattle.aio_replay.specs.Driving.{stops_with, StopsBy, IfStopped, Unread, FindsNext};
+ghost use Rattle.aio_replay.specs.Driving.{stops_with, StopsBy, IfStopped};
 ghost use Rattle.aio_replay.specs.Driving.{SendsOrStops, ReadsMore, ReadsOnce};
 ghost use Rattle.aio_replay.specs.Steps.{Closes};
 
-use crate::ends::{End, Next, Stop};
+use crate::ends::{End, Stop};
 use crate::replayer::Replayer;
 use crate::version::Version;
 use aio_base::{Reason, Step, Waker};
-use aio_bytes::{BLOCK, LineReader, Sink, Source, flush};
+use aio_bytes::{BLOCK, LineReader, Next, Sink, Source, flush};
 use aio_react::Core;
 use aio_script::ScriptPoller;
 use aio_trace::write_reply;
@@ -351,8 +352,8 @@ fn read_more<S: Source, K: Sink>(
     }
 }
 
-/// Finds the next line of the input, or its end. The common case, a line that is read ahead, is apart
-/// from those in which more is read.
+/// Finds the next line of the input, or its end. The common case, a line that lies ahead, is apart from
+/// those in which more is read.
 #[inline]
 fn next_line<S: Source, K: Sink>(
     reader: &mut LineReader,
@@ -360,7 +361,6 @@ fn next_line<S: Source, K: Sink>(
     input: &mut S,
     out: &mut K,
 ) -> Result<Next, Stop>
-    requires { length reader.old.ahead ≤ 257 }
     ensures found { (unread : List ℕ) → Unread (S.remaining input.old) reader.old.ahead unread
         → FindsNext result (S.remaining input.new) reader.new.line reader.new.ahead unread }
     ensures bound { length reader.new.ahead ≤ 257 }
@@ -372,14 +372,14 @@ fn next_line<S: Source, K: Sink>(
         out.old out.new (stops_with is_write_fault result) }
     ensures refused { IfErr result (StopsBy K.write_step out.new) }
 {
-    if reader.find_line() {
-        return Ok(Next::Line);
+    match reader.next_ahead() {
+        Some(next) => Ok(next),
+        None => read_line(reader, text, input, out),
     }
-    read_line(reader, text, input, out)
 }
 
-/// Finds the next line of the input, or its end, where no whole line is read ahead: more is read until
-/// there is one.
+/// Finds the next line of the input, or its end, where no whole line lies ahead: more is read until there
+/// is one.
 #[inline(never)]
 fn read_line<S: Source, K: Sink>(
     reader: &mut LineReader,
@@ -387,7 +387,7 @@ fn read_line<S: Source, K: Sink>(
     input: &mut S,
     out: &mut K,
 ) -> Result<Next, Stop>
-    requires bound { length reader.old.ahead ≤ 257 }
+    requires room { length reader.old.ahead < 257 }
     requires no_line { HasNoLineFeed reader.old.ahead }
     ensures found { (unread : List ℕ) → Unread (S.remaining input.old) reader.old.ahead unread
         → FindsNext result (S.remaining input.new) reader.new.line reader.new.ahead unread }
@@ -401,31 +401,14 @@ fn read_line<S: Source, K: Sink>(
     ensures refused { IfErr result (StopsBy K.write_step out.new) }
 {
     loop {
-        if reader.is_full() {
-            reader.take_rest();
-            return Ok(Next::Long);
-        }
         match read_more(reader, text, input, out) {
-            Ok(0) => return Ok(last_line(reader)),
+            Ok(0) => return Ok(reader.last()),
             Ok(_) => {}
             Err(stop) => return Err(stop),
         }
-        if reader.find_line() {
-            return Ok(Next::Line);
+        match reader.next_ahead() {
+            Some(next) => return Ok(next),
+            None => {}
         }
     }
-}
-
-/// What is found at the end of the input: the rest of it as a line, where there is a rest.
-fn last_line(reader: &mut LineReader) -> Next
-    ensures line { reader.old.ahead ≢ []
-        → (result ≡ Next.Line) × (reader.new.line ≡ reader.old.ahead) }
-    ensures end { reader.old.ahead ≡ [] → result ≡ Next.End }
-    ensures ahead { reader.new.ahead ≡ [] }
-{
-    if reader.ahead_len() == 0 {
-        return Next::End;
-    }
-    reader.take_rest();
-    Next::Line
 }

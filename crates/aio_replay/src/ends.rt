@@ -53,17 +53,6 @@ pub(crate) enum End {
     Stopped(Stop),
 }
 
-/// What is found next of an input.
-#[derive(Clone, Copy, Debug, PartialEq, Eq)]
-pub(crate) enum Next {
-    /// A line: one with a line feed, or the rest of the input.
-    Line,
-    /// The first bytes of a line that is too long.
-    Long,
-    /// Nothing is left.
-    End,
-}
-
 impl Stop {
     ghost use Rattle.std.specs.Prelude.{true, false, Err};
     ghost use Rattle.aio_replay.specs.Driving.{is_of_memory, is_read_fault, sink_answer, write_stop};

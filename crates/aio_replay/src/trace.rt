@@ -1,7 +1,8 @@
 //! The replay of a whole trace.
 
 ghost use Rattle.std.specs.Prelude.{◌≡◌, ◌↔◌, ℕ, List, None, Some};
-ghost use Rattle.aio_replay.specs.Driving.{Causes, LeavesAllBut};
+ghost use Rattle.aio_bytes.specs.Unread.{LeavesAllBut};
+ghost use Rattle.aio_replay.specs.Driving.{Causes};
 ghost use Rattle.aio_replay.specs.Ends.{HandsBack, Replayed, TellsCounts, bytes_taken};
 ghost use Rattle.aio_replay.specs.Ends.{tells_read_fault, tells_write_fault};
 

@@ -2,7 +2,7 @@
 use Rattle.std.proofs.Common.{◌≡◌, ℕ, List, [], Option, Some, refl, arith}
 use Rattle.aio_replay.specs.declared.ends.ReplayEnd.{ReplayEnd}
 use Rattle.aio_replay.specs.declared.ends.ReplayEnd.TheVariants as ends
-use Rattle.aio_replay.specs.Driving.{LeavesAllBut}
+use Rattle.aio_bytes.specs.Unread.{LeavesAllBut}
 use Rattle.aio_replay.specs.Ends as replay_ends
 use Rattle.aio_replay.specs.Ends.{Replayed}
 use Rattle.aio_run.specs.declared.status.Why.{Why}

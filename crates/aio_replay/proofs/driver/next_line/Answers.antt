@@ -1,6 +1,4 @@
-use Rattle.aio_replay.proofs.DrivingLemmas.{takes_line}
 use Rattle.aio_replay.proofs.driver.next_line.Goals as goal
 
-pub returns-then-find_line-clause-found : goal.returns-then-find_line-clause-found
-returns-then-find_line-clause-found g c = λ unread is.
-    takes_line _ _ _ _ unread is c.if-find_line.ensures.found c.if-find_line.ensures.first c.requires
+pub returns-in-Some-clause-found : goal.returns-in-Some-clause-found
+returns-in-Some-clause-found g c = λ unread is. c.in-Some.ensures.found _ unread is
