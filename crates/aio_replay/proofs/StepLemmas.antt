@@ -1,8 +1,8 @@
 -- From what stands before a line to what stands after it, or to what an end says.
-use Rattle.std.proofs.Common.{◌≡◌, ℕ, ◌+◌, ◌-◌, ◌*◌, ◌≤◌, true, false, List, [], ◌∷◌, ◌++◌, length, length-append, take, Option, None, Some, Result, Ok, Err, refl, sym, ap, ◌∙◌, subst, append_assoc, append-nil, arith}
+use Rattle.std.proofs.Common.{◌≡◌, ◌≢◌, ℕ, ◌+◌, ◌-◌, ◌*◌, ◌≤◌, true, false, List, [], ◌∷◌, ◌++◌, length, length-append, take, Option, None, Some, Result, Ok, Err, refl, sym, ap, ◌∙◌, subst, append_assoc, append-nil, arith}
 use Rattle.std.proofs.lemmas.List.{take_at}
 use Rattle.std.specs.Io.KnownBytes.{Appends}
-use Rattle.std.proofs.KnownBytes.{Appends-trans, Appends-nil}
+use Rattle.std.proofs.KnownBytes.{Appends-nil}
 use Rattle.aio_base.specs.declared.names.Waker.{Waker}
 use Rattle.aio_base.specs.declared.steps.Step.{Step}
 use Rattle.aio_base.specs.declared.steps.Answer.{Answer}
@@ -10,20 +10,21 @@ use Rattle.aio_base.specs.declared.steps.Reason.{Reason}
 use Rattle.aio_base.specs.declared.steps.Reason.TheVariants as reason
 use Rattle.aio_base.specs.World.{World, opening}
 use Rattle.aio_base.specs.Script.{output, output_from, world_after, script_step, reply_text}
-use Rattle.aio_base.specs.Trace.{Trace, Refusal, lines_of, with_step, refused}
+use Rattle.aio_base.specs.Trace.{Trace, lines_of, with_step, refused}
 use Rattle.aio_bytes.specs.declared.traits.SinkRefusal.{SinkRefusal}
 use Rattle.aio_bytes.specs.Sinks.{AppendsPart, Writes}
 use Rattle.aio_bytes.specs.Unread.{Unread, LeavesAllBut, BeginsLong, TakesLine, length_of_lines, bytes_before}
 use Rattle.aio_replay.specs.declared.ends.Stop.{Stop}
+use Rattle.aio_replay.specs.declared.ends.Cause.TheVariants as cause
 use Rattle.aio_replay.specs.declared.ends.End.{End}
 use Rattle.aio_replay.specs.declared.ends.End.TheVariants as ends
 use Rattle.aio_replay.specs.declared.replayer.Replayer.{Replayer}
 use Rattle.aio_replay.specs.Language.{Language, SaysByLines}
 use Rattle.aio_replay.specs.Replaying.{Replays, StandsFor}
-use Rattle.aio_replay.specs.Driving.{Sends, StoppedBehind, EndsSo, UnlessMemory, is_of_memory, sink_answer, bytes_of_end, most_bytes}
+use Rattle.aio_replay.specs.Driving.{Done, DoneSoFar, Sends, StoppedBehind, EndsSo, UnlessMemory, after_steps, bytes_of_end, most_bytes}
 use Rattle.aio_replay.specs.Ends.{StandsOnTheWay}
-use Rattle.aio_replay.specs.Steps.{Opens, Answers, TakesLines, Standing, LineTaken, Closes, Closing, after_steps, refusal_of, IsRead}
-use Rattle.aio_replay.proofs.DrivingLemmas.{long_is_refused}
+use Rattle.aio_replay.specs.Steps.{Opens, Answers, TakesLines, Standing, LineTaken, Closes, Closing, left_by, IsRead}
+use Rattle.aio_replay.proofs.DrivingLemmas.{Sends-trans, Sends-writes, long_is_refused}
 
 -- ## Steps at the end of a run
 
@@ -57,8 +58,43 @@ answered old new s a wakes text_old text_new replays text w stands =
 after_steps-push : (done : List Step) (s : Step) (t : Trace) → after_steps done (with_step s t) ≡ after_steps (done ++ s ∷ []) t
 after_steps-push done s t = ap (λ (steps : List Step). let r : Trace = record { steps = steps; refusal = t.refusal } in r) (sym (append_assoc done (s ∷ []) t.steps))
 
-after_steps-end : (done : List Step) (r : Option Refusal) → after_steps done (record { steps = []; refusal = r }) ≡ record { steps = done; refusal = r }
-after_steps-end done r = ap (λ (steps : List Step). let t : Trace = record { steps = steps; refusal = r } in t) (append-nil done)
+-- the lines that are left say this too
+left_is : (l : Language) (input : List ℕ) (left other : Trace) (Stands : World → Type 0) (Written : List ℕ → Type 0) → left ≡ other
+    → Done l input left Stands Written → Done l input other Stands Written
+left_is l input left other Stands Written same d = record {
+  steps = d.steps;
+  says = d.says ∙ ap (after_steps d.steps) same;
+  stands = d.stands;
+  written = d.written;
+}
+
+-- more of the text was written
+sends_more : (l : Language) (input : List ℕ) (left : Trace) (first old new : Option (List ℕ)) (text kept_text : List ℕ) (r : Replayer)
+    → DoneSoFar l input left first old text r → Sends old new text kept_text → DoneSoFar l input left first new kept_text r
+sends_more l input left first old new text kept_text r d sends = record {
+  steps = d.steps;
+  says = d.says;
+  stands = d.stands;
+  written = Sends-trans first old new (output d.steps) text kept_text d.written sends;
+}
+
+-- the next step was run, and its reply stands at the end of the text
+runs_step : (l : Language) (input : List ℕ) (s : Step) (left : Trace) (first out : Option (List ℕ)) (text new : List ℕ) (r after : Replayer)
+    → DoneSoFar l input (with_step s left) first out text r → Answers s r after text new → DoneSoFar l input left first out new after
+runs_step l input s left first out text new r after d answers =
+    let w = world_after opening d.steps in
+    let said = reply_text (script_step w s).answer (script_step w s).wakes in
+    let reply = answers w d.stands in
+    record {
+      steps = d.steps ++ s ∷ [];
+      says = d.says ∙ after_steps-push d.steps s left;
+      stands = subst (StandsFor after) (sym (world_after-push opening d.steps s)) reply.1;
+      written = record {
+        sent = d.written.sent;
+        appended = d.written.appended;
+        whole = output-push d.steps s ∙ ap (λ x. x ++ said) d.written.whole ∙ append_assoc d.written.sent text said ∙ ap (λ x. d.written.sent ++ x) (sym reply.0);
+      };
+    }
 
 -- ## The bytes before a line
 
@@ -123,14 +159,10 @@ pub takes : (l : Language) (input : List ℕ) (told now first old new : Option (
     → (s : Standing l input told first old line ahead text r) → TakesLine now bytes left s.rest → Sends old new text kept_text
     → LineTaken l input now first new line bytes left kept_text r
 takes l input told now first old new line ahead bytes left text kept_text r s t sends = record {
-  done = s.done;
   rest = t.rest;
   is_rest = t.is_rest;
-  says = s.says ∙ ap (λ lines. after_steps s.done (l.from line lines)) t.lines;
-  world = s.world;
-  sent = s.sent ++ sends.sent;
-  appended = Appends-trans first old new s.sent sends.sent s.appended sends.appended;
-  whole = append_assoc s.sent sends.sent kept_text ∙ ap (λ x. s.sent ++ x) (sym sends.whole) ∙ s.whole;
+  done = sends_more l input (l.from line (bytes ∷ lines_of t.rest)) first old new text kept_text r
+      (left_is l input _ _ _ _ (ap (l.from line) t.lines) s.done) sends;
   before = takes_one input now line bytes left s.rest s.before t;
   held = held_behind input now line s.rest s.before t.held;
   held_few = held_few input now line s.rest s.before t.held;
@@ -139,51 +171,25 @@ takes l input told now first old new line ahead bytes left text kept_text r s t 
 pub goes_on : (l : Language) (input : List ℕ) (told first out : Option (List ℕ)) (line : ℕ) (bytes ahead text new : List ℕ) (r after : Replayer) (s : Step)
     → SaysByLines l → LineTaken l input told first out line bytes ahead text r → line ≤ l.limit → l.step bytes ≡ Some s → Answers s r after text new
     → Standing l input told first out (line + 1) ahead new after
-goes_on l input told first out line bytes ahead text new r after s laws t le read answers =
-    let done = t.done ++ s ∷ [] in
-    let reply = answers (world_after opening t.done) t.world in
-    record {
-      done = done;
-      rest = t.rest;
-      is_rest = t.is_rest;
-      says = t.says ∙ ap (after_steps t.done) (laws.steps line bytes (lines_of t.rest) s le read) ∙ after_steps-push t.done s (l.from (line + 1) (lines_of t.rest));
-      world = subst (StandsFor after) (sym (world_after-push opening t.done s)) reply.1;
-      sent = t.sent;
-      appended = t.appended;
-      whole = ap (λ x. t.sent ++ x) reply.0
-          ∙ sym (append_assoc t.sent text (reply_text (script_step (world_after opening t.done) s).answer (script_step (world_after opening t.done) s).wakes))
-          ∙ ap (λ x. x ++ reply_text (script_step (world_after opening t.done) s).answer (script_step (world_after opening t.done) s).wakes) t.whole
-          ∙ sym (output-push t.done s);
-      before = t.before;
-    }
+goes_on l input told first out line bytes ahead text new r after s laws t le read answers = record {
+  rest = t.rest;
+  is_rest = t.is_rest;
+  done = runs_step l input s (l.from (line + 1) (lines_of t.rest)) first out text new r after
+      (left_is l input _ _ _ _ (laws.steps line bytes (lines_of t.rest) s le read) t.done) answers;
+  before = t.before;
+}
 
 -- the text is written between two lines
 pub flushed : (l : Language) (input : List ℕ) (told first old new : Option (List ℕ)) (line : ℕ) (ahead text kept_text : List ℕ) (r : Replayer)
     → Standing l input told first old line ahead text r → Sends old new text kept_text → Standing l input told first new line ahead kept_text r
 flushed l input told first old new line ahead text kept_text r s sends = record {
-  done = s.done;
   rest = s.rest;
   is_rest = s.is_rest;
-  says = s.says;
-  world = s.world;
-  sent = s.sent ++ sends.sent;
-  appended = Appends-trans first old new s.sent sends.sent s.appended sends.appended;
-  whole = append_assoc s.sent sends.sent kept_text ∙ ap (λ x. s.sent ++ x) (sym sends.whole) ∙ s.whole;
+  done = sends_more l input _ first old new text kept_text r s.done sends;
   before = s.before;
 }
 
 -- ## To an end
-
--- what was written of a text, behind what was written before it
-pub written_behind : (r : Result (Unit {0}) SinkRefusal) (first old new : Option (List ℕ)) (sent text whole : List ℕ) → Appends first old sent → Writes r old new text
-    → sent ++ text ≡ whole → Writes r first new whole
-written_behind (Ok done) first old new sent text whole p q e = subst (Appends first new) e (Appends-trans first old new sent text p q)
-written_behind (Err refusal) first old new sent text whole p q e = record {
-  added = sent ++ q.added;
-  rest = q.rest;
-  whole = sym e ∙ ap (λ t. sent ++ t) q.whole ∙ sym (append_assoc sent q.added q.rest);
-  appended = Appends-trans first old new sent q.added p q.appended;
-}
 
 written_part : (r : Result (Unit {0}) SinkRefusal) (old new : Option (List ℕ)) (bytes : List ℕ) → Writes r old new bytes → AppendsPart old new bytes
 written_part (Ok done) old new bytes q = record { added = bytes; rest = []; whole = sym (append-nil bytes); appended = q }
@@ -202,30 +208,35 @@ written_of_more (Err refusal) old new bytes more q = record {
 pub stopped_part : (l : Language) (s : Stop) (input : List ℕ) (old new : Option (List ℕ)) (r : Replayer) → StoppedBehind l s input old new r
     → AppendsPart old new (output (l.trace input).steps)
 stopped_part l s input old new r b =
-    subst (AppendsPart old new) (sym (ap output b.steps ∙ output-append opening b.done b.more))
-    (written_of_more (sink_answer s) old new (output b.done) (output_from (world_after opening b.done) b.more) b.written)
+    let steps = b.done.steps in
+    let more = b.left.steps in
+    subst (AppendsPart old new) (sym (ap (λ (t : Trace). output t.steps) b.done.says ∙ output-append opening steps more))
+    (written_of_more s.sent old new (output steps) (output_from (world_after opening steps) more) b.done.written)
 
 -- where memory did not run out, the core stands for the world after steps among which are all those that the output tells of
-pub stands_on_the_way : (l : Language) (s : Stop) (input : List ℕ) (old new : Option (List ℕ)) (r : Replayer) → is_of_memory s ≡ false
+pub stands_on_the_way : (l : Language) (s : Stop) (input : List ℕ) (old new : Option (List ℕ)) (r : Replayer) → s.cause ≢ cause.Memory
     → StoppedBehind l s input old new r → StandsOnTheWay r.core (l.trace input).steps old new
 stands_on_the_way l s input old new r other b = record {
-  done = b.done;
-  more = b.more;
-  whole = b.steps;
-  written = written_part (sink_answer s) old new (output b.done) b.written;
-  stands = (b.world other).core;
+  done = b.done.steps;
+  more = b.left.steps;
+  whole = ap (λ (t : Trace). t.steps) b.done.says;
+  written = written_part s.sent old new (output b.done.steps) b.done.written;
+  stands = (b.done.stands other).core;
 }
 
-pub stops : (l : Language) (input : List ℕ) (now first old new : Option (List ℕ)) (sent text : List ℕ) (done : List Step) (t : Trace) (s : Stop) (r : Replayer)
-    → l.trace input ≡ after_steps done t → Appends first old sent → sent ++ text ≡ output done → Writes (sink_answer s) old new text
-    → UnlessMemory s (StandsFor r (world_after opening done)) → LeavesAllBut (most_bytes l) now input → EndsSo l (ends.Stopped s) input now first new r
-stops l input now first old new sent text done t s r says appended whole written world taken = record {
+-- it was stopped, and the text was written as far as the output took it
+stops : (l : Language) (input : List ℕ) (now first old new : Option (List ℕ)) (text : List ℕ) (left : Trace) (s : Stop) (r after : Replayer)
+    → DoneSoFar l input left first old text r → ((w : World) → StandsFor r w → UnlessMemory s (StandsFor after w)) → Writes s.sent old new text
+    → LeavesAllBut (most_bytes l) now input → EndsSo l (ends.Stopped s) input now first new after
+stops l input now first old new text left s r after d keeps part taken = record {
   says = record {
-    done = done;
-    more = t.steps;
-    steps = ap (λ (x : Trace). x.steps) says;
-    written = written_behind (sink_answer s) first old new sent text (output done) appended written whole;
-    world = world;
+    left = left;
+    done = record {
+      steps = d.steps;
+      says = d.says;
+      stands = keeps (world_after opening d.steps) d.stands;
+      written = Sends-writes s.sent first old new (output d.steps) text d.written part;
+    };
   };
   taken = taken;
   few = taken;
@@ -233,93 +244,66 @@ stops l input now first old new sent text done t s r says appended whole written
 
 -- it was stopped while a line was looked for
 pub stops_before : (l : Language) (input : List ℕ) (told now first old new : Option (List ℕ)) (line : ℕ) (ahead text : List ℕ) (r : Replayer) (e : Stop)
-    → (s : Standing l input told first old line ahead text r) → line ≤ l.limit + 1 → LeavesAllBut 257 now s.rest → Writes (sink_answer e) old new text
+    → (s : Standing l input told first old line ahead text r) → line ≤ l.limit + 1 → LeavesAllBut 257 now s.rest → Writes e.sent old new text
     → EndsSo l (ends.Stopped e) input now first new r
 stops_before l input told now first old new line ahead text r e s le h part =
-    stops l input now first old new s.sent text s.done _ e r s.says s.appended s.whole part (λ kept. s.world)
-    (held_at_last l input now line s.rest le s.before h)
+    stops l input now first old new text _ e r r s.done (λ w stands other. stands) part (held_at_last l input now line s.rest le s.before h)
 
 -- memory ran out for the step of a line, or for its reply
 pub stops_in_step : (l : Language) (input : List ℕ) (told first old new : Option (List ℕ)) (line : ℕ) (bytes ahead text : List ℕ) (r after : Replayer) (e : Stop)
-    → LineTaken l input told first old line bytes ahead text r → line ≤ l.limit → is_of_memory e ≡ true → Writes (sink_answer e) old new text
+    → LineTaken l input told first old line bytes ahead text r → line ≤ l.limit → e.cause ≡ cause.Memory → Writes e.sent old new text
     → EndsSo l (ends.Stopped e) input told first new after
 stops_in_step l input told first old new line bytes ahead text r after e t le memory part =
-    stops l input told first old new t.sent text t.done _ e after t.says t.appended t.whole part (λ kept. absurd (cc (memory, kept)))
+    stops l input told first old new text _ e r after t.done (λ w stands other. absurd (other memory)) part
     (leaves_more (257 * line) (257 * (l.limit + 1)) told input (omega (arith, le)) t.held_few)
 
 -- it was stopped before the next line
 pub stops_between : (l : Language) (input : List ℕ) (told first old new : Option (List ℕ)) (line : ℕ) (ahead text : List ℕ) (r : Replayer) (e : Stop)
-    → Standing l input told first old line ahead text r → LeavesAllBut (most_bytes l) told input → Writes (sink_answer e) old new text
+    → Standing l input told first old line ahead text r → LeavesAllBut (most_bytes l) told input → Writes e.sent old new text
     → EndsSo l (ends.Stopped e) input told first new r
 stops_between l input told first old new line ahead text r e s h part =
-    stops l input told first old new s.sent text s.done _ e r s.says s.appended s.whole part (λ kept. s.world) h
+    stops l input told first old new text _ e r r s.done (λ w stands other. stands) part h
 
-stands_after : (r : Replayer) (done steps : List Step) → steps ≡ done → StandsFor r (world_after opening done) → StandsFor r (world_after opening steps)
-stands_after r done steps same stands = subst (λ (x : List Step). StandsFor r (world_after opening x)) (sym same) stands
+-- what is said of an end behind which no step is left, once the whole text is written
+ends_whole : (l : Language) (input : List ℕ) (left : Trace) (first old new : Option (List ℕ)) (text : List ℕ) (r : Replayer) → left.steps ≡ []
+    → DoneSoFar l input left first old text r → Appends old new text
+    → ((l.trace input).refusal ≡ left.refusal) × Appends first new (output (l.trace input).steps) × StandsFor r (world_after opening (l.trace input).steps)
+ends_whole l input left first old new text r none d rest =
+    let steps : d.steps ≡ (l.trace input).steps = sym (ap (λ (t : Trace). t.steps) d.says ∙ ap (λ x. d.steps ++ x) none ∙ append-nil d.steps) in (
+      ap (λ (t : Trace). t.refusal) d.says,
+      subst (λ (x : List Step). Appends first new (output x)) steps (Sends-writes (Ok tt) first old new (output d.steps) text d.written rest),
+      subst (λ (x : List Step). StandsFor r (world_after opening x)) steps d.stands,
+    )
 
 pub closes : (l : Language) (result wanted : End) (input : List ℕ) (told first old new : Option (List ℕ)) (text : List ℕ) (r : Replayer)
     → Closing l wanted input told first old text r → Closes result wanted old new text → EndsSo l result input told first new r
 closes l ends.Done wanted input told first old new text r c e =
     let same : wanted ≡ ends.Done = e.0 in
-    let steps : (l.trace input).steps ≡ c.done = ap (λ (t : Trace). t.steps) c.says in
+    let whole = ends_whole l input _ first old new text r refl (left_is l input _ _ _ _ (ap left_by same) c.done) e.1 in
     record {
-      says = (
-        subst (λ (x : End). IsRead x told) same c.is_read,
-        ap (λ (t : Trace). t.refusal) c.says ∙ ap refusal_of same,
-        subst (Appends first new) (c.whole ∙ ap output (sym steps)) (Appends-trans first old new c.sent text c.appended e.1),
-        stands_after r c.done (l.trace input).steps steps c.world,
-      );
+      says = (subst (λ (x : End). IsRead x told) same c.is_read, whole.0, whole.1, whole.2);
       taken = subst (λ (x : End). LeavesAllBut (bytes_of_end l x input) told input) same c.taken;
       few = c.taken_few;
     }
 closes l (ends.Refused line why) wanted input told first old new text r c e =
     let same : wanted ≡ ends.Refused line why = e.0 in
-    let steps : (l.trace input).steps ≡ c.done = ap (λ (t : Trace). t.steps) c.says in
     record {
-      says = (
-        ap (λ (t : Trace). t.refusal) c.says ∙ ap refusal_of same,
-        subst (Appends first new) (c.whole ∙ ap output (sym steps)) (Appends-trans first old new c.sent text c.appended e.1),
-        stands_after r c.done (l.trace input).steps steps c.world,
-      );
+      says = ends_whole l input _ first old new text r refl (left_is l input _ _ _ _ (ap left_by same) c.done) e.1;
       taken = subst (λ (x : End). LeavesAllBut (bytes_of_end l x input) told input) same c.taken;
       few = c.taken_few;
     }
 closes l (ends.Stopped s) wanted input told first old new text r c e =
-    stops l input told first old new c.sent text c.done (record { steps = []; refusal = refusal_of wanted }) s r
-    (c.says ∙ sym (after_steps-end c.done (refusal_of wanted))) c.appended c.whole e (λ kept. c.world) c.taken_few
+    stops l input told first old new text _ s r r c.done (λ w stands other. stands) e c.taken_few
 
 -- a line that reads as no step is refused
 pub refuses_line : (l : Language) (input : List ℕ) (told first out : Option (List ℕ)) (line : ℕ) (bytes ahead text : List ℕ) (r : Replayer) (why : Reason)
     → SaysByLines l → LineTaken l input told first out line bytes ahead text r → line ≤ l.limit → l.refusal bytes ≡ Some why
     → Closing l (ends.Refused line why) input told first out text r
 refuses_line l input told first out line bytes ahead text r why laws t le none = record {
-  done = t.done;
-  says = t.says ∙ ap (after_steps t.done) (laws.refuses line bytes (lines_of t.rest) why le none) ∙ after_steps-end t.done (refusal_of (ends.Refused line why));
-  world = t.world;
-  sent = t.sent;
-  appended = t.appended;
-  whole = t.whole;
+  done = left_is l input _ _ _ _ (laws.refuses line bytes (lines_of t.rest) why le none) t.done;
   is_read = tt;
   taken = t.held;
   taken_few = leaves_more (257 * line) (257 * (l.limit + 1)) told input (omega (arith, le)) t.held_few;
-}
-
--- what is written of the text before an end stays to be written of it
-closing_sends : (l : Language) (wanted : End) (input : List ℕ) (now first old new : Option (List ℕ)) (text kept_text sent : List ℕ) (done : List Step) (r : Replayer)
-    → l.trace input ≡ record { steps = done; refusal = refusal_of wanted } → StandsFor r (world_after opening done) → Appends first old sent
-    → sent ++ text ≡ output done → Sends old new text kept_text
-    → IsRead wanted now → LeavesAllBut (bytes_of_end l wanted input) now input → LeavesAllBut (most_bytes l) now input
-    → Closing l wanted input now first new kept_text r
-closing_sends l wanted input now first old new text kept_text sent done r says world appended whole sends is_read taken few = record {
-  done = done;
-  says = says;
-  world = world;
-  sent = sent ++ sends.sent;
-  appended = Appends-trans first old new sent sends.sent appended sends.appended;
-  whole = append_assoc sent sends.sent kept_text ∙ ap (λ x. sent ++ x) (sym sends.whole) ∙ whole;
-  is_read = is_read;
-  taken = taken;
-  taken_few = few;
 }
 
 -- nothing is left of the input
@@ -333,10 +317,24 @@ ends_here l input told now first old new line ahead text kept_text r laws s le n
       is_left = nothing.1;
       whole = s.before.whole ∙ ap (λ x. s.before.taken ++ x) nothing.0;
       most = omega (arith, s.before.most, le);
-    } in
-    closing_sends l ends.Done input now first old new text kept_text s.sent s.done r
-    (s.says ∙ ap (λ x. after_steps s.done (l.from line (lines_of x))) nothing.0 ∙ ap (after_steps s.done) (laws.ends line) ∙ after_steps-end s.done None)
-    s.world s.appended s.whole sends nothing.1 taken taken
+    } in record {
+      done = sends_more l input _ first old new text kept_text r
+          (left_is l input _ _ _ _ (ap (λ x. l.from line (lines_of x)) nothing.0 ∙ laws.ends line) s.done) sends;
+      is_read = nothing.1;
+      taken = taken;
+      taken_few = taken;
+    }
+
+-- the first line that is left is refused, whatever it says
+refuses_first : (l : Language) (input : List ℕ) (told now first old new : Option (List ℕ)) (line : ℕ) (ahead text kept_text : List ℕ) (why : Reason) (r : Replayer)
+    → (s : Standing l input told first old line ahead text r) → line ≤ l.limit + 1 → l.from line (lines_of s.rest) ≡ refused line why → LeavesAllBut 257 now s.rest
+    → Sends old new text kept_text → Closing l (ends.Refused line why) input now first new kept_text r
+refuses_first l input told now first old new line ahead text kept_text why r s le is h sends = record {
+  done = sends_more l input _ first old new text kept_text r (left_is l input _ _ _ _ is s.done) sends;
+  is_read = tt;
+  taken = held_behind input now line s.rest s.before h;
+  taken_few = held_at_last l input now line s.rest le s.before h;
+}
 
 -- a line that is too long is refused
 pub refuses_long : (l : Language) (input : List ℕ) (told now first old new : Option (List ℕ)) (line : ℕ) (ahead text kept_text : List ℕ) (r : Replayer)
@@ -344,39 +342,40 @@ pub refuses_long : (l : Language) (input : List ℕ) (told now first old new : O
     → Closing l (ends.Refused line l.long) input now first new kept_text r
 refuses_long l input told now first old new line ahead text kept_text r laws s le long h sends =
     let b = long_is_refused l s.rest laws long in
-    closing_sends l (ends.Refused line l.long) input now first old new text kept_text s.sent s.done r
-    (s.says ∙ ap (λ lines. after_steps s.done (l.from line lines)) b.lines
-    ∙ ap (after_steps s.done) (laws.refuses line b.first b.others l.long le b.no_step) ∙ after_steps-end s.done (refusal_of (ends.Refused line l.long)))
-    s.world s.appended s.whole sends tt (held_behind input now line s.rest s.before h) (held_at_last l input now line s.rest (omega (arith, le)) s.before h)
+    refuses_first l input told now first old new line ahead text kept_text l.long r s (omega (arith, le))
+    (ap (l.from line) b.lines ∙ laws.refuses line b.first b.others l.long le b.no_step) h sends
 
 -- a line past the last that a trace may have is refused, whatever it says
 pub refuses_past : (l : Language) (input : List ℕ) (told now first old new : Option (List ℕ)) (line : ℕ) (ahead text kept_text first_line : List ℕ) (others : List (List ℕ)) (r : Replayer)
     → SaysByLines l → (s : Standing l input told first old line ahead text r) → line ≡ l.limit + 1 → lines_of s.rest ≡ first_line ∷ others → LeavesAllBut 257 now s.rest
     → Sends old new text kept_text → Closing l (ends.Refused line reason.Lines) input now first new kept_text r
 refuses_past l input told now first old new line ahead text kept_text first_line others r laws s last lines h sends =
-    closing_sends l (ends.Refused line reason.Lines) input now first old new text kept_text s.sent s.done r
-    (s.says ∙ ap (λ x. after_steps s.done (l.from line x)) lines
-    ∙ ap (after_steps s.done) (laws.past line first_line others (omega (arith, last))) ∙ after_steps-end s.done (refusal_of (ends.Refused line reason.Lines)))
-    s.world s.appended s.whole sends tt (held_behind input now line s.rest s.before h) (held_at_last l input now line s.rest (omega (arith, last)) s.before h)
+    refuses_first l input told now first old new line ahead text kept_text reason.Lines r s (omega (arith, last))
+    (ap (l.from line) lines ∙ laws.past line first_line others (omega (arith, last))) h sends
 
 -- ## The header
 
 pub opens_unread : (input ahead text : List ℕ) (told : Option (List ℕ)) (r : Replayer) → Opens ahead text r → told ≡ Some input → Unread told ahead input
 opens_unread input ahead text told r o is = record { left = input; is_left = is; whole = ap (λ t. t ++ input) (sym o.nothing_ahead) }
 
+-- nothing is done yet, and the lines that are left say what the input says
+opens_done : (l : Language) (input ahead text : List ℕ) (left : Trace) (first : Option (List ℕ)) (r : Replayer) → Opens ahead text r → l.trace input ≡ left
+    → DoneSoFar l input left first first text r
+opens_done l input ahead text left first r o says = record {
+  steps = [];
+  says = says;
+  stands = o.stands;
+  written = record { sent = []; appended = Appends-nil first; whole = sym o.no_text };
+}
+
 -- the first line is the header
 pub header_read : (l : Language) (input ahead text kept_text bytes left : List ℕ) (now first new : Option (List ℕ)) (r : Replayer) → SaysByLines l → Opens ahead text r
     → TakesLine now bytes left input → l.is_header bytes ≡ true → Sends first new text kept_text
     → Standing l input now first new 2 left kept_text r
 header_read l input ahead text kept_text bytes left now first new r laws o t is sends = record {
-  done = [];
   rest = t.rest;
   is_rest = t.is_rest;
-  says = laws.headed input bytes (lines_of t.rest) t.lines is;
-  world = o.stands;
-  sent = sends.sent;
-  appended = sends.appended;
-  whole = sym sends.whole ∙ o.no_text;
+  done = sends_more l input _ first first new text kept_text r (opens_done l input ahead text _ first r o (laws.headed input bytes (lines_of t.rest) t.lines is)) sends;
   before = takes_one input now 1 bytes left input (takes_none input) t;
 }
 
@@ -384,12 +383,7 @@ header_closing : (l : Language) (input ahead text kept_text : List ℕ) (now fir
     → l.trace input ≡ refused 1 reason.Header → LeavesAllBut 257 now input → Sends first new text kept_text
     → Closing l (ends.Refused 1 reason.Header) input now first new kept_text r
 header_closing l input ahead text kept_text now first new r laws o says h sends = record {
-  done = [];
-  says = says;
-  world = o.stands;
-  sent = sends.sent;
-  appended = sends.appended;
-  whole = sym sends.whole ∙ o.no_text;
+  done = sends_more l input _ first first new text kept_text r (opens_done l input ahead text _ first r o says) sends;
   is_read = tt;
   taken = held_behind input now 1 input (takes_none input) h;
   taken_few = held_at_last l input now 1 input (omega (arith, laws.some)) (takes_none input) h;
@@ -418,7 +412,7 @@ header_missing l input ahead text kept_text now first new r laws o e sends =
 
 -- it was stopped before the header was read
 pub header_stopped : (l : Language) (input ahead text : List ℕ) (now first new : Option (List ℕ)) (r : Replayer) (s : Stop) → SaysByLines l → Opens ahead text r
-    → LeavesAllBut 257 now input → Writes (sink_answer s) first new text → EndsSo l (ends.Stopped s) input now first new r
+    → LeavesAllBut 257 now input → Writes s.sent first new text → EndsSo l (ends.Stopped s) input now first new r
 header_stopped l input ahead text now first new r s laws o h part =
-    stops l input now first first new [] text [] (l.trace input) s r refl (Appends-nil first) o.no_text part (λ kept. o.stands)
+    stops l input now first first new text (l.trace input) s r r (opens_done l input ahead text _ first r o refl) (λ w stands other. stands) part
     (leaves_more 257 (257 * (l.limit + 1)) now input (omega (arith, laws.some)) h)

@@ -6,15 +6,15 @@ ghost use Rattle.aio_bytes.specs.Held.{HasNoLineFeed};
 ghost use Rattle.aio_bytes.specs.Sinks.{RefusedBy, Writes, is_failed};
 ghost use Rattle.aio_bytes.specs.Unread.{FindsNext, Unread};
 ghost use Rattle.aio_replay.specs.Driving.{ends_with, Causes, is_read_fault, is_write_fault};
-ghost use Rattle.aio_replay.specs.Driving.{stops_with, StopsBy, IfStopped};
+ghost use Rattle.aio_replay.specs.Driving.{stops_with, write_stop, StopsBy, IfStopped};
 ghost use Rattle.aio_replay.specs.Driving.{SendsOrStops, ReadsMore, ReadsOnce};
 ghost use Rattle.aio_replay.specs.Steps.{Closes};
 
-use crate::ends::{End, Stop};
+use crate::ends::{Cause, End, Stop};
 use crate::replayer::Replayer;
 use crate::version::Version;
 use aio_base::{Reason, Step, Waker};
-use aio_bytes::{BLOCK, LineReader, Next, Sink, Source, flush};
+use aio_bytes::{BLOCK, LineReader, Next, Sink, SinkRefusal, Source, flush};
 use aio_react::Core;
 use aio_script::ScriptPoller;
 use aio_trace::write_reply;
@@ -270,7 +270,8 @@ impl Driver {
             Ok(()) => {}
             Err(_) => {
                 let sent = flush(&mut self.text, out);
-                return Some(End::Stopped(Stop::of_memory(sent)));
+                let cause = Cause::Memory;
+                return Some(End::Stopped(Stop { cause, sent }));
             }
         }
         if self.text.len() < BLOCK {
@@ -278,7 +279,7 @@ impl Driver {
         }
         match flush(&mut self.text, out) {
             Ok(()) => None,
-            Err(refusal) => Some(End::Stopped(Stop::of_write(refusal))),
+            Err(refusal) => Some(End::Stopped(refused_by(refusal))),
         }
     }
 }
@@ -295,7 +296,17 @@ fn close<K: Sink>(text: &mut Vec<u8>, out: &mut K, end: End) -> End
 {
     match flush(text, out) {
         Ok(()) => end,
-        Err(refusal) => End::Stopped(Stop::of_write(refusal)),
+        Err(refusal) => End::Stopped(refused_by(refusal)),
+    }
+}
+
+/// The stop of an output that refused answers.
+fn refused_by(refusal: SinkRefusal) -> Stop
+    ensures { result ≡ write_stop refusal }
+{
+    Stop {
+        cause: Cause::Write,
+        sent: Err(refusal),
     }
 }
 
@@ -343,12 +354,16 @@ fn read_more<S: Source, K: Sink>(
     if input.in_hand() == 0 {
         match flush(text, out) {
             Ok(()) => {}
-            Err(refusal) => return Err(Stop::of_write(refusal)),
+            Err(refusal) => return Err(refused_by(refusal)),
         }
     }
     match reader.read(input) {
         Ok(count) => Ok(count),
-        Err(_) => Err(Stop::of_read(flush(text, out))),
+        Err(_) => {
+            let sent = flush(text, out);
+            let cause = Cause::Read;
+            Err(Stop { cause, sent })
+        }
     }
 }
 

@@ -1,7 +1,5 @@
 //! How the replay of a trace ends, and what stops it in the middle.
 
-ghost use Rattle.std.specs.Prelude.{◌≡◌};
-
 use aio_base::{CountFault, Reason};
 use aio_bytes::SinkRefusal;
 
@@ -20,27 +18,24 @@ pub enum ReplayEnd {
     OutOfMemory,
 }
 
-/// What stops a replay in the middle. Where it is not the output, the answers that were gathered are
-/// written before the replay ends, and the stop names what the output answered to that. No stop has a
-/// field, so what a line gives back is small.
+/// What stops a replay in the middle, and what the output answered to the last answers: where it is not
+/// what stopped the replay, those that were gathered are written before the replay ends. What a line
+/// gives back is small so.
 #[derive(Clone, Copy, Debug, PartialEq, Eq)]
-pub(crate) enum Stop {
+pub(crate) struct Stop {
+    pub cause: Cause,
+    pub sent: Result<(), SinkRefusal>,
+}
+
+/// For what a replay is stopped.
+#[derive(Clone, Copy, Debug, PartialEq, Eq)]
+pub(crate) enum Cause {
     /// The input failed.
     Read,
-    /// The input failed, and then the output.
-    ReadThenWrite,
-    /// The input failed, and then memory ran out for the output.
-    ReadThenOutOfMemory,
-    /// The output failed.
+    /// The output refused answers.
     Write,
-    /// Memory ran out for the output.
-    WriteOutOfMemory,
     /// Memory ran out for a step or for its answer.
-    OutOfMemory,
-    /// Memory ran out for a step or for its answer, and then the output failed.
-    OutOfMemoryThenWrite,
-    /// Memory ran out for a step or for its answer, and then for the output.
-    OutOfMemoryTwice,
+    Memory,
 }
 
 /// How the lines of a trace end.
@@ -51,48 +46,4 @@ pub(crate) enum End {
     /// This line, counted from 1 with the header, is refused.
     Refused { line: u64, reason: Reason },
     Stopped(Stop),
-}
-
-impl Stop {
-    ghost use Rattle.std.specs.Prelude.{true, false, Err};
-    ghost use Rattle.aio_replay.specs.Driving.{is_of_memory, is_read_fault, sink_answer, write_stop};
-
-    /// The stop of an input that failed, where the output answered so to the answers before it.
-    pub(crate) fn of_read(sent: Result<(), SinkRefusal>) -> Stop
-        ensures answer { sink_answer result ≡ sent }
-        ensures read { is_read_fault result ≡ true }
-    {
-        match sent {
-            Ok(()) => Stop::Read,
-            Err(SinkRefusal::Failed) => Stop::ReadThenWrite,
-            Err(SinkRefusal::OutOfMemory) => Stop::ReadThenOutOfMemory,
-        }
-    }
-
-    /// The stop of an output that refused answers.
-    pub(crate) fn of_write(refusal: SinkRefusal) -> Stop
-        ensures value { result ≡ write_stop refusal }
-        ensures answer { sink_answer result ≡ Err refusal }
-        ensures read { is_read_fault result ≡ false }
-        ensures memory { is_of_memory result ≡ false }
-    {
-        match refusal {
-            SinkRefusal::Failed => Stop::Write,
-            SinkRefusal::OutOfMemory => Stop::WriteOutOfMemory,
-        }
-    }
-
-    /// The stop of a step for which memory ran out, where the output answered so to the answers before
-    /// it.
-    pub(crate) fn of_memory(sent: Result<(), SinkRefusal>) -> Stop
-        ensures answer { sink_answer result ≡ sent }
-        ensures read { is_read_fault result ≡ false }
-        ensures memory { is_of_memory result ≡ true }
-    {
-        match sent {
-            Ok(()) => Stop::OutOfMemory,
-            Err(SinkRefusal::Failed) => Stop::OutOfMemoryThenWrite,
-            Err(SinkRefusal::OutOfMemory) => Stop::OutOfMemoryTwice,
-        }
-    }
 }

@@ -7,10 +7,10 @@ ghost use Rattle.aio_replay.specs.Ends.{HandsBack, Replayed, TellsCounts, bytes_
 ghost use Rattle.aio_replay.specs.Ends.{tells_read_fault, tells_write_fault};
 
 use crate::driver::Driver;
-use crate::ends::{End, ReplayEnd, Stop};
+use crate::ends::{Cause, End, ReplayEnd};
 use crate::version::FirstVersion;
 use aio_base::CountFault;
-use aio_bytes::{Sink, Source};
+use aio_bytes::{Sink, SinkRefusal, Source};
 use aio_react::Core;
 use aio_script::ScriptPoller;
 use std::alloc::Global;
@@ -71,20 +71,22 @@ pub fn replay<S: Source, K: Sink>(
             let end = ReplayEnd::Refused { line, reason };
             (end, Some(driver.into_core()))
         }
-        End::Stopped(Stop::Read | Stop::ReadThenWrite | Stop::ReadThenOutOfMemory) => {
-            let end = ReplayEnd::ReadFault(CountFault {
-                before: reads,
-                after: input.faults(),
-            });
-            (end, Some(driver.into_core()))
-        }
-        End::Stopped(Stop::Write) => {
-            let end = ReplayEnd::WriteFault(CountFault {
-                before: writes,
-                after: out.faults(),
-            });
-            (end, Some(driver.into_core()))
-        }
-        End::Stopped(_) => (ReplayEnd::OutOfMemory, None),
+        End::Stopped(stop) => match (stop.cause, stop.sent) {
+            (Cause::Read, _) => {
+                let end = ReplayEnd::ReadFault(CountFault {
+                    before: reads,
+                    after: input.faults(),
+                });
+                (end, Some(driver.into_core()))
+            }
+            (Cause::Write, Err(SinkRefusal::Failed)) => {
+                let end = ReplayEnd::WriteFault(CountFault {
+                    before: writes,
+                    after: out.faults(),
+                });
+                (end, Some(driver.into_core()))
+            }
+            _ => (ReplayEnd::OutOfMemory, None),
+        },
     }
 }

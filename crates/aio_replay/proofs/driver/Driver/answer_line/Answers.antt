@@ -1,9 +1,10 @@
-use Rattle.std.proofs.Common.{◌≡◌, Some, ap, sym, ◌∙◌, arith, inr, subst}
+use Rattle.std.proofs.Common.{◌≡◌, Some, refl, ap, sym, ◌∙◌, arith, inr, subst}
 use Rattle.aio_bytes.specs.Sinks.{Writes}
 use Rattle.aio_replay.proofs.Counting.{within_more}
 use Rattle.aio_replay.proofs.DrivingLemmas.{Sends-all}
 use Rattle.aio_replay.proofs.StepLemmas.{closes, refuses_line, goes_on, flushed, stops_in_step, leaves_more, stops_between}
 use Rattle.aio_replay.proofs.driver.Driver.answer_line.Goals as goal
+use Rattle.aio_replay.specs.declared.ends.Cause.TheVariants as cause
 use Rattle.aio_replay.specs.Replaying.{step_limit}
 
 pub returns-in-Err-clause-goes_on : goal.returns-in-Err-clause-goes_on
@@ -22,7 +23,7 @@ answer-requires-clause-within g c = within_more c.args.line step_limit _ (omega 
 pub returns-in-Err-answer-clause-goes_on : goal.returns-in-Err-answer-clause-goes_on
 returns-in-Err-answer-clause-goes_on g c = λ input told first taken.
     let written = subst (Writes c.flush-sent.result _ _) c.in-Err-answer.ensures.kept c.flush-sent.ensures.written in
-    stops_in_step _ input told first _ _ _ _ _ _ _ _ c.of_memory.result taken c.requires.limit c.of_memory.ensures.memory (rw c.of_memory.ensures.answer written)
+    stops_in_step _ input told first _ _ _ _ _ _ _ _ (record { cause = cause.Memory; sent = c.flush-sent.result }) taken c.requires.limit refl written
 
 pub returns-then-len-lt-BLOCK-clause-goes_on : goal.returns-then-len-lt-BLOCK-clause-goes_on
 returns-then-len-lt-BLOCK-clause-goes_on g c = λ input told first taken.
@@ -43,8 +44,8 @@ returns-in-Err-flush-clause-goes_on g c = λ input told first taken.
     let read : g.V.Version.language.step c.args.self.now.reader.line ≡ Some c.in-Ok.step =
     ap g.V.Version.language.step (sym c.line.ensures.value) ∙ rw c.in-Ok.is at c.read_line.ensures in
     let after = goes_on _ input told first _ _ _ _ _ _ _ _ c.in-Ok.step c.requires.says taken c.requires.limit read c.in-Ok-answer.ensures.answers in
-    stops_between _ input told first _ _ _ _ _ _ c.of_write.result after (leaves_more _ _ _ _ (omega (arith, c.requires.limit)) taken.held_few)
-    (rw c.of_write.ensures.answer c.in-Err-flush.ensures.written)
+    stops_between _ input told first _ _ _ _ _ _ c.refused_by.result after (leaves_more _ _ _ _ (omega (arith, c.requires.limit)) taken.held_few)
+    (rw c.refused_by.ensures c.in-Err-flush.ensures.written)
 
 pub returns-then-len-lt-BLOCK-clause-within : goal.returns-then-len-lt-BLOCK-clause-within
 returns-then-len-lt-BLOCK-clause-within g c = λ none. c.in-Ok-answer.ensures.counted c.args.line c.requires.within
