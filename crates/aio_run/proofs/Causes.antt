@@ -1,5 +1,5 @@
 -- What a replay did, said of the cause for which the program ends.
-use Rattle.std.proofs.Common.{◌≡◌, ℕ, List, [], Option, Some, refl, arith}
+use Rattle.std.proofs.Common.{◌≡◌, ℕ, List, Option}
 use Rattle.aio_replay.specs.declared.ends.ReplayEnd.{ReplayEnd}
 use Rattle.aio_replay.specs.declared.ends.ReplayEnd.TheVariants as ends
 use Rattle.aio_bytes.specs.Unread.{LeavesAllBut}
@@ -23,7 +23,3 @@ taken_of w (ends.Refused line reason) input left e p = rw e p
 taken_of w (ends.ReadFault fault) input left e p = rw e p
 taken_of w (ends.WriteFault fault) input left e p = rw e p
 taken_of w ends.OutOfMemory input left e p = rw e p
-
--- nothing was taken
-pub leaves_all : (count : ℕ) (told : Option (List ℕ)) (input : List ℕ) → told ≡ Some input → LeavesAllBut count told input
-leaves_all count told input is = record { taken = []; left = input; is_left = is; whole = refl; most = omega arith }

@@ -1,11 +1,11 @@
 -- Which command words name: one at most; and words that name none.
 use Rattle.std.proofs.Common.{◌≡◌, ◌≢◌, ℕ, ◌-◌, ◌^◌, List, [], ◌∷◌, length, map, get_or, Option, None, Some, sym, ap, ◌∙◌, refl, arith}
-use Rattle.std.specs.Prelude.{MatchOption, codes}
+use Rattle.std.specs.Prelude.{MatchOption, codes, sum}
 use Rattle.aio_line.specs.declared.words.RelayOrder.{RelayOrder}
 use Rattle.aio_line.specs.Words.{IsRelay, SpellsUpTo}
 use Rattle.aio_run.specs.declared.commands.Command.{Command}
 use Rattle.aio_run.specs.declared.commands.Command.TheVariants as command
-use Rattle.aio_run.specs.Commands.{IsGen, IsOfNumbers, IsReplay, IsStress, IsSum, Names}
+use Rattle.aio_run.specs.Commands.{IsOfNumbers, IsReplay, Names}
 
 -- ## The words as a list
 
@@ -124,7 +124,7 @@ none_by_steps a count from other (Some c) names = names
 -- ## One command at most
 
 -- the name and the numbers of words
-pub same_numbers : (most many : ℕ) (name other : List ℕ) (n seed m from : ℕ) (words : List (List ℕ)) → IsOfNumbers most name n seed words → IsOfNumbers many other m from words
+same_numbers : (most many : ℕ) (name other : List ℕ) (n seed m from : ℕ) (words : List (List ℕ)) → IsOfNumbers most name n seed words → IsOfNumbers many other m from words
     → (name ≡ other) × (n ≡ m) × (seed ≡ from)
 same_numbers most many name other n seed m from [] p q = absurd p
 same_numbers most many name other n seed m from (a ∷ []) p q = absurd p
@@ -134,52 +134,11 @@ same_numbers most many name other n seed m from (a ∷ b ∷ c ∷ []) p q =
     (sym p.0 ∙ q.0, cc, cc)
 same_numbers most many name other n seed m from (a ∷ b ∷ c ∷ d ∷ words) p q = absurd p
 
--- words with two numbers are not those of a replay
-pub steps_no_replay : (most : ℕ) (name : List ℕ) (n seed : ℕ) (words : List (List ℕ)) → IsOfNumbers most name n seed words → IsReplay words → ⊥
-steps_no_replay most name n seed [] p is = p
-steps_no_replay most name n seed (a ∷ []) p is = p
-steps_no_replay most name n seed (a ∷ b ∷ []) p is = p
-steps_no_replay most name n seed (a ∷ b ∷ c ∷ []) p is = no_replay a b (c ∷ []) is
-steps_no_replay most name n seed (a ∷ b ∷ c ∷ d ∷ words) p is = p
-
--- no words are those of both
-pub gen_no_sum : (n seed m from : ℕ) (words : List (List ℕ)) → IsGen n seed words → IsSum m from words → ⊥
-gen_no_sum n seed m from words p q =
-    let first : 103 ≡ 115 = ap (λ name. get_or name 0 0) (same_numbers _ _ (codes "gen") (codes "sum") n seed m from words p q).0 in
-    absurd (omega (arith, first))
-
-pub gen_is_not_stress : (n seed m from : ℕ) (words : List (List ℕ)) → IsGen n seed words → IsStress m from words → ⊥
-gen_is_not_stress n seed m from words p q = gen_no_stress (sym (same_numbers _ _ (codes "gen") (codes "stress") n seed m from words p q).0)
-
-pub sum_is_not_stress : (n seed m from : ℕ) (words : List (List ℕ)) → IsSum n seed words → IsStress m from words → ⊥
-sum_is_not_stress n seed m from words p q = sum_no_stress (sym (same_numbers _ _ (codes "sum") (codes "stress") n seed m from words p q).0)
-
--- ## A relay
-
--- words that are five are those of no other command
-pub relay_no_replay : (order : RelayOrder) (words : List (List ℕ)) → IsRelay order words → IsReplay words → ⊥
-relay_no_replay order [] p is = p
-relay_no_replay order (a ∷ []) p is = p
-relay_no_replay order (a ∷ b ∷ []) p is = p
-relay_no_replay order (a ∷ b ∷ c ∷ []) p is = p
-relay_no_replay order (a ∷ b ∷ c ∷ d ∷ []) p is = p
-relay_no_replay order (a ∷ b ∷ c ∷ d ∷ e ∷ []) p is = no_replay a b (c ∷ d ∷ e ∷ []) is
-relay_no_replay order (a ∷ b ∷ c ∷ d ∷ e ∷ f ∷ words) p is = p
-
-pub relay_no_steps : (order : RelayOrder) (most : ℕ) (name : List ℕ) (n seed : ℕ) (words : List (List ℕ)) → IsRelay order words → IsOfNumbers most name n seed words → ⊥
-relay_no_steps order most name n seed [] p is = p
-relay_no_steps order most name n seed (a ∷ []) p is = p
-relay_no_steps order most name n seed (a ∷ b ∷ []) p is = p
-relay_no_steps order most name n seed (a ∷ b ∷ c ∷ []) p is = p
-relay_no_steps order most name n seed (a ∷ b ∷ c ∷ d ∷ []) p is = p
-relay_no_steps order most name n seed (a ∷ b ∷ c ∷ d ∷ e ∷ []) p is = is
-relay_no_steps order most name n seed (a ∷ b ∷ c ∷ d ∷ e ∷ f ∷ words) p is = p
-
 one_number : (most other m n : ℕ) (word : List ℕ) → SpellsUpTo most m word → SpellsUpTo other n word → m ≡ n
 one_number most other m n word first second = let a = first.0 in let b = second.0 in cc
 
 -- words ask for one relay at most
-pub same_order : (x y : RelayOrder) (words : List (List ℕ)) → IsRelay x words → IsRelay y words → x ≡ y
+same_order : (x y : RelayOrder) (words : List (List ℕ)) → IsRelay x words → IsRelay y words → x ≡ y
 same_order x y [] p q = absurd p
 same_order x y (a ∷ []) p q = absurd p
 same_order x y (a ∷ b ∷ []) p q = absurd p
@@ -192,3 +151,50 @@ same_order x y (a ∷ b ∷ c ∷ d ∷ e ∷ []) p q =
     let pairs = one_number _ _ x.pairs y.pairs e p.4.0 q.4.0 in
     λ j. record { port = port j; workers = workers j; idle = idle j; pairs = pairs j }
 same_order x y (a ∷ b ∷ c ∷ d ∷ e ∷ f ∷ words) p q = absurd p
+
+-- the sum of the letters of the first word, which is another for each command
+abbrev letters_of : Command → ℕ
+letters_of command.Replay = sum (codes "replay")
+letters_of (command.Gen n seed) = sum (codes "gen")
+letters_of (command.Sum n seed) = sum (codes "sum")
+letters_of (command.Relay order) = sum (codes "relay")
+letters_of (command.Stress calls seed) = sum (codes "stress")
+
+letters_of_numbers : (most : ℕ) (name : List ℕ) (n seed : ℕ) (words : List (List ℕ)) → IsOfNumbers most name n seed words → sum (get_or words 0 []) ≡ sum name
+letters_of_numbers most name n seed [] is = absurd is
+letters_of_numbers most name n seed (a ∷ []) is = absurd is
+letters_of_numbers most name n seed (a ∷ b ∷ []) is = absurd is
+letters_of_numbers most name n seed (a ∷ b ∷ c ∷ []) is = ap sum is.0
+letters_of_numbers most name n seed (a ∷ b ∷ c ∷ d ∷ words) is = absurd is
+
+letters_of_relay : (order : RelayOrder) (words : List (List ℕ)) → IsRelay order words → sum (get_or words 0 []) ≡ sum (codes "relay")
+letters_of_relay order [] is = absurd is
+letters_of_relay order (a ∷ []) is = absurd is
+letters_of_relay order (a ∷ b ∷ []) is = absurd is
+letters_of_relay order (a ∷ b ∷ c ∷ []) is = absurd is
+letters_of_relay order (a ∷ b ∷ c ∷ d ∷ []) is = absurd is
+letters_of_relay order (a ∷ b ∷ c ∷ d ∷ e ∷ []) is = ap sum is.0
+letters_of_relay order (a ∷ b ∷ c ∷ d ∷ e ∷ f ∷ words) is = absurd is
+
+named : (command : Command) (words : List (List ℕ)) → Names command words → sum (get_or words 0 []) ≡ letters_of command
+named command.Replay words is = ap (λ all. sum (get_or all 0 [])) is
+named (command.Gen n seed) words is = letters_of_numbers _ (codes "gen") n seed words is
+named (command.Sum n seed) words is = letters_of_numbers _ (codes "sum") n seed words is
+named (command.Relay order) words is = letters_of_relay order words is
+named (command.Stress calls seed) words is = letters_of_numbers _ (codes "stress") calls seed words is
+
+-- words name one command at most
+module _ (words : List (List ℕ)) where
+  of_one_name : (x y : Command) → Names x words → Names y words → letters_of x ≡ letters_of y → x ≡ y
+  of_one_name command.Replay command.Replay p q same = refl
+  of_one_name (command.Gen n seed) (command.Gen m from) p q same =
+      let numbers = same_numbers _ _ (codes "gen") (codes "gen") n seed m from words p q in λ j. command.Gen (numbers.1 j) (numbers.2 j)
+  of_one_name (command.Sum n seed) (command.Sum m from) p q same =
+      let numbers = same_numbers _ _ (codes "sum") (codes "sum") n seed m from words p q in λ j. command.Sum (numbers.1 j) (numbers.2 j)
+  of_one_name (command.Relay order) (command.Relay other) p q same = ap (λ o. command.Relay o) (same_order order other words p q)
+  of_one_name (command.Stress calls seed) (command.Stress m from) p q same =
+      let numbers = same_numbers _ _ (codes "stress") (codes "stress") calls seed m from words p q in λ j. command.Stress (numbers.1 j) (numbers.2 j)
+  of_one_name x y p q same = absurd (omega (arith, same))
+
+  pub one_command : (x y : Command) → Names x words → Names y words → x ≡ y
+  one_command x y p q = of_one_name x y p q (sym (named x words p) ∙ named y words q)

@@ -1,5 +1,5 @@
 -- What the end of a relay says of the cause for which the program ends.
-use Rattle.std.proofs.Common.{◌≡◌, ◌≢◌, ℕ, ◌<◌, Bool, false, IsTrue, List, [], ◌∷◌, Option, Result, Ok, Err, refl, ap, subst, arith}
+use Rattle.std.proofs.Common.{◌≡◌, ◌≢◌, ℕ, Bool, false, IsTrue, List, [], ◌∷◌, Result, Ok, Err, refl, ap, subst}
 use Rattle.std.specs.Prelude.{IfErr}
 use Rattle.aio_base.specs.Devices.{TellsFaults}
 use Rattle.aio_line.specs.Relays.{HasRelayCause, has_output_failed}
@@ -8,9 +8,8 @@ use Rattle.aio_line.specs.declared.relaying.RelayStop.{RelayStop}
 use Rattle.aio_line.specs.declared.relaying.RelayStop.TheVariants as stop
 use Rattle.aio_line.specs.declared.words.RelayOrder.{RelayOrder}
 use Rattle.aio_replay.specs.Driving.{Causes}
-use Rattle.aio_run.specs.declared.status.Why.{Why}
 use Rattle.aio_run.specs.declared.status.Why.TheVariants as why
-use Rattle.aio_run.specs.Commands.{TellsCounts, WritesText, exit_of, is_read_fault, is_write_fault}
+use Rattle.aio_run.specs.Commands.{TellsCounts, is_read_fault, is_write_fault}
 use Rattle.aio_run.specs.Relaying.{why_relayed}
 
 pub never_usage : (r : Result (Unit {0}) RelayStop) → why_relayed r ≢ why.Usage
@@ -53,16 +52,6 @@ tells_counts pb pa sw sn before after reads (Err (stop.Wait f)) cause = tt
 tells_counts pb pa sw sn before after reads (Err (stop.Notify f)) cause = tt
 tells_counts pb pa sw sn before after reads (Err (stop.Output f)) cause = let is = cause.0 in (ap (λ g. g.before) is, ap (λ g. g.after) is)
 tells_counts pb pa sw sn before after reads (Err stop.OutOfMemory) cause = tt
-
--- a command that writes a text ends for no device
-pub writes_no_device : (w : Why) (old new : Option (List ℕ)) (text : List ℕ) → WritesText w old new text → exit_of w < 6
-writes_no_device why.Done old new text writes = omega arith
-writes_no_device why.Usage old new text writes = absurd writes
-writes_no_device (why.Refused line reason) old new text writes = absurd writes
-writes_no_device (why.ReadFault f) old new text writes = absurd writes
-writes_no_device (why.WriteFault f) old new text writes = omega arith
-writes_no_device why.OutOfMemory old new text writes = omega arith
-writes_no_device (why.DeviceFault which f) old new text writes = absurd writes
 
 -- the words of a relay ask for one that can be served
 pub words_are_servable : (words : List (List ℕ)) (order : RelayOrder) → IsRelay order words → IsServable order

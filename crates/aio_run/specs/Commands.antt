@@ -6,6 +6,7 @@ use Rattle.aio_base.specs.declared.outcomes.CountFault.{CountFault}
 use Rattle.aio_base.specs.declared.steps.Step.{Step}
 use Rattle.aio_base.specs.Generated.{counts_line, run_counts}
 use Rattle.aio_base.specs.Lines.{written_line}
+use Rattle.aio_base.specs.Script.{output}
 use Rattle.aio_base.specs.declared.steps.Reason.{Reason}
 use Rattle.aio_base.specs.Text.{ended_line, reason_text}
 use Rattle.aio_base.specs.Devices.{TellsFaults}
@@ -20,7 +21,7 @@ use Rattle.aio_run.specs.declared.status.Why.TheVariants as why
 use Rattle.aio_replay.specs.declared.ends.ReplayEnd.{ReplayEnd}
 use Rattle.aio_replay.specs.declared.ends.ReplayEnd.TheVariants as ends
 use Rattle.aio_replay.specs.Ends as replay_ends
-use Rattle.aio_replay.specs.Ends.{Replayed, tells_read_fault, tells_write_fault}
+use Rattle.aio_replay.specs.Ends.{tells_read_fault, tells_write_fault}
 
 -- ## The words of commands
 
@@ -102,9 +103,14 @@ end_of (why.WriteFault fault) = Some (ends.WriteFault fault)
 end_of why.OutOfMemory = Some ends.OutOfMemory
 end_of (why.DeviceFault which fault) = None
 
--- What a replay of this input has done where the program ended so; no other cause comes of a replay.
+-- What a command that reads this input as a trace and writes a text of its steps has done where the program ended so; no other cause comes of such a
+-- command.
+abbrev pub WritesOf : (List Step → List ℕ) → Why → List ℕ → Option (List ℕ) → Option (List ℕ) → Option (List ℕ) → Type 0
+WritesOf text w input left out_old out_new = MatchOption (end_of w) ⊥ (λ end. replay_ends.WritesOf text end input left out_old out_new)
+
+-- a replay writes the answers and wakes of the machine run over the steps
 abbrev pub Replays : Why → List ℕ → Option (List ℕ) → Option (List ℕ) → Option (List ℕ) → Type 0
-Replays w input left out_old out_new = MatchOption (end_of w) ⊥ (λ end. Replayed end input left out_old out_new)
+Replays = WritesOf output
 
 abbrev pub is_read_fault : Why → Bool
 is_read_fault w = option_map_or tells_read_fault (end_of w) false

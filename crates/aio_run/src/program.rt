@@ -1,22 +1,16 @@
 //! The top call of the program.
 
-ghost use Rattle.std.specs.Prelude.{◌≡◌, ◌≢◌, ℕ, ◌<◌, ◌≤◌, ◌^◌, ◌↔◌, ◌++◌, List, Some, IfErr, codes, string_bytes, map, take};
-ghost use Rattle.aio_laws.specs.Between.{StandsAfter};
+ghost use Rattle.std.specs.Prelude.{◌≡◌, ◌≢◌, ℕ, ◌<◌, ◌≤◌, ◌^◌, ◌↔◌, ◌++◌, List, Some, IfErr, codes, string_bytes, map};
 ghost use Rattle.aio_base.specs.Generated.{generated_steps};
-ghost use Rattle.aio_base.specs.Trace.{trace_of};
 ghost use Rattle.aio_base.specs.Devices.{TellsFaults};
 ghost use Rattle.aio_bytes.specs.Sinks.{HasFailed, RefusedBy, Writes};
-ghost use Rattle.aio_line.specs.Relays.{MayEndSo, TakesAfterFirst, terms_of};
-ghost use Rattle.aio_line.specs.Words.{IsRelay};
-ghost use Rattle.aio_line.specs.declared.words.RelayOrder.{RelayOrder};
 ghost use Rattle.aio_bytes.specs.Unread.{LeavesAllBut};
 ghost use Rattle.aio_replay.specs.Driving.{Causes};
-ghost use Rattle.aio_run.specs.Commands.{IsGen, IsReplay, IsStress, IsSum, WritesCause, Names, exit_of};
+ghost use Rattle.aio_run.specs.Commands.{WritesCause, Names, exit_of};
 ghost use Rattle.aio_run.specs.Commands.{text_of, refusal_text, summary_text, trace_text};
 ghost use Rattle.aio_run.specs.Commands.{Replays, TellsCounts, WritesText, bytes_taken, why_of};
 ghost use Rattle.aio_run.specs.Commands.{is_read_fault, is_write_fault};
-ghost use Rattle.aio_run.specs.Relaying.{Relayed};
-ghost use Rattle.aio_run.specs.Stressing.{TouchesSpawner, stress_text};
+ghost use Rattle.aio_run.specs.Ending.{Observers, Ran};
 ghost use Rattle.aio_run.specs.declared.commands.Command.{Command};
 ghost use Rattle.aio_base.specs.Text.{ended_line, reason_text};
 
@@ -98,68 +92,42 @@ where
     <D::P as Port>::C: Send + Drop,
     ensures exit { result.exit ≡ exit_of result.why }
 
-    // The words are refused exactly where they name no command.
+    // The words are refused exactly where they name no command; else they name one.
     ensures usage { (result.why ≡ Why.Usage)
         ↔ ((command : Command) → Names command (map string_bytes words.now) → ⊥) }
-    ensures untouched { result.why ≡ Why.Usage → (input.new ≡ input.old) × (out.new ≡ out.old) }
+    ensures named { result.why ≢ Why.Usage
+        → (command : Command) × Names command (map string_bytes words.now) }
+    ensures untouched { result.why ≡ Why.Usage
+        → (input.new ≡ input.old) × (out.new ≡ out.old) × (devices.new ≡ devices.old) }
 
-    // For every list of bytes that the source has left, `out` grows by the machine's output.
-    ensures replays { IsReplay (map string_bytes words.now) → (bytes : List ℕ) → S.remaining input.old ≡ Some bytes
-        → Replays result.why bytes (S.remaining input.new) (K.contents out.old) (K.contents out.new) }
-    ensures taken { (bytes : List ℕ) → S.remaining input.old ≡ Some bytes
-        → LeavesAllBut (bytes_taken result.why bytes) (S.remaining input.new) bytes }
-    ensures most { (bytes : List ℕ) → S.remaining input.old ≡ Some bytes
-        → LeavesAllBut 257000257 (S.remaining input.new) bytes }
-
-    // A relay writes the port in use and an end for each pair, which its connections may come to; each
-    // other end of it has its cause, and says what was written by then.
-    ensures relays { (order : RelayOrder) → IsRelay order (map string_bytes words.now)
-        → Relayed K.contents (D.P.own_port (D.six devices.old).port) order.port
-        (MayEndSo D.P.C.telling D.P.C.is_sure
-        (terms_of (D.C.bounds (D.six devices.old).clock) order.idle
-        (D.N.is_sure (D.six devices.old).notify))
-        (D.P.waiting (D.six devices.old).port) order.pairs)
-        (D.P.fault_count (D.six devices.old).port) (D.P.fault_count (D.six devices.new).port)
-        (D.W.is_sure (D.six devices.old).wait) (D.N.is_sure (D.six devices.old).notify)
-        (K.fault_count out.old) (K.fault_count out.new) result.why out.old out.new }
-
-    // No connection is taken before that line is out.
-    ensures order { (order : RelayOrder) → IsRelay order (map string_bytes words.now)
-        → TakesAfterFirst (D.P.waiting (D.six devices.old).port)
-        (D.P.waiting (D.six devices.new).port) (D.P.own_port (D.six devices.old).port)
-        order.port (K.contents out.old) (K.contents out.new) }
-
-    // Only a relay touches a device, or ends for one; and `stress` the spawner.
-    ensures idle_devices { ((order : RelayOrder) → IsRelay order (map string_bytes words.now) → ⊥)
-        → ((calls seed : ℕ) → IsStress calls seed (map string_bytes words.now) → ⊥)
-        → devices.new ≡ devices.old }
-    ensures spawner { (calls seed : ℕ) → IsStress calls seed (map string_bytes words.now)
-        → TouchesSpawner (D.six devices.old) (D.six devices.new) }
-    ensures no_device { ((order : RelayOrder) → IsRelay order (map string_bytes words.now) → ⊥)
-        → result.exit < 6 }
-
-    // For all numbers, the trace that they describe is written, or what its run comes to.
-    ensures generates { (n seed : ℕ) → IsGen n seed (map string_bytes words.now)
-        → WritesText result.why (K.contents out.old) (K.contents out.new)
-        (trace_text (generated_steps n seed)) }
-    ensures sums { (n seed : ℕ) → IsSum n seed (map string_bytes words.now)
-        → WritesText result.why (K.contents out.old) (K.contents out.new)
-        (summary_text (generated_steps n seed)) }
-
-    // Two jobs make as many calls as is asked for, and the cells have as many steps.
-    ensures stresses { (calls seed : ℕ) → IsStress calls seed (map string_bytes words.now)
-        → WritesText result.why (K.contents out.old) (K.contents out.new) (stress_text calls) }
-    ensures idle_input { (IsReplay (map string_bytes words.now) → ⊥) → input.new ≡ input.old }
-
-    // After any steps of the trace each waiter is covered, no storing of a waker is lost or woken twice and
-    // the last step moved storings as it may, and right after a pass no timer is left that was due.
-    ensures between { IsReplay (map string_bytes words.now) → (bytes : List ℕ) → S.remaining input.old ≡ Some bytes
-        → (n : ℕ) → StandsAfter (take n (trace_of bytes).steps) }
+    // How that command ended, by the cases of `Ran`: what it wrote, which of input, output and devices it
+    // left as they were, and for which causes it may end. Of a replay, for every list of bytes that the
+    // source has left: `out` grows by the machine's output, and between two steps nobody is forgotten.
+    ensures ran { let see : Observers S K D D.P D.W D.N D.C D.G D.T D.P.C = record {
+      remaining = S.remaining;
+      contents = K.contents;
+      write_faults = K.fault_count;
+      six = D.six;
+      own_port = D.P.own_port;
+      waiting = D.P.waiting;
+      port_faults = D.P.fault_count;
+      telling = D.P.C.telling;
+      is_sure_conn = D.P.C.is_sure;
+      is_sure_wait = D.W.is_sure;
+      is_sure_notify = D.N.is_sure;
+      bounds = D.C.bounds;
+    } in
+        (command : Command) → Names command (map string_bytes words.now) → Ran see command result.why
+        (record { input = input.old; out = out.old; devices = devices.old })
+        (record { input = input.new; out = out.new; devices = devices.new }) }
 
     // A fault comes only of a device that failed, and is told by its counts.
-    ensures counts { TellsCounts result.why (S.fault_count input.old) (S.fault_count input.new) (K.fault_count out.old) (K.fault_count out.new) }
-    ensures read_cause { Causes S.fault_count S.is_sure input.old input.new (is_read_fault result.why) }
-    ensures write_cause { Causes K.fault_count K.is_sure out.old out.new (is_write_fault result.why) }
+    ensures counts { TellsCounts result.why (S.fault_count input.old) (S.fault_count input.new)
+        (K.fault_count out.old) (K.fault_count out.new) }
+    ensures read_cause { Causes S.fault_count S.is_sure
+        input.old input.new (is_read_fault result.why) }
+    ensures write_cause { Causes K.fault_count K.is_sure
+        out.old out.new (is_write_fault result.why) }
 
     // The user is told why, as far as `err` takes it; a refusal of `err` changes nothing else.
     ensures told { WritesCause E.contents E.write_step E.fault_count E.is_sure err.old err.new
@@ -191,9 +159,12 @@ pub fn run_replay<S: Source, K: Sink>(alloc: Global, input: &mut S, out: &mut K)
         → LeavesAllBut (bytes_taken result bytes) (S.remaining input.new) bytes }
     ensures most { (bytes : List ℕ) → S.remaining input.old ≡ Some bytes
         → LeavesAllBut 257000257 (S.remaining input.new) bytes }
-    ensures counts { TellsCounts result (S.fault_count input.old) (S.fault_count input.new) (K.fault_count out.old) (K.fault_count out.new) }
-    ensures read_cause { Causes S.fault_count S.is_sure input.old input.new (is_read_fault result) }
-    ensures write_cause { Causes K.fault_count K.is_sure out.old out.new (is_write_fault result) }
+    ensures counts { TellsCounts result (S.fault_count input.old) (S.fault_count input.new)
+        (K.fault_count out.old) (K.fault_count out.new) }
+    ensures read_cause { Causes S.fault_count S.is_sure
+        input.old input.new (is_read_fault result) }
+    ensures write_cause { Causes K.fault_count K.is_sure
+        out.old out.new (is_write_fault result) }
 {
     let (end, _) = replay(alloc, input, out);
     cause_of(end)
