@@ -1,6 +1,5 @@
 pub mod Timers
-pub mod Spans
-pub mod DrawnIds
+pub mod NumbersOrNone
 pub mod Sleeping
 pub mod Tries
 pub mod Listens

@@ -9,12 +9,11 @@
 #![tactic(auto)]
 
 pub mod answers;
-mod drawn_id;
 pub mod entered;
 mod listens;
+mod number_or_none;
 pub mod ready;
 mod sleep;
-mod span;
 pub mod timer;
 pub mod tried;
 mod tries;

@@ -7,11 +7,18 @@ ghost use Rattle.aio_base.specs.Trace.{IsPeriod};
 ghost use Rattle.aio_future.specs.Timers.{IsTimer, new_timer, registration_of, poll_work, firing, waiting, set_work, change_work, RemovesOwn, RefusesRemoval, Worked, poll_fault, poll_answer, set_fault};
 
 use crate::answers::TimerFault;
-use crate::drawn_id::DrawnId;
-use crate::span::Span;
+use crate::number_or_none::NumberOrNone;
 use aio_base::{Moment, OutOfMemory, Poll, TimerId, Waker};
 use aio_react::{InsertRefusal, TimerHost};
 use std::marker::Model;
+
+/// Nanoseconds of a moment or of a period, where there are any: the greatest number is neither.
+type Span = NumberOrNone<NO_SPAN>;
+
+const NO_SPAN: u64 = u64::MAX;
+
+/// The number of the id that a host drew, where there is one: the ids of a host count from 1.
+type DrawnId = NumberOrNone<0>;
 
 /// A timer that fires at a deadline, maybe again after each period, and registers itself with a host
 /// once it is polled before its deadline (`async-io` 2, `lib.rs`, `Timer` as a stream).
@@ -27,13 +34,14 @@ pub struct Timer {
 }
 
 impl Model for Timer {
+    ghost use Rattle.aio_future.specs.NumbersOrNone.{id_of};
     ghost use Rattle.aio_future.specs.Timers.{TimerValue, IsTimer};
 
     ghost Value = { TimerValue };
 
-    ghost view = { λ t. record { deadline = t.deadline; period = t.period; id = t.id; kept = t.kept } };
+    ghost view = { λ t. record { deadline = t.deadline; period = t.period; id = id_of t.id; kept = t.kept } };
 
-    ghost invariant = { λ t. IsTimer (record { deadline = t.deadline; period = t.period; id = t.id; kept = t.kept }) };
+    ghost invariant = { λ t. IsTimer (record { deadline = t.deadline; period = t.period; id = id_of t.id; kept = t.kept }) };
 }
 
 impl Timer {
@@ -273,7 +281,7 @@ impl Timer {
         ensures pass { H.rules.pass host.new ≡ H.rules.pass host.old }
     {
         if let (Some(deadline), Some(id)) = (self.deadline(), self.id.get()) {
-            host.remove_timer(deadline, id)?;
+            host.remove_timer(deadline, TimerId(id))?;
         }
         self.id = DrawnId::none();
         Ok(())
@@ -326,7 +334,7 @@ impl Timer {
         ensures { result ≡ record self { id = Some id } }
     {
         Timer {
-            id: DrawnId::of(id),
+            id: DrawnId::of(id.0),
             ..self
         }
     }
