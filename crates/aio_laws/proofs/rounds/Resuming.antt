@@ -38,13 +38,6 @@ at pos broken w = record w { pos = pos; broken = broken }
 same_itself : (w : World) → Same w w
 same_itself w = record { all = refl; broken = refl }
 
--- what changes neither positions nor failed arms changes two such worlds alike
-same_at : (p : ℕ) (q : List BrokenSource) (w v : World) → serials q ≡ serials w.broken → v ≡ at p q w → Same w v
-same_at p q w v failed is = record {
-  all = is ∙ ap (λ (u : World). at u.pos u.broken w) (sym is);
-  broken = ap (λ (u : World). serials u.broken) is ∙ failed;
-}
-
 -- the failed arms but for those of a source
 filtered : (serial : ℕ) (one : Bool) (b c : BrokenSource) (bs cs : List BrokenSource) → b.serial ≡ c.serial → serials bs ≡ serials cs
     → serials (cond one (b ∷ bs) bs) ≡ serials (cond one (c ∷ cs) cs)
