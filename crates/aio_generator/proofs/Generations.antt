@@ -1,5 +1,5 @@
 -- One step of a generator.
-use Rattle.std.proofs.Common.{◌≡◌, ℕ, zero, suc, ◌-◌, ◌<◌, ◌%◌, ◌∷◌, length, refl, sym, ap, ◌∙◌, arith}
+use Rattle.std.proofs.Common.{◌≡◌, ◌≢◌, ℕ, zero, suc, ◌-◌, ◌<◌, ◌%◌, [], ◌∷◌, length, refl, sym, ap, ◌∙◌, arith}
 use Rattle.aio_base.specs.declared.steps.Step.{Step}
 use Rattle.aio_base.specs.Generated.{Generator, Generated, drawn, generated_of, next_state, steps_from}
 use Rattle.aio_generator.specs.Generating.{StepsLeft, steps_left}
@@ -22,3 +22,18 @@ one_given (suc k) g kind state s rest some kind_is state_is left_is step_is afte
 
 pub fewer_left : (old new : StepsLeft) (s : Step) → steps_left old ≡ s ∷ steps_left new → length (steps_left new) < length (steps_left old)
 fewer_left old new s e = let long = ap length e in omega arith
+
+some_from : (n : ℕ) (g : Generator) → 0 < n → steps_from n g ≢ []
+some_from zero g above = absurd (omega arith)
+some_from (suc n) g above = λ none. absurd cc
+
+from_some : (n : ℕ) (g : Generator) → steps_from n g ≢ [] → 0 < n
+from_some zero g some = absurd (some refl)
+from_some (suc n) g some = omega arith
+
+-- steps are left exactly where their number is above 0
+pub some_left : (steps : StepsLeft) → 0 < steps.left → steps_left steps ≢ []
+some_left steps above = some_from steps.left steps.generator above
+
+pub left_some : (steps : StepsLeft) → steps_left steps ≢ [] → 0 < steps.left
+left_some steps some = from_some steps.left steps.generator some

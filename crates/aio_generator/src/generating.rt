@@ -1,6 +1,6 @@
 //! The steps of a trace that a number describes.
 
-ghost use Rattle.std.specs.Prelude.{◌≡◌, ◌+◌, ◌%◌, ◌^◌, ◌<◌, ◌≤◌, ◌∷◌};
+ghost use Rattle.std.specs.Prelude.{◌≡◌, ◌≢◌, ◌+◌, ◌%◌, ◌^◌, ◌<◌, ◌≤◌, [], ◌∷◌};
 ghost use Rattle.std.specs.Iterator.{YieldsFirst, item_count};
 ghost use Rattle.aio_base.specs.Generated.{after_draws, dir_drawn, draw, drawn, generated_by, generated_of, generated_steps, interest_drawn, listener_drawn, next_state, timer_drawn};
 ghost use Rattle.aio_generator.specs.Generating.{HandsNext, LeavesRoom, StepsLeft, steps_left};
@@ -86,7 +86,7 @@ impl Steps {
     /// The next step, where one is left: for a caller that knows how many there are. It takes no memory.
     #[inline(always)]
     pub fn next_step(&mut self) -> Step
-        requires { 0 < self.old.left }
+        requires { steps_left self.old ≢ [] }
         ensures step { steps_left self.old ≡ result ∷ steps_left self.new }
         ensures left { self.new.left + 1 ≡ self.old.left }
     {
@@ -97,7 +97,7 @@ impl Steps {
     /// the taker answered. It takes no memory itself.
     #[inline(always)]
     pub fn hand_next<T: StepTaker>(&mut self, taker: &mut T) -> T::Answer
-        requires some { 0 < self.old.left }
+        requires some { steps_left self.old ≢ [] }
         requires ready { T.is_ready taker.old }
         ensures taken { HandsNext T.takes taker.old result taker.new
             (steps_left self.old) (steps_left self.new) }
