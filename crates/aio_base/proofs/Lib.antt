@@ -7,4 +7,5 @@ pub mod InterestLemmas
 mod JobEnds
 pub mod Membership
 pub mod Searching
+pub mod TimerCases
 pub mod WaiterLemmas

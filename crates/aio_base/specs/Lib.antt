@@ -3,6 +3,7 @@ pub mod Connections
 pub mod Waits
 pub mod World
 pub mod Timers
+pub mod TimerWork
 pub mod Rounds
 pub mod Machine
 pub mod Refusals

@@ -16,8 +16,11 @@ use Rattle.aio_base.specs.declared.steps.Step.{Step}
 use Rattle.aio_base.specs.declared.steps.Step.TheVariants as step
 use Rattle.aio_base.specs.declared.steps.Answer.{Answer}
 use Rattle.aio_base.specs.declared.steps.Answer.TheVariants as answer
-use Rattle.aio_base.specs.World.{PollerAnswer, Succeeds, Gives, IsInterrupted, Fails, LiveSource, PollWaiter, Mark, ListenerEntry, Registration, TimerEntry, DueFaults, RoundState, World, directions_of, is_of, serial_of, key_of, poll_waiter, without_waiter, mark_of, without_mark, waiters_of, is_empty_list, is_idle, wanted, is_broken, without_broken, set_armed, clear_armed, is_fresh, last_moment}
+pub use Rattle.aio_base.specs.World.{is_waker}
+pub use Rattle.aio_base.specs.TimerWork.{next_deadline}
+use Rattle.aio_base.specs.World.{PollerAnswer, Succeeds, Gives, IsInterrupted, Fails, LiveSource, PollWaiter, Mark, ListenerEntry, Registration, TimerEntry, DueFaults, RoundState, World, directions_of, is_of, serial_of, key_of, poll_waiter, without_waiter, mark_of, without_mark, waiters_of, is_empty_list, is_idle, wanted, is_broken, without_broken, set_armed, clear_armed, is_fresh}
 use Rattle.aio_base.specs.Timers.{due_wakers, after_pass, limit_of}
+use Rattle.aio_base.specs.TimerWork.{TimerState, joining, tick_work, reset_work}
 
 -- What a step, or a section of a round, gives: its answer, its wakes in order, the world after it, the kinds of the calls that it made on the
 -- poller, in order, and the poller's answers that it did not ask for.
@@ -133,9 +136,6 @@ del_source w key (Some serial) answers =
 abbrev pub is_fresh_since : World → ℕ → Dir → Option ℕ → Bool
 is_fresh_since w serial dir position = option_map_or (λ p. is_fresh w.handled serial dir p) position false
 
-abbrev pub is_waker : Waker → Option Waker → Bool
-is_waker waker held = option_map_or (λ (v : Waker). v.0 == waker.0) held false
-
 -- the waker becomes the poll waiter, marked with this position
 abbrev pub with_waiter : World → ℕ → Dir → Waker → World
 with_waiter w serial dir waker = record w {
@@ -222,42 +222,39 @@ registered w entry deadline waker =
     })
     (record entry { deadline = Some deadline; id = Some id; kept = Some waker })
 
--- the deadline after one that fired: a period later, where there is a period and the last moment is not passed
-abbrev pub next_deadline : ℕ → Option ℕ → Option ℕ
-next_deadline deadline None = None
-next_deadline deadline (Some period) = if nat_le (deadline + period) last_moment then Some (deadline + period) else None
+-- the timer is left like this, and registered under the next id where it wants to be
+abbrev pub left_as : World → TimerEntry → Option (ℕ × Waker) → World
+left_as w entry None = with_timer w entry
+left_as w entry (Some registration) = registered w entry registration.0 registration.1
 
-abbrev pub fired : World → TimerEntry → Waker → Option ℕ → World
-fired w entry waker None = with_timer w (record entry { deadline = None; id = None; kept = None })
-fired w entry waker (Some deadline) = registered w entry deadline waker
+-- the world once the work of a call on a timer is done
+abbrev pub worked : World → TimerEntry → Option TimerState → World
+worked w entry None = w
+worked w entry (Some timer) =
+    let left = record entry { deadline = timer.deadline; period = timer.period; id = None; kept = timer.kept } in
+    left_as (unregistered w entry.id) left (joining timer)
 
--- a timer that waits for a deadline to come: registered with this waker, anew where it is with another
-abbrev pub waiting : World → TimerEntry → ℕ → Waker → World
-waiting w entry deadline waker =
-    if is_some entry.id && is_waker waker entry.kept then w else registered (unregistered w entry.id) entry deadline waker
+-- an entry without its number and its registration
+abbrev pub state_of : TimerEntry → TimerState
+state_of entry = record { deadline = entry.deadline; period = entry.period; kept = entry.kept }
 
-abbrev pub tick_deadline : World → TimerEntry → Waker → Option ℕ → List PollerAnswer → Outcome
-tick_deadline w entry waker None answers = quiet answer.Pending w answers
-tick_deadline w entry waker (Some deadline) answers =
-    if nat_le deadline w.now
-    then quiet (answer.ReadyAt deadline) (fired (unregistered w entry.id) entry waker (next_deadline deadline entry.period)) answers
-    else quiet answer.Pending (waiting w entry deadline waker) answers
+-- the answer to a poll that reached this deadline, or none
+abbrev pub tick_answer : Option ℕ → Answer
+tick_answer None = answer.Pending
+tick_answer (Some deadline) = answer.ReadyAt deadline
 
--- `async-io` 2, `lib.rs`, `Timer` as a stream
+-- the work of a poll, done on the world
 abbrev pub tick_timer : World → Waker → Option TimerEntry → List PollerAnswer → Outcome
 tick_timer w waker None answers = quiet answer.NoTimer w answers
-tick_timer w waker (Some entry) answers = tick_deadline w entry waker entry.deadline answers
+tick_timer w waker (Some entry) answers =
+    let work = tick_work (is_some entry.id) (state_of entry) w.now waker in
+    quiet (tick_answer work.reached) (worked w entry work.becomes) answers
 
-abbrev pub set_deadline : World → TimerEntry → ℕ → Option Waker → World
-set_deadline w entry deadline None = with_timer w (record entry { deadline = Some deadline; id = None })
-set_deadline w entry deadline (Some waker) = registered w entry deadline waker
-
--- `async-io` 2, `lib.rs`, `Timer::set_at` and `set_interval_at`
+-- the work of a setting, done on the world
 abbrev pub set_timer : World → ℕ → Option ℕ → Option TimerEntry → List PollerAnswer → Outcome
 set_timer w deadline period None answers = quiet answer.NoTimer w answers
 set_timer w deadline period (Some entry) answers =
-    let set = if is_some period then record entry { period = period } else entry in
-    quiet answer.Set (set_deadline (unregistered w entry.id) set deadline entry.kept) answers
+    quiet answer.Set (worked w entry (reset_work (state_of entry) deadline period).becomes) answers
 
 abbrev pub end_timer : World → Option TimerEntry → List PollerAnswer → Outcome
 end_timer w None answers = quiet answer.NoTimer w answers

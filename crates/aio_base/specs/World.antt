@@ -2,6 +2,7 @@
 -- which round handled which event), so freshness is a search of the past and needs no remembered numbers.
 use Rattle.std.specs.Prelude.{ℕ, ◌^◌, Bool, true, false, not, ◌&&◌, ◌==◌, nat_lt, if◌then◌else◌, List, [], ◌∷◌, ◌++◌, map, filter, find, filter_map, Option, None, option_map, option_to_list}
 use Rattle.std.specs.List.{list_any}
+use Rattle.std.specs.Option.{option_map_or}
 use Rattle.aio_base.specs.declared.names.Waker.{Waker}
 use Rattle.aio_base.specs.declared.names.Dir.{Dir}
 use Rattle.aio_base.specs.declared.names.Dir.TheVariants.{Read, Write}
@@ -180,6 +181,10 @@ serial_of w key = option_map (λ (s : LiveSource). s.serial) (find (λ (s : Live
 -- the key of the live source with a serial
 abbrev pub key_of : World → ℕ → Option ℕ
 key_of w serial = option_map (λ (s : LiveSource). s.key) (find (λ (s : LiveSource). s.serial == serial) w.live)
+
+-- whether the waker that is held, if one is, is this one
+abbrev pub is_waker : Waker → Option Waker → Bool
+is_waker waker held = option_map_or (λ (v : Waker). v.0 == waker.0) held false
 
 -- the poll waiter of a direction
 abbrev pub poll_waiter : List PollWaiter → ℕ → Dir → Option Waker

@@ -1,11 +1,10 @@
--- Timers as contracts see them, the work of each call on one, and what a call that did its work, or not all of it, leaves behind
--- (`async-io` 2, `lib.rs`, `Timer` as a stream).
-use Rattle.std.specs.Prelude.{◌≡◌, ◌↔◌, ℕ, ◌+◌, ◌^◌, ◌≤◌, Bool, true, false, not, ◌&&◌, IsTrue, if◌then◌else◌, nat_le, Option, None, Some, option_map, is_some, IfSome, Result, Ok, Err, ◌⊎◌}
+-- Timers as contracts see them, and what a call that did the work of the rule of timers on one and its host, or not all of it, leaves behind.
+use Rattle.std.specs.Prelude.{◌≡◌, ◌↔◌, ℕ, ◌+◌, ◌^◌, ◌≤◌, Bool, true, false, not, ◌&&◌, IsTrue, if◌then◌else◌, Option, None, Some, is_some, IfSome, Result, Ok, Err, ◌⊎◌}
 use Rattle.aio_base.specs.declared.names.TimerId.{TimerId}
 use Rattle.aio_base.specs.declared.names.Waker.{Waker}
 use Rattle.aio_base.specs.declared.outcomes.CountFault.{CountFault}
 use Rattle.aio_base.specs.Devices.{HasCause}
-use Rattle.aio_base.specs.Machine.{is_waker, next_deadline}
+use Rattle.aio_base.specs.TimerWork.{TimerState, Work, joining, tick_work, reset_work}
 use Rattle.aio_base.specs.Trace.{IsPeriod}
 use Rattle.aio_react.specs.Hosts.{HostRules, has_id_left, next_id, NotifierTells}
 use Rattle.aio_base.specs.declared.outcomes.Poll.{Poll}
@@ -43,78 +42,41 @@ registration_of timer = registration_at timer.deadline timer.id
 
 -- ## The work of a call
 
--- The work of a call on a timer: the registration that leaves first, if any; the deadline and the waker that are registered then, if any; the
--- timer that is left, to which the id of that new registration comes; and the deadline that was reached, if one was.
-pub record Work : Type 0 where
-  pub removes : Option (ℕ × TimerId)
-  pub inserts : Option (ℕ × Waker)
-  pub after : TimerValue
-  pub reached : Option ℕ
+-- what a timer holds beside its registration
+abbrev pub state_of : TimerValue → TimerState
+state_of timer = record { deadline = timer.deadline; period = timer.period; kept = timer.kept }
 
--- a call that finds nothing to do
-abbrev pub no_work : TimerValue → Work
-no_work timer = record { removes = None; inserts = None; after = timer; reached = None }
-
--- a deadline that was reached, with the one that comes next: a timer with none is over
-abbrev pub firing : TimerValue → ℕ → Waker → Option ℕ → Work
-firing timer deadline waker None =
-    record {
-      removes = registration_of timer;
-      inserts = None;
-      after = record timer { deadline = None; id = None; kept = None };
-      reached = Some deadline;
-    }
-firing timer deadline waker (Some next) =
-    record {
-      removes = registration_of timer;
-      inserts = Some (next, waker);
-      after = record timer { deadline = Some next; id = None; kept = Some waker };
-      reached = Some deadline;
-    }
-
--- a deadline that is still to come: the timer is registered with this waker, anew where it is with another
-abbrev pub waiting : TimerValue → ℕ → Waker → Work
-waiting timer deadline waker =
-    if is_some timer.id && is_waker waker timer.kept then no_work timer
-    else record {
-      removes = registration_of timer;
-      inserts = Some (deadline, waker);
-      after = record timer { id = None; kept = Some waker };
-      reached = None;
-    }
-
-abbrev pub polling : TimerValue → Option ℕ → ℕ → Waker → Work
-polling timer None now waker = no_work timer
-polling timer (Some deadline) now waker =
-    if nat_le deadline now then firing timer deadline waker (next_deadline deadline timer.period) else waiting timer deadline waker
-
--- a poll at a moment with a waker
+-- the work of a poll at a moment with a waker
 abbrev pub poll_work : TimerValue → ℕ → Waker → Work
-poll_work timer now waker = polling timer timer.deadline now waker
+poll_work timer now waker = tick_work (is_some timer.id) (state_of timer) now waker
 
--- the period that is set, where one is, else the timer's own
-abbrev pub period_set : Option ℕ → Option ℕ → Option ℕ
-period_set None own = own
-period_set (Some period) own = Some period
-
--- Setting the deadline, and the period where one is given. The timer is registered anew where it keeps a waker, at a deadline in the past too
--- (`async-io` 2, `lib.rs`, `Timer::set_at` and `set_interval_at`).
+-- the work of setting the deadline, and the period where one is given
 abbrev pub set_work : TimerValue → ℕ → Option ℕ → Work
-set_work timer deadline period =
-    record {
-      removes = registration_of timer;
-      inserts = option_map (λ waker. (deadline, waker)) timer.kept;
-      after = record timer { deadline = Some deadline; period = period_set period timer.period; id = None };
-      reached = None;
-    }
+set_work timer deadline period = reset_work (state_of timer) deadline period
+
+-- the registration that leaves: the timer's own, where it changes
+abbrev pub leaving : TimerValue → Option TimerState → Option (ℕ × TimerId)
+leaving timer None = None
+leaving timer (Some becomes) = registration_of timer
+
+-- the registration that joins: the one that the timer then wants, where it changes
+abbrev pub joined : Option TimerState → Option (ℕ × Waker)
+joined None = None
+joined (Some becomes) = joining becomes
 
 -- the timer that is left where all the work was done, if the pass's next id is this
-abbrev pub timer_left : Work → TimerId → TimerValue
-timer_left work next = record work.after { id = if is_some work.inserts then Some next else work.after.id }
+abbrev pub timer_left : TimerValue → Option TimerState → TimerId → TimerValue
+timer_left timer None next = timer
+timer_left timer (Some becomes) next = record {
+  deadline = becomes.deadline;
+  period = becomes.period;
+  id = if is_some (joining becomes) then Some next else None;
+  kept = becomes.kept;
+}
 
 -- whether the work has to draw an id of a pass that has none left
 abbrev pub lacks_id : Work → ℕ → Bool
-lacks_id work drawn = is_some work.inserts && not (has_id_left drawn)
+lacks_id work drawn = is_some (joined work.becomes) && not (has_id_left drawn)
 
 -- ## What a call did
 
@@ -139,46 +101,47 @@ RefusesInsert rules None old new = ⊥
 RefusesInsert rules (Some registration) old new = rules.insert_refused old registration.0 registration.1 new
 
 -- All the work was done: the old registration left, then the new one joined under the pass's next id, and the timer is the one that is left.
-pub record Done {H : Type 0} (rules : HostRules H) (work : Work) (next : TimerId) (old new : H) (after : TimerValue) : Type 0 where
+pub record Done {H : Type 0} (rules : HostRules H) (work : Work) (next : TimerId) (old new : H) (before after : TimerValue) : Type 0 where
   pub mid : H
-  pub removal : RemovesOwn rules work.removes old mid
-  pub insertion : Inserts rules work.inserts next mid new
-  pub timer : after ≡ timer_left work next
+  pub removal : RemovesOwn rules (leaving before work.becomes) old mid
+  pub insertion : Inserts rules (joined work.becomes) next mid new
+  pub timer : after ≡ timer_left before work.becomes next
 
 -- All the work was done, but the host's notifier failed in the insert. The fault tells the deadline that was reached, and the counts of that insert.
-pub record NotNotified {H : Type 0} (rules : HostRules H) (sure : Bool) (work : Work) (next : TimerId) (old new : H) (after : TimerValue)
-    (fired : Option ℕ) (fault : CountFault) : Type 0 where
-  pub done : Done rules work next old new after
-  pub wanted : IsTrue (is_some work.inserts)
+pub record NotNotified {H : Type 0} (rules : HostRules H) (sure : Bool) (work : Work) (next : TimerId) (old new : H)
+    (before after : TimerValue) (fired : Option ℕ) (fault : CountFault) : Type 0 where
+  pub done : Done rules work next old new before after
+  pub wanted : IsTrue (is_some (joined work.becomes))
   pub reached : fired ≡ work.reached
   pub stays : rules.faults old ≤ rules.faults done.mid
   pub fails : NotifierTells sure (rules.faults done.mid) (rules.faults new) (Some fault)
 
 -- the host refused the removal: the timer is as it was
 pub record RemovalRefused {H : Type 0} (rules : HostRules H) (work : Work) (old new : H) (before after : TimerValue) : Type 0 where
-  pub refusal : RefusesRemoval rules work.removes old new
+  pub refusal : RefusesRemoval rules (leaving before work.becomes) old new
   pub timer : after ≡ before
 
 -- the host refused the insert, after the removal: the timer is as it was, but that it is not registered
 pub record InsertRefused {H : Type 0} (rules : HostRules H) (work : Work) (old new : H) (before after : TimerValue) : Type 0 where
   pub mid : H
-  pub removal : RemovesOwn rules work.removes old mid
-  pub refusal : RefusesInsert rules work.inserts mid new
+  pub removal : RemovesOwn rules (leaving before work.becomes) old mid
+  pub refusal : RefusesInsert rules (joined work.becomes) mid new
   pub timer : after ≡ record before { id = None }
 
 -- What a call did with its work, by the fault that it told: all of it, also where the notifier failed; nothing, where ids are spent; and where
 -- memory ran out the removal at most. The host's own relations name its states; `next` is the pass's next id.
 abbrev pub Carried : {H : Type 0} → HostRules H → (sure : Bool) → Work → TimerId → (old new : H) → (before after : TimerValue)
     → Option TimerFault → Type 0
-Carried rules sure work next old new before after None = Done rules work next old new after
+Carried rules sure work next old new before after None = Done rules work next old new before after
 Carried rules sure work next old new before after (Some IdsSpent) = (new ≡ old) × (after ≡ before)
 Carried rules sure work next old new before after (Some OutOfMemory) =
     RemovalRefused rules work old new before after ⊎ InsertRefused rules work old new before after
-Carried rules sure work next old new before after (Some (Notify fired fault)) = NotNotified rules sure work next old new after fired fault
+Carried rules sure work next old new before after (Some (Notify fired fault)) =
+    NotNotified rules sure work next old new before after fired fault
 
 -- how many ids the pass has drawn after a call: one more where it registered the timer
 abbrev pub drawn_after : Work → ℕ → Option TimerFault → ℕ
-drawn_after work drawn None = if is_some work.inserts then drawn + 1 else drawn
+drawn_after work drawn None = if is_some (joined work.becomes) then drawn + 1 else drawn
 drawn_after work drawn (Some IdsSpent) = drawn
 drawn_after work drawn (Some OutOfMemory) = drawn
 drawn_after work drawn (Some (Notify fired fault)) = drawn + 1
@@ -220,12 +183,6 @@ abbrev pub set_fault : Result (Unit {0}) TimerFault → Option TimerFault
 set_fault (Ok done) = None
 set_fault (Err fault) = Some fault
 
--- the registration that a timer wants: at its deadline with the waker that it keeps
-abbrev pub wanted_at : Option ℕ → Option Waker → Option (ℕ × Waker)
-wanted_at None kept = None
-wanted_at (Some deadline) kept = option_map (λ waker. (deadline, waker)) kept
-
--- the work of a timer that is to become another one, registered as that wants it
-abbrev pub change_work : TimerValue → TimerValue → Option ℕ → Work
-change_work timer next reached =
-    record { removes = registration_of timer; inserts = wanted_at next.deadline next.kept; after = next; reached = reached }
+-- the work of a timer that is to become another one, which is registered as that wants it
+abbrev pub change_work : TimerValue → Option ℕ → Work
+change_work next reached = record { becomes = Some (state_of next); reached = reached }

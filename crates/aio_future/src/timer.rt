@@ -2,9 +2,10 @@
 
 ghost use Rattle.std.specs.Prelude.{◌≡◌, ◌&&◌, ◌<◌, Some, None, IfSome, IsTrue, is_some, MatchResult, OnOk, OnErr};
 ghost use Rattle.aio_base.specs.Devices.{HasCause};
-ghost use Rattle.aio_base.specs.Machine.{is_waker, next_deadline};
+ghost use Rattle.aio_base.specs.TimerWork.{firing, next_deadline, waiting};
 ghost use Rattle.aio_base.specs.Trace.{IsPeriod};
-ghost use Rattle.aio_future.specs.Timers.{IsTimer, new_timer, registration_of, poll_work, firing, waiting, set_work, change_work, RemovesOwn, RefusesRemoval, Worked, poll_fault, poll_answer, set_fault};
+ghost use Rattle.aio_base.specs.World.{is_waker};
+ghost use Rattle.aio_future.specs.Timers.{IsTimer, new_timer, registration_of, state_of, poll_work, set_work, change_work, RemovesOwn, RefusesRemoval, Worked, poll_fault, poll_answer, set_fault};
 
 use crate::answers::TimerFault;
 use crate::number_or_none::NumberOrNone;
@@ -218,7 +219,7 @@ impl Timer {
         waker: Waker,
     ) -> Result<(), TimerFault>
         ensures { Worked H.rules H.is_later H.notifier_is_sure
-            (firing self.old deadline waker (next_deadline deadline self.old.period))
+            (firing (state_of self.old) deadline waker (next_deadline deadline self.old.period))
             host.old host.new self.old self.new (set_fault result) }
     {
         let next = match moment_after(deadline, self.period.get()) {
@@ -244,7 +245,8 @@ impl Timer {
         waker: Waker,
     ) -> Result<(), TimerFault>
         requires { self.old.deadline ≡ Some deadline }
-        ensures { Worked H.rules H.is_later H.notifier_is_sure (waiting self.old deadline waker)
+        ensures { Worked H.rules H.is_later H.notifier_is_sure
+            (waiting (is_some self.old.id) (state_of self.old) deadline waker)
             host.old host.new self.old self.new (set_fault result) }
     {
         if self.waits_with(waker) {
@@ -297,7 +299,7 @@ impl Timer {
         reached: Option<Moment>,
     ) -> Result<(), TimerFault>
         requires { next.id ≡ None }
-        ensures { Worked H.rules H.is_later H.notifier_is_sure (change_work self.old next reached)
+        ensures { Worked H.rules H.is_later H.notifier_is_sure (change_work next reached)
             host.old host.new self.old self.new (set_fault result) }
     {
         let wanted = next.deadline().zip(next.kept);

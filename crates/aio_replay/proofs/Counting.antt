@@ -1,12 +1,13 @@
 -- A step counts at most one round, one timer id and one number of a listener.
 use Rattle.std.proofs.Common.{◌≡◌, ℕ, ◌+◌, ◌≤◌, Bool, true, false, cond, List, find, Option, None, Some, is_some, Result, Ok, Err, IfOk, OnOk, refl, sym, subst, arith}
-use Rattle.std.specs.Prelude.{◌&&◌, nat_lt, nat_le}
+use Rattle.std.specs.Prelude.{nat_lt}
 use Rattle.aio_base.specs.declared.names.Waker.{Waker}
 use Rattle.aio_base.specs.declared.outcomes.Which.{Which}
 use Rattle.aio_base.specs.declared.steps.Answer.{Answer}
 use Rattle.aio_base.specs.declared.steps.Step.{Step}
 use Rattle.aio_base.specs.declared.steps.Step.TheVariants as step
-use Rattle.aio_base.specs.Machine.{Outcome, is_waker, is_timer, unregistered, registered, next_deadline, fired, tick_deadline, tick_timer, set_deadline, set_timer, end_timer, case_of, step_result}
+use Rattle.aio_base.specs.Machine.{Outcome, is_timer, unregistered, registered, tick_timer, set_timer, end_timer, case_of, step_result, left_as, worked, state_of}
+use Rattle.aio_base.specs.TimerWork.{TimerState, joining, tick_work, reset_work}
 use Rattle.aio_base.specs.Script.{script_answers, after_calls, script_step}
 use Rattle.aio_base.specs.World.{PollerAnswer, TimerEntry, World}
 use Rattle.aio_replay.specs.declared.replayer.Replayer.{Replayer}
@@ -37,10 +38,6 @@ same old = record { pos_is = refl; few_rounds = omega arith; few_ids = omega ari
 one_id : (old : Count) → OneMore old (record old { ids = old.ids + 1 })
 one_id old = record { pos_is = refl; few_rounds = omega arith; few_ids = omega arith; few_numbers = omega arith }
 
-either : (test : Bool) (old : Count) (u v : World) → OneMore old (count_of u) → OneMore old (count_of v) → OneMore old (count_of (cond test u v))
-either true old u v first second = first
-either false old u v first second = second
-
 outcome_of_either : (test : Bool) (old : Count) (x y : Outcome) → OneMore old (count_of x.world) → OneMore old (count_of y.world) → OneMore old (count_of (cond test x y).world)
 outcome_of_either true old x y first second = first
 outcome_of_either false old x y first second = second
@@ -61,32 +58,24 @@ registered_counts w id entry deadline waker =
 unregistered_counts : (w : World) (id : Option ℕ) → OneMore (count_of w) (count_of (unregistered w id))
 unregistered_counts w id = subst (OneMore (count_of w)) (sym (unregistered_count w id)) (same (count_of w))
 
-fired_counts : (w : World) (id : Option ℕ) (entry : TimerEntry) (waker : Waker) (next : Option ℕ)
-    → OneMore (count_of w) (count_of (fired (unregistered w id) entry waker next))
-fired_counts w id entry waker None = unregistered_counts w id
-fired_counts w id entry waker (Some deadline) = registered_counts w id entry deadline waker
+left_counts : (w : World) (id : Option ℕ) (left : TimerEntry) (registration : Option (ℕ × Waker))
+    → OneMore (count_of w) (count_of (left_as (unregistered w id) left registration))
+left_counts w id left None = unregistered_counts w id
+left_counts w id left (Some registration) = registered_counts w id left registration.0 registration.1
 
-tick_at : (w : World) (entry : TimerEntry) (waker : Waker) (deadline : Option ℕ) (answers : List PollerAnswer)
-    → OneMore (count_of w) (count_of (tick_deadline w entry waker deadline answers).world)
-tick_at w entry waker None answers = same (count_of w)
-tick_at w entry waker (Some deadline) answers =
-    outcome_of_either (nat_le deadline w.now) (count_of w) _ _ (fired_counts w entry.id entry waker (next_deadline deadline entry.period))
-    (either (is_some entry.id && is_waker waker entry.kept) (count_of w) w _ (same (count_of w)) (registered_counts w entry.id entry deadline waker))
+worked_counts : (w : World) (entry : TimerEntry) (becomes : Option TimerState) → OneMore (count_of w) (count_of (worked w entry becomes))
+worked_counts w entry None = same (count_of w)
+worked_counts w entry (Some timer) =
+    left_counts w entry.id (record entry { deadline = timer.deadline; period = timer.period; id = None; kept = timer.kept }) (joining timer)
 
 tick_counts : (w : World) (waker : Waker) (entry : Option TimerEntry) (answers : List PollerAnswer) → OneMore (count_of w) (count_of (tick_timer w waker entry answers).world)
 tick_counts w waker None answers = same (count_of w)
-tick_counts w waker (Some entry) answers = tick_at w entry waker entry.deadline answers
-
-set_at : (w : World) (id : Option ℕ) (entry : TimerEntry) (deadline : ℕ) (kept : Option Waker)
-    → OneMore (count_of w) (count_of (set_deadline (unregistered w id) entry deadline kept))
-set_at w id entry deadline None = unregistered_counts w id
-set_at w id entry deadline (Some waker) = registered_counts w id entry deadline waker
+tick_counts w waker (Some entry) answers = worked_counts w entry (tick_work (is_some entry.id) (state_of entry) w.now waker).becomes
 
 set_counts : (w : World) (deadline : ℕ) (period : Option ℕ) (entry : Option TimerEntry) (answers : List PollerAnswer)
     → OneMore (count_of w) (count_of (set_timer w deadline period entry answers).world)
 set_counts w deadline period None answers = same (count_of w)
-set_counts w deadline period (Some entry) answers =
-    set_at w entry.id (cond (is_some period) (record entry { period = period }) entry) deadline entry.kept
+set_counts w deadline period (Some entry) answers = worked_counts w entry (reset_work (state_of entry) deadline period).becomes
 
 end_counts : (w : World) (entry : Option TimerEntry) (answers : List PollerAnswer) → OneMore (count_of w) (count_of (end_timer w entry answers).world)
 end_counts w None answers = same (count_of w)

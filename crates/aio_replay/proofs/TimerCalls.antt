@@ -5,14 +5,15 @@ use Rattle.aio_base.specs.declared.names.TimerId.{TimerId}
 use Rattle.aio_base.specs.declared.names.Waker.{Waker}
 use Rattle.aio_base.specs.declared.steps.Answer.{Answer}
 use Rattle.aio_base.specs.declared.steps.Step.{Step}
-use Rattle.aio_base.specs.Machine.{Outcome, quiet, is_timer, is_waker, next_deadline, tick_deadline, tick_timer, set_timer, end_timer, moved_on, case_of, step_result}
+use Rattle.aio_base.specs.Machine.{Outcome, quiet, is_timer, moved_on, case_of, step_result}
 use Rattle.aio_base.specs.Machine as machine
 use Rattle.aio_base.specs.Script.{script_answers, settled, script_step}
 use Rattle.aio_base.specs.Timers.{Registers, fold_changes}
+use Rattle.aio_base.specs.TimerWork.{TimerState, Work}
 use Rattle.aio_base.specs.World.{Registration, TimerEntry, World}
 use Rattle.aio_future.specs.declared.answers.TimerFault.{TimerFault}
 use Rattle.aio_future.specs.declared.answers.TimerFault.TheVariants.{IdsSpent, OutOfMemory, Notify}
-use Rattle.aio_future.specs.Timers.{TimerValue, Work, registration_of, timer_left, RemovesOwn, Inserts, Done, Worked}
+use Rattle.aio_future.specs.Timers.{TimerValue, registration_of, leaving, joined, timer_left, RemovesOwn, Inserts, Done, Worked}
 use Rattle.aio_react.specs.Cores.{CoreValue}
 use Rattle.aio_react.specs.Hosting.{core_rules}
 use Rattle.aio_react.specs.Hosts.{has_id_left, next_id}
@@ -23,7 +24,7 @@ use Rattle.aio_replay.specs.Replaying.{StandsFor, Gives, step_limit}
 use Rattle.aio_replay.specs.Replies.{IsHosted}
 use Rattle.aio_replay.specs.Timers.{number_of, TimerStands, OnlyAt, Owns}
 use Rattle.aio_replay.proofs.TimerChanges.{Times, times_of, with_times, TimesStand, times_without, book_without, gone_stands, next_registration, times_drawn, drawn_stands, own_registration, times_with, changed_stands}
-use Rattle.aio_replay.proofs.TimerNumbers.{timer_number}
+use Rattle.aio_replay.proofs.TimerNumbers.{timer_number, value_back}
 use Rattle.aio_script.specs.Script.{Script, interests_of}
 
 -- ## From a replayer to its timers, and back
@@ -125,23 +126,26 @@ inserted : (inserts : Option (ℕ × Waker)) (mid new : Script × CoreValue) →
 inserted None mid new is = is
 inserted (Some registration) mid new is = is
 
--- the replayer once a timer's work was done
-abbrev pub worked : Replayer → ℕ → Work → Replayer
-worked r number work =
-    timed r (with_value r.timers number (Some (timer_left work (the_id (r.core.1.ids_drawn + 1)))))
-    (book_more work.inserts r.core.1.ids_drawn (book_without work.removes r.core.1.book)) (ids_more work.inserts r.core.1.ids_drawn)
+-- the replayer once the work on a timer was done
+abbrev pub worked : Replayer → ℕ → TimerValue → Option TimerState → Replayer
+worked r number t becomes =
+    timed r (with_value r.timers number (Some (timer_left t becomes (the_id (r.core.1.ids_drawn + 1)))))
+    (book_more (joined becomes) r.core.1.ids_drawn (book_without (leaving t becomes) r.core.1.book)) (ids_more (joined becomes) r.core.1.ids_drawn)
 
-pub done : (r : Replayer) (number : ℕ) (work : Work) (new : Script × CoreValue) (after : TimerValue) → Done core_rules work (next_id 0 r.core.1.ids_drawn) r.core new after
-    → worked r number work ≡ record r { core = new; timers = with_value r.timers number (Some after) }
-done r number work new after did =
+pub done : (r : Replayer) (number : ℕ) (t : TimerValue) (work : Work) (new : Script × CoreValue) (after : TimerValue)
+    → Done core_rules work (next_id 0 r.core.1.ids_drawn) r.core new t after
+    → worked r number t work.becomes ≡ record r { core = new; timers = with_value r.timers number (Some after) }
+done r number t work new after did =
     let ids = r.core.1.ids_drawn in
-    let mid : Script × CoreValue = (r.core.0, record r.core.1 { book = book_without work.removes r.core.1.book }) in
-    let first : did.mid ≡ mid = removed work.removes r.core did.mid did.removal in
-    let insertion : Inserts core_rules work.inserts (the_id (ids + 1)) mid new =
-    subst (λ (id : TimerId). Inserts core_rules work.inserts id mid new) (first_pass ids) (subst (λ (m : Script × CoreValue). Inserts core_rules work.inserts (next_id 0 ids) m new) first did.insertion) in
-    let core = inserted work.inserts mid new insertion in
-    let timer : after ≡ timer_left work (the_id (ids + 1)) = did.timer ∙ ap (timer_left work) (first_pass ids) in
-    ap (λ (c : Script × CoreValue). record r { core = c; timers = with_value r.timers number (Some (timer_left work (the_id (ids + 1)))) }) (sym core)
+    let left = leaving t work.becomes in
+    let more = joined work.becomes in
+    let mid : Script × CoreValue = (r.core.0, record r.core.1 { book = book_without left r.core.1.book }) in
+    let first : did.mid ≡ mid = removed left r.core did.mid did.removal in
+    let insertion : Inserts core_rules more (the_id (ids + 1)) mid new =
+    subst (λ (id : TimerId). Inserts core_rules more id mid new) (first_pass ids) (subst (λ (m : Script × CoreValue). Inserts core_rules more (next_id 0 ids) m new) first did.insertion) in
+    let core = inserted more mid new insertion in
+    let timer : after ≡ timer_left t work.becomes (the_id (ids + 1)) = did.timer ∙ ap (timer_left t work.becomes) (first_pass ids) in
+    ap (λ (c : Script × CoreValue). record r { core = c; timers = with_value r.timers number (Some (timer_left t work.becomes (the_id (ids + 1)))) }) (sym core)
     ∙ ap (λ (t : TimerValue). record r { core = new; timers = with_value r.timers number (Some t) }) (sym timer)
 
 -- with an id left a call tells no fault but want of memory
@@ -157,7 +161,7 @@ pub hosted : (work : Work) (old new : Script × CoreValue) (before after : Timer
     → CoreWorked work old new before after fault → IsHosted fault
 hosted work old new before after None few works = tt
 hosted work old new before after (Some IdsSpent) few works =
-    absurd (false≢true (sym (lacks_none work.inserts old.1.ids_drawn (omega arith)) ∙ works.spent.0 refl))
+    absurd (false≢true (sym (lacks_none (joined work.becomes) old.1.ids_drawn (omega arith)) ∙ works.spent.0 refl))
 hosted work old new before after (Some OutOfMemory) few works = tt
 hosted work old new before after (Some (Notify fired fault)) few works = absurd ((works.carried.fails.cause.never refl).0 refl)
 
@@ -188,50 +192,69 @@ gone r w number t e has =
     gone_stands r.timers r.core.1.book r.core.1.ids_drawn (times_of w) t.deadline t.id (from_stands r w has.stands)
     (subst (λ (o : Option TimerValue). IfSome o (Owns w.ids_drawn w.registrations)) has.value_is (has.stands.timers.owned number))
 
+-- the entry of a timer that becomes this, with no registration
+abbrev left_entry : TimerEntry → TimerState → TimerEntry
+left_entry e timer = record e { deadline = timer.deadline; period = timer.period; id = None; kept = timer.kept }
+
 -- a timer that is left with no registration
-pub over_stands : (r : Replayer) (w : World) (number : ℕ) (t after : TimerValue) (e changed : TimerEntry) (reached : Option ℕ) → Has r w number t e → changed.number ≡ number
-    → after.id ≡ None → TimerStands (Some after) (Some changed)
-    → StandsFor (worked r number (record { removes = registration_of t; inserts = None; after = after; reached = reached }))
-    (let v = machine.with_timer (machine.unregistered w e.id) changed in record v { pos = v.pos + 1 })
-over_stands r w number t after e changed reached has own none stands =
+over_stands : (r : Replayer) (w : World) (number : ℕ) (t : TimerValue) (e : TimerEntry) (timer : TimerState) → Has r w number t e
+    → (let after : TimerValue = record { deadline = timer.deadline; period = timer.period; id = None; kept = timer.kept } in
+    StandsFor (timed r (with_value r.timers number (Some after)) (book_without (registration_of t) r.core.1.book) r.core.1.ids_drawn)
+    (let v = machine.with_timer (machine.unregistered w e.id) (left_entry e timer) in record v { pos = v.pos + 1 }))
+over_stands r w number t e timer has =
     let id = number_of t.id in
+    let book = book_without (registration_of t) r.core.1.book in
+    let after : TimerValue = record { deadline = timer.deadline; period = timer.period; id = None; kept = timer.kept } in
+    let changed = left_entry e timer in
     let times = times_with (times_without (times_of w) id) changed in
-    let owns : Owns w.ids_drawn (times_without (times_of w) id).registrations after =
-    subst (λ (i : Option TimerId). Owns w.ids_drawn (times_without (times_of w) id).registrations (record after { id = i })) (sym none) tt in
-    let all : StandsFor (timed r (with_value r.timers number (Some after)) (book_without (registration_of t) r.core.1.book) r.core.1.ids_drawn)
-    (let v = with_times w times in record v { pos = v.pos + 1 }) =
-    to_stands r w (with_value r.timers number (Some after)) (book_without (registration_of t) r.core.1.book) r.core.1.ids_drawn times has.stands
-    (changed_stands r.timers (book_without (registration_of t) r.core.1.book) r.core.1.ids_drawn (times_without (times_of w) id) number t after changed e
-    (gone r w number t e has) has.value_is has.found own stands owns) in
-    subst (λ (i : Option ℕ). StandsFor (timed r (with_value r.timers number (Some after)) (book_without (registration_of t) r.core.1.book) r.core.1.ids_drawn)
-    (let v = machine.with_timer (machine.unregistered w i) changed in record v { pos = v.pos + 1 })) (sym (here r w number t e has).2)
-    (subst (λ (v : World). StandsFor (timed r (with_value r.timers number (Some after)) (book_without (registration_of t) r.core.1.book) r.core.1.ids_drawn)
-    (let u = machine.with_timer v changed in record u { pos = u.pos + 1 })) (gone_is w id) all)
+    let made : Replayer = timed r (with_value r.timers number (Some after)) book r.core.1.ids_drawn in
+    let all : StandsFor made (let v = with_times w times in record v { pos = v.pos + 1 }) =
+    to_stands r w (with_value r.timers number (Some after)) book r.core.1.ids_drawn times has.stands
+    (changed_stands r.timers book r.core.1.ids_drawn (times_without (times_of w) id) number t after changed e
+    (gone r w number t e has) has.value_is has.found (own_number r w number t e has) (refl, refl, refl, refl) tt) in
+    subst (λ (i : Option ℕ). StandsFor made (let v = machine.with_timer (machine.unregistered w i) changed in record v { pos = v.pos + 1 })) (sym (here r w number t e has).2)
+    (subst (λ (v : World). StandsFor made (let u = machine.with_timer v changed in record u { pos = u.pos + 1 })) (gone_is w id) all)
 
 -- a timer that is registered anew
-pub again_stands : (r : Replayer) (w : World) (number : ℕ) (t after : TimerValue) (e changed : TimerEntry) (deadline : ℕ) (waker : Waker) (reached : Option ℕ)
-    → Has r w number t e → changed.number ≡ number → after.deadline ≡ Some deadline → after.kept ≡ Some waker → changed.period ≡ after.period
-    → StandsFor (worked r number (record { removes = registration_of t; inserts = Some (deadline, waker); after = after; reached = reached }))
-    (let v = machine.registered (machine.unregistered w e.id) changed deadline waker in record v { pos = v.pos + 1 })
-again_stands r w number t after e changed deadline waker reached has own at keeps period =
+again_stands : (r : Replayer) (w : World) (number : ℕ) (t : TimerValue) (e : TimerEntry) (deadline : ℕ) (period : Option ℕ) (waker : Waker) → Has r w number t e
+    → (let timer : TimerState = record { deadline = Some deadline; period = period; kept = Some waker } in
+    StandsFor (worked r number t (Some timer))
+    (let v = machine.registered (machine.unregistered w e.id) (left_entry e timer) deadline waker in record v { pos = v.pos + 1 }))
+again_stands r w number t e deadline period waker has =
     let ids = r.core.1.ids_drawn in
     let id = number_of t.id in
+    let timer : TimerState = record { deadline = Some deadline; period = period; kept = Some waker } in
+    let changed = left_entry e timer in
     let book = book_without (registration_of t) r.core.1.book in
     let without = times_without (times_of w) id in
     let registered : TimerEntry = record changed { deadline = Some deadline; id = Some (w.ids_drawn + 1); kept = Some waker } in
-    let new : TimerValue = record after { id = Some (the_id (ids + 1)) } in
+    let new : TimerValue = timer_left t (Some timer) (the_id (ids + 1)) in
     let same : w.ids_drawn ≡ ids = has.stands.core.book.ids_are in
     let without_stands = gone r w number t e has in
     let times = times_with (times_drawn without deadline waker) registered in
     let owns : Owns (w.ids_drawn + 1) (times_drawn without deadline waker).registrations new =
-    subst (λ (d : Option ℕ). Owns (w.ids_drawn + 1) (times_drawn without deadline waker).registrations (record new { deadline = d })) (sym at)
     (omega (arith, same), subst (λ (n : ℕ). OnlyAt (n + 1) deadline (times_drawn without deadline waker).registrations) same (own_registration without deadline waker without_stands.given)) in
-    let all : StandsFor (timed r (with_value r.timers number (Some new)) (book_more (Some (deadline, waker)) ids book) (ids + 1)) (let v = with_times w times in record v { pos = v.pos + 1 }) =
+    let all : StandsFor (worked r number t (Some timer)) (let v = with_times w times in record v { pos = v.pos + 1 }) =
     to_stands r w (with_value r.timers number (Some new)) (book_more (Some (deadline, waker)) ids book) (ids + 1) times has.stands
     (changed_stands r.timers (book_more (Some (deadline, waker)) ids book) (ids + 1) (times_drawn without deadline waker) number t new registered e
-    (drawn_stands r.timers book ids without deadline waker without_stands) has.value_is has.found own
-    (sym at, period, ap (λ (n : ℕ). Some (n + 1)) same, sym keeps) owns) in
-    subst (λ (i : Option ℕ). StandsFor (timed r (with_value r.timers number (Some new)) (book_more (Some (deadline, waker)) ids book) (ids + 1))
+    (drawn_stands r.timers book ids without deadline waker without_stands) has.value_is has.found (own_number r w number t e has)
+    (refl, refl, ap (λ (n : ℕ). Some (n + 1)) same, refl) owns) in
+    subst (λ (i : Option ℕ). StandsFor (worked r number t (Some timer))
     (let v = machine.registered (machine.unregistered w i) changed deadline waker in record v { pos = v.pos + 1 })) (sym (here r w number t e has).2)
-    (subst (λ (v : World). StandsFor (timed r (with_value r.timers number (Some new)) (book_more (Some (deadline, waker)) ids book) (ids + 1))
+    (subst (λ (v : World). StandsFor (worked r number t (Some timer))
     (let u = machine.registered v changed deadline waker in record u { pos = u.pos + 1 })) (gone_is w id) all)
+
+works_at : (r : Replayer) (w : World) (number : ℕ) (t : TimerValue) (e : TimerEntry) (deadline period : Option ℕ) (kept : Option Waker) → Has r w number t e
+    → (let timer : TimerState = record { deadline = deadline; period = period; kept = kept } in
+    StandsFor (worked r number t (Some timer)) (let v = machine.worked w e (Some timer) in record v { pos = v.pos + 1 }))
+works_at r w number t e None period kept has = over_stands r w number t e (record { deadline = None; period = period; kept = kept }) has
+works_at r w number t e (Some deadline) period None has = over_stands r w number t e (record { deadline = Some deadline; period = period; kept = None }) has
+works_at r w number t e (Some deadline) period (Some waker) has = again_stands r w number t e deadline period waker has
+
+-- the work on a timer is the same on both sides
+pub works : (r : Replayer) (w : World) (number : ℕ) (t : TimerValue) (e : TimerEntry) (becomes : Option TimerState) → Has r w number t e
+    → StandsFor (worked r number t becomes) (let v = machine.worked w e becomes in record v { pos = v.pos + 1 })
+works r w number t e None has =
+    subst (λ (timers : List (Option TimerValue)). StandsFor (timed r timers r.core.1.book r.core.1.ids_drawn) (record w { pos = w.pos + 1 }))
+    (sym (value_back r.timers number t has.value_is)) (stays r w has.stands)
+works r w number t e (Some timer) has = works_at r w number t e timer.deadline timer.period timer.kept has

@@ -1,6 +1,6 @@
 -- Cover stands after each step, of whatever kind.
-use Rattle.std.proofs.Common.{◌≡◌, ℕ, zero, suc, ◌+◌, Bool, true, false, cond, ◌&&◌, List, [], ◌∷◌, ◌++◌, length, find, Option, None, Some, is_some, refl, ap, ◌∙◌, sym, subst, inl, ⊎_elim, arith, length-append}
-use Rattle.std.specs.Prelude.{nat_lt, nat_le}
+use Rattle.std.proofs.Common.{◌≡◌, ℕ, zero, suc, ◌+◌, true, List, [], ◌∷◌, ◌++◌, length, find, Option, None, Some, refl, ap, ◌∙◌, sym, subst, inl, ⊎_elim, arith, length-append}
+use Rattle.std.specs.Prelude.{nat_lt}
 use Rattle.std.proofs.lemmas.List.{get_or_at}
 use Rattle.aio_base.specs.declared.names.Waker.{Waker}
 use Rattle.aio_base.specs.declared.steps.Step.{Step}
@@ -8,7 +8,8 @@ use Rattle.aio_base.specs.declared.steps.Step.TheVariants as step
 use Rattle.aio_base.specs.declared.steps.Answer.{Answer}
 use Rattle.aio_base.specs.declared.steps.Answer.TheVariants as answer
 use Rattle.aio_base.specs.World.{PollerAnswer, TimerEntry, World, serial_of}
-use Rattle.aio_base.specs.Machine.{quiet, is_waker, is_listener, is_timer, unregistered, registered, next_deadline, fired, waiting, tick_deadline, tick_timer, set_deadline, set_timer, end_timer, set_clock, case_of, step_result}
+use Rattle.aio_base.specs.Machine.{quiet, is_listener, is_timer, unregistered, tick_timer, set_timer, end_timer, set_clock, case_of, step_result}
+use Rattle.aio_base.proofs.TimerCases.{tick_any, set_any}
 use Rattle.aio_laws.specs.Covered.{tells_arm_fault, tells_at}
 use Rattle.aio_laws.proofs.cover.Standing.{Parts, parts_of, Ordered, Standing, holds_in}
 use Rattle.aio_laws.proofs.cover.CoverSources.{Stands, either, quiet_stands, add_stands, del_stands}
@@ -27,42 +28,18 @@ unregistered_parts : (w : World) (id : Option ℕ) → parts_of (unregistered w 
 unregistered_parts w None = refl
 unregistered_parts w (Some id) = refl
 
-fired_parts : (w : World) (entry : TimerEntry) (waker : Waker) (next : Option ℕ) → parts_of (fired w entry waker next) ≡ parts_of w
-fired_parts w entry waker None = refl
-fired_parts w entry waker (Some deadline) = refl
-
-set_parts : (w : World) (entry : TimerEntry) (deadline : ℕ) (kept : Option Waker) → parts_of (set_deadline w entry deadline kept) ≡ parts_of w
-set_parts w entry deadline None = refl
-set_parts w entry deadline (Some waker) = refl
-
-either_parts : (w : World) (test : Bool) (x y : World) → parts_of x ≡ parts_of w → parts_of y ≡ parts_of w → parts_of (cond test x y) ≡ parts_of w
-either_parts w true x y first second = first
-either_parts w false x y first second = second
-
-waiting_parts : (w : World) (entry : TimerEntry) (deadline : ℕ) (waker : Waker) → parts_of (waiting w entry deadline waker) ≡ parts_of w
-waiting_parts w entry deadline waker =
-    either_parts w (is_some entry.id && is_waker waker entry.kept) w (registered (unregistered w entry.id) entry deadline waker) refl (unregistered_parts w entry.id)
-
-tick_stands_at : (w : World) (told : List Answer) (entry : TimerEntry) (waker : Waker) (deadline : Option ℕ) (answers : List PollerAnswer)
-    → Standing (parts_of w) told ⊥ → Stands told (tick_deadline w entry waker deadline answers)
-tick_stands_at w told entry waker None answers s = quiet_stands w told _ answers s
-tick_stands_at w told entry waker (Some deadline) answers s =
-    either told (nat_le deadline w.now) _ _
-    (λ due. same_stands w _ told _ answers
-    (fired_parts (unregistered w entry.id) entry waker (next_deadline deadline entry.period) ∙ unregistered_parts w entry.id) s)
-    (λ later. same_stands w _ told _ answers (waiting_parts w entry deadline waker) s)
-
 tick_stands : (w : World) (told : List Answer) (waker : Waker) (entry : Option TimerEntry) (answers : List PollerAnswer)
     → Standing (parts_of w) told ⊥ → Stands told (tick_timer w waker entry answers)
 tick_stands w told waker None answers s = quiet_stands w told _ answers s
-tick_stands w told waker (Some entry) answers s = tick_stands_at w told entry waker entry.deadline answers s
+tick_stands w told waker (Some entry) answers s =
+    tick_any (Stands told) w waker entry answers (λ timers registrations ids. same_stands w _ told _ answers refl s)
+    (λ deadline timers registrations ids. same_stands w _ told _ answers refl s)
 
 set_stands : (w : World) (told : List Answer) (deadline : ℕ) (period : Option ℕ) (entry : Option TimerEntry) (answers : List PollerAnswer)
     → Standing (parts_of w) told ⊥ → Stands told (set_timer w deadline period entry answers)
 set_stands w told deadline period None answers s = quiet_stands w told _ answers s
 set_stands w told deadline period (Some entry) answers s =
-    let set : TimerEntry = cond (is_some period) (record entry { period = period }) entry in
-    same_stands w _ told _ answers (set_parts (unregistered w entry.id) set deadline entry.kept ∙ unregistered_parts w entry.id) s
+    set_any (Stands told) w deadline period entry answers (λ timers registrations ids. same_stands w _ told _ answers refl s)
 
 end_stands : (w : World) (told : List Answer) (entry : Option TimerEntry) (answers : List PollerAnswer) → Standing (parts_of w) told ⊥
     → Stands told (end_timer w entry answers)

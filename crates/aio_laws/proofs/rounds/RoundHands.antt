@@ -1,5 +1,5 @@
 -- What a step leaves of the running round: its hand, the answer of its last wait, and its first fault.
-use Rattle.std.proofs.Common.{◌≡◌, ℕ, Bool, true, false, cond, ◌&&◌, ◌||◌, ◌==◌, List, [], ◌∷◌, length, find, Option, None, Some, is_some, refl, ap, ◌∙◌, sym, subst}
+use Rattle.std.proofs.Common.{◌≡◌, ℕ, Bool, true, false, cond, ◌||◌, ◌==◌, List, [], ◌∷◌, length, find, Option, None, Some, is_some, refl, ap, ◌∙◌, sym, subst}
 use Rattle.std.specs.Prelude.{nat_lt, nat_le, option_to_list, unwrap_or}
 use Rattle.std.specs.List.{list_any}
 use Rattle.aio_base.specs.declared.names.Key.{Key}
@@ -13,7 +13,8 @@ use Rattle.aio_base.specs.declared.steps.Step.TheVariants as step
 use Rattle.aio_base.specs.declared.steps.Answer.{Answer}
 use Rattle.aio_base.specs.declared.steps.Answer.TheVariants as answer
 use Rattle.aio_base.specs.World.{PollerAnswer, Succeeds, Gives, IsInterrupted, Fails, ListenerEntry, TimerEntry, RoundState, World, serial_of, key_of, poll_waiter, mark_of, is_empty_list, is_idle, is_broken}
-use Rattle.aio_base.specs.Machine.{Outcome, next_answer, later_answers, fails, broken_world, armed_world, after_arm, pending, source_limit, add, del_source, is_fresh_since, is_waker, with_waiter, poll_source, new_listener, is_listener, with_listening, step_listener, drop_listener, is_timer, unregistered, next_deadline, fired, tick_deadline, tick_timer, set_deadline, set_timer, end_timer, set_clock, begin_round, wait_answered, wait_in, handle_source, handle_first, handle_in, hand_of, fault_of_round, finish_in, react, case_of, step_result}
+use Rattle.aio_base.specs.Machine.{Outcome, next_answer, later_answers, fails, broken_world, armed_world, after_arm, pending, source_limit, add, del_source, is_fresh_since, is_waker, with_waiter, poll_source, new_listener, is_listener, with_listening, step_listener, drop_listener, is_timer, unregistered, tick_timer, set_timer, end_timer, set_clock, begin_round, wait_answered, wait_in, handle_source, handle_first, handle_in, hand_of, fault_of_round, finish_in, react, case_of, step_result}
+use Rattle.aio_base.proofs.TimerCases.{tick_any, set_any}
 use Rattle.aio_laws.specs.RoundCounts.{name_of}
 use Rattle.aio_laws.specs.RoundHands.{HandMoves, last_wait_of, last_wait_after, fault_kept, fault_after, HandFollows}
 use Rattle.aio_laws.proofs.steps.Frames.{either, either_world}
@@ -69,29 +70,14 @@ gone_runs : (w : World) (id : Option ℕ) → (unregistered w id).round ≡ w.ro
 gone_runs w None = refl
 gone_runs w (Some id) = refl
 
-fired_runs : (w : World) (entry : TimerEntry) (waker : Waker) (next : Option ℕ) → (fired w entry waker next).round ≡ w.round
-fired_runs w entry waker None = refl
-fired_runs w entry waker (Some deadline) = refl
-
-tick_runs_at : (w : World) (entry : TimerEntry) (waker : Waker) (deadline : Option ℕ) (answers : List PollerAnswer) → Runs w (tick_deadline w entry waker deadline answers)
-tick_runs_at w entry waker None answers = refl
-tick_runs_at w entry waker (Some deadline) answers =
-    either (Runs w) (nat_le deadline w.now) _ _
-    (fired_runs (unregistered w entry.id) entry waker (next_deadline deadline entry.period) ∙ gone_runs w entry.id)
-    (either_world (λ v. v.round ≡ w.round) (is_some entry.id && is_waker waker entry.kept) w _ refl (gone_runs w entry.id))
-
 tick_runs : (w : World) (waker : Waker) (entry : Option TimerEntry) (answers : List PollerAnswer) → Runs w (tick_timer w waker entry answers)
 tick_runs w waker None answers = refl
-tick_runs w waker (Some entry) answers = tick_runs_at w entry waker entry.deadline answers
-
-set_runs_at : (w : World) (entry : TimerEntry) (deadline : ℕ) (kept : Option Waker) → (set_deadline w entry deadline kept).round ≡ w.round
-set_runs_at w entry deadline None = refl
-set_runs_at w entry deadline (Some waker) = refl
+tick_runs w waker (Some entry) answers =
+    tick_any (Runs w) w waker entry answers (λ timers registrations ids. refl) (λ deadline timers registrations ids. refl)
 
 set_runs : (w : World) (deadline : ℕ) (period : Option ℕ) (entry : Option TimerEntry) (answers : List PollerAnswer) → Runs w (set_timer w deadline period entry answers)
 set_runs w deadline period None answers = refl
-set_runs w deadline period (Some entry) answers =
-    set_runs_at (unregistered w entry.id) (cond (is_some period) (record entry { period = period }) entry) deadline entry.kept ∙ gone_runs w entry.id
+set_runs w deadline period (Some entry) answers = set_any (Runs w) w deadline period entry answers (λ timers registrations ids. refl)
 
 end_runs : (w : World) (entry : Option TimerEntry) (answers : List PollerAnswer) → Runs w (end_timer w entry answers)
 end_runs w None answers = refl

@@ -12,7 +12,8 @@ use Rattle.aio_base.specs.declared.names.Event.{Event}
 use Rattle.aio_base.specs.declared.steps.Step.{Step}
 use Rattle.aio_base.specs.declared.steps.Step.TheVariants as step
 use Rattle.aio_base.specs.World.{PollerAnswer, Succeeds, Gives, IsInterrupted, Fails, ListenerEntry, TimerEntry, RoundState, World, opening, directions_of, is_of, serial_of, key_of, poll_waiter, mark_of, is_empty_list, is_idle, wanted, is_broken}
-use Rattle.aio_base.specs.Machine.{Outcome, fails, next_answer, later_answers, after_arm, pending, source_limit, add, del_source, is_fresh_since, is_waker, with_waiter, poll_source, new_listener, is_listener, without_listener, with_listening, step_listener, drop_listener, is_timer, unregistered, registered, next_deadline, fired, tick_deadline, tick_timer, set_deadline, set_timer, end_timer, set_clock, begin_round, wait_answered, wait_in, wait_round, without_waiters, world_taken, rearmed, handle_source, handle_first, handle_in, handle_round, finish_in, handle_each, hand_of, react, case_of, step_result}
+use Rattle.aio_base.specs.Machine.{Outcome, fails, next_answer, later_answers, after_arm, pending, source_limit, add, del_source, is_fresh_since, is_waker, with_waiter, poll_source, new_listener, is_listener, without_listener, with_listening, step_listener, drop_listener, is_timer, unregistered, tick_timer, set_timer, end_timer, set_clock, begin_round, wait_answered, wait_in, wait_round, without_waiters, world_taken, rearmed, handle_source, handle_first, handle_in, handle_round, finish_in, handle_each, hand_of, react, case_of, step_result}
+use Rattle.aio_base.proofs.TimerCases.{tick_any, set_any}
 use Rattle.aio_laws.specs.FirstPolls.{IsPolledBefore, InPollOrder}
 use Rattle.aio_base.specs.Runs.{PolledStep, outcome_of, world_of}
 use Rattle.aio_laws.specs.Storings.{Storings, no_storings}
@@ -221,33 +222,15 @@ unregistered_within : (w : World) (id : Option ℕ) → Within w → Within (unr
 unregistered_within w None r = r
 unregistered_within w (Some id) r = r
 
-fired_within : (w : World) (entry : TimerEntry) (waker : Waker) (next : Option ℕ) → Within w → Within (fired w entry waker next)
-fired_within w entry waker None r = r
-fired_within w entry waker (Some deadline) r = r
-
-set_within : (w : World) (entry : TimerEntry) (deadline : ℕ) (kept : Option Waker) → Within w → Within (set_deadline w entry deadline kept)
-set_within w entry deadline None r = r
-set_within w entry deadline (Some waker) r = r
-
-tick_leaves_at : (w : World) (entry : TimerEntry) (waker : Waker) (deadline : Option ℕ) (answers : List PollerAnswer) → Within w
-    → Leaves (tick_deadline w entry waker deadline answers)
-tick_leaves_at w entry waker None answers r = record { stands = r }
-tick_leaves_at w entry waker (Some deadline) answers r =
-    let gone = unregistered_within w entry.id r in
-    either (nat_le deadline w.now) _ _
-    (record { stands = fired_within (unregistered w entry.id) entry waker (next_deadline deadline entry.period) gone })
-    (record { stands = either_world _ w (registered (unregistered w entry.id) entry deadline waker) r gone })
-
 tick_leaves : (w : World) (waker : Waker) (entry : Option TimerEntry) (answers : List PollerAnswer) → Within w → Leaves (tick_timer w waker entry answers)
 tick_leaves w waker None answers r = record { stands = r }
-tick_leaves w waker (Some entry) answers r = tick_leaves_at w entry waker entry.deadline answers r
+tick_leaves w waker (Some entry) answers r =
+    tick_any Leaves w waker entry answers (λ timers registrations ids. record { stands = r }) (λ deadline timers registrations ids. record { stands = r })
 
 set_leaves : (w : World) (deadline : ℕ) (period : Option ℕ) (entry : Option TimerEntry) (answers : List PollerAnswer) → Within w
     → Leaves (set_timer w deadline period entry answers)
 set_leaves w deadline period None answers r = record { stands = r }
-set_leaves w deadline period (Some entry) answers r =
-    let set : TimerEntry = cond (is_some period) (record entry { period = period }) entry in
-    record { stands = set_within (unregistered w entry.id) set deadline entry.kept (unregistered_within w entry.id r) }
+set_leaves w deadline period (Some entry) answers r = set_any Leaves w deadline period entry answers (λ timers registrations ids. record { stands = r })
 
 end_leaves : (w : World) (entry : Option TimerEntry) (answers : List PollerAnswer) → Within w → Leaves (end_timer w entry answers)
 end_leaves w None answers r = record { stands = r }

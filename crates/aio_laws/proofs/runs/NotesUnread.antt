@@ -1,5 +1,5 @@
 -- The machine's step reads nothing of what is noted and due: from the world with other notes it gives the same, with those notes.
-use Rattle.std.proofs.Common.{◌≡◌, ℕ, Bool, true, false, cond, ◌&&◌, ◌||◌, ◌==◌, List, [], ◌∷◌, ◌++◌, length, find, Option, None, Some, is_some, unwrap_or, option_to_list, refl, ap, ◌∙◌, sym}
+use Rattle.std.proofs.Common.{◌≡◌, ℕ, Bool, true, false, cond, ◌||◌, ◌==◌, List, [], ◌∷◌, ◌++◌, length, find, Option, None, Some, is_some, unwrap_or, option_to_list, refl, ap, ◌∙◌, sym}
 use Rattle.std.specs.List.{list_any}
 use Rattle.std.specs.Prelude.{nat_lt, nat_le, not, filter, ◌+◌}
 use Rattle.aio_base.specs.declared.names.Key.{Key}
@@ -13,7 +13,8 @@ use Rattle.aio_base.specs.declared.steps.Step.TheVariants as step
 use Rattle.aio_base.specs.declared.steps.Answer.{Answer}
 use Rattle.aio_base.specs.declared.steps.Answer.TheVariants as answer
 use Rattle.aio_base.specs.World.{PollerAnswer, Succeeds, Gives, IsInterrupted, Fails, ListenerEntry, TimerEntry, DueFaults, RoundState, World, nothing_due, directions_of, serial_of, key_of, poll_waiter, mark_of, waiters_of, is_empty_list, is_idle, is_broken, wanted, set_armed}
-use Rattle.aio_base.specs.Machine.{Outcome, quiet, source_limit, free_key, with_waiter, with_listening, is_fresh_since, fails, next_answer, later_answers, broken_world, armed_world, after_arm, pending, add, del_source, poll_source, new_listener, is_listener, step_listener, drop_listener, is_timer, is_waker, unregistered, registered, next_deadline, fired, waiting, tick_deadline, tick_timer, set_deadline, set_timer, end_timer, set_clock, begin_round, wait_answered, wait_in, wait_round, without_waiters, world_taken, wakers_taken, rearmed, handle_source, handle_first, handle_in, handle_round, finish_in, finish_round, handle_each, hand_of, fault_of_round, first_fault, react, case_of, moved_on, step_result}
+use Rattle.aio_base.specs.Machine.{Outcome, quiet, source_limit, free_key, with_waiter, with_listening, is_fresh_since, fails, next_answer, later_answers, broken_world, armed_world, after_arm, pending, add, del_source, poll_source, new_listener, is_listener, step_listener, drop_listener, is_timer, is_waker, unregistered, tick_timer, set_timer, end_timer, set_clock, begin_round, wait_answered, wait_in, wait_round, without_waiters, world_taken, wakers_taken, rearmed, handle_source, handle_first, handle_in, handle_round, finish_in, finish_round, handle_each, hand_of, fault_of_round, first_fault, react, case_of, moved_on, step_result, left_as, state_of, tick_answer, worked}
+use Rattle.aio_base.specs.TimerWork.{TimerState, joining, tick_work, reset_work}
 use Rattle.aio_base.specs.Runs.{without_notes, outcome_without_notes}
 
 -- the world with these notes
@@ -115,43 +116,32 @@ unregistered_noted : (n : List Event) (d : DueFaults) (w : World) (id : Option �
 unregistered_noted n d w None = refl
 unregistered_noted n d w (Some id) = refl
 
-fired_noted : (n : List Event) (d : DueFaults) (w : World) (entry : TimerEntry) (waker : Waker) (next : Option ℕ)
-    → fired (noting n d w) entry waker next ≡ noting n d (fired w entry waker next)
-fired_noted n d w entry waker None = refl
-fired_noted n d w entry waker (Some deadline) = refl
+left_noted : (n : List Event) (d : DueFaults) (w : World) (left : TimerEntry) (registration : Option (ℕ × Waker))
+    → left_as (noting n d w) left registration ≡ noting n d (left_as w left registration)
+left_noted n d w left None = refl
+left_noted n d w left (Some registration) = refl
 
-set_deadline_noted : (n : List Event) (d : DueFaults) (w : World) (entry : TimerEntry) (deadline : ℕ) (kept : Option Waker)
-    → set_deadline (noting n d w) entry deadline kept ≡ noting n d (set_deadline w entry deadline kept)
-set_deadline_noted n d w entry deadline None = refl
-set_deadline_noted n d w entry deadline (Some waker) = refl
-
-tick_noted_at : (n : List Event) (d : DueFaults) (w : World) (entry : TimerEntry) (waker : Waker) (deadline : Option ℕ) (answers : List PollerAnswer)
-    → Noted n d (tick_deadline w entry waker deadline answers) (tick_deadline (noting n d w) entry waker deadline answers)
-tick_noted_at n d w entry waker None answers = record { is = refl }
-tick_noted_at n d w entry waker (Some deadline) answers =
-    let gone = unregistered_noted n d w entry.id in
-    let next = next_deadline deadline entry.period in
-    let later = registered (unregistered w entry.id) entry deadline waker in
-    either n d (nat_le deadline w.now) _ _ _ _
-    (silent n d (fired (unregistered w entry.id) entry waker next) _ (answer.ReadyAt deadline) answers
-    (ap (λ (v : World). fired v entry waker next) gone ∙ fired_noted n d (unregistered w entry.id) entry waker next))
-    (silent n d (waiting w entry deadline waker) _ answer.Pending answers
-    (either_world n d (is_some entry.id && is_waker waker entry.kept) w later (noting n d w) (registered (unregistered (noting n d w) entry.id) entry deadline waker) refl
-    (ap (λ (v : World). registered v entry deadline waker) gone)))
+worked_noted : (n : List Event) (d : DueFaults) (w : World) (entry : TimerEntry) (becomes : Option TimerState)
+    → worked (noting n d w) entry becomes ≡ noting n d (worked w entry becomes)
+worked_noted n d w entry None = refl
+worked_noted n d w entry (Some timer) =
+    let left : TimerEntry = record entry { deadline = timer.deadline; period = timer.period; id = None; kept = timer.kept } in
+    ap (λ (v : World). left_as v left (joining timer)) (unregistered_noted n d w entry.id)
+    ∙ left_noted n d (unregistered w entry.id) left (joining timer)
 
 tick_noted : (n : List Event) (d : DueFaults) (w : World) (waker : Waker) (entry : Option TimerEntry) (answers : List PollerAnswer)
     → Noted n d (tick_timer w waker entry answers) (tick_timer (noting n d w) waker entry answers)
 tick_noted n d w waker None answers = record { is = refl }
-tick_noted n d w waker (Some entry) answers = tick_noted_at n d w entry waker entry.deadline answers
+tick_noted n d w waker (Some entry) answers =
+    let work = tick_work (is_some entry.id) (state_of entry) w.now waker in
+    silent n d (worked w entry work.becomes) _ (tick_answer work.reached) answers (worked_noted n d w entry work.becomes)
 
 set_noted : (n : List Event) (d : DueFaults) (w : World) (deadline : ℕ) (period : Option ℕ) (entry : Option TimerEntry) (answers : List PollerAnswer)
     → Noted n d (set_timer w deadline period entry answers) (set_timer (noting n d w) deadline period entry answers)
 set_noted n d w deadline period None answers = record { is = refl }
 set_noted n d w deadline period (Some entry) answers =
-    let set : TimerEntry = cond (is_some period) (record entry { period = period }) entry in
-    silent n d (set_deadline (unregistered w entry.id) set deadline entry.kept) _ answer.Set answers
-    (ap (λ (v : World). set_deadline v set deadline entry.kept) (unregistered_noted n d w entry.id)
-    ∙ set_deadline_noted n d (unregistered w entry.id) set deadline entry.kept)
+    let work = reset_work (state_of entry) deadline period in
+    silent n d (worked w entry work.becomes) _ answer.Set answers (worked_noted n d w entry work.becomes)
 
 end_noted : (n : List Event) (d : DueFaults) (w : World) (entry : Option TimerEntry) (answers : List PollerAnswer)
     → Noted n d (end_timer w entry answers) (end_timer (noting n d w) entry answers)

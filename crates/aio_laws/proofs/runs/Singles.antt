@@ -12,7 +12,8 @@ use Rattle.aio_base.specs.declared.names.Event.{Event}
 use Rattle.aio_base.specs.declared.steps.Step.{Step}
 use Rattle.aio_base.specs.declared.steps.Step.TheVariants as step
 use Rattle.aio_base.specs.World.{PollerAnswer, Succeeds, Gives, IsInterrupted, Fails, LiveSource, PollWaiter, Mark, ListenerEntry, BrokenSource, Registration, TimerEntry, RoundState, World, opening, directions_of, is_of, serial_of, key_of, poll_waiter, mark_of, is_empty_list, is_idle, wanted, is_broken}
-use Rattle.aio_base.specs.Machine.{Outcome, fails, next_answer, later_answers, broken_world, armed_world, after_arm, pending, source_limit, free_key, add, del_source, is_fresh_since, is_waker, with_waiter, poll_source, new_listener, is_listener, with_listening, step_listener, drop_listener, is_timer, new_timer, with_timer, unregistered, registered, next_deadline, fired, tick_deadline, tick_timer, set_deadline, set_timer, end_timer, set_clock, begin_round, wait_answered, wait_in, wait_round, without_waiters, world_taken, rearmed, handle_source, handle_first, handle_in, handle_round, finish_in, handle_each, hand_of, react, case_of, step_result, gave_none, is_zero}
+use Rattle.aio_base.specs.Machine.{Outcome, fails, next_answer, later_answers, broken_world, armed_world, after_arm, pending, source_limit, free_key, add, del_source, is_fresh_since, is_waker, with_waiter, poll_source, new_listener, is_listener, with_listening, step_listener, drop_listener, is_timer, new_timer, with_timer, unregistered, registered, tick_timer, set_timer, end_timer, set_clock, begin_round, wait_answered, wait_in, wait_round, without_waiters, world_taken, rearmed, handle_source, handle_first, handle_in, handle_round, finish_in, handle_each, hand_of, react, case_of, step_result, gave_none, is_zero, left_as, worked, state_of}
+use Rattle.aio_base.specs.TimerWork.{TimerState, joining, reset_work}
 use Rattle.aio_base.specs.Timers.{after_pass}
 use Rattle.aio_laws.specs.Distinct.{waiter_direction, mark_direction, IsOfTimer, NoDoubles}
 use Rattle.aio_base.specs.Runs.{PolledStep, outcome_of, world_of}
@@ -370,46 +371,28 @@ registered_singles w entry now deadline waker f same =
     inr (ap (λ (x : Registration). Some x.id) is, ap (λ (x : Registration). Some x.deadline) is, ap (λ (x : Registration). Some x.waker) is))
     (Contains-push_cases w.registrations new r among))
 
-fired_singles : (w : World) (entry : TimerEntry) (waker : Waker) (next : Option ℕ) → Freed w entry → Singles (lists_of (fired w entry waker next))
-fired_singles w entry waker None f = quiet_singles w entry (record entry { deadline = None; id = None; kept = None }) f refl
-fired_singles w entry waker (Some deadline) f = registered_singles w entry entry deadline waker f refl
+left_singles : (w : World) (entry left : TimerEntry) (registration : Option (ℕ × Waker)) → Freed w entry → left.number ≡ entry.number
+    → Singles (lists_of (left_as w left registration))
+left_singles w entry left None f same = quiet_singles w entry left f same
+left_singles w entry left (Some registration) f same = registered_singles w entry left registration.0 registration.1 f same
 
-set_singles : (w : World) (entry set : TimerEntry) (deadline : ℕ) (kept : Option Waker) → Freed w entry → set.number ≡ entry.number
-    → Singles (lists_of (set_deadline w set deadline kept))
-set_singles w entry set deadline None f same = quiet_singles w entry (record set { deadline = Some deadline; id = None }) f same
-set_singles w entry set deadline (Some waker) f same = registered_singles w entry set deadline waker f same
-
-tick_leaves_at : (w : World) (entry : TimerEntry) (waker : Waker) (deadline : Option ℕ) (answers : List PollerAnswer) → Contains w.timers entry
-    → Singles (lists_of w) → Leaves (tick_deadline w entry waker deadline answers)
-tick_leaves_at w entry waker None answers here s = record { stands = s }
-tick_leaves_at w entry waker (Some deadline) answers here s =
-    let gone = freed w entry entry.id refl here s in
-    either (nat_le deadline w.now) _ _
-    (record { stands = fired_singles (unregistered w entry.id) entry waker (next_deadline deadline entry.period) gone })
-    (record {
-      stands = either_world (is_some entry.id && is_waker waker entry.kept) w _ s (registered_singles (unregistered w entry.id) entry entry deadline waker gone refl);
-    })
+worked_singles : (w : World) (entry : TimerEntry) (becomes : Option TimerState) → Contains w.timers entry → Singles (lists_of w)
+    → Singles (lists_of (worked w entry becomes))
+worked_singles w entry None here s = s
+worked_singles w entry (Some timer) here s =
+    left_singles (unregistered w entry.id) entry _ (joining timer) (freed w entry entry.id refl here s) refl
 
 tick_leaves : (w : World) (number : ℕ) (waker : Waker) (entry : Option TimerEntry) (answers : List PollerAnswer)
     → find (is_timer number) w.timers ≡ entry → Singles (lists_of w) → Leaves (tick_timer w waker entry answers)
 tick_leaves w number waker None answers found s = record { stands = s }
 tick_leaves w number waker (Some entry) answers found s =
-    tick_leaves_at w entry waker entry.deadline answers (found_is_in (is_timer number) w.timers entry found).0 s
-
-either_number : (test : Bool) (a b : TimerEntry) (number : ℕ) → a.number ≡ number → b.number ≡ number → (cond test a b).number ≡ number
-either_number true a b number first second = first
-either_number false a b number first second = second
+    record { stands = worked_singles w entry _ (found_is_in (is_timer number) w.timers entry found).0 s }
 
 set_leaves : (w : World) (number deadline : ℕ) (period : Option ℕ) (entry : Option TimerEntry) (answers : List PollerAnswer)
     → find (is_timer number) w.timers ≡ entry → Singles (lists_of w) → Leaves (set_timer w deadline period entry answers)
 set_leaves w number deadline period None answers found s = record { stands = s }
 set_leaves w number deadline period (Some entry) answers found s =
-    let set : TimerEntry = cond (is_some period) (record entry { period = period }) entry in
-    let gone = freed w entry entry.id refl (found_is_in (is_timer number) w.timers entry found).0 s in
-    record {
-      stands = set_singles (unregistered w entry.id) entry set deadline entry.kept gone
-          (either_number (is_some period) (record entry { period = period }) entry entry.number refl refl);
-    }
+    record { stands = worked_singles w entry (reset_work (state_of entry) deadline period).becomes (found_is_in (is_timer number) w.timers entry found).0 s }
 
 ended_singles : (w : World) (entry : TimerEntry) → Freed w entry
     → Singles (lists_of (record w { timers = filter (λ t. not (is_timer entry.number t)) w.timers }))

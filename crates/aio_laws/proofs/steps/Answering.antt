@@ -10,7 +10,8 @@ use Rattle.aio_base.specs.declared.steps.Step.TheVariants as step
 use Rattle.aio_base.specs.declared.steps.Answer.{Answer}
 use Rattle.aio_base.specs.declared.steps.Answer.TheVariants as answer
 use Rattle.aio_base.specs.World.{PollerAnswer, ListenerEntry, TimerEntry, World, serial_of, key_of, poll_waiter, mark_of, is_idle, is_broken}
-use Rattle.aio_base.specs.Machine.{Outcome, fails, next_answer, pending, source_limit, free_key, add, del_source, is_fresh_since, is_waker, with_waiter, poll_source, new_listener, is_listener, with_listening, step_listener, drop_listener, is_timer, tick_deadline, tick_timer, set_timer, end_timer, case_of, step_result}
+use Rattle.aio_base.specs.Machine.{Outcome, fails, next_answer, pending, source_limit, free_key, add, del_source, is_fresh_since, is_waker, with_waiter, poll_source, new_listener, is_listener, with_listening, step_listener, drop_listener, is_timer, tick_timer, set_timer, end_timer, case_of, step_result}
+use Rattle.aio_base.proofs.TimerCases.{tick_any}
 use Rattle.aio_laws.specs.Answers.{Refuses, most_sources, is_added, is_taken_out, is_polled, is_new_listener, is_ticked, IsUsed, FitsTheStep}
 
 -- ## Answers by a test
@@ -100,15 +101,12 @@ drop_fits w number sought (Some entry) answers is = something sought entry answe
 
 -- ## Timers
 
-tick_at_fits : (w : World) (entry : TimerEntry) (waker : Waker) (deadline : Option ℕ) (answers : List PollerAnswer)
-    → is_ticked (tick_deadline w entry waker deadline answers).answer ≡ true
-tick_at_fits w entry waker None answers = refl
-tick_at_fits w entry waker (Some deadline) answers = either (λ a. is_ticked a ≡ true) (nat_le deadline w.now) _ _ refl refl
-
 tick_fits : (w : World) (sought : Option TimerEntry) (waker : Waker) (found : Option TimerEntry) (answers : List PollerAnswer) → sought ≡ found
     → Refuses (sought ≡ None) answer.NoTimer (λ a. is_ticked a ≡ true) (tick_timer w waker found answers).answer
 tick_fits w sought waker None answers is = nothing sought answer.NoTimer _ _ is refl
-tick_fits w sought waker (Some entry) answers is = something sought entry answer.NoTimer _ _ is (tick_at_fits w entry waker entry.deadline answers)
+tick_fits w sought waker (Some entry) answers is =
+    something sought entry answer.NoTimer _ _ is
+    (tick_any (λ o. is_ticked o.answer ≡ true) w waker entry answers (λ timers registrations ids. refl) (λ deadline timers registrations ids. refl))
 
 set_fits : (w : World) (sought : Option TimerEntry) (deadline : ℕ) (period : Option ℕ) (found : Option TimerEntry) (answers : List PollerAnswer) → sought ≡ found
     → Refuses (sought ≡ None) answer.NoTimer (λ a. a ≡ answer.Set) (set_timer w deadline period found answers).answer

@@ -1,12 +1,13 @@
 -- What the steps of the machine leave of the serials, the marks and the failed arms.
-use Rattle.std.proofs.Common.{◌≡◌, ℕ, Bool, true, false, cond, ◌&&◌, ◌||◌, List, [], ◌∷◌, Option, None, Some, is_some, refl, ap, ◌∙◌}
+use Rattle.std.proofs.Common.{◌≡◌, ℕ, Bool, true, false, ◌||◌, List, [], ◌∷◌, Option, None, Some, is_some, refl, ap, ◌∙◌}
 use Rattle.std.specs.Prelude.{nat_le, option_to_list, unwrap_or, length}
 use Rattle.aio_base.specs.declared.names.Key.{Key}
 use Rattle.aio_base.specs.declared.names.Waker.{Waker}
 use Rattle.aio_base.specs.declared.names.Dir.{Dir}
 use Rattle.aio_base.specs.declared.names.Event.{Event}
 use Rattle.aio_base.specs.World.{PollerAnswer, Succeeds, Gives, IsInterrupted, Fails, Mark, ListenerEntry, BrokenSource, TimerEntry, RoundState, World, directions_of, serial_of, key_of, poll_waiter, mark_of, is_empty_list, is_idle, is_broken, wanted}
-use Rattle.aio_base.specs.Machine.{fails, next_answer, later_answers, broken_world, armed_world, after_arm, pending, source_limit, add, is_fresh_since, is_waker, with_waiter, poll_source, new_listener, with_listening, step_listener, drop_listener, unregistered, next_deadline, fired, tick_deadline, tick_timer, set_deadline, set_timer, end_timer, begin_round, wait_answered, wait_in, wait_round, without_waiters, world_taken, rearmed, handle_source, handle_first, handle_in, handle_round, handle_each, hand_of, finish_in, react}
+use Rattle.aio_base.specs.Machine.{fails, next_answer, later_answers, broken_world, armed_world, after_arm, pending, source_limit, add, is_fresh_since, is_waker, with_waiter, poll_source, new_listener, with_listening, step_listener, drop_listener, unregistered, tick_timer, set_timer, end_timer, begin_round, wait_answered, wait_in, wait_round, without_waiters, world_taken, rearmed, handle_source, handle_first, handle_in, handle_round, handle_each, hand_of, finish_in, react}
+use Rattle.aio_base.proofs.TimerCases.{tick_any, set_any}
 use Rattle.aio_laws.proofs.steps.Frames.{either, either_world}
 
 pub record Aside : Type 0 where
@@ -38,32 +39,16 @@ gone_leaves : (w : World) (id : Option ℕ) → aside (unregistered w id) ≡ as
 gone_leaves w None = refl
 gone_leaves w (Some id) = refl
 
-fired_leaves : (w : World) (entry : TimerEntry) (waker : Waker) (next : Option ℕ) → aside (fired w entry waker next) ≡ aside w
-fired_leaves w entry waker None = refl
-fired_leaves w entry waker (Some deadline) = refl
-
-tick_leaves_at : (w : World) (entry : TimerEntry) (waker : Waker) (deadline : Option ℕ) (answers : List PollerAnswer)
-    → aside (tick_deadline w entry waker deadline answers).world ≡ aside w
-tick_leaves_at w entry waker None answers = refl
-tick_leaves_at w entry waker (Some deadline) answers =
-    let gone = gone_leaves w entry.id in
-    either (λ o. aside o.world ≡ aside w) (nat_le deadline w.now) _ _
-    (fired_leaves (unregistered w entry.id) entry waker (next_deadline deadline entry.period) ∙ gone)
-    (either_world (λ v. aside v ≡ aside w) (is_some entry.id && is_waker waker entry.kept) w _ refl gone)
-
 pub tick_leaves : (w : World) (waker : Waker) (entry : Option TimerEntry) (answers : List PollerAnswer) → aside (tick_timer w waker entry answers).world ≡ aside w
 tick_leaves w waker None answers = refl
-tick_leaves w waker (Some entry) answers = tick_leaves_at w entry waker entry.deadline answers
-
-set_leaves_at : (w : World) (entry : TimerEntry) (deadline : ℕ) (kept : Option Waker) → aside (set_deadline w entry deadline kept) ≡ aside w
-set_leaves_at w entry deadline None = refl
-set_leaves_at w entry deadline (Some waker) = refl
+tick_leaves w waker (Some entry) answers =
+    tick_any (λ o. aside o.world ≡ aside w) w waker entry answers (λ timers registrations ids. refl) (λ deadline timers registrations ids. refl)
 
 pub set_leaves : (w : World) (deadline : ℕ) (period : Option ℕ) (entry : Option TimerEntry) (answers : List PollerAnswer)
     → aside (set_timer w deadline period entry answers).world ≡ aside w
 set_leaves w deadline period None answers = refl
 set_leaves w deadline period (Some entry) answers =
-    set_leaves_at (unregistered w entry.id) (cond (is_some period) (record entry { period = period }) entry) deadline entry.kept ∙ gone_leaves w entry.id
+    set_any (λ o. aside o.world ≡ aside w) w deadline period entry answers (λ timers registrations ids. refl)
 
 pub end_leaves : (w : World) (entry : Option TimerEntry) (answers : List PollerAnswer) → aside (end_timer w entry answers).world ≡ aside w
 end_leaves w None answers = refl

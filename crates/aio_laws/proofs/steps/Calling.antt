@@ -14,7 +14,8 @@ use Rattle.aio_base.specs.declared.steps.Step.{Step}
 use Rattle.aio_base.specs.declared.steps.Step.TheVariants as step
 use Rattle.aio_base.specs.declared.steps.Answer.TheVariants as answer
 use Rattle.aio_base.specs.World.{PollerAnswer, Succeeds, Gives, IsInterrupted, Fails, LiveSource, ListenerEntry, TimerEntry, ArmedDirection, RoundState, World, directions_of, serial_of, key_of, poll_waiter, mark_of, is_empty_list, is_idle, is_broken, wanted, set_armed, is_armed, clear_armed, same_dir}
-use Rattle.aio_base.specs.Machine.{Outcome, fails, next_answer, later_answers, pending, source_limit, free_key, add, del_source, is_fresh_since, is_waker, with_waiter, poll_source, new_listener, with_listening, step_listener, drop_listener, unregistered, next_deadline, fired, waiting, tick_deadline, tick_timer, set_deadline, set_timer, end_timer, begin_round, wait_answered, wait_in, wait_round, world_taken, wakers_taken, rearmed, handle_source, handle_first, handle_in, handle_round, finish_in, finish_round, handle_each, hand_of, case_of, step_result}
+use Rattle.aio_base.specs.Machine.{Outcome, fails, next_answer, later_answers, pending, source_limit, free_key, add, del_source, is_fresh_since, is_waker, with_waiter, poll_source, new_listener, with_listening, step_listener, drop_listener, unregistered, tick_timer, set_timer, end_timer, begin_round, wait_answered, wait_in, wait_round, world_taken, wakers_taken, rearmed, handle_source, handle_first, handle_in, handle_round, finish_in, finish_round, handle_each, hand_of, case_of, step_result}
+use Rattle.aio_base.proofs.TimerCases.{tick_any, set_any}
 use Rattle.aio_laws.specs.Succession.{events_given}
 use Rattle.aio_laws.specs.Interests.{IsArmedIn, Nothing, SetsInterest, NoneOf, IsWaitedFor, arms_done, arms_behind, RoundArms, InterestsFollow}
 use Rattle.aio_laws.specs.Calls.{OnlyArms, CallsFit, IsCleared, OnlyCleared, CallsFollow}
@@ -115,37 +116,18 @@ unregistered_arms : (w : World) (id : Option ℕ) → (unregistered w id).armed 
 unregistered_arms w None = refl
 unregistered_arms w (Some id) = refl
 
-fired_arms : (w : World) (entry : TimerEntry) (waker : Waker) (next : Option ℕ) → (fired w entry waker next).armed ≡ w.armed
-fired_arms w entry waker None = refl
-fired_arms w entry waker (Some deadline) = refl
-
-waiting_arms : (w : World) (entry : TimerEntry) (deadline : ℕ) (waker : Waker) → (waiting w entry deadline waker).armed ≡ w.armed
-waiting_arms w entry deadline waker =
-    cond_both (is_some entry.id && is_waker waker entry.kept) _ _ (λ (v : World). v.armed ≡ w.armed) (λ same. refl)
-    (λ other. unregistered_arms w entry.id)
-
-tick_at_calls : (w : World) (number : ℕ) (entry : TimerEntry) (waker : Waker) (deadline : Option ℕ) (answers : List PollerAnswer)
-    → Calls w (step.Tick number waker) (tick_deadline w entry waker deadline answers)
-tick_at_calls w number entry waker None answers = record { fit = refl; silent = λ none. refl }
-tick_at_calls w number entry waker (Some deadline) answers =
-    either w (step.Tick number waker) (nat_le deadline w.now) _ _
-    (record { fit = refl; silent = λ none. fired_arms (unregistered w entry.id) entry waker (next_deadline deadline entry.period) ∙ unregistered_arms w entry.id })
-    (record { fit = refl; silent = λ none. waiting_arms w entry deadline waker })
-
 tick_calls : (w : World) (number : ℕ) (waker : Waker) (found : Option TimerEntry) (answers : List PollerAnswer)
     → Calls w (step.Tick number waker) (tick_timer w waker found answers)
 tick_calls w number waker None answers = record { fit = refl; silent = λ none. refl }
-tick_calls w number waker (Some entry) answers = tick_at_calls w number entry waker entry.deadline answers
-
-set_arms : (w : World) (entry : TimerEntry) (deadline : ℕ) (kept : Option Waker) → (set_deadline w entry deadline kept).armed ≡ w.armed
-set_arms w entry deadline None = refl
-set_arms w entry deadline (Some waker) = refl
+tick_calls w number waker (Some entry) answers =
+    tick_any (Calls w (step.Tick number waker)) w waker entry answers (λ timers registrations ids. record { fit = refl; silent = λ none. refl })
+    (λ deadline timers registrations ids. record { fit = refl; silent = λ none. refl })
 
 set_calls : (w : World) (s : Step) (deadline : ℕ) (period : Option ℕ) (found : Option TimerEntry) (answers : List PollerAnswer)
     → CallsFit s answer.NoTimer [] → CallsFit s answer.Set [] → Calls w s (set_timer w deadline period found answers)
 set_calls w s deadline period None answers none set = record { fit = none; silent = λ n. refl }
 set_calls w s deadline period (Some entry) answers none set =
-    record { fit = set; silent = λ n. set_arms (unregistered w entry.id) (cond (is_some period) (record entry { period = period }) entry) deadline entry.kept ∙ unregistered_arms w entry.id }
+    set_any (Calls w s) w deadline period entry answers (λ timers registrations ids. record { fit = set; silent = λ n. refl })
 
 end_calls : (w : World) (number : ℕ) (found : Option TimerEntry) (answers : List PollerAnswer) → Calls w (step.End number) (end_timer w found answers)
 end_calls w number None answers = record { fit = refl; silent = λ none. refl }

@@ -11,7 +11,8 @@ use Rattle.aio_base.specs.declared.names.Event.{Event}
 use Rattle.aio_base.specs.declared.steps.Step.{Step}
 use Rattle.aio_base.specs.declared.steps.Step.TheVariants as step
 use Rattle.aio_base.specs.World.{PollerAnswer, Succeeds, Gives, IsInterrupted, Fails, LiveSource, ListenerEntry, Registration, TimerEntry, RoundState, World, directions_of, is_of, serial_of, key_of, poll_waiter, mark_of, is_empty_list, is_idle, is_broken, wanted}
-use Rattle.aio_base.specs.Machine.{Outcome, fails, next_answer, later_answers, broken_world, armed_world, after_arm, pending, source_limit, free_key, add, del_source, is_fresh_since, is_waker, with_waiter, poll_source, new_listener, is_listener, with_listening, step_listener, drop_listener, is_timer, new_timer, with_timer, unregistered, registered, next_deadline, fired, tick_deadline, tick_timer, set_deadline, set_timer, end_timer, set_clock, begin_round, wait_answered, wait_in, wait_round, without_waiters, world_taken, rearmed, handle_source, handle_first, handle_in, handle_round, finish_in, handle_each, hand_of, react, case_of, step_result, gave_none, is_zero}
+use Rattle.aio_base.specs.Machine.{Outcome, fails, next_answer, later_answers, broken_world, armed_world, after_arm, pending, source_limit, free_key, add, del_source, is_fresh_since, is_waker, with_waiter, poll_source, new_listener, is_listener, with_listening, step_listener, drop_listener, is_timer, new_timer, with_timer, unregistered, registered, tick_timer, set_timer, end_timer, set_clock, begin_round, wait_answered, wait_in, wait_round, without_waiters, world_taken, rearmed, handle_source, handle_first, handle_in, handle_round, finish_in, handle_each, hand_of, react, case_of, step_result, gave_none, is_zero, left_as, worked, state_of}
+use Rattle.aio_base.specs.TimerWork.{TimerState, joining, reset_work}
 use Rattle.aio_base.specs.Timers.{after_pass}
 use Rattle.aio_laws.specs.Counts.{NoneAgain, CountsRise}
 use Rattle.aio_base.proofs.Membership.{each_in, filtered_is_in, mapped_from, image_is_in, found_is_in}
@@ -279,35 +280,23 @@ registered_rises w entry deadline waker =
     timers_rise (counted w) (w.ids_drawn + 1) w.timers_made (w.registrations ++ new ∷ []) (with_timer w now).timers
     (one_more (λ (r : Registration). r.id) w.ids_drawn w.registrations new refl) (in_place w now)
 
-fired_rises : (w : World) (entry : TimerEntry) (waker : Waker) (next : Option ℕ) → Rises w (fired w entry waker next)
-fired_rises w entry waker None = quiet_rises w (record entry { deadline = None; id = None; kept = None })
-fired_rises w entry waker (Some deadline) = registered_rises w entry deadline waker
+left_rises : (w : World) (left : TimerEntry) (registration : Option (ℕ × Waker)) → Rises w (left_as w left registration)
+left_rises w left None = quiet_rises w left
+left_rises w left (Some registration) = registered_rises w left registration.0 registration.1
 
-set_rises_at : (w : World) (entry : TimerEntry) (deadline : ℕ) (kept : Option Waker) → Rises w (set_deadline w entry deadline kept)
-set_rises_at w entry deadline None = quiet_rises w (record entry { deadline = Some deadline; id = None })
-set_rises_at w entry deadline (Some waker) = registered_rises w entry deadline waker
-
-tick_rises_at : (w : World) (entry : TimerEntry) (waker : Waker) (deadline : Option ℕ) (answers : List PollerAnswer)
-    → Rises w (tick_deadline w entry waker deadline answers).world
-tick_rises_at w entry waker None answers = same (counted w)
-tick_rises_at w entry waker (Some deadline) answers =
-    let gone = unregistered w entry.id in
-    either w (nat_le deadline w.now) _ _
-    (after (counted w) (counted gone) _ (gone_rises w entry.id) (fired_rises gone entry waker (next_deadline deadline entry.period)))
-    (either_world w (is_some entry.id && is_waker waker entry.kept) w _ (same (counted w))
-    (after (counted w) (counted gone) _ (gone_rises w entry.id) (registered_rises gone entry deadline waker)))
+worked_rises : (w : World) (entry : TimerEntry) (becomes : Option TimerState) → Rises w (worked w entry becomes)
+worked_rises w entry None = same (counted w)
+worked_rises w entry (Some timer) =
+    let gone = unregistered w entry.id in after (counted w) (counted gone) _ (gone_rises w entry.id) (left_rises gone _ (joining timer))
 
 tick_rises : (w : World) (waker : Waker) (entry : Option TimerEntry) (answers : List PollerAnswer) → Rises w (tick_timer w waker entry answers).world
 tick_rises w waker None answers = same (counted w)
-tick_rises w waker (Some entry) answers = tick_rises_at w entry waker entry.deadline answers
+tick_rises w waker (Some entry) answers = worked_rises w entry _
 
 set_rises : (w : World) (deadline : ℕ) (period : Option ℕ) (entry : Option TimerEntry) (answers : List PollerAnswer)
     → Rises w (set_timer w deadline period entry answers).world
 set_rises w deadline period None answers = same (counted w)
-set_rises w deadline period (Some entry) answers =
-    let set : TimerEntry = cond (is_some period) (record entry { period = period }) entry in
-    let gone = unregistered w entry.id in
-    after (counted w) (counted gone) _ (gone_rises w entry.id) (set_rises_at gone set deadline entry.kept)
+set_rises w deadline period (Some entry) answers = worked_rises w entry (reset_work (state_of entry) deadline period).becomes
 
 end_rises : (w : World) (entry : Option TimerEntry) (answers : List PollerAnswer) → Rises w (end_timer w entry answers).world
 end_rises w None answers = same (counted w)

@@ -1,5 +1,5 @@
 -- A step draws a number where it tells one, and notes what it is told to note.
-use Rattle.std.proofs.Common.{◌≡◌, ℕ, Bool, true, false, cond, ◌||◌, ◌&&◌, ◌==◌, List, [], ◌∷◌, ◌++◌, length, find, Option, None, Some, is_some, option_to_list, refl, sym, ap, ◌∙◌}
+use Rattle.std.proofs.Common.{◌≡◌, ℕ, Bool, true, false, cond, ◌||◌, ◌==◌, List, [], ◌∷◌, ◌++◌, length, find, Option, None, Some, is_some, option_to_list, refl, sym, ap, ◌∙◌}
 use Rattle.std.specs.Prelude.{nat_le, nat_lt, unwrap_or}
 use Rattle.std.specs.List.{list_any}
 use Rattle.aio_base.specs.declared.names.Key.{Key}
@@ -13,7 +13,8 @@ use Rattle.aio_base.specs.declared.steps.Step.TheVariants as step
 use Rattle.aio_base.specs.declared.steps.Answer.{Answer}
 use Rattle.aio_base.specs.declared.steps.Answer.TheVariants as answer
 use Rattle.aio_base.specs.World.{PollerAnswer, Succeeds, Gives, IsInterrupted, Fails, ListenerEntry, TimerEntry, DueFaults, RoundState, World, directions_of, serial_of, key_of, poll_waiter, mark_of, is_empty_list, is_idle, is_broken, wanted}
-use Rattle.aio_base.specs.Machine.{Outcome, fails, next_answer, later_answers, broken_world, armed_world, after_arm, pending, source_limit, add, del_source, is_fresh_since, is_waker, with_waiter, poll_source, new_listener, is_listener, with_listening, step_listener, drop_listener, is_timer, unregistered, next_deadline, fired, tick_deadline, tick_timer, set_deadline, set_timer, end_timer, begin_round, wait_answered, wait_in, wait_round, without_waiters, world_taken, wakers_taken, rearmed, handle_source, handle_first, handle_in, handle_round, finish_in, handle_each, hand_of, case_of, step_result}
+use Rattle.aio_base.specs.Machine.{Outcome, fails, next_answer, later_answers, broken_world, armed_world, after_arm, pending, source_limit, add, del_source, is_fresh_since, is_waker, with_waiter, poll_source, new_listener, is_listener, with_listening, step_listener, drop_listener, is_timer, unregistered, tick_timer, set_timer, end_timer, begin_round, wait_answered, wait_in, wait_round, without_waiters, world_taken, wakers_taken, rearmed, handle_source, handle_first, handle_in, handle_round, finish_in, handle_each, hand_of, case_of, step_result}
+use Rattle.aio_base.proofs.TimerCases.{tick_any, set_any}
 use Rattle.aio_laws.specs.Drawn.{listeners_after, timers_after, noted_after, due_after, DrawsFollow}
 use Rattle.aio_laws.proofs.timers.DrawnIds.{case_ids}
 use Rattle.aio_laws.proofs.steps.Frames.{either, either_world}
@@ -108,30 +109,16 @@ gone_rests : (w : World) (id : Option ℕ) → tally (unregistered w id) ≡ tal
 gone_rests w None = refl
 gone_rests w (Some id) = refl
 
-fired_rests : (w : World) (entry : TimerEntry) (waker : Waker) (next : Option ℕ) → tally (fired w entry waker next) ≡ tally w
-fired_rests w entry waker None = refl
-fired_rests w entry waker (Some deadline) = refl
-
-tick_at_rests : (w : World) (entry : TimerEntry) (waker : Waker) (deadline : Option ℕ) (answers : List PollerAnswer)
-    → Rests w (tick_deadline w entry waker deadline answers)
-tick_at_rests w entry waker None answers = rest w _ refl (λ n. refl) (λ n. refl)
-tick_at_rests w entry waker (Some deadline) answers =
-    by w (nat_le deadline w.now) _ _
-    (rest w _ (fired_rests (unregistered w entry.id) entry waker (next_deadline deadline entry.period) ∙ gone_rests w entry.id) (λ n. refl) (λ n. refl))
-    (rest w _ (either_world (λ v. tally v ≡ tally w) (is_some entry.id && is_waker waker entry.kept) w _ refl (gone_rests w entry.id)) (λ n. refl) (λ n. refl))
-
 tick_rests : (w : World) (waker : Waker) (found : Option TimerEntry) (answers : List PollerAnswer) → Rests w (tick_timer w waker found answers)
 tick_rests w waker None answers = rest w _ refl (λ n. refl) (λ n. refl)
-tick_rests w waker (Some entry) answers = tick_at_rests w entry waker entry.deadline answers
-
-set_at_rests : (w : World) (entry : TimerEntry) (deadline : ℕ) (kept : Option Waker) → tally (set_deadline w entry deadline kept) ≡ tally w
-set_at_rests w entry deadline None = refl
-set_at_rests w entry deadline (Some waker) = refl
+tick_rests w waker (Some entry) answers =
+    tick_any (Rests w) w waker entry answers (λ timers registrations ids. rest w _ refl (λ n. refl) (λ n. refl))
+    (λ deadline timers registrations ids. rest w _ refl (λ n. refl) (λ n. refl))
 
 set_rests : (w : World) (deadline : ℕ) (period : Option ℕ) (found : Option TimerEntry) (answers : List PollerAnswer) → Rests w (set_timer w deadline period found answers)
 set_rests w deadline period None answers = rest w _ refl (λ n. refl) (λ n. refl)
 set_rests w deadline period (Some entry) answers =
-    rest w _ (set_at_rests (unregistered w entry.id) (cond (is_some period) (record entry { period = period }) entry) deadline entry.kept ∙ gone_rests w entry.id) (λ n. refl) (λ n. refl)
+    set_any (Rests w) w deadline period entry answers (λ timers registrations ids. rest w _ refl (λ n. refl) (λ n. refl))
 
 end_rests : (w : World) (found : Option TimerEntry) (answers : List PollerAnswer) → Rests w (end_timer w found answers)
 end_rests w None answers = rest w _ refl (λ n. refl) (λ n. refl)

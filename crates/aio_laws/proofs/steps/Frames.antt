@@ -1,5 +1,5 @@
 -- What the steps of the machine leave alone: the clock, the rounds, the sources, the listeners but for their wakers, the timers and the past.
-use Rattle.std.proofs.Common.{◌≡◌, ℕ, Bool, true, false, cond, ◌&&◌, ◌||◌, ◌==◌, List, [], ◌∷◌, length, map, Option, None, Some, is_some, refl, ap, ◌∙◌, sym}
+use Rattle.std.proofs.Common.{◌≡◌, ℕ, Bool, true, false, cond, ◌||◌, ◌==◌, List, [], ◌∷◌, length, map, Option, None, Some, is_some, refl, ap, ◌∙◌, sym}
 use Rattle.std.specs.Prelude.{nat_le, option_to_list, unwrap_or}
 use Rattle.std.specs.List.{list_any}
 use Rattle.aio_base.specs.declared.names.Key.{Key}
@@ -7,7 +7,8 @@ use Rattle.aio_base.specs.declared.names.Waker.{Waker}
 use Rattle.aio_base.specs.declared.names.Dir.{Dir}
 use Rattle.aio_base.specs.declared.names.Event.{Event}
 use Rattle.aio_base.specs.World.{PollerAnswer, Succeeds, Gives, IsInterrupted, Fails, LiveSource, ListenerEntry, TimerEntry, RoundState, HandledDirection, World, directions_of, is_of, serial_of, key_of, poll_waiter, mark_of, is_empty_list, is_idle, is_broken, wanted}
-use Rattle.aio_base.specs.Machine.{Outcome, fails, next_answer, later_answers, broken_world, armed_world, after_arm, pending, source_limit, add, del_source, is_fresh_since, is_waker, with_waiter, poll_source, new_listener, with_listening, step_listener, drop_listener, unregistered, next_deadline, fired, tick_deadline, tick_timer, set_deadline, set_timer, end_timer, begin_round, wait_answered, wait_in, without_waiters, world_taken, rearmed, handle_source, handle_first, handle_in, handle_round, finish_in, handle_each}
+use Rattle.aio_base.specs.Machine.{Outcome, fails, next_answer, later_answers, broken_world, armed_world, after_arm, pending, source_limit, add, del_source, is_fresh_since, is_waker, with_waiter, poll_source, new_listener, with_listening, step_listener, drop_listener, unregistered, tick_timer, set_timer, end_timer, begin_round, wait_answered, wait_in, without_waiters, world_taken, rearmed, handle_source, handle_first, handle_in, handle_round, finish_in, handle_each}
+use Rattle.aio_base.proofs.TimerCases.{tick_any, set_any}
 use Rattle.aio_laws.specs.RoundCounts.{RoundName, name_of}
 
 -- a listener but for its waker
@@ -119,34 +120,18 @@ pub gone_keeps : (w : World) (id : Option ℕ) → frame (unregistered w id) ≡
 gone_keeps w None = refl
 gone_keeps w (Some id) = refl
 
-fired_keeps : (w : World) (entry : TimerEntry) (waker : Waker) (next : Option ℕ) → but_timers (frame (fired w entry waker next)) ≡ but_timers (frame w)
-fired_keeps w entry waker None = refl
-fired_keeps w entry waker (Some deadline) = refl
-
-tick_keeps_at : (w : World) (entry : TimerEntry) (waker : Waker) (deadline : Option ℕ) (answers : List PollerAnswer)
-    → but_timers (frame (tick_deadline w entry waker deadline answers).world) ≡ but_timers (frame w)
-tick_keeps_at w entry waker None answers = refl
-tick_keeps_at w entry waker (Some deadline) answers =
-    let gone = ap but_timers (gone_keeps w entry.id) in
-    either (λ o. but_timers (frame o.world) ≡ but_timers (frame w)) (nat_le deadline w.now) _ _
-    (fired_keeps (unregistered w entry.id) entry waker (next_deadline deadline entry.period) ∙ gone)
-    (either_world (λ v. but_timers (frame v) ≡ but_timers (frame w)) (is_some entry.id && is_waker waker entry.kept) w _ refl gone)
-
 pub tick_keeps : (w : World) (waker : Waker) (entry : Option TimerEntry) (answers : List PollerAnswer)
     → but_timers (frame (tick_timer w waker entry answers).world) ≡ but_timers (frame w)
 tick_keeps w waker None answers = refl
-tick_keeps w waker (Some entry) answers = tick_keeps_at w entry waker entry.deadline answers
-
-set_keeps_at : (w : World) (entry : TimerEntry) (deadline : ℕ) (kept : Option Waker) → but_timers (frame (set_deadline w entry deadline kept)) ≡ but_timers (frame w)
-set_keeps_at w entry deadline None = refl
-set_keeps_at w entry deadline (Some waker) = refl
+tick_keeps w waker (Some entry) answers =
+    tick_any (λ o. but_timers (frame o.world) ≡ but_timers (frame w)) w waker entry answers (λ timers registrations ids. refl)
+    (λ deadline timers registrations ids. refl)
 
 pub set_keeps : (w : World) (deadline : ℕ) (period : Option ℕ) (entry : Option TimerEntry) (answers : List PollerAnswer)
     → but_timers (frame (set_timer w deadline period entry answers).world) ≡ but_timers (frame w)
 set_keeps w deadline period None answers = refl
 set_keeps w deadline period (Some entry) answers =
-    set_keeps_at (unregistered w entry.id) (cond (is_some period) (record entry { period = period }) entry) deadline entry.kept
-    ∙ ap but_timers (gone_keeps w entry.id)
+    set_any (λ o. but_timers (frame o.world) ≡ but_timers (frame w)) w deadline period entry answers (λ timers registrations ids. refl)
 
 pub end_keeps : (w : World) (entry : Option TimerEntry) (answers : List PollerAnswer) → but_timers (frame (end_timer w entry answers).world) ≡ but_timers (frame w)
 end_keeps w None answers = refl

@@ -11,7 +11,8 @@ use Rattle.aio_base.specs.declared.steps.Step.TheVariants as step
 use Rattle.aio_base.specs.declared.steps.Answer.{Answer}
 use Rattle.aio_base.specs.declared.steps.Answer.TheVariants as answer
 use Rattle.aio_base.specs.World.{PollerAnswer, Succeeds, Gives, IsInterrupted, Fails, ListenerEntry, TimerEntry, ArmedDirection, RoundState, World, directions_of, serial_of, key_of, poll_waiter, mark_of, is_empty_list, is_idle, is_broken, wanted, set_armed}
-use Rattle.aio_base.specs.Machine.{Outcome, fails, next_answer, later_answers, armed_world, broken_world, pending, source_limit, free_key, add, del_source, is_fresh_since, is_waker, with_waiter, poll_source, new_listener, with_listening, step_listener, drop_listener, tick_deadline, tick_timer, set_timer, end_timer, wait_answered, wait_in, without_waiters, world_taken, wakers_taken, rearmed, handle_source, handle_first, handle_in, finish_in, case_of}
+use Rattle.aio_base.specs.Machine.{Outcome, fails, next_answer, later_answers, armed_world, broken_world, pending, source_limit, free_key, add, del_source, is_fresh_since, is_waker, with_waiter, poll_source, new_listener, with_listening, step_listener, drop_listener, tick_timer, set_timer, end_timer, wait_answered, wait_in, without_waiters, world_taken, wakers_taken, rearmed, handle_source, handle_first, handle_in, finish_in, case_of}
+use Rattle.aio_base.proofs.TimerCases.{tick_any}
 use Rattle.aio_laws.specs.Calls.{tells_failure, has_failed}
 
 -- an outcome tells a failure exactly where its call failed, and leaves what is armed where it does
@@ -100,15 +101,11 @@ drop_hears w number (Some entry) answers = record { heard = refl; stays = λ fau
 
 -- ## Timers
 
-tick_at_hears : (w : World) (entry : TimerEntry) (waker : Waker) (deadline : Option ℕ) (answers : List PollerAnswer)
-    → Hears w answers (tick_deadline w entry waker deadline answers)
-tick_at_hears w entry waker None answers = record { heard = refl; stays = λ fault. no_fault fault }
-tick_at_hears w entry waker (Some deadline) answers =
-    either w answers (nat_le deadline w.now) _ _ (record { heard = refl; stays = λ fault. no_fault fault }) (record { heard = refl; stays = λ fault. no_fault fault })
-
 tick_hears : (w : World) (waker : Waker) (found : Option TimerEntry) (answers : List PollerAnswer) → Hears w answers (tick_timer w waker found answers)
 tick_hears w waker None answers = record { heard = refl; stays = λ fault. no_fault fault }
-tick_hears w waker (Some entry) answers = tick_at_hears w entry waker entry.deadline answers
+tick_hears w waker (Some entry) answers =
+    tick_any (Hears w answers) w waker entry answers (λ timers registrations ids. record { heard = refl; stays = λ fault. no_fault fault })
+    (λ deadline timers registrations ids. record { heard = refl; stays = λ fault. no_fault fault })
 
 set_hears : (w : World) (deadline : ℕ) (period : Option ℕ) (found : Option TimerEntry) (answers : List PollerAnswer)
     → Hears w answers (set_timer w deadline period found answers)

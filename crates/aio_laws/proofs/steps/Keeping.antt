@@ -10,7 +10,8 @@ use Rattle.aio_base.specs.declared.steps.Step.TheVariants as step
 use Rattle.aio_base.specs.declared.steps.Answer.{Answer}
 use Rattle.aio_base.specs.declared.steps.Answer.TheVariants as answer
 use Rattle.aio_base.specs.World.{PollerAnswer, TimerEntry, World, serial_of}
-use Rattle.aio_base.specs.Machine.{Outcome, quiet, is_waker, is_listener, is_timer, with_timer, unregistered, registered, next_deadline, fired, waiting, tick_deadline, tick_timer, set_deadline, set_timer, end_timer, case_of, step_result}
+use Rattle.aio_base.specs.Machine.{Outcome, quiet, is_waker, is_listener, is_timer, with_timer, unregistered, registered, next_deadline, tick_timer, set_timer, end_timer, case_of, step_result}
+use Rattle.aio_base.proofs.TimerCases.{fired, waiting, tick_deadline, tick_by_deadline, set_deadline, set_by_kept}
 use Rattle.aio_laws.specs.Own.{keeping, registered_with, waits_on, keeping_after, new_timer_entry}
 use Rattle.aio_base.proofs.Membership.{found_is_in}
 use Rattle.aio_base.proofs.Searching.{mapped_found, without_found}
@@ -172,7 +173,9 @@ tick_kept_at w number waker entry (Some deadline) answers found at =
 tick_kept : (w : World) (number : ℕ) (waker : Waker) (found : Option TimerEntry) (answers : List PollerAnswer) → find (is_timer number) w.timers ≡ found
     → Kept w (step.Tick number waker) (tick_timer w waker found answers).answer (tick_timer w waker found answers).world
 tick_kept w number waker None answers is = still w w (step.Tick number waker) answer.NoTimer (λ n old next there. refl) refl
-tick_kept w number waker (Some entry) answers is = tick_kept_at w number waker entry entry.deadline answers is refl
+tick_kept w number waker (Some entry) answers is =
+    subst (λ (o : Outcome). Kept w (step.Tick number waker) o.answer o.world) (tick_by_deadline w waker entry answers)
+    (tick_kept_at w number waker entry entry.deadline answers is refl)
 
 -- ## Timers that are set
 
@@ -214,7 +217,9 @@ set_kept_by w s number deadline entry period false sets found = set_kept_at w s 
 set_kept : (w : World) (s : Step) (number deadline : ℕ) (period : Option ℕ) (found : Option TimerEntry) (answers : List PollerAnswer) → Sets w s number
     → find (is_timer number) w.timers ≡ found → Kept w s (set_timer w deadline period found answers).answer (set_timer w deadline period found answers).world
 set_kept w s number deadline period None answers sets is = still w w s answer.NoTimer (λ n old next there. sets.none n old next) refl
-set_kept w s number deadline period (Some entry) answers sets is = set_kept_by w s number deadline entry period (is_some period) sets is
+set_kept w s number deadline period (Some entry) answers sets is =
+    subst (λ (o : Outcome). Kept w s o.answer o.world) (set_by_kept w deadline period entry answers)
+    (set_kept_by w s number deadline entry period (is_some period) sets is)
 
 sets_at : (w : World) (number deadline : ℕ) → Sets w (step.SetAt number deadline) number
 sets_at w number deadline = record {

@@ -12,13 +12,15 @@ use Rattle.aio_base.specs.declared.steps.Step.TheVariants as step
 use Rattle.aio_base.specs.declared.steps.Answer.{Answer}
 use Rattle.aio_base.specs.declared.steps.Answer.TheVariants as answer
 use Rattle.aio_base.specs.World.{PollerAnswer, ListenerEntry, TimerEntry, World, serial_of, key_of, is_idle, is_broken, last_moment}
-use Rattle.aio_base.specs.Machine.{Outcome, quiet, is_fresh_since, is_waker, is_listener, with_listening, step_listener, drop_listener, new_listener, is_timer, with_timer, unregistered, next_deadline, fired, tick_deadline, tick_timer, set_deadline, set_timer, end_timer, case_of, step_result}
+use Rattle.aio_base.specs.Machine.{Outcome, quiet, is_fresh_since, is_waker, is_listener, with_listening, step_listener, drop_listener, new_listener, is_timer, with_timer, unregistered, next_deadline, tick_timer, set_timer, end_timer, case_of, step_result, left_as, worked, state_of}
+use Rattle.aio_base.specs.TimerWork.{TimerState, joining, reset_work}
+use Rattle.aio_base.proofs.TimerCases.{fired, tick_deadline, tick_by_deadline, set_deadline, set_by_kept}
 use Rattle.aio_laws.specs.Others.{but_waker}
 use Rattle.aio_laws.specs.Own.{new_listener_entry, new_timer_entry, ComesFrom, Stood, FirstPolled, Made, MakesTimer, FollowsReady, redates, Redated, TimerFrom, StoodDated, IsRedated, MadeTimer, StandsMade, drops_listener, ends_timer, KeepsItsOwn}
 use Rattle.aio_laws.proofs.steps.GivingUp.{what_is_given_up_goes}
 use Rattle.aio_laws.proofs.steps.Keeping.{timers_keep}
 use Rattle.aio_base.proofs.Membership.{found_is_in, filtered_is_in, passing_is_kept, mapped_from, image_is_in}
-use Rattle.aio_laws.proofs.steps.Frames.{Frame, either, either_world, add_keeps, del_keeps, poll_keeps, new_keeps, step_keeps, drop_keeps, tick_keeps, set_keeps, end_keeps, begin_keeps, wait_keeps, handle_keeps, finish_keeps, gone_keeps}
+use Rattle.aio_laws.proofs.steps.Frames.{Frame, either, add_keeps, del_keeps, poll_keeps, new_keeps, step_keeps, drop_keeps, tick_keeps, set_keeps, end_keeps, begin_keeps, wait_keeps, handle_keeps, finish_keeps, gone_keeps}
 use Rattle.aio_laws.proofs.steps.Untouched.{entries, react_keeps, pending_entries}
 
 -- ## Listeners
@@ -187,8 +189,9 @@ set_at_dated w number deadline None answers is = undated w w (step.SetAt number 
 set_at_dated w number deadline (Some entry) answers is =
     let here = found_is_in (is_timer number) w.timers entry is in
     let same : entry.number ≡ number = eqb-true entry.number number here.1 in
-    set_from w (unregistered w entry.id) (step.SetAt number deadline) entry entry deadline entry.kept (gone_same w entry.id) here.0 refl here.1
-    (λ n other. subst (λ k. (n == k) ≡ false) same other) (λ id kept. (refl, refl))
+    subst (λ (o : Outcome). Dated w (step.SetAt number deadline) o.answer o.world) (set_by_kept w deadline None entry answers)
+    (set_from w (unregistered w entry.id) (step.SetAt number deadline) entry entry deadline entry.kept (gone_same w entry.id) here.0 refl here.1
+    (λ n other. subst (λ k. (n == k) ≡ false) same other) (λ id kept. (refl, refl)))
 
 set_every_dated : (w : World) (number deadline period : ℕ) (found : Option TimerEntry) (answers : List PollerAnswer) → find (is_timer number) w.timers ≡ found
     → Dated w (step.SetEvery number deadline period) (set_timer w deadline (Some period) found answers).answer (set_timer w deadline (Some period) found answers).world
@@ -196,8 +199,9 @@ set_every_dated w number deadline period None answers is = undated w w (step.Set
 set_every_dated w number deadline period (Some entry) answers is =
     let here = found_is_in (is_timer number) w.timers entry is in
     let same : entry.number ≡ number = eqb-true entry.number number here.1 in
-    set_from w (unregistered w entry.id) (step.SetEvery number deadline period) entry (record entry { period = Some period }) deadline entry.kept (gone_same w entry.id) here.0 refl here.1
-    (λ n other. subst (λ k. (n == k) ≡ false) same other) (λ id kept. (refl, refl))
+    subst (λ (o : Outcome). Dated w (step.SetEvery number deadline period) o.answer o.world) (set_by_kept w deadline (Some period) entry answers)
+    (set_from w (unregistered w entry.id) (step.SetEvery number deadline period) entry (record entry { period = Some period }) deadline entry.kept (gone_same w entry.id) here.0 refl here.1
+    (λ n other. subst (λ k. (n == k) ≡ false) same other) (λ id kept. (refl, refl)))
 
 follows_ready : (deadline : ℕ) (period : Option ℕ) → FollowsReady deadline period (next_deadline deadline period)
 follows_ready deadline None = refl
@@ -245,7 +249,8 @@ tick_dated : (w : World) (number : ℕ) (waker : Waker) (found : Option TimerEnt
 tick_dated w number waker None answers is = undated w w (step.Tick number waker) answer.NoTimer (λ n. refl) refl
 tick_dated w number waker (Some entry) answers is =
     let here = found_is_in (is_timer number) w.timers entry is in
-    tick_dated_at w number waker entry entry.deadline answers here.0 here.1 refl
+    subst (λ (o : Outcome). Dated w (step.Tick number waker) o.answer o.world) (tick_by_deadline w waker entry answers)
+    (tick_dated_at w number waker entry entry.deadline answers here.0 here.1 refl)
 
 end_dated : (w : World) (number : ℕ) (found : Option TimerEntry) (answers : List PollerAnswer) (told : Answer) → Dated w (step.End number) told (end_timer w found answers).world
 end_dated w number None answers told = undated w w (step.End number) told (λ n. refl) refl
@@ -276,30 +281,22 @@ placed_last w u s entry same t among kept =
     let f : TimerEntry → TimerEntry = λ t. cond (is_timer entry.number t) entry t in
     (f t, image_is_in f u.timers t (subst (λ (ts : List TimerEntry). Contains ts t) (sym same) among), placed_number entry t (is_timer entry.number t) refl)
 
-set_last_at : (w u : World) (s : Step) (entry : TimerEntry) (deadline : ℕ) (kept : Option Waker) → u.timers ≡ w.timers → Last w s (set_deadline u entry deadline kept)
-set_last_at w u s entry deadline None same = placed_last w u s (record entry { deadline = Some deadline; id = None }) same
-set_last_at w u s entry deadline (Some waker) same = placed_last w u s (record entry { deadline = Some deadline; id = Some (u.ids_drawn + 1); kept = Some waker }) same
+left_last : (w u : World) (s : Step) (left : TimerEntry) (registration : Option (ℕ × Waker)) → u.timers ≡ w.timers → Last w s (left_as u left registration)
+left_last w u s left None same = placed_last w u s left same
+left_last w u s left (Some registration) same =
+    placed_last w u s (record left { deadline = Some registration.0; id = Some (u.ids_drawn + 1); kept = Some registration.1 }) same
+
+worked_last : (w : World) (s : Step) (entry : TimerEntry) (becomes : Option TimerState) → Last w s (worked w entry becomes)
+worked_last w s entry None = same_last w w s refl
+worked_last w s entry (Some timer) = left_last w (unregistered w entry.id) s _ (joining timer) (gone_same w entry.id)
 
 set_last : (w : World) (s : Step) (deadline : ℕ) (period : Option ℕ) (found : Option TimerEntry) (answers : List PollerAnswer) → Last w s (set_timer w deadline period found answers).world
 set_last w s deadline period None answers = same_last w w s refl
-set_last w s deadline period (Some entry) answers =
-    set_last_at w (unregistered w entry.id) s (cond (is_some period) (record entry { period = period }) entry) deadline entry.kept (gone_same w entry.id)
-
-fired_last : (w u : World) (s : Step) (entry : TimerEntry) (waker : Waker) (next : Option ℕ) → u.timers ≡ w.timers → Last w s (fired u entry waker next)
-fired_last w u s entry waker None same = placed_last w u s (record entry { deadline = None; id = None; kept = None }) same
-fired_last w u s entry waker (Some deadline) same = placed_last w u s (record entry { deadline = Some deadline; id = Some (u.ids_drawn + 1); kept = Some waker }) same
-
-tick_last_at : (w : World) (s : Step) (waker : Waker) (entry : TimerEntry) (deadline : Option ℕ) (answers : List PollerAnswer) → Last w s (tick_deadline w entry waker deadline answers).world
-tick_last_at w s waker entry None answers = same_last w w s refl
-tick_last_at w s waker entry (Some deadline) answers =
-    let gone = unregistered w entry.id in
-    either (λ o. Last w s o.world) (nat_le deadline w.now) _ _ (fired_last w gone s entry waker (next_deadline deadline entry.period) (gone_same w entry.id))
-    (either_world (Last w s) (is_some entry.id && is_waker waker entry.kept) w _ (same_last w w s refl)
-    (placed_last w gone s (record entry { deadline = Some deadline; id = Some (gone.ids_drawn + 1); kept = Some waker }) (gone_same w entry.id)))
+set_last w s deadline period (Some entry) answers = worked_last w s entry (reset_work (state_of entry) deadline period).becomes
 
 tick_last : (w : World) (s : Step) (waker : Waker) (found : Option TimerEntry) (answers : List PollerAnswer) → Last w s (tick_timer w waker found answers).world
 tick_last w s waker None answers = same_last w w s refl
-tick_last w s waker (Some entry) answers = tick_last_at w s waker entry entry.deadline answers
+tick_last w s waker (Some entry) answers = worked_last w s entry _
 
 end_last : (w : World) (number : ℕ) (found : Option TimerEntry) (answers : List PollerAnswer) → find (is_timer number) w.timers ≡ found
     → Last w (step.End number) (end_timer w found answers).world

@@ -2,7 +2,7 @@
 use Rattle.std.proofs.Common.{◌≡◌, ◌↔◌, ℕ, ◌≤◌, Bool, true, false, cond, ◌&&◌, ◌||◌, ◌==◌, List, [], ◌∷◌, ◌++◌, length, find, Option, None, Some, is_some, option_to_list, refl, ap, ◌∙◌, sym, subst, arith}
 use Rattle.std.specs.Prelude.{nat_lt, nat_le, unwrap_or}
 use Rattle.std.specs.List.{list_any}
-use Rattle.std.proofs.lemmas.Bool.{cond_both, and_parts, and_from, lt-ltb, ltb-true, le-leb, leb-true}
+use Rattle.std.proofs.lemmas.Bool.{and_parts, and_from, lt-ltb, ltb-true, le-leb, leb-true}
 use Rattle.aio_base.specs.declared.names.Key.{Key}
 use Rattle.aio_base.specs.declared.names.Waker.{Waker}
 use Rattle.aio_base.specs.declared.names.Dir.{Dir}
@@ -12,7 +12,8 @@ use Rattle.aio_base.specs.declared.steps.Step.TheVariants as step
 use Rattle.aio_base.specs.declared.steps.Answer.{Answer}
 use Rattle.aio_base.specs.declared.steps.Answer.TheVariants as answer
 use Rattle.aio_base.specs.World.{PollerAnswer, Succeeds, Gives, IsInterrupted, Fails, ListenerEntry, TimerEntry, HandledDirection, RoundState, World, directions_of, is_of, serial_of, key_of, poll_waiter, mark_of, is_empty_list, is_idle, is_broken, wanted, is_fresh}
-use Rattle.aio_base.specs.Machine.{Outcome, fails, next_answer, later_answers, pending, source_limit, free_key, add, del_source, is_fresh_since, is_waker, with_waiter, poll_source, new_listener, is_listener, with_listening, step_listener, drop_listener, is_timer, tick_deadline, tick_timer, set_timer, end_timer, wait_answered, wait_in, world_taken, wakers_taken, rearmed, handle_source, handle_first, handle_in, finish_in, case_of, step_result}
+use Rattle.aio_base.specs.Machine.{Outcome, fails, next_answer, later_answers, pending, source_limit, free_key, add, del_source, is_fresh_since, is_waker, with_waiter, poll_source, new_listener, is_listener, with_listening, step_listener, drop_listener, is_timer, tick_timer, set_timer, end_timer, wait_answered, wait_in, world_taken, wakers_taken, rearmed, handle_source, handle_first, handle_in, finish_in, case_of, step_result}
+use Rattle.aio_base.proofs.TimerCases.{tick_deadline, tick_by_deadline, tick_any}
 use Rattle.aio_laws.specs.Readiness.{IsHandledSince, SourceIsReady, ListenerIsReady, TimerIsReady, ReadyIsTold}
 use Rattle.aio_base.proofs.Membership.{any_from, any_gives}
 use Rattle.aio_base.proofs.WaiterLemmas.{is_of-eq, is_of-from}
@@ -183,17 +184,15 @@ tick_ready_at w number waker entry (Some t) answers d there waits = due_or w num
 tick_ready : (w : World) (number : ℕ) (waker : Waker) (found : Option TimerEntry) (answers : List PollerAnswer) (d : ℕ) → find (is_timer number) w.timers ≡ found
     → ((tick_timer w waker found answers).answer ≡ answer.ReadyAt d) ↔ TimerIsReady w number d
 tick_ready w number waker None answers d is = (λ same. absurd cc, λ r. absurd (let there = r.there in cc))
-tick_ready w number waker (Some entry) answers d is = tick_ready_at w number waker entry entry.deadline answers d is refl
-
-tick_plain : (w : World) (waker : Waker) (entry : TimerEntry) (deadline : Option ℕ) (answers : List PollerAnswer)
-    → (tick_deadline w entry waker deadline answers).answer ≡ answer.Ready → ⊥
-tick_plain w waker entry None answers same = absurd cc
-tick_plain w waker entry (Some t) answers same =
-    cond_both (nat_le t w.now) _ _ (λ (o : Outcome). o.answer ≡ answer.Ready → ⊥) (λ due wrong. absurd cc) (λ ahead wrong. absurd cc) same
+tick_ready w number waker (Some entry) answers d is =
+    subst (λ (o : Outcome). (o.answer ≡ answer.ReadyAt d) ↔ TimerIsReady w number d) (tick_by_deadline w waker entry answers)
+    (tick_ready_at w number waker entry entry.deadline answers d is refl)
 
 tick_other : (w : World) (waker : Waker) (found : Option TimerEntry) (answers : List PollerAnswer) → (tick_timer w waker found answers).answer ≡ answer.Ready → ⊥
-tick_other w waker None answers same = absurd cc
-tick_other w waker (Some entry) answers same = tick_plain w waker entry entry.deadline answers same
+tick_other w waker None answers = λ same. absurd cc
+tick_other w waker (Some entry) answers =
+    tick_any (λ o. o.answer ≡ answer.Ready → ⊥) w waker entry answers (λ timers registrations ids same. absurd cc)
+    (λ deadline timers registrations ids same. absurd cc)
 
 -- ## Other steps
 

@@ -10,7 +10,8 @@ use Rattle.aio_base.specs.declared.steps.Step.{Step}
 use Rattle.aio_base.specs.declared.steps.Step.TheVariants as step
 use Rattle.aio_base.specs.declared.steps.Answer.{Answer}
 use Rattle.aio_base.specs.World.{PollerAnswer, Succeeds, Gives, IsInterrupted, Fails, ListenerEntry, TimerEntry, RoundState, World, serial_of, directions_of, poll_waiter, mark_of, is_empty_list, wanted}
-use Rattle.aio_base.specs.Machine.{Outcome, quiet, next_answer, later_answers, fails, world_taken, wakers_taken, pending, source_limit, is_fresh_since, is_waker, add, del_source, poll_source, new_listener, step_listener, drop_listener, tick_deadline, tick_timer, set_timer, end_timer, set_clock, begin_round, wait_answered, wait_in, rearmed, handle_source, handle_first, handle_in, finish_in, react, case_of, moved_on, step_result}
+use Rattle.aio_base.specs.Machine.{Outcome, quiet, next_answer, later_answers, fails, world_taken, wakers_taken, pending, source_limit, is_fresh_since, is_waker, add, del_source, poll_source, new_listener, step_listener, drop_listener, tick_timer, set_timer, end_timer, set_clock, begin_round, wait_answered, wait_in, rearmed, handle_source, handle_first, handle_in, finish_in, react, case_of, moved_on, step_result}
+use Rattle.aio_base.proofs.TimerCases.{tick_any}
 use Rattle.aio_base.specs.Refusals.{is_refusal, only_counted, RefusalLeaves}
 
 -- an answer that is no refusal
@@ -82,15 +83,11 @@ drop_refuses w number (Some entry) answers = done w answers _ (plain _ refl)
 
 -- ## Timers and the clock
 
-tick_refuses_at : (w : World) (entry : TimerEntry) (waker : Waker) (deadline : Option ℕ) (answers : List PollerAnswer)
-    → Refuses w answers (tick_deadline w entry waker deadline answers)
-tick_refuses_at w entry waker None answers = done w answers _ (plain _ refl)
-tick_refuses_at w entry waker (Some deadline) answers =
-    either w answers (nat_le deadline w.now) _ _ (done w answers _ (plain _ refl)) (done w answers _ (plain _ refl))
-
 tick_refuses : (w : World) (waker : Waker) (entry : Option TimerEntry) (answers : List PollerAnswer) → Refuses w answers (tick_timer w waker entry answers)
 tick_refuses w waker None answers = refused w answers _
-tick_refuses w waker (Some entry) answers = tick_refuses_at w entry waker entry.deadline answers
+tick_refuses w waker (Some entry) answers =
+    tick_any (Refuses w answers) w waker entry answers (λ timers registrations ids. done w answers _ (plain _ refl))
+    (λ deadline timers registrations ids. done w answers _ (plain _ refl))
 
 set_refuses : (w : World) (deadline : ℕ) (period : Option ℕ) (entry : Option TimerEntry) (answers : List PollerAnswer)
     → Refuses w answers (set_timer w deadline period entry answers)

@@ -1,5 +1,5 @@
 -- A step leaves each source, listener and timer alone but its own.
-use Rattle.std.proofs.Common.{◌≡◌, ℕ, ◌+◌, Bool, true, false, not, cond, ◌&&◌, ◌||◌, ◌==◌, List, [], ◌∷◌, ◌++◌, length, map, find, Option, None, Some, is_some, refl, ap, ◌∙◌, sym, subst}
+use Rattle.std.proofs.Common.{◌≡◌, ℕ, ◌+◌, Bool, true, false, not, cond, ◌||◌, ◌==◌, List, [], ◌∷◌, ◌++◌, length, map, find, Option, None, Some, is_some, refl, ap, ◌∙◌, sym, subst}
 use Rattle.std.specs.Prelude.{nat_lt, nat_le, unwrap_or}
 use Rattle.std.specs.List.{filter, list_any}
 use Rattle.std.specs.Option.{option_map_or}
@@ -9,7 +9,8 @@ use Rattle.aio_base.specs.declared.names.Dir.{Dir}
 use Rattle.aio_base.specs.declared.steps.Step.{Step}
 use Rattle.aio_base.specs.declared.steps.Step.TheVariants as step
 use Rattle.aio_base.specs.World.{PollerAnswer, LiveSource, ListenerEntry, TimerEntry, World, serial_of, key_of, is_idle, is_broken}
-use Rattle.aio_base.specs.Machine.{Outcome, fails, next_answer, source_limit, free_key, add, del_source, is_fresh_since, is_waker, pending, is_listener, with_listening, step_listener, drop_listener, new_listener, is_timer, with_timer, unregistered, registered, next_deadline, fired, tick_deadline, tick_timer, set_deadline, set_timer, end_timer, hand_of, begin_round, wait_round, handle_each, react, case_of, step_result}
+use Rattle.aio_base.specs.Machine.{Outcome, fails, next_answer, source_limit, free_key, add, del_source, is_fresh_since, pending, is_listener, with_listening, step_listener, drop_listener, new_listener, is_timer, with_timer, unregistered, registered, tick_timer, set_timer, end_timer, hand_of, begin_round, wait_round, handle_each, react, case_of, step_result, left_as, worked, state_of}
+use Rattle.aio_base.specs.TimerWork.{TimerState, joining, reset_work}
 use Rattle.aio_laws.specs.Others.{is_own_source, but_waker, other_sources, other_listeners, other_timers, OthersStand}
 use Rattle.aio_laws.proofs.steps.Breaking.{broken_stand}
 use Rattle.aio_laws.proofs.steps.Marking.{marks_stand}
@@ -166,19 +167,13 @@ gone_timers w id number = ap (λ (f : Frame). filter (λ (t : TimerEntry). not (
 registered_others : (w : World) (entry : TimerEntry) (deadline : ℕ) (waker : Waker) → but_timer entry.number (registered w entry deadline waker) ≡ but_timer entry.number w
 registered_others w entry deadline waker = placed_others w (record entry { deadline = Some deadline; id = Some (w.ids_drawn + 1); kept = Some waker })
 
-fired_others : (w : World) (entry : TimerEntry) (waker : Waker) (next : Option ℕ) → but_timer entry.number (fired w entry waker next) ≡ but_timer entry.number w
-fired_others w entry waker None = placed_others w (record entry { deadline = None; id = None; kept = None })
-fired_others w entry waker (Some deadline) = registered_others w entry deadline waker
+left_others : (w : World) (left : TimerEntry) (registration : Option (ℕ × Waker)) → but_timer left.number (left_as w left registration) ≡ but_timer left.number w
+left_others w left None = placed_others w left
+left_others w left (Some registration) = registered_others w left registration.0 registration.1
 
-tick_others_at : (w : World) (entry : TimerEntry) (waker : Waker) (deadline : Option ℕ) (answers : List PollerAnswer)
-    → but_timer entry.number (tick_deadline w entry waker deadline answers).world ≡ but_timer entry.number w
-tick_others_at w entry waker None answers = refl
-tick_others_at w entry waker (Some deadline) answers =
-    let gone = gone_timers w entry.id entry.number in
-    either (λ o. but_timer entry.number o.world ≡ but_timer entry.number w) (nat_le deadline w.now) _ _
-    (fired_others (unregistered w entry.id) entry waker (next_deadline deadline entry.period) ∙ gone)
-    (either_world (λ v. but_timer entry.number v ≡ but_timer entry.number w) (is_some entry.id && is_waker waker entry.kept) w _ refl
-    (registered_others (unregistered w entry.id) entry deadline waker ∙ gone))
+worked_others : (w : World) (entry : TimerEntry) (becomes : Option TimerState) → but_timer entry.number (worked w entry becomes) ≡ but_timer entry.number w
+worked_others w entry None = refl
+worked_others w entry (Some timer) = left_others (unregistered w entry.id) _ (joining timer) ∙ gone_timers w entry.id entry.number
 
 found_number : (number : ℕ) (w : World) (entry : TimerEntry) → find (is_timer number) w.timers ≡ Some entry → entry.number ≡ number
 found_number number w entry is = eqb-true entry.number number (found_is_in (is_timer number) w.timers entry is).1
@@ -188,24 +183,14 @@ tick_others : (w : World) (number : ℕ) (waker : Waker) (found : Option TimerEn
 tick_others w number waker None answers is = refl
 tick_others w number waker (Some entry) answers is =
     subst (λ n. but_timer n (tick_timer w waker (Some entry) answers).world ≡ but_timer n w) (found_number number w entry is)
-    (tick_others_at w entry waker entry.deadline answers)
-
-set_others_at : (w : World) (entry : TimerEntry) (deadline : ℕ) (kept : Option Waker) → but_timer entry.number (set_deadline w entry deadline kept) ≡ but_timer entry.number w
-set_others_at w entry deadline None = placed_others w (record entry { deadline = Some deadline; id = None })
-set_others_at w entry deadline (Some waker) = registered_others w entry deadline waker
-
-period_number : (test : Bool) (entry : TimerEntry) (period : Option ℕ) → (cond test (record entry { period = period }) entry).number ≡ entry.number
-period_number true entry period = refl
-period_number false entry period = refl
+    (worked_others w entry _)
 
 set_others : (w : World) (number deadline : ℕ) (period : Option ℕ) (found : Option TimerEntry) (answers : List PollerAnswer) → find (is_timer number) w.timers ≡ found
     → but_timer number (set_timer w deadline period found answers).world ≡ but_timer number w
 set_others w number deadline period None answers is = refl
 set_others w number deadline period (Some entry) answers is =
-    let set : TimerEntry = cond (is_some period) (record entry { period = period }) entry in
-    let same : set.number ≡ number = period_number (is_some period) entry period ∙ found_number number w entry is in
-    subst (λ n. but_timer n (set_timer w deadline period (Some entry) answers).world ≡ but_timer n w) same
-    (set_others_at (unregistered w entry.id) set deadline entry.kept ∙ gone_timers w entry.id set.number)
+    subst (λ n. but_timer n (set_timer w deadline period (Some entry) answers).world ≡ but_timer n w) (found_number number w entry is)
+    (worked_others w entry (reset_work (state_of entry) deadline period).becomes)
 
 end_others : (w : World) (number : ℕ) (found : Option TimerEntry) (answers : List PollerAnswer) → find (is_timer number) w.timers ≡ found
     → but_timer number (end_timer w found answers).world ≡ but_timer number w

@@ -8,7 +8,8 @@ use Rattle.aio_base.specs.declared.names.Waker.{Waker}
 use Rattle.aio_base.specs.declared.steps.Step.{Step}
 use Rattle.aio_base.specs.declared.steps.Step.TheVariants as step
 use Rattle.aio_base.specs.World.{PollerAnswer, ListenerEntry, TimerEntry, World, directions, serial_of}
-use Rattle.aio_base.specs.Machine.{Outcome, del_source, drop_listener, step_listener, tick_deadline, tick_timer, set_timer, end_timer, next_deadline, is_waker, is_fresh_since, is_listener, is_timer, step_result}
+use Rattle.aio_base.specs.Machine.{Outcome, del_source, drop_listener, step_listener, tick_timer, set_timer, end_timer, next_deadline, is_waker, is_fresh_since, is_listener, is_timer, step_result}
+use Rattle.aio_base.proofs.TimerCases.{tick_deadline, tick_by_deadline}
 use Rattle.aio_base.specs.Refusals.{is_refusal}
 use Rattle.aio_laws.specs.Storings.{Place, OfPoll, OfListener, OfTimer, Stored, Storings, stored_at, given_up_at, each_given_up, timer_place, registered_anew, tick_moves_at, tick_moves, set_moves, end_moves, drop_moves, del_moves, listener_moves, step_storings}
 use Rattle.aio_laws.specs.Succession.{poll_places, id_kept, waker_kept, stored_as, own_storing, has_to_wait, is_ahead, registers, has_fired, stores, gives_up, may_give_up}
@@ -150,7 +151,9 @@ tick_clears : (w : World) (waker : Waker) (entry : Option TimerEntry) (answers :
     (cond (registers w.now (tick_timer w waker entry answers).answer waker entry) (stored_as l.given (OfTimer (w.ids_drawn + 1)) waker ∷ []) [])
     (tick_moves w waker entry l)
 tick_clears w waker None answers l gives = absurd cc
-tick_clears w waker (Some entry) answers l gives = tick_clears_at w waker entry entry.deadline answers l refl gives
+tick_clears w waker (Some entry) answers l gives =
+    subst (λ o. Ticked w waker entry l o (tick_moves w waker (Some entry) l)) (tick_by_deadline w waker entry answers)
+    (tick_clears_at w waker entry entry.deadline answers l refl) gives
 
 -- ## A timer that gives up nothing
 
@@ -180,7 +183,9 @@ pub tick_rests : (w : World) (waker : Waker) (entry : Option TimerEntry) (answer
     → (registers w.now (tick_timer w waker entry answers).answer waker entry || has_fired (tick_timer w waker entry answers).answer) ≡ false
     → tick_moves w waker entry l ≡ l
 tick_rests w waker None answers l none = refl
-tick_rests w waker (Some entry) answers l none = tick_rests_at w waker entry entry.deadline answers l refl none
+tick_rests w waker (Some entry) answers l none =
+    subst (λ o. Rests w waker entry l o (tick_moves w waker (Some entry) l)) (tick_by_deadline w waker entry answers)
+    (tick_rests_at w waker entry entry.deadline answers l refl) none
 
 -- ## A step
 

@@ -14,7 +14,8 @@ use Rattle.aio_base.specs.declared.steps.Step.TheVariants as step
 use Rattle.aio_base.specs.declared.steps.Answer.{Answer}
 use Rattle.aio_base.specs.declared.steps.Answer.TheVariants as answer
 use Rattle.aio_base.specs.World.{PollerAnswer, ListenerEntry, TimerEntry, RoundState, World, directions, directions_of, poll_waiter, mark_of, serial_of, is_empty_list, opening}
-use Rattle.aio_base.specs.Machine.{Outcome, next_answer, fails, pending, poll_source, step_listener, tick_deadline, tick_timer, next_deadline, is_waker, is_fresh_since, is_listener, is_timer, begin_round, wait_round, handle_round, handle_each, hand_of, gave_none, is_zero, ends_with_pass, finish_in, react, step_result}
+use Rattle.aio_base.specs.Machine.{Outcome, next_answer, fails, pending, poll_source, step_listener, tick_timer, next_deadline, is_waker, is_fresh_since, is_listener, is_timer, begin_round, wait_round, handle_round, handle_each, hand_of, gave_none, is_zero, ends_with_pass, finish_in, react, step_result}
+use Rattle.aio_base.proofs.TimerCases.{tick_deadline, tick_by_deadline}
 use Rattle.aio_base.specs.Refusals.{is_refusal}
 use Rattle.aio_base.specs.Runs.{PolledStep, outcome_of, world_of}
 use Rattle.aio_laws.specs.Storings.{Place, OfPoll, OfListener, OfTimer, Stored, Storings, no_storings, standing_at, none_at, stored_at, given_up_at, woken_at, each_taken, each_given_up, round_woken, timer_place, places_of, due_places, poll_moves, listener_moves, registered_anew, tick_moves_at, tick_moves, set_moves, end_moves, drop_moves, del_moves, begin_moves, event_moves, handle_moves_first, handle_moves, finish_moves_in, finish_moves, handle_each_moves, react_moves, step_storings, step_ended, storings_from, storings_of}
@@ -202,7 +203,10 @@ tick_stores : (w : World) (waker : Waker) (entry : Option TimerEntry) (answers :
     → Storing (Contains (timer_place (id_kept entry))) (registers w.now (tick_timer w waker entry answers).answer waker entry)
     (stored_as l.given (OfTimer (w.ids_drawn + 1)) waker ∷ []) l (tick_moves w waker entry l)
 tick_stores w waker None answers l = nothing_moved _ _ l
-tick_stores w waker (Some entry) answers l = tick_stores_at w waker entry entry.deadline answers l refl
+tick_stores w waker (Some entry) answers l =
+    subst (λ (o : Outcome). Registers w entry (stored_as l.given (OfTimer (w.ids_drawn + 1)) waker ∷ []) l (registers w.now o.answer waker (Some entry))
+    (tick_moves w waker (Some entry) l))
+    (tick_by_deadline w waker entry answers) (tick_stores_at w waker entry entry.deadline answers l refl)
 
 end_stores : (entry : Option TimerEntry) (l : Storings) → Storing (Contains (timer_place (id_kept entry))) false [] l (end_moves entry l)
 end_stores None l = nothing_moved _ [] l

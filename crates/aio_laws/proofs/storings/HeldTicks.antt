@@ -6,7 +6,8 @@ use Rattle.std.proofs.lemmas.Bool.{ne_eqb}
 use Rattle.std.proofs.lemmas.List.Elements.{Contains-push_cases}
 use Rattle.aio_base.specs.declared.names.Waker.{Waker}
 use Rattle.aio_base.specs.World.{PollerAnswer, PollWaiter, ListenerEntry, Registration, TimerEntry, World}
-use Rattle.aio_base.specs.Machine.{is_waker, unregistered, registered, next_deadline, fired, tick_deadline, tick_timer, set_deadline, set_timer, end_timer}
+use Rattle.aio_base.specs.Machine.{is_waker, unregistered, registered, next_deadline, tick_timer, set_timer, end_timer}
+use Rattle.aio_base.proofs.TimerCases.{fired, tick_deadline, tick_by_deadline, set_deadline, set_period, set_by_kept}
 use Rattle.aio_laws.specs.Storings.{Place, OfPoll, OfListener, OfTimer, Stored, Storings, stored_at, given_up_at, each_given_up, timer_place, registered_anew, tick_moves_at, tick_moves, set_moves, end_moves}
 use Rattle.aio_base.proofs.Membership.{filtered_is_in}
 use Rattle.aio_base.proofs.Searching.{nothing_found, without_found, last_found}
@@ -160,7 +161,9 @@ tick_leaves_at w woken l entry waker (Some deadline) answers s =
 pub tick_leaves : (w : World) (woken : List (List Stored)) (l : Storings) (waker : Waker) (entry : Option TimerEntry) (answers : List PollerAnswer)
     → Stands (holding_of w) [] woken l → Leaves woken (tick_moves w waker entry l) (tick_timer w waker entry answers)
 tick_leaves w woken l waker None answers s = quiet_leaves w woken l _ answers s
-tick_leaves w woken l waker (Some entry) answers s = tick_leaves_at w woken l entry waker entry.deadline answers s
+tick_leaves w woken l waker (Some entry) answers s =
+    subst (λ o. Leaves woken (tick_moves w waker (Some entry) l) o) (tick_by_deadline w waker entry answers)
+    (tick_leaves_at w woken l entry waker entry.deadline answers s)
 
 set_stands : (w : World) (woken : List (List Stored)) (l : Storings) (old entry : TimerEntry) (deadline : ℕ) (kept : Option Waker) → Stands (holding_of w) [] woken l
     → Stands (holding_of (set_deadline (unregistered w old.id) entry deadline kept)) [] woken (registered_anew w old kept l)
@@ -171,8 +174,8 @@ pub set_leaves : (w : World) (woken : List (List Stored)) (l : Storings) (deadli
     → Stands (holding_of w) [] woken l → Leaves woken (set_moves w entry l) (set_timer w deadline period entry answers)
 set_leaves w woken l deadline period None answers s = quiet_leaves w woken l _ answers s
 set_leaves w woken l deadline period (Some entry) answers s =
-    let set : TimerEntry = cond (is_some period) (record entry { period = period }) entry in
-    record { stands = set_stands w woken l entry set deadline entry.kept s }
+    subst (λ o. Leaves woken (set_moves w (Some entry) l) o) (set_by_kept w deadline period entry answers)
+    (record { stands = set_stands w woken l entry (set_period entry period) deadline entry.kept s })
 
 pub end_leaves : (w : World) (woken : List (List Stored)) (l : Storings) (entry : Option TimerEntry) (answers : List PollerAnswer)
     → Stands (holding_of w) [] woken l → Leaves woken (end_moves entry l) (end_timer w entry answers)

@@ -1,5 +1,5 @@
 -- A step that is refused moves no storing.
-use Rattle.std.proofs.Common.{◌≡◌, ℕ, Bool, true, false, cond, List, [], ◌∷◌, find, Option, None, Some, is_some, refl}
+use Rattle.std.proofs.Common.{◌≡◌, ℕ, Bool, true, false, cond, List, [], ◌∷◌, find, Option, None, Some, is_some, refl, subst}
 use Rattle.std.specs.Prelude.{◌==◌, nat_le}
 use Rattle.std.specs.List.{list_any}
 use Rattle.aio_base.specs.declared.names.Key.{Key}
@@ -10,7 +10,8 @@ use Rattle.aio_base.specs.declared.steps.Step.{Step}
 use Rattle.aio_base.specs.declared.steps.Step.TheVariants as step
 use Rattle.aio_base.specs.declared.steps.Answer.{Answer}
 use Rattle.aio_base.specs.World.{PollerAnswer, ListenerEntry, TimerEntry, RoundState, World, serial_of, poll_waiter, mark_of, is_empty_list, wanted}
-use Rattle.aio_base.specs.Machine.{Outcome, is_listener, is_timer, next_answer, fails, pending, is_fresh_since, is_waker, del_source, poll_source, step_listener, drop_listener, tick_deadline, tick_timer, set_timer, end_timer, begin_round, rearmed, handle_source, handle_first, handle_in, finish_in, hand_of, react, step_result}
+use Rattle.aio_base.specs.Machine.{Outcome, is_listener, is_timer, next_answer, fails, pending, is_fresh_since, is_waker, del_source, poll_source, step_listener, drop_listener, tick_timer, set_timer, end_timer, begin_round, rearmed, handle_source, handle_first, handle_in, finish_in, hand_of, react, step_result}
+use Rattle.aio_base.proofs.TimerCases.{tick_deadline, tick_by_deadline}
 use Rattle.aio_base.specs.Refusals.{is_refusal}
 use Rattle.aio_laws.specs.Storings.{Storings, del_moves, poll_moves, listener_moves, drop_moves, tick_moves_at, tick_moves, set_moves, end_moves, begin_moves, handle_moves_first, finish_moves_in, react_moves, step_storings}
 
@@ -81,7 +82,9 @@ tick_unmoved_at w waker entry (Some deadline) answers l =
 tick_unmoved : (w : World) (waker : Waker) (entry : Option TimerEntry) (answers : List PollerAnswer) (l : Storings)
     → Unmoved l (tick_moves w waker entry l) (tick_timer w waker entry answers)
 tick_unmoved w waker None answers l = left_alone l _
-tick_unmoved w waker (Some entry) answers l = tick_unmoved_at w waker entry entry.deadline answers l
+tick_unmoved w waker (Some entry) answers l =
+    subst (λ o. Unmoved l (tick_moves w waker (Some entry) l) o) (tick_by_deadline w waker entry answers)
+    (tick_unmoved_at w waker entry entry.deadline answers l)
 
 set_unmoved : (w : World) (deadline : ℕ) (period : Option ℕ) (entry : Option TimerEntry) (answers : List PollerAnswer) (l : Storings)
     → Unmoved l (set_moves w entry l) (set_timer w deadline period entry answers)

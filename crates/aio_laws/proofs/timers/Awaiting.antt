@@ -8,7 +8,8 @@ use Rattle.aio_base.specs.declared.names.Waker.{Waker}
 use Rattle.aio_base.specs.declared.steps.Step.{Step}
 use Rattle.aio_base.specs.declared.steps.Step.TheVariants as step
 use Rattle.aio_base.specs.World.{PollerAnswer, Registration, TimerEntry, RoundState, World, opening, serial_of, is_empty_list}
-use Rattle.aio_base.specs.Machine.{Outcome, add, del_source, poll_source, new_listener, step_listener, drop_listener, is_timer, is_listener, is_waker, new_timer, with_timer, unregistered, registered, next_deadline, fired, tick_deadline, tick_timer, set_deadline, set_timer, end_timer, begin_round, wait_in, wait_round, handle_in, handle_each, hand_of, finish_in, makes_second_pass, react, case_of, step_result}
+use Rattle.aio_base.specs.Machine.{Outcome, add, del_source, poll_source, new_listener, step_listener, drop_listener, is_timer, is_listener, is_waker, new_timer, with_timer, unregistered, registered, next_deadline, tick_timer, set_timer, end_timer, begin_round, wait_in, wait_round, handle_in, handle_each, hand_of, finish_in, makes_second_pass, react, case_of, step_result}
+use Rattle.aio_base.proofs.TimerCases.{fired, tick_deadline, tick_by_deadline, set_deadline, set_by_kept}
 use Rattle.aio_laws.specs.Registered.{IsRegistered, TimersAreRegistered}
 use Rattle.aio_base.specs.Runs.{PolledStep, outcome_of, world_of}
 use Rattle.aio_base.specs.Timers.{after_pass}
@@ -258,7 +259,8 @@ tick_leaves : (w : World) (number : ℕ) (waker : Waker) (entry : Option TimerEn
     → find (is_timer number) w.timers ≡ entry → Awaits (timed w) → Leaves (tick_timer w waker entry answers)
 tick_leaves w number waker None answers found a = a
 tick_leaves w number waker (Some entry) answers found a =
-    tick_leaves_at w entry waker entry.deadline answers (found_is_in (is_timer number) w.timers entry found).0 a
+    subst Leaves (tick_by_deadline w waker entry answers)
+    (tick_leaves_at w entry waker entry.deadline answers (found_is_in (is_timer number) w.timers entry found).0 a)
 
 set_leaves_at : (w : World) (entry : TimerEntry) (period : Option ℕ) (deadline : ℕ) (longer : Bool) → Released (timed w) entry
     → Awaits (timed (set_deadline w (cond longer (record entry { period = period }) entry) deadline entry.kept))
@@ -269,8 +271,9 @@ set_leaves : (w : World) (number deadline : ℕ) (period : Option ℕ) (entry : 
     → find (is_timer number) w.timers ≡ entry → Awaits (timed w) → Leaves (set_timer w deadline period entry answers)
 set_leaves w number deadline period None answers found a = a
 set_leaves w number deadline period (Some entry) answers found a =
-    set_leaves_at (unregistered w entry.id) entry period deadline (is_some period)
-    (released w entry entry.id refl (found_is_in (is_timer number) w.timers entry found).0 a)
+    subst Leaves (set_by_kept w deadline period entry answers)
+    (set_leaves_at (unregistered w entry.id) entry period deadline (is_some period)
+    (released w entry entry.id refl (found_is_in (is_timer number) w.timers entry found).0 a))
 
 ended_awaits : (t : Timed) (entry : TimerEntry) → Released t entry → Awaits (record t { timers = filter (λ x. not (is_timer entry.number x)) t.timers })
 ended_awaits t entry f =

@@ -1,14 +1,15 @@
 -- A step draws no id of a registration, or the next one, under which it registers a timer.
-use Rattle.std.proofs.Common.{◌≡◌, ℕ, ◌+◌, cond, ◌&&◌, List, find, Option, None, Some, is_some, refl, ap, ◌∙◌, inl, inr}
-use Rattle.std.specs.Prelude.{nat_le, nat_lt}
+use Rattle.std.proofs.Common.{◌≡◌, ℕ, ◌+◌, List, find, Option, None, Some, is_some, refl, ap, ◌∙◌, inl, inr}
+use Rattle.std.specs.Prelude.{nat_lt}
 use Rattle.std.proofs.lemmas.List.Elements.{Contains-push}
 use Rattle.aio_base.specs.declared.names.Waker.{Waker}
 use Rattle.aio_base.specs.declared.steps.Step.{Step}
 use Rattle.aio_base.specs.declared.steps.Step.TheVariants as step
 use Rattle.aio_base.specs.World.{PollerAnswer, Registration, TimerEntry, RoundState, World, serial_of, is_empty_list}
-use Rattle.aio_base.specs.Machine.{Outcome, is_listener, is_timer, is_waker, unregistered, registered, next_deadline, fired, tick_deadline, tick_timer, set_deadline, set_timer, end_timer, begin_round, wait_round, handle_each, hand_of, finish_in, case_of}
+use Rattle.aio_base.specs.Machine.{Outcome, is_listener, is_timer, unregistered, registered, tick_timer, set_timer, end_timer, begin_round, wait_round, handle_each, hand_of, finish_in, case_of, left_as, worked, state_of}
+use Rattle.aio_base.specs.TimerWork.{TimerState, joining, reset_work}
 use Rattle.aio_laws.specs.Drawn.{IdsFollow}
-use Rattle.aio_laws.proofs.steps.Frames.{either, either_world}
+use Rattle.aio_laws.proofs.steps.Frames.{either}
 use Rattle.aio_laws.proofs.timers.PassLemmas.{Timed, timed, Keeps, wait_keeps, handle_keeps, handle_each_keeps}
 use Rattle.aio_laws.proofs.timers.Registering.{add_keeps, del_keeps, poll_keeps, new_keeps, step_keeps, drop_keeps}
 
@@ -32,34 +33,24 @@ one_draws w set deadline waker =
     let new : Registration = record { id = w.ids_drawn + 1; deadline = deadline; waker = waker } in
     inr (refl, (new, Contains-push w.registrations new, refl))
 
-fired_draws : (w : World) (entry : TimerEntry) (waker : Waker) (next : Option ℕ) → IdsFollow w (fired w entry waker next)
-fired_draws w entry waker None = inl refl
-fired_draws w entry waker (Some deadline) = one_draws w entry deadline waker
+left_draws : (w : World) (left : TimerEntry) (registration : Option (ℕ × Waker)) → IdsFollow w (left_as w left registration)
+left_draws w left None = inl refl
+left_draws w left (Some registration) = one_draws w left registration.0 registration.1
 
-tick_draws_at : (w : World) (entry : TimerEntry) (waker : Waker) (deadline : Option ℕ) (answers : List PollerAnswer)
-    → Draws w (tick_deadline w entry waker deadline answers)
-tick_draws_at w entry waker None answers = inl refl
-tick_draws_at w entry waker (Some deadline) answers =
+worked_draws : (w : World) (entry : TimerEntry) (becomes : Option TimerState) → IdsFollow w (worked w entry becomes)
+worked_draws w entry None = inl refl
+worked_draws w entry (Some timer) =
     let gone = unregistered w entry.id in
-    let next = next_deadline deadline entry.period in
-    let new = registered gone entry deadline waker in
-    either (Draws w) (nat_le deadline w.now) _ _ (gone_before w entry.id (fired gone entry waker next) (fired_draws gone entry waker next))
-    (either_world (IdsFollow w) (is_some entry.id && is_waker waker entry.kept) w new (inl refl) (gone_before w entry.id new (one_draws gone entry deadline waker)))
+    let left : TimerEntry = record entry { deadline = timer.deadline; period = timer.period; id = None; kept = timer.kept } in
+    gone_before w entry.id (left_as gone left (joining timer)) (left_draws gone left (joining timer))
 
 tick_draws : (w : World) (waker : Waker) (found : Option TimerEntry) (answers : List PollerAnswer) → Draws w (tick_timer w waker found answers)
 tick_draws w waker None answers = inl refl
-tick_draws w waker (Some entry) answers = tick_draws_at w entry waker entry.deadline answers
-
-set_draws_at : (w : World) (entry : TimerEntry) (deadline : ℕ) (kept : Option Waker) → IdsFollow w (set_deadline w entry deadline kept)
-set_draws_at w entry deadline None = inl refl
-set_draws_at w entry deadline (Some waker) = one_draws w entry deadline waker
+tick_draws w waker (Some entry) answers = worked_draws w entry _
 
 set_draws : (w : World) (deadline : ℕ) (period : Option ℕ) (found : Option TimerEntry) (answers : List PollerAnswer) → Draws w (set_timer w deadline period found answers)
 set_draws w deadline period None answers = inl refl
-set_draws w deadline period (Some entry) answers =
-    let gone = unregistered w entry.id in
-    let set = cond (is_some period) (record entry { period = period }) entry in
-    gone_before w entry.id (set_deadline gone set deadline entry.kept) (set_draws_at gone set deadline entry.kept)
+set_draws w deadline period (Some entry) answers = worked_draws w entry (reset_work (state_of entry) deadline period).becomes
 
 gone_draws : (w : World) (id : Option ℕ) → (unregistered w id).ids_drawn ≡ w.ids_drawn
 gone_draws w None = refl
