@@ -236,26 +236,6 @@ removed_meets {P = P} arm_step wait_step tells old new core key e answer is none
       (removal (tells old) (tells new) core w key it.0 e answer later stands is it.1 others arms);
 }
 
--- ## The entry of the source
-
-no_count : (place : Option SourceEntry) → None ≡ option_map (λ (e : SourceEntry). e.listeners) place → place ≡ None
-no_count None none = refl
-no_count (Some e) none = absurd (cc)
-
-a_count : (place : Option SourceEntry) (n : ℕ) → Some n ≡ option_map (λ (e : SourceEntry). e.listeners) place → (e : SourceEntry) × (place ≡ Some e) × (e.listeners ≡ n)
-a_count None n is = absurd (cc)
-a_count (Some e) n is = (e, refl, cc)
-
--- what a count of listeners that was read tells of the sources that were read for it
-pub no_entry : (read sources : List (Option SourceEntry)) (key : ℕ) (count : Option ℕ) → read ≡ sources
-    → count ≡ option_map (λ (e : SourceEntry). e.listeners) (entry_at read key) → count ≡ None → entry_at sources key ≡ None
-no_entry read sources key count same is none = ap (λ (s : List (Option SourceEntry)). entry_at s key) (sym same) ∙ no_count (entry_at read key) (sym none ∙ is)
-
-pub an_entry : (read sources : List (Option SourceEntry)) (key n : ℕ) (count : Option ℕ) → read ≡ sources
-    → count ≡ option_map (λ (e : SourceEntry). e.listeners) (entry_at read key) → count ≡ Some n → (e : SourceEntry) × (entry_at sources key ≡ Some e) × (e.listeners ≡ n)
-an_entry read sources key n count same is some =
-    let it = a_count (entry_at read key) n (sym some ∙ is) in (it.0, ap (λ (s : List (Option SourceEntry)). entry_at s key) (sym same) ∙ it.1, it.2)
-
 -- the count of a source is that of its listeners
 pub as_counted : (sources : List (Option SourceEntry)) (listeners : List (Option Listener)) (key : ℕ) (e : SourceEntry) → entry_at sources key ≡ Some e → AreListed sources listeners
     → e.listeners ≡ count_of key listeners

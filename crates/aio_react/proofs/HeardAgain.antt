@@ -1,5 +1,5 @@
 -- What sources and listeners are to one another where one listener changes with its source.
-use Rattle.std.proofs.Common.{◌≡◌, ◌≢◌, ℕ, zero, suc, ◌+◌, Bool, if◌then◌else◌, ◌==◌, List, [], ◌∷◌, length, get_or, slice_set, slice_index_or, Option, None, Some, IfSome, option_map, refl, sym, ap, ◌∙◌, subst, arith, ⊎_elim}
+use Rattle.std.proofs.Common.{◌≡◌, ◌≢◌, ℕ, zero, suc, ◌+◌, Bool, if◌then◌else◌, ◌==◌, List, [], ◌∷◌, length, slice_set, slice_index_or, Option, None, Some, IfSome, option_map, refl, sym, ap, ◌∙◌, subst, arith, ⊎_elim}
 use Rattle.std.proofs.lemmas.Bool.{cases_eq, eq-eqb, ne_eqb}
 use Rattle.aio_base.specs.declared.names.Dir.{Dir}
 use Rattle.aio_base.specs.declared.names.Dir.TheVariants.{Read, Write}
@@ -59,20 +59,9 @@ module _ {X : Type 0} where
 
 -- ## The source of a listener
 
-read_heard : (sources : List (Option SourceEntry)) (key : ℕ) (place : Option SourceEntry) (l : Listener) → IsListenedTo (entry_at sources key) l → place ≡ get_or sources key place
-    → entry_at sources key ≡ place
-read_heard [] key place l heard is = absurd heard
-read_heard (first ∷ sources) zero place l heard is = sym is
-read_heard (first ∷ sources) (suc key) place l heard is = read_heard sources key place l heard is
-
 pub heard_at : (sources : List (Option SourceEntry)) (listeners : List (Option Listener)) (number : ℕ) (l : Listener) → AreListed sources listeners → value_of listeners number ≡ Some l
     → IsListenedTo (entry_at sources l.key.0) l
 heard_at sources listeners number l listed is = subst (λ (v : Option Listener). IfSome v (λ (l : Listener). IsListenedTo (entry_at sources l.key.0) l)) is (listed.heard number)
-
--- what was read at the key of a listener is its source
-pub source_read : (sources : List (Option SourceEntry)) (listeners : List (Option Listener)) (number : ℕ) (l : Listener) (place : Option SourceEntry) (e : SourceEntry) → AreListed sources listeners
-    → value_of listeners number ≡ Some l → place ≡ get_or sources l.key.0 place → place ≡ Some e → entry_at sources l.key.0 ≡ Some e
-source_read sources listeners number l place e listed is read found = read_heard sources l.key.0 place l (heard_at sources listeners number l listed is) read ∙ found
 
 -- ## Counts
 

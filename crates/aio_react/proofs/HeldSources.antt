@@ -1,7 +1,6 @@
 -- What is read at a key, and that each source stays at its key with its listeners where one of them changes.
-use Rattle.std.proofs.Common.{◌≡◌, ◌≢◌, ℕ, zero, suc, ◌<◌, ◌≤◌, Bool, true, false, if◌then◌else◌, List, [], ◌∷◌, length, get_or, set, slice_set, slice_index_or, Option, None, Some, IfSome, Result, refl, sym, ap, ◌∙◌, subst, arith, ⊎_elim}
+use Rattle.std.proofs.Common.{◌≡◌, ◌≢◌, ℕ, Bool, true, false, if◌then◌else◌, List, [], ◌∷◌, slice_set, Option, None, Some, IfSome, Result, refl, sym, ap, ◌∙◌, subst, ⊎_elim}
 use Rattle.std.proofs.lemmas.Bool.{cases_eq}
-use Rattle.std.proofs.lemmas.List.{set-get_or}
 use Rattle.aio_base.specs.declared.names.Dir.{Dir}
 use Rattle.aio_base.specs.declared.names.Dir.TheVariants.{Read, Write}
 use Rattle.aio_base.specs.declared.names.Interest.{Interest}
@@ -21,23 +20,6 @@ use Rattle.aio_react.specs.declared.entries.SourceEntry.{SourceEntry}
 use Rattle.aio_react.specs.Cores.{entry_at, AreKeyed, AreListed, IsListenedTo, ticket_of, count_of}
 use Rattle.aio_react.specs.Numbers.{value_of}
 use Rattle.aio_react.proofs.SourceChanges.{KeepsListeners, keeps_listeners, place_here, place_aside}
-
--- ## Places that were read
-
-module _ {X : Type 0} where
-  pub read_at : (xs : List (Option X)) (k : ℕ) (place : Option X) → k < length xs → place ≡ get_or xs k place → slice_index_or xs k None ≡ place
-  read_at [] k place within is = absurd (omega arith)
-  read_at (x ∷ xs) zero place within is = sym is
-  read_at (x ∷ xs) (suc k) place within is = read_at xs k place (omega arith) is
-
-  pub read_past : (xs : List (Option X)) (k : ℕ) → length xs ≤ k → slice_index_or xs k None ≡ None
-  read_past [] k past = refl
-  read_past (x ∷ xs) zero past = absurd (omega arith)
-  read_past (x ∷ xs) (suc k) past = read_past xs k (omega arith)
-
-  -- what was read is put back
-  pub read_back : (xs : List (Option X)) (k : ℕ) (place : Option X) → place ≡ get_or xs k place → set xs k place ≡ xs
-  read_back xs k place is = ap (λ (p : Option X). set xs k p) is ∙ set-get_or xs k place
 
 pub key_is : (sources : List (Option SourceEntry)) (key : Key) (e : SourceEntry) → AreKeyed sources → entry_at sources key.0 ≡ Some e → key ≡ e.source.key
 key_is sources key e keyed is =

@@ -1,5 +1,5 @@
 -- What a later poll of a listener reads.
-use Rattle.std.proofs.Common.{◌≡◌, ◌≤◌, ℕ, List, get_or, Option, Some, subst}
+use Rattle.std.proofs.Common.{◌≡◌, ◌≤◌, ℕ, List, Option, Some, subst}
 use Rattle.aio_base.specs.declared.names.Dir.{Dir}
 use Rattle.aio_listen.specs.Listening.{Holds}
 use Rattle.aio_source.specs.Rules.{direction_of}
@@ -11,7 +11,7 @@ use Rattle.aio_react.specs.declared.listener_table.Seat.TheVariants as seat
 use Rattle.aio_react.specs.Cores.{entry_at, AreListed, IsListenedTo}
 use Rattle.aio_react.specs.Numbers.{value_of}
 use Rattle.aio_react.specs.Seats.{seat_in, listened_in, IsBeside}
-use Rattle.aio_react.proofs.HeardAgain.{heard_at, source_read}
+use Rattle.aio_react.proofs.HeardAgain.{heard_at}
 use Rattle.aio_react.proofs.SeatLemmas.{seated, polled-seat}
 
 -- the listener, and its source, which holds its ticket
@@ -21,14 +21,13 @@ pub record Again (sources : List (Option SourceEntry)) (listeners : List (Option
   pub early_is : early ≤ first.a
   pub held : Holds (direction_of e.source.directions dir).listeners.entries first.ticket
 
-pub again_read : (sources : List (Option SourceEntry)) (listeners : List (Option Listener)) (number key : ℕ) (dir : Dir) (place early : ℕ) (p : FirstPoll) (slot : Option SourceEntry) (e : SourceEntry)
+pub again_read : (sources : List (Option SourceEntry)) (listeners : List (Option Listener)) (number key : ℕ) (dir : Dir) (place early : ℕ) (p : FirstPoll) (e : SourceEntry)
     → AreListed sources listeners → seat.Polled dir key place early ≡ seat_in (value_of listeners number) → IsBeside (value_of listeners number) p
-    → slot ≡ get_or sources key slot → slot ≡ Some e → Again sources listeners number key dir early (listened_in place p) e
-again_read sources listeners number key dir place early p slot e listed seats beside read found =
+    → entry_at sources key ≡ Some e → Again sources listeners number key dir early (listened_in place p) e
+again_read sources listeners number key dir place early p e listed seats beside there =
     let l = seated key dir (Some (listened_in place p)) in
     let both = polled-seat (value_of listeners number) dir key place early p seats beside in
     let is = both.0 in
-    let there = source_read sources listeners number l slot e listed is read found in
     record {
       is = is;
       there = there;

@@ -5,6 +5,7 @@ mod Living
 mod Clearing
 pub mod Later
 mod WaitMeets
+pub mod KeyPlaces
 mod Places
 mod Arrivals
 mod Listed

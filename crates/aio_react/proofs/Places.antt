@@ -1,5 +1,5 @@
 -- The places of a core's sources: the first free one, a source at a place, and how many there are.
-use Rattle.std.proofs.Common.{◌≡◌, ◌≢◌, ℕ, zero, suc, ◌+◌, ◌<◌, ◌≤◌, min, true, List, [], ◌∷◌, ◌++◌, length, set, Option, None, Some, IfSome, is_some, refl, sym, ap, ◌∙◌, subst, ⊎_elim, arith}
+use Rattle.std.proofs.Common.{◌≡◌, ◌≢◌, ℕ, zero, suc, ◌+◌, ◌<◌, ◌≤◌, true, List, [], ◌∷◌, length, set, Option, None, Some, IfSome, is_some, refl, sym, ap, ◌∙◌, subst, ⊎_elim, arith}
 use Rattle.std.proofs.lemmas.Bool.{cases_lt, cases_eq}
 use Rattle.aio_react.specs.declared.entries.SourceEntry.{SourceEntry}
 use Rattle.aio_react.specs.Cores.{entry_at, AreKeyed}
@@ -20,9 +20,6 @@ free_few [] = omega arith
 free_few (None ∷ sources) = omega arith
 free_few (Some e ∷ sources) = omega (arith, free_few sources)
 
-pub free_within : (sources : List (Option SourceEntry)) → free_key sources ≤ length sources
-free_within sources = omega (arith, free_few sources, count_few sources)
-
 one_later : (e : SourceEntry) (sources : List (Option SourceEntry)) → free_key (Some e ∷ sources) ≡ suc (free_key sources)
 one_later e sources = omega arith
 
@@ -36,18 +33,6 @@ below_free [] key below = absurd (omega arith)
 below_free (None ∷ sources) key below = absurd (omega arith)
 below_free (Some e ∷ sources) zero below = refl
 below_free (Some e ∷ sources) (suc key) below = below_free sources key (omega arith)
-
--- a source that is changed in its place leaves the first free one
-free_again : (sources : List (Option SourceEntry)) (at : ℕ) (e new : SourceEntry) → entry_at sources at ≡ Some e → free_key (set sources at (Some new)) ≡ free_key sources
-free_again [] at e new is = refl
-free_again (None ∷ sources) zero e new is = absurd (cc)
-free_again (Some d ∷ sources) zero e new is = refl
-free_again (None ∷ sources) (suc at) e new is = refl
-free_again (Some d ∷ sources) (suc at) e new is = ap (λ (n : ℕ). 1 + n) (free_again sources at e new is)
-
-pub live_again : (sources : List (Option SourceEntry)) (first at : ℕ) (e new : SourceEntry) → entry_at sources at ≡ Some e → first ≤ free_key sources
-    → first ≤ free_key (set sources at (Some new))
-live_again sources first at e new is live = omega (arith, free_again sources at e new is)
 
 -- where every place has a source none is free
 all_filled : (sources : List (Option SourceEntry)) → length sources ≤ count_entries sources → length sources ≤ free_key sources
@@ -63,15 +48,6 @@ has_free sources limit few free =
     (cases_lt (count_entries sources) limit)
 
 -- ## A source at a place
-
-pub placed_set : (sources : List (Option SourceEntry)) (at : ℕ) (e : SourceEntry) → at < length sources → placed sources at e ≡ set sources at (Some e)
-placed_set [] at e within = absurd (omega arith)
-placed_set (place ∷ sources) zero e within = refl
-placed_set (place ∷ sources) (suc at) e within = ap (λ rest. place ∷ rest) (placed_set sources at e (omega arith))
-
-pub placed_last : (sources : List (Option SourceEntry)) (e : SourceEntry) → placed sources (length sources) e ≡ sources ++ Some e ∷ []
-placed_last [] e = refl
-placed_last (place ∷ sources) e = ap (λ rest. place ∷ rest) (placed_last sources e)
 
 pub placed_here : (sources : List (Option SourceEntry)) (at : ℕ) (e : SourceEntry) → at ≤ length sources → entry_at (placed sources at e) at ≡ Some e
 placed_here [] zero e within = refl
@@ -98,21 +74,6 @@ placed_count (None ∷ sources) zero e within none = refl
 placed_count (Some d ∷ sources) zero e within none = absurd (cc)
 placed_count (None ∷ sources) (suc at) e within none = placed_count sources at e (omega arith) none
 placed_count (Some d ∷ sources) (suc at) e within none = ap (λ (n : ℕ). n + 1) (placed_count sources at e (omega arith) none)
-
-pub placed_few : (sources : List (Option SourceEntry)) (at limit : ℕ) (e : SourceEntry) → length sources ≤ limit → at < limit → length (placed sources at e) ≤ limit
-placed_few [] at limit e few within = omega arith
-placed_few (place ∷ sources) zero limit e few within = omega arith
-placed_few (place ∷ sources) (suc at) zero e few within = absurd (omega arith)
-placed_few (place ∷ sources) (suc at) (suc limit) e few within = omega (arith, placed_few sources at limit e (omega arith) (omega arith))
-
--- a source at the first free place leaves each key up to it live
-pub live_placed : (sources : List (Option SourceEntry)) (at : ℕ) (e : SourceEntry) → at ≡ free_key sources → at + 1 ≤ free_key (placed sources at e)
-live_placed [] zero e is = omega arith
-live_placed [] (suc at) e is = absurd (omega arith)
-live_placed (None ∷ sources) zero e is = omega arith
-live_placed (None ∷ sources) (suc at) e is = absurd (omega arith)
-live_placed (Some d ∷ sources) zero e is = absurd (omega arith)
-live_placed (Some d ∷ sources) (suc at) e is = omega (arith, live_placed sources at e (omega arith))
 
 -- what is so of the source at each place is so after a source came to one, of which it is so
 pub each_placed : (sources : List (Option SourceEntry)) (at : ℕ) (e : SourceEntry) (Is : ℕ → SourceEntry → Type 0) → at ≤ length sources → Is at e
@@ -149,13 +110,6 @@ cleared_count (None ∷ sources) zero e is = absurd (cc)
 cleared_count (Some d ∷ sources) zero e is = refl
 cleared_count (None ∷ sources) (suc at) e is = cleared_count sources at e is
 cleared_count (Some d ∷ sources) (suc at) e is = ap (λ (n : ℕ). n + 1) (cleared_count sources at e is)
-
--- a place without its source leaves each key below it live that was
-pub live_left : (sources : List (Option SourceEntry)) (at : ℕ) → min (free_key sources) at ≤ free_key (set sources at None)
-live_left [] at = omega arith
-live_left (None ∷ sources) at = omega arith
-live_left (Some d ∷ sources) zero = omega arith
-live_left (Some d ∷ sources) (suc at) = omega (arith, live_left sources at)
 
 -- what is so of the source at each other place is so of each that is left
 pub each_left : (sources : List (Option SourceEntry)) (at : ℕ) (Is : ℕ → SourceEntry → Type 0) → ((key : ℕ) → key ≢ at → IfSome (entry_at sources key) (Is key))

@@ -1,5 +1,5 @@
 -- What contracts see of a core beside its poller, and what its sources and listeners are to one another.
-use Rattle.std.specs.Prelude.{◌≡◌, ◌≢◌, ℕ, ◌+◌, ◌==◌, if◌then◌else◌, List, [], ◌∷◌, Option, None, Some, IfSome, option_map, slice_index_or}
+use Rattle.std.specs.Prelude.{◌≡◌, ◌≢◌, ℕ, ◌+◌, ◌==◌, if◌then◌else◌, List, [], ◌∷◌, Option, None, Some, IfSome, option_map}
 use Rattle.aio_base.specs.World.{Registration}
 use Rattle.aio_listen.specs.declared.ticket.Ticket.{Ticket}
 use Rattle.aio_listen.specs.Listening.{Holds}
@@ -7,6 +7,7 @@ use Rattle.aio_source.specs.declared.answers.Listened.{Listened}
 use Rattle.aio_source.specs.Rules.{direction_of}
 use Rattle.aio_react.specs.declared.entries.Listener.{Listener}
 use Rattle.aio_react.specs.declared.entries.SourceEntry.{SourceEntry}
+use Rattle.aio_react.specs.KeyTables.{at_key}
 use Rattle.aio_react.specs.Numbers.{value_of}
 use Rattle.aio_react.specs.Rounds.{RoundValue, new_round}
 
@@ -25,7 +26,7 @@ new_core = record { sources = []; listeners = []; ticker = 0; book = []; ids_dra
 
 -- the source of a key, with the count of its listeners
 abbrev pub entry_at : List (Option SourceEntry) → ℕ → Option SourceEntry
-entry_at sources key = slice_index_or sources key None
+entry_at sources key = at_key sources key
 
 -- each source stands at the place of its key
 abbrev pub AreKeyed : List (Option SourceEntry) → Type 0

@@ -1,6 +1,8 @@
 pub mod Rounds
 pub mod Numbers
 pub mod Seats
+pub mod KeyTables
+pub mod TableLending
 pub mod Cores
 pub mod Facts
 pub mod Standing

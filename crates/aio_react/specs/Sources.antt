@@ -1,6 +1,5 @@
 -- What adding a source and taking one out make of a core, and how each is answered.
-use Rattle.std.specs.Prelude.{◌≡◌, ℕ, zero, suc, ◌<◌, ◌≤◌, List, [], ◌∷◌, slice_set, is_none, Option, None, Some, IsSome, Result, Ok, Err}
-use Rattle.std.specs.List.{position_or_len}
+use Rattle.std.specs.Prelude.{◌≡◌, ℕ, ◌<◌, ◌≤◌, List, slice_set, Option, None, Some, IsSome, Result, Ok, Err}
 use Rattle.aio_base.specs.declared.names.Key.{Key}
 use Rattle.aio_base.specs.declared.outcomes.CountFault.{CountFault}
 use Rattle.aio_base.specs.declared.outcomes.Failed.{Failed}
@@ -12,19 +11,18 @@ use Rattle.aio_react.specs.declared.entries.SourceEntry.{SourceEntry}
 use Rattle.aio_react.specs.declared.refusals.CoreRefusal.{CoreRefusal}
 use Rattle.aio_react.specs.declared.refusals.CoreRefusal.TheVariants as refusal
 use Rattle.aio_react.specs.Cores.{CoreValue, entry_at, count_of}
+use Rattle.aio_react.specs.KeyTables.{least_free, put_at}
 use Rattle.aio_react.specs.Standing.{count_entries}
 
 -- ## Adding
 
 -- the least key that is not live
 abbrev pub free_key : List (Option SourceEntry) → ℕ
-free_key sources = position_or_len is_none sources
+free_key sources = least_free sources
 
 -- a source at a place, which may be the first past the end
 abbrev pub placed : List (Option SourceEntry) → ℕ → SourceEntry → List (Option SourceEntry)
-placed [] at entry = Some entry ∷ []
-placed (place ∷ sources) zero entry = Some entry ∷ sources
-placed (place ∷ sources) (suc at) entry = place ∷ placed sources at entry
+placed sources at entry = put_at sources at entry
 
 -- a source of which nothing has happened, with no listener
 abbrev pub new_entry : Key → SourceEntry

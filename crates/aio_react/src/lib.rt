@@ -4,11 +4,13 @@
 //! It stands on `aio_base`, on the sources of `aio_source` with the tickets of `aio_listen`, and on
 //! the book of `aio_timers`. A round promises of each section the whole round after it, and what
 //! became of what it was lent. A core promises that a call meets the step of the reactor machine,
-//! whatever its poller answers. The traits promise what `hosts` says.
+//! whatever its poller answers. A table promises what is at each key, and which key is the least free
+//! one. The traits promise what `hosts` says.
 #![tactic(auto)]
 
 mod entries;
 pub mod hosts;
+mod key_table;
 pub mod laws;
 mod listener_table;
 mod outcomes;
@@ -17,6 +19,7 @@ mod refusals;
 mod round;
 
 pub use hosts::{Host, InsertRefusal, TimerHost};
+pub use key_table::KeyTable;
 pub use outcomes::{Handled, Reacted};
 pub use reactor::Core;
 pub use refusals::CoreRefusal;

@@ -17,6 +17,7 @@ mod sources;
 
 use crate::entries::SourceEntry;
 use crate::hosts::{InsertRefusal, TimerHost};
+use crate::key_table::KeyTable;
 use crate::listener_table::ListenerTable;
 use crate::refusals::CoreRefusal;
 use crate::round::Round;
@@ -24,9 +25,6 @@ use aio_base::{EventWait, Key, Later, Moment, OutOfMemory, Poller, TimerId, Wait
 use aio_timers::{TimerBook, TimerOp};
 use std::alloc::Global;
 use std::marker::Model;
-
-/// How many sources live at most.
-const SOURCE_LIMIT: usize = 4096;
 
 /// How many ids a pass draws at most.
 const IDS: u64 = 0xff_ffff_ffff;
@@ -44,9 +42,7 @@ const IDS: u64 = 0xff_ffff_ffff;
 #[derive(Drop)]
 pub struct Core<P> {
     poller: P,
-    sources: Vec<Option<SourceEntry>>,
-    /// Every key below this one is live.
-    first_free: usize,
+    sources: KeyTable<SourceEntry>,
     listeners: ListenerTable,
     ticker: u64,
     book: TimerBook,
@@ -56,16 +52,15 @@ pub struct Core<P> {
 }
 
 impl<P> Model for Core<P> {
-    ghost use Rattle.std.specs.Prelude.{◌≤◌, ◌-◌, ◌^◌, vec_len, vec_capacity};
+    ghost use Rattle.std.specs.Prelude.{◌≤◌, ◌-◌, ◌^◌};
     ghost use Rattle.aio_react.specs.Cores.{CoreValue, AreKeyed, AreListed};
-    ghost use Rattle.aio_react.specs.Sources.{free_key};
 
     ghost Value = { P × CoreValue };
 
     ghost view = { λ c. (
       c.poller,
       record {
-        sources = c.sources.items;
+        sources = c.sources;
         listeners = c.listeners;
         ticker = c.ticker;
         book = c.book.entries;
@@ -74,9 +69,8 @@ impl<P> Model for Core<P> {
       },
     ) };
 
-    ghost invariant = { λ c. (vec_len c.sources ≤ 4096) × (4096 ≤ vec_capacity c.sources)
-        × AreKeyed c.sources.items × AreListed c.sources.items c.listeners
-        × (c.ids_drawn ≤ 2 ^ 40 - 1) × (c.first_free ≤ free_key c.sources.items) };
+    ghost invariant = { λ c. AreKeyed c.sources × AreListed c.sources c.listeners
+        × (c.ids_drawn ≤ 2 ^ 40 - 1) };
 }
 
 impl<P: Poller> Core<P> {
@@ -105,13 +99,12 @@ impl<P: Poller> Core<P> {
         let Ok(round) = Round::new(alloc) else {
             return Err(poller);
         };
-        let Ok(sources) = Vec::with_capacity(alloc, SOURCE_LIMIT) else {
+        let Ok(sources) = KeyTable::new(alloc) else {
             return Err(poller);
         };
         Ok(Core {
             poller,
             sources,
-            first_free: 0,
             listeners: ListenerTable::new(alloc),
             ticker: 0,
             book: TimerBook::new(alloc),
@@ -137,7 +130,7 @@ impl<P: Poller> Core<P> {
         ensures world { (w : World) → Stands (P.interests self.now.0) self.now.1 w
             → result ≡ is_live w.live key.0 }
     {
-        has_entry(self.sources.as_slice(), key)
+        self.sources.is_taken(key)
     }
 
     /// Waits once in the running round, for at most its limit, where no event is in hand. `NoRound`
@@ -232,14 +225,6 @@ impl<P: Poller> TimerHost for Core<P> {
         self.book.apply(TimerOp::Remove(at, id));
         Ok(())
     }
-}
-
-/// Whether a source stands at the place of this key.
-fn has_entry(sources: &[Option<SourceEntry>], key: Key) -> bool
-    ensures { result ≡ is_some (entry_at sources.now key.0) }
-{
-    let at = key.0 as usize;
-    at < sources.len() && sources[at].is_some()
 }
 
 /// Refuses where no round runs, or where an event is in hand.

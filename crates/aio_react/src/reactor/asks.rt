@@ -19,11 +19,7 @@ impl<P: Poller> Core<P> {
     pub fn poll_asks(&self, key: Key, dir: Dir) -> Option<Interest>
         ensures { (w : Waker) → result ≡ asked_of (poll_part self.now.1 key.0 dir w) }
     {
-        let at = key.0 as usize;
-        if at >= self.sources.len() {
-            return None;
-        }
-        match &self.sources[at] {
+        match self.sources.get(key) {
             Some(entry) => entry.source.poll_asks(dir),
             None => None,
         }
@@ -38,7 +34,7 @@ impl<P: Poller> Core<P> {
         let Some(heard) = self.listeners.get(listener) else {
             return None;
         };
-        match &self.sources[heard.key.0 as usize] {
+        match self.sources.get(heard.key) {
             Some(entry) => listener_asks(entry, heard),
             None => None,
         }
@@ -52,11 +48,7 @@ impl<P: Poller> Core<P> {
         let Some(event) = self.round.peek() else {
             return None;
         };
-        let at = event.key.0 as usize;
-        if at >= self.sources.len() {
-            return None;
-        }
-        match &self.sources[at] {
+        match self.sources.get(event.key) {
             Some(entry) => entry.source.handle_asks(event.on),
             None => None,
         }

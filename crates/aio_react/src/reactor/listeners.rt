@@ -38,13 +38,8 @@ impl<P: Poller> Core<P> {
         ensures round { self.new.1.round ≡ self.old.1.round }
         ensures poller { self.new.0 ≡ self.old.0 }
     {
-        let at = key.0 as usize;
-        if at >= self.sources.len() {
+        let Some(entry) = self.sources.get_mut(key) else {
             return Err(CoreRefusal::NoSource);
-        }
-        let entry = match &mut self.sources[at] {
-            Some(entry) => entry,
-            None => return Err(CoreRefusal::NoSource),
         };
         if self.listeners.given() == u64::MAX {
             return Err(CoreRefusal::TicketsSpent);
@@ -101,7 +96,7 @@ impl<P: Poller> Core<P> {
         } = seat
         {
             let first_poll = self.listeners.first_poll(listener);
-            return match &mut self.sources[key as usize] {
+            return match self.sources.given_mut(Key(key as u32)) {
                 Some(entry) => Ok(poll_again(
                     &mut entry.source,
                     &mut self.poller,
@@ -117,7 +112,7 @@ impl<P: Poller> Core<P> {
         let Seat::Unpolled { dir, key } = seat else {
             return Err(CoreRefusal::NoListener);
         };
-        let listened = match &mut self.sources[key as usize] {
+        let listened = match self.sources.given_mut(Key(key as u32)) {
             Some(entry) => entry
                 .source
                 .first_listen(&mut self.poller, dir, w, self.ticker),
@@ -152,7 +147,7 @@ impl<P: Poller> Core<P> {
         let Some(heard) = self.listeners.take(listener) else {
             return Err(CoreRefusal::NoListener);
         };
-        let Some(entry) = &mut self.sources[heard.key.0 as usize] else {
+        let Some(entry) = self.sources.given_mut(heard.key) else {
             return Err(CoreRefusal::NoListener);
         };
         give_up(entry, heard);

@@ -37,11 +37,7 @@ impl<P: Poller> Core<P> {
           after = P.fault_count self.new.0;
         }) }
     {
-        let at = key.0 as usize;
-        if at >= self.sources.len() {
-            return Err(CoreRefusal::NoSource);
-        }
-        match &mut self.sources[at] {
+        match self.sources.get_mut(key) {
             Some(entry) => Ok(entry.source.poll_dir(&mut self.poller, dir, w, self.ticker)),
             None => Err(CoreRefusal::NoSource),
         }

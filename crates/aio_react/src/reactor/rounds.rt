@@ -100,12 +100,7 @@ impl<P: Poller> Core<P> {
             return Err(CoreRefusal::NothingInHand);
         };
         let key = event.key;
-        let at = key.0 as usize;
-        if at >= self.sources.len() {
-            self.round.skip();
-            return Ok(Handled { key, fault: None });
-        }
-        match &mut self.sources[at] {
+        match self.sources.get_mut(key) {
             Some(entry) => match self.round.handle(&mut entry.source, &mut self.poller) {
                 Ok(fault) => Ok(Handled { key, fault }),
                 Err(_) => Err(CoreRefusal::OutOfMemory),

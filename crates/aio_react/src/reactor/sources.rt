@@ -1,15 +1,13 @@
 //! Sources join a core and leave it.
 
-ghost use Rattle.std.specs.Prelude.{◌≡◌, ◌<◌, ◌≤◌, [], None, Some, Err, IsSome, IfSome, option_map, vec_len, vec_capacity};
+ghost use Rattle.std.specs.Prelude.{◌≡◌, [], None, Err, IsSome, IfSome};
 ghost use Rattle.aio_base.specs.declared.steps.Step.TheVariants as step;
 ghost use Rattle.aio_base.specs.Devices.{PollerStep, TellsFaults, AddOf, RemoveOf};
 ghost use Rattle.aio_react.specs.declared.refusals.CoreRefusal.TheVariants as refusal;
-ghost use Rattle.aio_react.specs.declared.entries.SourceEntry.{SourceEntry as Entry};
-ghost use Rattle.aio_react.specs.Cores.{entry_at};
 ghost use Rattle.aio_react.specs.Meeting.{Meets};
-ghost use Rattle.aio_react.specs.Sources.{free_key, placed, AnswersAdd, after_add, add_told, add_failure, add_reply, AnswersDel, after_del, del_told, del_failure, del_reply};
+ghost use Rattle.aio_react.specs.Sources.{free_key, AnswersAdd, after_add, add_told, add_failure, add_reply, AnswersDel, after_del, del_told, del_failure, del_reply};
 
-use super::{Core, SOURCE_LIMIT};
+use super::Core;
 use crate::entries::SourceEntry;
 use crate::refusals::CoreRefusal;
 use aio_base::{CountFault, Key, Poller};
@@ -34,11 +32,9 @@ impl<P: Poller> Core<P> {
           after = P.fault_count self.new.0;
         }) }
     {
-        let at = first_free_place(self.sources.as_slice(), self.first_free);
-        if at >= SOURCE_LIMIT {
+        let Some(key) = self.sources.free_key() else {
             return Err(CoreRefusal::Full);
-        }
-        let key = Key(at as u32);
+        };
         let before = self.poller.faults();
         match self.poller.add(key) {
             Ok(()) => {}
@@ -53,8 +49,7 @@ impl<P: Poller> Core<P> {
             source: SourceState::new(self.alloc, key),
             listeners: 0,
         };
-        fill_place(&mut self.sources, at, entry);
-        self.first_free = at + 1;
+        self.sources.put(key, entry);
         Ok(key)
     }
 
@@ -78,17 +73,15 @@ impl<P: Poller> Core<P> {
           after = P.fault_count self.new.0;
         }) }
     {
-        let Some(listeners) = listeners_of(self.sources.as_slice(), key) else {
+        let Some(entry) = self.sources.get(key) else {
             return Err(CoreRefusal::NoSource);
         };
-        if listeners > 0 {
+        if entry.listeners > 0 {
             return Err(CoreRefusal::InUse);
         }
         let before = self.poller.faults();
         let removed = self.poller.remove(key);
-        let at = key.0 as usize;
-        self.sources[at] = None;
-        self.first_free = self.first_free.min(at);
+        self.sources.clear(key);
         match removed {
             Ok(()) => Ok(()),
             Err(_) => Err(CoreRefusal::RemoveFault(CountFault {
@@ -96,46 +89,5 @@ impl<P: Poller> Core<P> {
                 after: self.poller.faults(),
             })),
         }
-    }
-}
-
-/// How many listeners the source of this key has, where it is there.
-fn listeners_of(sources: &[Option<SourceEntry>], key: Key) -> Option<u64>
-    ensures { result ≡ option_map (λ (e : Entry). e.listeners) (entry_at sources.now key.0) }
-{
-    let at = key.0 as usize;
-    if at >= sources.len() {
-        return None;
-    }
-    match &sources[at] {
-        Some(entry) => Some(entry.listeners),
-        None => None,
-    }
-}
-
-/// The first place with no source, or the end, where each place before `from` has one.
-fn first_free_place(sources: &[Option<SourceEntry>], from: usize) -> usize
-    requires { from ≤ free_key sources.now }
-    ensures { result ≡ free_key sources.now }
-{
-    for place in from..sources.len() {
-        if sources[place].is_none() {
-            return place;
-        }
-    }
-    sources.len()
-}
-
-/// Puts a source at a place, which may be the first past the end.
-fn fill_place(sources: &mut Vec<Option<SourceEntry>>, at: usize, entry: SourceEntry)
-    requires within { at ≤ vec_len sources.old }
-    requires room { at < vec_capacity sources.old }
-    ensures items { sources.new.items ≡ placed sources.old.items at entry }
-    ensures capacity { vec_capacity sources.old ≤ vec_capacity sources.new }
-{
-    if at < sources.len() {
-        sources[at] = Some(entry);
-    } else {
-        sources.push_reserved(Some(entry));
     }
 }

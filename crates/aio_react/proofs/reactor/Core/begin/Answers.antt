@@ -8,14 +8,14 @@ use Rattle.aio_react.proofs.reactor.Core.begin.Goals as goal
 pub returns-then-not-is_idle-clause-meets : goal.returns-then-not-is_idle-clause-meets
 returns-then-not-is_idle-clause-meets g c =
     let i = c.self.inside in
-    let core : CoreValue = record { sources = i.sources.items; listeners = i.listeners; ticker = i.ticker; book = i.book.entries; ids_drawn = i.ids_drawn; round = i.round } in
+    let core : CoreValue = record { sources = i.sources; listeners = i.listeners; ticker = i.ticker; book = i.book.entries; ids_drawn = i.ids_drawn; round = i.round } in
     let running : i.round.running ≡ true = told_running c.is_idle.result i.round.running c.is_idle.ensures c.if-not-is_idle.true in
     rw (← c.self.view_is) (locked_meets (PollerStep g.P.Arm.arm_step g.P.EventWait.wait_step) g.P.Arm.interests i.poller core (Some c.args.now) c.args.given running)
 
 pub returns-in-Ok-clause-meets : goal.returns-in-Ok-clause-meets
 returns-in-Ok-clause-meets g c =
     let i = c.self.inside in
-    let core : CoreValue = record { sources = i.sources.items; listeners = i.listeners; ticker = i.ticker; book = i.book.entries; ids_drawn = i.ids_drawn; round = i.round } in
+    let core : CoreValue = record { sources = i.sources; listeners = i.listeners; ticker = i.ticker; book = i.book.entries; ids_drawn = i.ids_drawn; round = i.round } in
     let idle : i.round.running ≡ false = told_idle c.is_idle.result i.round.running c.is_idle.ensures c.if-not-is_idle.false in
     let number : c.in-Some.number ≡ i.ticker + 1 = c.in-Some.ensures.1 in
     rw (← c.self.view_is)

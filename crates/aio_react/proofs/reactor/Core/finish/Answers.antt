@@ -10,14 +10,14 @@ use Rattle.aio_react.proofs.reactor.Core.finish.Goals.{in-Ok-finish, in-Err-fini
 pub returns-in-Err-clause-part : goal.returns-in-Err-clause-part
 returns-in-Err-clause-part g c limit =
     let i = c.self.inside in
-    let core : CoreValue = record { sources = i.sources.items; listeners = i.listeners; ticker = i.ticker; book = i.book.entries; ids_drawn = i.ids_drawn; round = i.round } in
+    let core : CoreValue = record { sources = i.sources; listeners = i.listeners; ticker = i.ticker; book = i.book.entries; ids_drawn = i.ids_drawn; round = i.round } in
     rw (← c.self.view_is)
     (finish_refused (PollerStep g.P.Arm.arm_step g.P.EventWait.wait_step) g.P.Arm.interests i.poller core limit (Some c.args.now) c.in-Err.refusal c.in-Err.ensures.refused)
 
 pub returns-clause-part : goal.returns-clause-part
 returns-clause-part g c limit =
     let i = c.self.inside in
-    let core : CoreValue = record { sources = i.sources.items; listeners = i.listeners; ticker = i.ticker; book = i.book.entries; ids_drawn = i.ids_drawn; round = i.round } in
+    let core : CoreValue = record { sources = i.sources; listeners = i.listeners; ticker = i.ticker; book = i.book.entries; ids_drawn = i.ids_drawn; round = i.round } in
     rw (← c.self.view_is)
     (elim c.match-finish.branch [
       | in-Ok-finish w ↦ finish_answered (PollerStep g.P.Arm.arm_step g.P.EventWait.wait_step) g.P.Arm.interests i.poller core limit c.args.now

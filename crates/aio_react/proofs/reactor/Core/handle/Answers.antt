@@ -5,9 +5,8 @@ use Rattle.aio_source.specs.Lent.{arm_answer}
 use Rattle.aio_react.specs.Rounds.{first_interest, arm_told}
 use Rattle.aio_react.proofs.FirstEvent.{first_of}
 use Rattle.aio_react.proofs.HandleMeets.{handle_idle, handle_empty, handle_dropped, handle_answered, handle_unanswered}
-use Rattle.aio_react.proofs.HeldSources.{HoldsOn, holds_itself, read_at, read_past, read_back, key_is, keyed_on, listed_on, handled_on}
+use Rattle.aio_react.proofs.HeldSources.{HoldsOn, holds_itself, key_is, keyed_on, listed_on, handled_on}
 use Rattle.aio_react.proofs.PartMeets.{part_steps, replies_step}
-use Rattle.aio_react.proofs.Places.{live_again}
 use Rattle.aio_react.proofs.RoundPast.{told_running, told_idle}
 use Rattle.aio_react.proofs.reactor.Core.handle.Goals as goal
 use Rattle.aio_react.proofs.reactor.Core.handle.Goals.{in-Ok, in-Err}
@@ -31,47 +30,33 @@ pub returns-in_default-clause-meets : goal.returns-in_default-clause-meets
 returns-in_default-clause-meets g c =
     part_steps (PollerStep g.P.Arm.arm_step g.P.EventWait.wait_step) g.P.Arm.interests step.Handle None _ [] None _ _ (returns-in_default-clause-part g c None)
 
-pub returns-then-at-len-clause-part : goal.returns-then-at-len-clause-part
-returns-then-at-len-clause-part g c limit =
-    let i = c.self.inside in
-    let hand = first_of i.round.hand c.in-Some.event (sym c.peek.ensures.value ∙ c.in-Some.is) in
-    rw (← c.self.view_is, c.skip.ensures) (handle_dropped (PollerStep g.P.Arm.arm_step g.P.EventWait.wait_step) g.P.Arm.interests i.poller _ c.in-Some.event limit
-    (told_running c.is_idle.result i.round.running c.is_idle.ensures c.if-is_idle.false) hand (read_past i.sources.items c.in-Some.event.key.0 (omega arith)))
-
-pub returns-then-at-len-clause-meets : goal.returns-then-at-len-clause-meets
-returns-then-at-len-clause-meets g c =
-    part_steps (PollerStep g.P.Arm.arm_step g.P.EventWait.wait_step) g.P.Arm.interests step.Handle None _ [] None _ _ (returns-then-at-len-clause-part g c None)
-
-pub invariant_of-self-in-Some-index_mut : goal.invariant_of-self-in-Some-index_mut
-invariant_of-self-in-Some-index_mut g c =
+pub invariant_of-self : goal.invariant_of-self
+invariant_of-self g c =
     let i = c.self.inside in
     let key = c.in-Some.event.key.0 in
-    let e = c.in-Some-index_mut.entry in
-    let is = read_at i.sources.items key c.index_mut.result.now (omega arith) c.index_mut.ensures.value ∙ c.in-Some-index_mut.is in
+    let e = c.in-Some-get_mut.entry.now in
+    let is = sym c.in-Some-get_mut.ensures.value in
     let on : HoldsOn e.source c.handle.new.s = elim c.match-handle.branch [
       | in-Ok w ↦ handled_on e.source c.handle.new.s (first_interest i.round.hand) i.round.number (arm_answer (arm_told w.in-Ok.fault)) w.in-Ok.ensures.source
       | in-Err w ↦ subst (HoldsOn e.source) (sym w.in-Err.ensures.refused.1) (holds_itself e.source)
     ] in (
+      keyed_on i.sources key e _ is on c.self.invariant.0,
+      listed_on i.sources i.listeners key e _ is on refl c.self.invariant.1,
       omega arith,
-      omega arith,
-      keyed_on i.sources.items key e _ is on c.self.invariant.2,
-      listed_on i.sources.items i.listeners key e _ is on refl c.self.invariant.3,
-      omega arith,
-      live_again i.sources.items _ key e _ is c.self.invariant.5,
     )
 
 pub returns-after-handle-clause-part : goal.returns-after-handle-clause-part
 returns-after-handle-clause-part g c limit =
     let i = c.self.inside in
     let key = c.in-Some.event.key in
-    let e = c.in-Some-index_mut.entry in
+    let e = c.in-Some-get_mut.entry.now in
     let hand = first_of i.round.hand c.in-Some.event (sym c.peek.ensures.value ∙ c.in-Some.is) in
     let running = told_running c.is_idle.result i.round.running c.is_idle.ensures c.if-is_idle.false in
-    let is = read_at i.sources.items key.0 c.index_mut.result.now (omega arith) c.index_mut.ensures.value ∙ c.in-Some-index_mut.is in
+    let is = sym c.in-Some-get_mut.ensures.value in
     rw (← c.self.view_is)
     (elim c.match-handle.branch [
       | in-Ok w ↦ handle_answered g.P.Arm.arm_step g.P.EventWait.wait_step g.P.Arm.interests i.poller c.handle.new.arm _ c.in-Some.event e c.handle.new.s c.handle.new.self w.in-Ok.fault limit c.match-handle.result
-          running hand (key_is i.sources.items key e c.self.invariant.2 is) is w.result-is w.in-Ok.ensures.source w.in-Ok.ensures.round w.in-Ok.ensures.lent.once w.in-Ok.ensures.lent.interests
+          running hand (key_is i.sources key e c.self.invariant.0 is) is w.result-is w.in-Ok.ensures.source w.in-Ok.ensures.round w.in-Ok.ensures.lent.once w.in-Ok.ensures.lent.interests
       | in-Err w ↦ handle_unanswered (PollerStep g.P.Arm.arm_step g.P.EventWait.wait_step) g.P.Arm.interests _ _ limit c.match-handle.result w.result-is
     ])
 
@@ -84,8 +69,8 @@ returns-in-None-clause-part g c limit =
     let i = c.self.inside in
     let key = c.in-Some.event.key.0 in
     let hand = first_of i.round.hand c.in-Some.event (sym c.peek.ensures.value ∙ c.in-Some.is) in
-    let is = read_at i.sources.items key c.index_mut.result.now (omega arith) c.index_mut.ensures.value ∙ c.in-None.is in
-    rw (read_back i.sources.items key c.index_mut.result.now c.index_mut.ensures.value, ← c.self.view_is, c.skip-in-None.ensures)
+    let is = sym c.in-None.ensures.value in
+    rw (← c.self.view_is, c.skip.ensures)
     (handle_dropped (PollerStep g.P.Arm.arm_step g.P.EventWait.wait_step) g.P.Arm.interests i.poller _ c.in-Some.event limit
     (told_running c.is_idle.result i.round.running c.is_idle.ensures c.if-is_idle.false) hand is)
 

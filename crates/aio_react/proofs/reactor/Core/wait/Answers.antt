@@ -10,13 +10,13 @@ use Rattle.aio_react.proofs.reactor.Core.wait.Goals.{in-Ok-wait, in-Err-wait}
 pub returns-in-Err-clause-part : goal.returns-in-Err-clause-part
 returns-in-Err-clause-part g c =
     let i = c.self.inside in
-    let core : CoreValue = record { sources = i.sources.items; listeners = i.listeners; ticker = i.ticker; book = i.book.entries; ids_drawn = i.ids_drawn; round = i.round } in
+    let core : CoreValue = record { sources = i.sources; listeners = i.listeners; ticker = i.ticker; book = i.book.entries; ids_drawn = i.ids_drawn; round = i.round } in
     rw (← c.self.view_is) (refused_meets (PollerStep g.P.Arm.arm_step g.P.EventWait.wait_step) g.P.Arm.interests i.poller core c.in-Err.refusal c.in-Err.ensures.refused)
 
 pub returns-clause-part : goal.returns-clause-part
 returns-clause-part g c =
     let i = c.self.inside in
-    let core : CoreValue = record { sources = i.sources.items; listeners = i.listeners; ticker = i.ticker; book = i.book.entries; ids_drawn = i.ids_drawn; round = i.round } in
+    let core : CoreValue = record { sources = i.sources; listeners = i.listeners; ticker = i.ticker; book = i.book.entries; ids_drawn = i.ids_drawn; round = i.round } in
     let said : c.match-wait.result ≡ core_wait c.wait.result = elim c.match-wait.branch [
       | in-Ok-wait w ↦ w.result-is ∙ sym (ap core_wait w.in-Ok-wait.is)
       | in-Err-wait w ↦ w.result-is ∙ sym (ap core_wait w.in-Err-wait.is)
