@@ -117,7 +117,8 @@ where
       is_sure_notify = D.N.is_sure;
       bounds = D.C.bounds;
     } in
-        (command : Command) → Names command (map string_bytes words.now) → Ran see command result.why
+        (command : Command) → Names command (map string_bytes words.now)
+        → Ran see command result.why
         (record { input = input.old; out = out.old; devices = devices.old })
         (record { input = input.new; out = out.new; devices = devices.new }) }
 
