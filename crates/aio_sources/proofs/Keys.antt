@@ -1,10 +1,12 @@
 -- The keys of a table's places: which is the least free one, how many there are, and what a change of one place makes of them.
-use Rattle.std.proofs.Common.{◌≡◌, ◌≢◌, ℕ, zero, suc, ◌+◌, ◌<◌, ◌≤◌, List, [], ◌∷◌, ◌++◌, length, set, Option, None, Some, is_none, slice_get, get_or, unwrap_or, refl, sym, ap, ◌∙◌, ⊎_elim, subst, arith}
+use Rattle.std.proofs.Common.{◌≡◌, ◌≢◌, ℕ, zero, suc, ◌+◌, ◌<◌, ◌≤◌, List, [], ◌∷◌, length, set, Option, None, Some, IfSome, IsSome, IsNone, Bor, refl, sym, ap, ⊎_elim, subst, arith}
 use Rattle.std.specs.Prelude.{slice_index}
 use Rattle.std.specs.List.Sorted.{IsStrictlyIncreasing}
-use Rattle.std.specs.List.{Contains, insert, position_or_len}
+use Rattle.std.specs.List.{Contains, insert}
+use Rattle.std.specs.Option.{option_copied}
 use Rattle.std.proofs.lemmas.Bool.{cases_eq, cases_lt, eq-eqb, ne_eqb}
-use Rattle.std.proofs.lemmas.Option.{slice_get_past, unwrap_or-slice_get}
+use Rattle.aio_base.specs.declared.names.Key.{Key}
+use Rattle.aio_react.specs.KeyTables.{at_key, least_free, put_at}
 use Rattle.aio_sources.specs.Sources.{live_keys, IsLeastFree, with_key, without_key}
 
 later_is_in : (k : ℕ) (ks : List ℕ) (key : ℕ) → Contains ks key → Contains (k ∷ ks) key
@@ -19,9 +21,6 @@ same_goes : (k key : ℕ) (ks kept : List ℕ) → k ≡ key → kept ≡ withou
 same_goes k key ks kept same rest = rw (eq-eqb k key same) rest
 
 module _ {X : Type 0} where
-  abbrev pub first_none : List (Option X) → ℕ
-  first_none places = position_or_len is_none places
-
   -- ## Which keys are live
 
   none_below : (first key : ℕ) (places : List (Option X)) → key < first → Contains (live_keys first places) key → ⊥
@@ -30,13 +29,13 @@ module _ {X : Type 0} where
   none_below first key (Some x ∷ places) below (zero, within, is) = omega (arith, is)
   none_below first key (Some x ∷ places) below (suc k, within, is) = none_below (suc first) key places (omega arith) (k, omega (arith, within), is)
 
-  free_from : (first key : ℕ) (places : List (Option X)) → key ≡ first + first_none places → Contains (live_keys first places) key → ⊥
+  free_from : (first key : ℕ) (places : List (Option X)) → key ≡ first + least_free places → Contains (live_keys first places) key → ⊥
   free_from first key [] at among = let within = among.1 in omega arith
   free_from first key (None ∷ places) at among = none_below (suc first) key places (omega arith) among
   free_from first key (Some x ∷ places) at (zero, within, is) = omega (arith, is)
   free_from first key (Some x ∷ places) at (suc k, within, is) = free_from (suc first) key places (omega arith) (k, omega (arith, within), is)
 
-  live_from : (first key : ℕ) (places : List (Option X)) → first ≤ key → key < first + first_none places → Contains (live_keys first places) key
+  live_from : (first key : ℕ) (places : List (Option X)) → first ≤ key → key < first + least_free places → Contains (live_keys first places) key
   live_from first key [] from below = absurd (omega arith)
   live_from first key (None ∷ places) from below = absurd (omega arith)
   live_from first key (Some x ∷ places) from below =
@@ -44,9 +43,9 @@ module _ {X : Type 0} where
       (λ (apart : first ≢ key). later_is_in first (live_keys (suc first) places) key (live_from (suc first) key places (omega arith) (omega arith)))
       (cases_eq first key)
 
-  pub least_free : (places : List (Option X)) → IsLeastFree (live_keys 0 places) (first_none places)
-  least_free places = record {
-    free = free_from 0 (first_none places) places (omega arith);
+  pub first_is_free : (places : List (Option X)) → IsLeastFree (live_keys 0 places) (least_free places)
+  first_is_free places = record {
+    free = free_from 0 (least_free places) places (omega arith);
     least = λ lesser below. live_from 0 lesser places (omega arith) (omega arith);
   }
 
@@ -77,67 +76,35 @@ module _ {X : Type 0} where
   few_keys first (None ∷ places) = omega (arith, few_keys (suc first) places)
   few_keys first (Some x ∷ places) = omega (arith, few_keys (suc first) places)
 
-  pub first_few : (first : ℕ) (places : List (Option X)) → first_none places ≤ length (live_keys first places)
+  pub first_few : (first : ℕ) (places : List (Option X)) → least_free places ≤ length (live_keys first places)
   first_few first [] = omega arith
   first_few first (None ∷ places) = omega arith
   first_few first (Some x ∷ places) = omega (arith, first_few (suc first) places)
 
-  all_filled : (first : ℕ) (places : List (Option X)) → length places ≤ length (live_keys first places) → length places ≤ first_none places
+  all_filled : (first : ℕ) (places : List (Option X)) → length places ≤ length (live_keys first places) → length places ≤ least_free places
   all_filled first [] full = omega arith
   all_filled first (None ∷ places) full = absurd (omega (arith, few_keys (suc first) places))
   all_filled first (Some x ∷ places) full = omega (arith, all_filled (suc first) places (omega arith))
 
-  pub first_within : (places : List (Option X)) → first_none places ≤ length places
-  first_within places = omega (arith, few_keys 0 places, first_few 0 places)
-
-  pub full_keys : (places : List (Option X)) (limit : ℕ) → length places ≤ limit → limit ≤ first_none places → length (live_keys 0 places) ≡ limit
+  pub full_keys : (places : List (Option X)) (limit : ℕ) → length places ≤ limit → limit ≤ least_free places → length (live_keys 0 places) ≡ limit
   full_keys places limit few full = omega (arith, few_keys 0 places, first_few 0 places)
 
-  pub full_first : (places : List (Option X)) (limit : ℕ) → length places ≤ limit → length (live_keys 0 places) ≡ limit → limit ≤ first_none places
+  pub full_first : (places : List (Option X)) (limit : ℕ) → length places ≤ limit → length (live_keys 0 places) ≡ limit → limit ≤ least_free places
   full_first places limit few full = omega (arith, few_keys 0 places, all_filled 0 places (omega (arith, few_keys 0 places)))
 
   -- ## A place is filled
 
-  filled_from : (first key : ℕ) (places : List (Option X)) (at : ℕ) (x : X) → at ≡ first_none places → at < length places → key ≡ first + at
-      → live_keys first (set places at (Some x)) ≡ insert (live_keys first places) at key
-  filled_from first key [] at x free within is = absurd (omega arith)
-  filled_from first key (None ∷ places) zero x free within is = let same : first ≡ key = omega arith in ap (λ k. k ∷ live_keys (suc first) places) same
-  filled_from first key (None ∷ places) (suc at) x free within is = absurd (omega arith)
-  filled_from first key (Some y ∷ places) zero x free within is = absurd (omega arith)
-  filled_from first key (Some y ∷ places) (suc at) x free within is =
-      ap (λ ks. first ∷ ks) (filled_from (suc first) key places at x (omega arith) (omega arith) (omega arith))
+  put_from : (first key : ℕ) (places : List (Option X)) (at : ℕ) (x : X) → at ≡ least_free places → key ≡ first + at
+      → live_keys first (put_at places at x) ≡ insert (live_keys first places) at key
+  put_from first key [] zero x free is = let same : first ≡ key = omega arith in ap (λ k. k ∷ []) same
+  put_from first key [] (suc at) x free is = absurd (omega arith)
+  put_from first key (None ∷ places) zero x free is = let same : first ≡ key = omega arith in ap (λ k. k ∷ live_keys (suc first) places) same
+  put_from first key (None ∷ places) (suc at) x free is = absurd (omega arith)
+  put_from first key (Some y ∷ places) zero x free is = absurd (omega arith)
+  put_from first key (Some y ∷ places) (suc at) x free is = ap (λ ks. first ∷ ks) (put_from (suc first) key places at x (omega arith) (omega arith))
 
-  pushed_from : (first key : ℕ) (places : List (Option X)) (at : ℕ) (x : X) → at ≡ first_none places → at ≡ length places → key ≡ first + at
-      → live_keys first (places ++ Some x ∷ []) ≡ insert (live_keys first places) at key
-  pushed_from first key [] zero x free last is = let same : first ≡ key = omega arith in ap (λ k. k ∷ []) same
-  pushed_from first key [] (suc at) x free last is = absurd (omega arith)
-  pushed_from first key (None ∷ places) at x free last is = absurd (omega arith)
-  pushed_from first key (Some y ∷ places) zero x free last is = absurd (omega arith)
-  pushed_from first key (Some y ∷ places) (suc at) x free last is =
-      ap (λ ks. first ∷ ks) (pushed_from (suc first) key places at x (omega arith) (omega arith) (omega arith))
-
-  pub filled_keys : (places : List (Option X)) (at : ℕ) (x : X) → at ≡ first_none places → at < length places
-      → live_keys 0 (set places at (Some x)) ≡ with_key (live_keys 0 places) at
-  filled_keys places at x free within = filled_from 0 at places at x free within (omega arith)
-
-  pub pushed_keys : (places : List (Option X)) (at : ℕ) (x : X) → at ≡ first_none places → length places ≤ at
-      → live_keys 0 (places ++ Some x ∷ []) ≡ with_key (live_keys 0 places) at
-  pushed_keys places at x free last = pushed_from 0 at places at x free (omega (arith, first_within places)) (omega arith)
-
-  pub filled_first : (places : List (Option X)) (at : ℕ) (x : X) → at ≡ first_none places → at < length places
-      → at + 1 ≤ first_none (set places at (Some x))
-  filled_first [] at x free within = absurd (omega arith)
-  filled_first (None ∷ places) zero x free within = omega arith
-  filled_first (None ∷ places) (suc at) x free within = absurd (omega arith)
-  filled_first (Some y ∷ places) zero x free within = absurd (omega arith)
-  filled_first (Some y ∷ places) (suc at) x free within = omega (arith, filled_first places at x (omega arith) (omega arith))
-
-  pub pushed_first : (places : List (Option X)) (at : ℕ) (x : X) → at ≡ first_none places → length places ≤ at
-      → at + 1 ≤ first_none (places ++ Some x ∷ [])
-  pushed_first [] at x free last = omega arith
-  pushed_first (None ∷ places) at x free last = absurd (omega arith)
-  pushed_first (Some y ∷ places) zero x free last = absurd (omega arith)
-  pushed_first (Some y ∷ places) (suc at) x free last = omega (arith, pushed_first places at x (omega arith) (omega arith))
+  pub put_keys : (places : List (Option X)) (at : ℕ) (x : X) → at ≡ least_free places → live_keys 0 (put_at places at x) ≡ with_key (live_keys 0 places) at
+  put_keys places at x free = put_from 0 at places at x free (omega arith)
 
   -- ## A place is cleared
 
@@ -161,22 +128,6 @@ module _ {X : Type 0} where
   pub cleared_keys : (places : List (Option X)) (at : ℕ) → live_keys 0 (set places at None) ≡ without_key (live_keys 0 places) at
   cleared_keys places at = cleared_from 0 at places at (omega arith)
 
-  past_from : (first key : ℕ) (places : List (Option X)) → first + length places ≤ key → live_keys first places ≡ without_key (live_keys first places) key
-  past_from first key [] past = refl
-  past_from first key (None ∷ places) past = past_from (suc first) key places (omega arith)
-  past_from first key (Some x ∷ places) past =
-      other_stays first key (live_keys (suc first) places) (live_keys (suc first) places) (omega arith) (past_from (suc first) key places (omega arith))
-
-  pub past_keys : (places : List (Option X)) (at : ℕ) → length places ≤ at → live_keys 0 places ≡ without_key (live_keys 0 places) at
-  past_keys places at past = past_from 0 at places (omega arith)
-
-  pub cleared_first : (places : List (Option X)) (at n : ℕ) → n ≤ first_none places → n ≤ at → n ≤ first_none (set places at None)
-  cleared_first [] at n first below = omega arith
-  cleared_first (place ∷ places) zero n first below = omega arith
-  cleared_first (None ∷ places) (suc at) n first below = omega arith
-  cleared_first (Some x ∷ places) (suc at) zero first below = omega arith
-  cleared_first (Some x ∷ places) (suc at) (suc n) first below = omega (arith, cleared_first places at n (omega arith) (omega arith))
-
 -- there is one least free key
 pub one_least : (keys : List ℕ) (a b : ℕ) → IsLeastFree keys a → IsLeastFree keys b → a ≡ b
 one_least keys a b of_a of_b =
@@ -185,14 +136,14 @@ one_least keys a b of_a of_b =
     (cases_lt a b)
 
 module _ {X : Type 0} where
-  live_at : (first key : ℕ) (places : List (Option X)) (at : ℕ) (x : X) → slice_get places at ≡ Some (Some x) → key ≡ first + at → Contains (live_keys first places) key
+  live_at : (first key : ℕ) (places : List (Option X)) (at : ℕ) (x : X) → at_key places at ≡ Some x → key ≡ first + at → Contains (live_keys first places) key
   live_at first key [] at x is same = absurd cc
   live_at first key (None ∷ places) zero x is same = absurd cc
   live_at first key (None ∷ places) (suc at) x is same = live_at (suc first) key places at x is (omega arith)
   live_at first key (Some y ∷ places) zero x is same = (0, omega arith, omega arith)
   live_at first key (Some y ∷ places) (suc at) x is same = later_is_in first (live_keys (suc first) places) key (live_at (suc first) key places at x is (omega arith))
 
-  gone_at : (first key : ℕ) (places : List (Option X)) (at : ℕ) → get_or places at None ≡ None → key ≡ first + at → Contains (live_keys first places) key → ⊥
+  gone_at : (first key : ℕ) (places : List (Option X)) (at : ℕ) → at_key places at ≡ None → key ≡ first + at → Contains (live_keys first places) key → ⊥
   gone_at first key [] at is same among = let within = among.1 in omega arith
   gone_at first key (None ∷ places) zero is same among = none_below (suc first) key places (omega arith) among
   gone_at first key (None ∷ places) (suc at) is same among = gone_at (suc first) key places at is (omega arith) among
@@ -200,14 +151,36 @@ module _ {X : Type 0} where
   gone_at first key (Some x ∷ places) (suc at) is same (zero, within, found) = omega (arith, found)
   gone_at first key (Some x ∷ places) (suc at) is same (suc k, within, found) = gone_at (suc first) key places at is (omega arith) (k, omega (arith, within), found)
 
-  pub has_no_key : (places : List (Option X)) (at : ℕ) → get_or places at None ≡ None → Contains (live_keys 0 places) at → ⊥
+  pub has_no_key : (places : List (Option X)) (at : ℕ) → at_key places at ≡ None → Contains (live_keys 0 places) at → ⊥
   has_no_key places at is among = gone_at 0 at places at is (omega arith) among
 
-  pub none_past : (places : List (Option X)) (at : ℕ) → length places ≤ at → get_or places at None ≡ None
-  none_past places at past = sym (unwrap_or-slice_get places at None) ∙ ap (λ place. unwrap_or place None) (slice_get_past places at past)
-
-  pub has_key : (places : List (Option X)) (at : ℕ) (x : X) → slice_get places at ≡ Some (Some x) → Contains (live_keys 0 places) at
+  pub has_key : (places : List (Option X)) (at : ℕ) (x : X) → at_key places at ≡ Some x → Contains (live_keys 0 places) at
   has_key places at x is = live_at 0 at places at x is (omega arith)
+
+  -- ## What a table answers
+
+  pub some_key : (places : List (Option X)) (at : ℕ) (found : Option (Bor X)) → option_copied found ≡ at_key places at → IsSome found → Contains (live_keys 0 places) at
+  some_key places at None is some = absurd cc
+  some_key places at (Some x) is some = has_key places at x.now (sym is)
+
+  pub none_key : (places : List (Option X)) (at : ℕ) (found : Option (Bor X)) → option_copied found ≡ at_key places at → IsNone found → Contains (live_keys 0 places) at → ⊥
+  none_key places at None is none = has_no_key places at (sym is)
+  none_key places at (Some x) is none = absurd cc
+
+  pub least_key : (places : List (Option X)) (free : Option Key) → IfSome free (λ (key : Key). key.0 ≡ least_free places)
+      → IfSome free (λ (key : Key). IsLeastFree (live_keys 0 places) key.0)
+  least_key places None is = tt
+  least_key places (Some key) is = subst (λ (n : ℕ). IsLeastFree (live_keys 0 places) n) (sym is) (first_is_free places)
+
+  pub key_within : (places : List (Option X)) (free : Option Key) → IfSome free (λ (key : Key). key.0 ≡ least_free places)
+      → IfSome free (λ (key : Key). key.0 ≤ length (live_keys 0 places))
+  key_within places None is = tt
+  key_within places (Some key) is = omega (arith, is, first_few 0 places)
+
+-- a key below a limit is not free where the least one is not
+pub no_key : (free : Option Key) (least limit : ℕ) → IfSome free (λ (key : Key). key.0 ≡ least) → IfSome free (λ (key : Key). key.0 < limit) → limit ≤ least → free ≡ None
+no_key None least limit is below full = refl
+no_key (Some key) least limit is below full = absurd (omega (arith, is, below, full))
 
 -- a key that was taken out is no longer there
 pub is_gone : (keys : List ℕ) (key : ℕ) → Contains (without_key keys key) key → ⊥

@@ -1,7 +1,7 @@
 //! The table of sources, and what a source takes of memory before its connection is added.
 
-ghost use Rattle.std.specs.Prelude.{◌≡◌, ◌≢◌, ◌↔◌, ◌+◌, ◌<◌, ◌≤◌, [], None, Some, length, max, min, vec_len, vec_capacity, IfOk, IfSome, IfErr, OnErr, OnOk, is_none, IsSome, IsNone, slice_get};
-ghost use Rattle.std.specs.List.{Contains, position_or_len};
+ghost use Rattle.std.specs.Prelude.{◌≡◌, ◌≢◌, ◌↔◌, ◌<◌, ◌≤◌, [], None, Some, length, IfOk, IfSome, IfErr, OnErr, OnOk, IsSome, IsNone, slice_get};
+ghost use Rattle.std.specs.List.{Contains};
 ghost use Rattle.std.specs.List.Sorted.{IsStrictlyIncreasing};
 ghost use Rattle.std.specs.Arc.{arc_value};
 ghost use Rattle.aio_base.specs.declared.names.Event.{Event};
@@ -12,36 +12,27 @@ use crate::sealed::{Sealed, SharedLock, SourceLock, add_source, handle_in};
 use crate::sources::SourceRef;
 use aio_base::{Arm, CountFault, Key, OutOfMemory};
 use aio_lock::Owner;
-use aio_react::Round;
+use aio_react::{KeyTable, Round};
 use aio_words::Words;
 use std::alloc::Global;
 use std::marker::Model;
 use std::sync::{Arc, Wait};
 
-/// How many sources live at most.
-const SOURCE_LIMIT: usize = 4096;
-
-/// The locks of the sources, each at the place of its key. Contracts see the keys, which rise. It has
-/// room for as many sources as may live.
+/// The locks of the sources, each at its key. Contracts see the keys, which rise. It has room for as
+/// many sources as may live.
 #[derive(Drop)]
 pub struct SourceTable<A: Arm> {
-    places: Vec<Option<SourceLock<A>>>,
-    /// Every key below this one is that of a source.
-    first_free: usize,
+    locks: KeyTable<SourceLock<A>>,
     alloc: Global,
 }
 
 impl<A: Arm> Model for SourceTable<A> {
-    ghost use Rattle.std.specs.Prelude.{ℕ, List, ◌≤◌, is_none, vec_len, vec_capacity};
-    ghost use Rattle.std.specs.List.{position_or_len};
+    ghost use Rattle.std.specs.Prelude.{ℕ, List};
     ghost use Rattle.aio_sources.specs.Sources.{live_keys};
 
     ghost Value = { List ℕ };
 
-    ghost view = { λ t. live_keys 0 t.places.items };
-
-    ghost invariant = { λ t. (vec_len t.places ≤ 4096) × (4096 ≤ vec_capacity t.places)
-        × (t.first_free ≤ position_or_len is_none t.places.items) };
+    ghost view = { λ t. live_keys 0 t.locks };
 }
 
 /// The memory of a source that is to come: its lock, once for the table and once for its token. Contracts
@@ -120,12 +111,8 @@ impl<A: Arm + Drop> SourceTable<A> {
     pub fn new(alloc: Global) -> Result<SourceTable<A>, OutOfMemory>
         ensures { IfOk result (λ table. table ≡ []) }
     {
-        let Ok(places) = Vec::with_capacity(alloc, SOURCE_LIMIT) else {
-            return Err(OutOfMemory);
-        };
         Ok(SourceTable {
-            places,
-            first_free: 0,
+            locks: KeyTable::new(alloc)?,
             alloc,
         })
     }
@@ -144,12 +131,7 @@ impl<A: Arm + Drop> SourceTable<A> {
         ensures bound { IfSome result (λ key. key.0 < 4096) }
         ensures within { IfSome result (λ key. key.0 ≤ length self.now) }
     {
-        let at = first_free_place(self.places.as_slice(), self.first_free);
-        if at < SOURCE_LIMIT {
-            Some(Key(at as u32))
-        } else {
-            None
-        }
+        self.locks.free_key()
     }
 
     /// Puts a lock at the place of the least free key.
@@ -158,9 +140,7 @@ impl<A: Arm + Drop> SourceTable<A> {
         requires bound { key.0 < 4096 }
         ensures { self.new ≡ with_key self.old key.0 }
     {
-        let at = key.0 as usize;
-        fill_place(&mut self.places, at, lock);
-        self.first_free = at + 1;
+        self.locks.put(key, lock);
     }
 
     /// Lets the lock of a key go, where there is one: no source of the table has the key then. The
@@ -171,9 +151,7 @@ impl<A: Arm + Drop> SourceTable<A> {
         ensures gone { ¬ Contains self.new key.0 }
         ensures out { result ≡ key.0 }
     {
-        let at = key.0 as usize;
-        clear_place(&mut self.places, at);
-        self.first_free = self.first_free.min(at);
+        self.locks.clear(key);
         TakenOut { key }
     }
 
@@ -215,7 +193,7 @@ impl<A: Arm> SourceTable<A> {
     pub(crate) fn keys_rise(&self)
         ensures { IsStrictlyIncreasing self.now }
     {
-        let _places = &self.places;
+        let _locks = &self.locks;
     }
 
     /// The lock of the source of a key, where there is one.
@@ -223,14 +201,7 @@ impl<A: Arm> SourceTable<A> {
         ensures some { IsSome result → Contains self.now key.0 }
         ensures none { IsNone result → ¬ Contains self.now key.0 }
     {
-        let at = key.0 as usize;
-        if at >= self.places.len() {
-            return None;
-        }
-        match &self.places[at] {
-            Some(lock) => Some(lock),
-            None => None,
-        }
+        self.locks.get(key)
     }
 
     /// Handles the first event in hand of a round: by the source of its key, with the source's own
@@ -274,47 +245,5 @@ impl<A: Arm> SourceTable<A> {
             }
         }
         Ok(())
-    }
-}
-
-/// The first place with nothing in it, or the end, where each place before `from` has something.
-fn first_free_place<T>(places: &[Option<T>], from: usize) -> usize
-    requires { from ≤ position_or_len is_none places.now }
-    ensures { result ≡ position_or_len is_none places.now }
-{
-    for place in from..places.len() {
-        if places[place].is_none() {
-            return place;
-        }
-    }
-    places.len()
-}
-
-/// Fills the first place with nothing in it, which may be the first past the end.
-fn fill_place<T: Drop>(places: &mut Vec<Option<T>>, at: usize, x: T)
-    requires free { at ≡ position_or_len is_none places.old.items }
-    requires room { at < vec_capacity places.old }
-    ensures keys { live_keys 0 places.new.items ≡ with_key (live_keys 0 places.old.items) at }
-    ensures next { at + 1 ≤ position_or_len is_none places.new.items }
-    ensures capacity { vec_capacity places.old ≤ vec_capacity places.new }
-    ensures len { vec_len places.new ≤ max (vec_len places.old) (at + 1) }
-{
-    if at < places.len() {
-        places[at] = Some(x);
-    } else {
-        places.push_reserved(Some(x));
-    }
-}
-
-/// Lets go what is at a place, where there is something.
-fn clear_place<T: Drop>(places: &mut Vec<Option<T>>, at: usize)
-    ensures keys { live_keys 0 places.new.items ≡ without_key (live_keys 0 places.old.items) at }
-    ensures next { min (position_or_len is_none places.old.items) at
-        ≤ position_or_len is_none places.new.items }
-    ensures capacity { vec_capacity places.old ≤ vec_capacity places.new }
-    ensures len { vec_len places.new ≡ vec_len places.old }
-{
-    if at < places.len() {
-        places[at] = None;
     }
 }

@@ -1,27 +1,18 @@
-use Rattle.std.proofs.Common.{◌≡◌, ◌∙◌, length, refl, sym, ap, arith}
-use Rattle.aio_sources.proofs.Keys.{first_few, first_none, least_free, full_keys, full_first}
+use Rattle.std.proofs.Common.{length, sym, ap, ◌∙◌}
+use Rattle.aio_react.specs.KeyTables.{least_free}
+use Rattle.aio_sources.proofs.Keys.{full_keys, full_first, no_key, least_key, key_within}
 use Rattle.aio_sources.proofs.source_table.SourceTable.free_key.Goals as goal
 
-pub returns-then-at-lt-SOURCE_LIMIT-clause-none : goal.returns-then-at-lt-SOURCE_LIMIT-clause-none
-returns-then-at-lt-SOURCE_LIMIT-clause-none g c =
-    let places = c.self.inside.places.items in
-    let free : c.first_free_place-at.result ≡ first_none places = c.first_free_place-at.ensures ∙ ap first_none c.as_slice.ensures.value in
-    ((λ is. absurd cc), λ full. absurd (omega (arith, free, full_first places 4096 (omega arith) (ap length c.self.view_is ∙ full))))
+pub returns-clause-none : goal.returns-clause-none
+returns-clause-none g c =
+    let places = c.self.inside.locks in
+    let free = c.free_key.ensures in (
+      λ none. sym (ap length c.self.view_is) ∙ full_keys places 4096 free.few (free.full none),
+      λ full. no_key _ (least_free places) 4096 free.least free.bound (full_first places 4096 free.few (ap length c.self.view_is ∙ full)),
+    )
 
-pub returns-then-at-lt-SOURCE_LIMIT-clause-least : goal.returns-then-at-lt-SOURCE_LIMIT-clause-least
-returns-then-at-lt-SOURCE_LIMIT-clause-least g c =
-    let places = c.self.inside.places.items in
-    let free : c.first_free_place-at.result ≡ first_none places = c.first_free_place-at.ensures ∙ ap first_none c.as_slice.ensures.value in
-    rw (← c.self.view_is, free) (least_free places)
+pub returns-clause-least : goal.returns-clause-least
+returns-clause-least g c = rw (← c.self.view_is) (least_key c.self.inside.locks _ c.free_key.ensures.least)
 
-pub returns-else-at-lt-SOURCE_LIMIT-clause-none : goal.returns-else-at-lt-SOURCE_LIMIT-clause-none
-returns-else-at-lt-SOURCE_LIMIT-clause-none g c =
-    let places = c.self.inside.places.items in
-    let free : c.first_free_place-at.result ≡ first_none places = c.first_free_place-at.ensures ∙ ap first_none c.as_slice.ensures.value in
-    ((λ none. sym (ap length c.self.view_is) ∙ full_keys places 4096 (omega arith) (omega (arith, free))), λ full. refl)
-
-pub returns-then-at-lt-SOURCE_LIMIT-clause-within : goal.returns-then-at-lt-SOURCE_LIMIT-clause-within
-returns-then-at-lt-SOURCE_LIMIT-clause-within g c =
-    let places = c.self.inside.places.items in
-    let free : c.first_free_place-at.result ≡ first_none places = c.first_free_place-at.ensures ∙ ap first_none c.as_slice.ensures.value in
-    rw (← c.self.view_is) (omega (arith, free, first_few 0 places))
+pub returns-clause-within : goal.returns-clause-within
+returns-clause-within g c = rw (← c.self.view_is) (key_within c.self.inside.locks _ c.free_key.ensures.least)

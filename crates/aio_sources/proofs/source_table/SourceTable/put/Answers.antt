@@ -1,9 +1,16 @@
 use Rattle.std.proofs.Common.{subst}
+use Rattle.aio_react.specs.KeyTables.{least_free}
 use Rattle.aio_sources.specs.Sources.{IsLeastFree}
-use Rattle.aio_sources.proofs.Keys.{first_none, least_free, one_least}
+use Rattle.aio_sources.proofs.Keys.{first_is_free, one_least, put_keys}
 use Rattle.aio_sources.proofs.source_table.SourceTable.put.Goals as goal
 
-pub fill_place-requires-clause-free : goal.fill_place-requires-clause-free
-fill_place-requires-clause-free g c =
-    let places = c.self.inside.places.items in
-    one_least _ c.args.key.0 (first_none places) c.requires.free (subst (λ keys. IsLeastFree keys (first_none places)) c.self.view_is (least_free places))
+pub put-requires-clause-free : goal.put-requires-clause-free
+put-requires-clause-free g c =
+    let places = c.self.inside.locks in
+    one_least _ c.args.key.0 (least_free places) c.requires.free (subst (λ keys. IsLeastFree keys (least_free places)) c.self.view_is (first_is_free places))
+
+pub returns : goal.returns
+returns g c =
+    let places = c.self.inside.locks in
+    let free = one_least _ c.args.key.0 (least_free places) c.requires.free (subst (λ keys. IsLeastFree keys (least_free places)) c.self.view_is (first_is_free places)) in
+    rw (← c.self.view_is, c.put.ensures) (put_keys places c.args.key.0 c.args.lock free)
