@@ -387,10 +387,10 @@ fn next_line<S: Source, K: Sink>(
         out.old out.new (stops_with is_write_fault result) }
     ensures refused { IfErr result (StopsBy K.write_step out.new) }
 {
-    match reader.next_ahead() {
-        Some(next) => Ok(next),
-        None => read_line(reader, text, input, out),
+    if reader.find_line() {
+        return Ok(Next::Line);
     }
+    read_line(reader, text, input, out)
 }
 
 /// Finds the next line of the input, or its end, where no whole line lies ahead: more is read until there
@@ -402,7 +402,7 @@ fn read_line<S: Source, K: Sink>(
     input: &mut S,
     out: &mut K,
 ) -> Result<Next, Stop>
-    requires room { length reader.old.ahead < 257 }
+    requires bound { length reader.old.ahead ≤ 257 }
     requires no_line { HasNoLineFeed reader.old.ahead }
     ensures found { (unread : List ℕ) → Unread (S.remaining input.old) reader.old.ahead unread
         → FindsNext result (S.remaining input.new) reader.new.line reader.new.ahead unread }
@@ -415,6 +415,10 @@ fn read_line<S: Source, K: Sink>(
         out.old out.new (stops_with is_write_fault result) }
     ensures refused { IfErr result (StopsBy K.write_step out.new) }
 {
+    if reader.is_full() {
+        reader.take_rest();
+        return Ok(Next::Long);
+    }
     loop {
         match read_more(reader, text, input, out) {
             Ok(0) => return Ok(reader.last()),
