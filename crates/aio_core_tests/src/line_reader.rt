@@ -4,7 +4,7 @@ ghost use Rattle.std.specs.Prelude.{◌≤◌, length, None, false};
 
 use crate::asserts::{same, same_in};
 use aio_base::{Failed, Faults};
-use aio_bytes::{LineReader, Source};
+use aio_bytes::{LineReader, Next, Source};
 use std::alloc::{AllocError, Global};
 use std::process::Abort;
 use std::test::Fail;
@@ -252,6 +252,27 @@ fn finds_several_lines_of_one_read(rt: HostRuntime) -> Result<(), Fail> {
     finds(&rt, &mut reader, (true, b"a", 4));
     finds(&rt, &mut reader, (true, b"bb", 1));
     finds(&rt, &mut reader, (false, b"", 1));
+    Ok(())
+}
+
+/// Asserts what is found without a read, and the line that it is.
+fn finds_ahead(rt: &impl Abort, reader: &mut LineReader, wanted: (Option<Next>, &[u8])) {
+    let found = reader.next_ahead();
+    same(rt, (found, reader.line()), wanted);
+}
+
+#[test]
+fn tells_what_is_found_next(rt: HostRuntime) -> Result<(), Fail> {
+    let mut source = source_of(b"a\nbb", 300);
+    let mut reader = LineReader::new(rt.alloc())?;
+    finds_ahead(&rt, &mut reader, (None, b""));
+    reads(&rt, &mut reader, &mut source, (Ok(4), 4));
+    finds_ahead(&rt, &mut reader, (Some(Next::Line), b"a"));
+    finds_ahead(&rt, &mut reader, (None, b""));
+    reads(&rt, &mut reader, &mut source, (Ok(0), 2));
+    same(&rt, reader.last(), Next::Line);
+    same(&rt, reader.line(), b"bb".as_slice());
+    same(&rt, reader.last(), Next::End);
     Ok(())
 }
 
