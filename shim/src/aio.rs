@@ -7,6 +7,8 @@ pub(super) const DONE: u32 = 0;
 pub(super) const READY: u32 = 1;
 /// The poller could not be armed.
 pub(super) const ARM_FAULT: u32 = 2;
+/// 4,096 sources live.
+pub(super) const FULL: u32 = 11;
 pub(super) const OUT_OF_MEMORY: u32 = 13;
 
 /// The kinds of failure that the poller in memory is told.
@@ -71,11 +73,6 @@ pub(super) struct AskAnswer {
     pub arms: bool,
     pub read: bool,
     pub write: bool,
-}
-
-impl AskAnswer {
-    /// The poller is left alone.
-    pub(super) const NOTHING: AskAnswer = AskAnswer { arms: false, read: false, write: false };
 }
 
 extern "C" {

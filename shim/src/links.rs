@@ -1,10 +1,10 @@
-//! The core beside what a program has in place of its numbers: sources by their keys, and wakers.
+//! A core beside what a program has in place of its numbers: sources by their keys, and wakers.
 //! Nothing of this file is proved.
-use super::aio::Core;
+use super::aio::{Core, DONE};
 use super::Source;
-use std::collections::HashSet;
-use std::hash::{BuildHasherDefault, Hasher};
 use std::mem;
+#[cfg(any(aio_loses_wakes, aio_refuses_memory))]
+use std::sync::atomic::{AtomicU64, Ordering};
 use std::sync::Arc;
 use std::task::Waker;
 
@@ -33,52 +33,26 @@ struct Slot {
 pub(super) struct Place {
     source: Arc<Source>,
     polled: [u32; 2],
-    listeners: HashSet<u64, BuildHasherDefault<Numbered>>,
-    /// How many events of the source were handled.
-    events: u64,
+    listeners: Vec<u64>,
 }
 
-/// A hash of numbers that come one after the other, by one multiplication with an odd constant.
-#[derive(Default)]
-struct Numbered(u64);
-
-impl Hasher for Numbered {
-    fn finish(&self) -> u64 {
-        self.0
-    }
-
-    fn write(&mut self, bytes: &[u8]) {
-        for byte in bytes {
-            self.write_u64(self.0 ^ u64::from(*byte));
-        }
-    }
-
-    fn write_u64(&mut self, number: u64) {
-        self.0 = number.wrapping_mul(0x9e37_79b9_7f4a_7c15);
-    }
-}
-
-/// The core, and all that its numbers stand for.
+/// A core, and all that its numbers stand for.
 pub(super) struct Links {
     pub(super) core: Core,
     /// Whether a round runs: begun, and not yet ended.
     pub(super) runs: bool,
-    /// How many events of the running round the core was told, whether it has them in hand, and how
-    /// many of them were handled.
-    pub(super) told: usize,
-    pub(super) waited: bool,
-    pub(super) handled: usize,
+    /// Whether the running round may have taken numbers: it began with timers, or has handled an
+    /// event.
+    pub(super) takes: bool,
+    /// The number of the system's wait that the last round belongs to.
+    wait: usize,
     places: Vec<Option<Place>>,
     slots: Vec<Slot>,
     free: Vec<u32>,
-    /// Numbers that were given up while a round runs. Its pass may have taken them of timers, so
-    /// they are free only when it has ended.
+    /// Numbers that were given up while a round runs that may have taken them. They are free only
+    /// when it has ended.
     given_up: Vec<u32>,
     woken: Vec<u32>,
-    #[cfg(aio_loses_wakes)]
-    lost: u64,
-    #[cfg(aio_refuses_memory)]
-    asked: u64,
 }
 
 impl Links {
@@ -86,19 +60,40 @@ impl Links {
         Links {
             core: Core::new().expect("no memory for the core"),
             runs: false,
-            told: 0,
-            waited: false,
-            handled: 0,
+            takes: false,
+            wait: 0,
             places: Vec::new(),
             slots: Vec::new(),
             free: Vec::new(),
             given_up: Vec::new(),
             woken: Vec::new(),
-            #[cfg(aio_loses_wakes)]
-            lost: 0,
-            #[cfg(aio_refuses_memory)]
-            asked: 0,
         }
+    }
+
+    // ## Rounds
+
+    /// Makes the last round one of this wait of the system. Nothing was asked of this core since
+    /// the wait began, for all that asks comes here first: so it is as if the round had begun
+    /// before the wait did, and that of the wait before had ended, which took nobody. A refusal is
+    /// told by its code. It is for a core without timers.
+    pub(super) fn meet(&mut self, wait: usize) -> Result<(), u32> {
+        if self.wait == wait {
+            return Ok(());
+        }
+        if self.runs {
+            let ended = self.core.finish(0);
+            if ended.code != DONE {
+                return Err(ended.code);
+            }
+            self.runs = false;
+        }
+        let begun = self.core.begin(0, None);
+        if begun.code != DONE {
+            return Err(begun.code);
+        }
+        self.runs = true;
+        self.wait = wait;
+        Ok(())
     }
 
     // ## Sources
@@ -110,8 +105,7 @@ impl Links {
             self.places.push(None);
         }
         let polled = [NONE; 2];
-        let listeners = HashSet::default();
-        self.places[at] = Some(Place { source, polled, listeners, events: 0 });
+        self.places[at] = Some(Place { source, polled, listeners: Vec::new() });
     }
 
     /// Takes the place of a key out, with each listener that is left, as of a future that was
@@ -135,55 +129,44 @@ impl Links {
         (Some(place), dropped)
     }
 
-    /// The source of an event that is about to be handled, which is counted.
-    pub(super) fn source_of_event(&mut self, key: u32) -> Option<&Source> {
-        let place = self.places.get_mut(key as usize)?.as_mut()?;
-        place.events += 1;
+    pub(super) fn source(&self, key: u32) -> Option<&Source> {
+        let place = self.places.get(key as usize)?.as_ref()?;
         Some(&place.source)
-    }
-
-    /// How many events of a source were handled.
-    pub(super) fn events_of(&self, key: u32) -> u64 {
-        match self.places.get(key as usize) {
-            Some(Some(place)) => place.events,
-            _ => 0,
-        }
     }
 
     // ## Listeners
 
     pub(super) fn listen(&mut self, key: u32, listener: u64) {
         if let Some(Some(place)) = self.places.get_mut(key as usize) {
-            place.listeners.insert(listener);
+            place.listeners.push(listener);
         }
     }
 
     pub(super) fn unlisten(&mut self, key: u32, listener: u64) {
         self.core.unlisten(listener);
         if let Some(Some(place)) = self.places.get_mut(key as usize) {
-            place.listeners.remove(&listener);
+            if let Some(at) = place.listeners.iter().position(|other| *other == listener) {
+                place.listeners.swap_remove(at);
+            }
         }
     }
 
     // ## Wakers
 
-    /// A number for a waker, which no call of the core can still hold for another, and which takes
-    /// the waker. None where all numbers are given.
-    pub(super) fn number(&mut self, waker: &mut Option<Waker>, home: Home) -> Option<u32> {
-        if let Some(number) = self.free.pop() {
-            self.slots[number as usize] = Slot { waker: waker.take(), home };
-            return Some(number);
-        }
-        if self.slots.len() == NUMBERS {
-            return None;
-        }
-        self.slots.push(Slot { waker: waker.take(), home });
-        Some(self.slots.len() as u32 - 1)
+    /// The number for the next waker, which no call of the core can still hold for another. None
+    /// where all numbers are given.
+    pub(super) fn next_number(&self) -> Option<u32> {
+        let unused = (self.slots.len() < NUMBERS).then(|| self.slots.len() as u32);
+        self.free.last().copied().or(unused)
     }
 
-    /// Says where a number stands.
-    pub(super) fn settle(&mut self, number: u32, home: Home) {
-        self.slots[number as usize].home = home;
+    /// Gives that number to a waker, which it takes, and says where the number stands.
+    pub(super) fn give(&mut self, waker: &mut Option<Waker>, home: Home) {
+        let slot = Slot { waker: waker.take(), home };
+        match self.free.pop() {
+            Some(number) => self.slots[number as usize] = slot,
+            None => self.slots.push(slot),
+        }
     }
 
     /// Gives a number up, and answers its waker, to be dropped or woken outside of the lock.
@@ -191,7 +174,7 @@ impl Links {
         let slot = &mut self.slots[number as usize];
         let waker = slot.waker.take()?;
         slot.home = Home::None;
-        if self.runs {
+        if self.takes {
             self.given_up.push(number);
         } else {
             self.free.push(number);
@@ -206,32 +189,35 @@ impl Links {
     }
 
     /// The number with which a waker polls: that of the poll waiter where both wake the same task,
-    /// otherwise a new one. So it is where memory ran out behind an event of the running round,
+    /// otherwise the next one. So it is where memory ran out behind an event of the running round,
     /// which may have taken the poll waiter's number.
-    pub(super) fn poll_number(
-        &mut self,
-        key: u32,
-        write: bool,
-        waker: &mut Option<Waker>,
-    ) -> Option<u32> {
-        let may_be_taken = self.runs && self.handled > 0;
-        if let (false, Some(Some(place))) = (may_be_taken, self.places.get(key as usize)) {
+    pub(super) fn poll_number(&self, key: u32, write: bool, waker: &Waker) -> Option<u32> {
+        if let (false, Some(Some(place))) = (self.takes, self.places.get(key as usize)) {
             let kept = place.polled[write as usize];
             if kept != NONE {
-                if let (Some(held), Some(waker)) = (&self.slots[kept as usize].waker, &*waker) {
+                if let Some(held) = &self.slots[kept as usize].waker {
                     if held.will_wake(waker) {
                         return Some(kept);
                     }
                 }
             }
         }
-        self.number(waker, Home::Poll(key, write))
+        self.next_number()
     }
 
-    /// The poll waiter of a direction has this number now.
-    pub(super) fn keep_poll(&mut self, key: u32, write: bool, number: u32) {
+    /// The poll waiter of a direction has this number now, with which it polled.
+    pub(super) fn keep_poll(
+        &mut self,
+        key: u32,
+        write: bool,
+        number: u32,
+        waker: &mut Option<Waker>,
+    ) {
         if let Some(Some(place)) = self.places.get_mut(key as usize) {
-            place.polled[write as usize] = number;
+            if place.polled[write as usize] != number {
+                place.polled[write as usize] = number;
+                self.give(waker, Home::Poll(key, write));
+            }
         }
     }
 
@@ -245,15 +231,6 @@ impl Links {
         }
     }
 
-    /// Gives up the number of a poll that did not wait, unless it is the poll waiter's.
-    pub(super) fn give_up_new(&mut self, key: u32, write: bool, number: u32) -> Option<Waker> {
-        let place = self.places.get(key as usize)?.as_ref()?;
-        if place.polled[write as usize] == number {
-            return None;
-        }
-        self.give_up(number)
-    }
-
     /// Takes the wakers of the round that ended; their numbers and those given up meanwhile are
     /// free from now on.
     pub(super) fn take_woken(&mut self, count: u64, wakers: &mut Vec<Waker>) {
@@ -264,13 +241,14 @@ impl Links {
             woken.clear();
         }
         self.runs = false;
+        self.takes = false;
         for number in &woken {
             if let Home::Poll(key, write) = self.slots[*number as usize].home {
                 self.forget_poll(key, write, *number);
             }
             if let Some(waker) = self.give_up(*number) {
                 #[cfg(aio_loses_wakes)]
-                if self.loses() {
+                if loses() {
                     continue;
                 }
                 wakers.push(waker);
@@ -279,23 +257,23 @@ impl Links {
         self.woken = woken;
         self.free.append(&mut self.given_up);
     }
+}
 
-    /// Whether a control run loses this wake: one of 5,000.
-    #[cfg(aio_loses_wakes)]
-    fn loses(&mut self) -> bool {
-        self.lost += 1;
-        self.lost % 5_000 == 0
-    }
+/// Whether a control run loses this wake: one of 5,000.
+#[cfg(aio_loses_wakes)]
+fn loses() -> bool {
+    static LOST: AtomicU64 = AtomicU64::new(0);
+    LOST.fetch_add(1, Ordering::Relaxed) % 5_000 == 4_999
+}
 
-    /// Whether a run refuses this call as if memory had run out: one of 50.
-    #[cfg(aio_refuses_memory)]
-    pub(super) fn refuses(&mut self) -> bool {
-        self.asked += 1;
-        self.asked % 50 == 0
-    }
+/// Whether a run refuses this call as if memory had run out: one of 50.
+#[cfg(aio_refuses_memory)]
+pub(super) fn refuses() -> bool {
+    static ASKED: AtomicU64 = AtomicU64::new(0);
+    ASKED.fetch_add(1, Ordering::Relaxed) % 50 == 49
+}
 
-    #[cfg(not(aio_refuses_memory))]
-    pub(super) fn refuses(&mut self) -> bool {
-        false
-    }
+#[cfg(not(aio_refuses_memory))]
+pub(super) fn refuses() -> bool {
+    false
 }

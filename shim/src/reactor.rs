@@ -1,6 +1,7 @@
-//! The reactor of this crate, whose decisions a proved core makes: which call arms the poller, who
+//! The reactor of this crate, whose decisions proved cores make: which call arms the poller, who
 //! is ready, whom a round wakes, when a wait ends. This file carries them out: it holds the
 //! poller, the wakers and the locks, and makes the wait. Nothing of it is proved.
+use std::array;
 use std::borrow::Borrow;
 use std::fmt;
 use std::future::Future;
@@ -24,6 +25,12 @@ use aio::AskAnswer;
 use links::{Home, Links};
 pub use unix::Registration;
 
+/// How many cores have sources.
+const SHARDS: usize = 32;
+
+/// The bits of the poller's key that are the key in a core; those above name its shard.
+const KEY_BITS: u32 = 12;
+
 /// The last moment of the core, in nanoseconds from the start: 31 years later.
 const LAST_MOMENT: u128 = 1_000_000_000_000_000_000;
 
@@ -32,13 +39,29 @@ const ID_BITS: u32 = 40;
 
 const _: () = assert!(usize::BITS == 64, "a timer's number has 64 bits");
 
+/// A core with sources, in a lock of its own.
+#[repr(align(128))]
+struct Shard(Mutex<Links>);
+
+/// The core with the timers.
+#[repr(align(128))]
+struct Timers {
+    links: Links,
+    /// The moment when the wait of the running round is over, where it has a limit.
+    until: Option<u64>,
+}
+
 /// The one reactor of a program.
 pub(crate) struct Reactor {
     pub(crate) poller: Poller,
+    /// The number of the wait that began last.
     ticker: AtomicUsize,
     /// Held by the thread that makes a round.
-    events: Mutex<Events>,
-    links: Mutex<Links>,
+    rounds: Mutex<Rounds>,
+    timers: Mutex<Timers>,
+    shards: [Shard; SHARDS],
+    /// How many sources came.
+    came: AtomicUsize,
     start: Instant,
 }
 
@@ -50,15 +73,21 @@ impl Reactor {
             Reactor {
                 poller: Poller::new().expect("the system gives no poller"),
                 ticker: AtomicUsize::new(0),
-                events: Mutex::new(Events::new()),
-                links: Mutex::new(Links::new()),
+                rounds: Mutex::new(Rounds::new()),
+                timers: Mutex::new(Timers { links: Links::new(), until: None }),
+                shards: array::from_fn(|_| Shard(Mutex::new(Links::new()))),
+                came: AtomicUsize::new(0),
                 start: Instant::now(),
             }
         })
     }
 
-    fn links(&self) -> MutexGuard<'_, Links> {
-        self.links.lock().unwrap()
+    fn timers(&self) -> MutexGuard<'_, Timers> {
+        self.timers.lock().unwrap()
+    }
+
+    fn shard(&self, shard: usize) -> MutexGuard<'_, Links> {
+        self.shards[shard].0.lock().unwrap()
     }
 
     /// A moment as the core counts it.
@@ -70,23 +99,34 @@ impl Reactor {
         self.ticker.load(Ordering::SeqCst)
     }
 
+    /// The shards take the sources in turn; one that is full is passed over.
     pub(crate) fn insert_io(&self, registration: Registration) -> io::Result<Arc<Source>> {
-        let mut links = self.links();
-        let added = links.core.add();
-        if added.code != aio::DONE {
-            return Err(refused(added.code));
+        let came = self.came.fetch_add(1, Ordering::Relaxed);
+        // of each number of sources that come again and again, as in pairs, all have their turn
+        let turn = came.wrapping_add(came / SHARDS);
+        for at in 0..SHARDS {
+            let shard = turn.wrapping_add(at) % SHARDS;
+            let mut links = self.shard(shard);
+            let added = links.core.add();
+            match added.code {
+                aio::DONE => {}
+                aio::FULL => continue,
+                code => return Err(refused(code)),
+            }
+            let key = added.key;
+            let source = Arc::new(Source { registration, shard, key });
+            if let Err(error) = source.registration.add(&self.poller, source.poller_key()) {
+                links.core.del(key);
+                return Err(error);
+            }
+            links.place(source.clone());
+            return Ok(source);
         }
-        if let Err(error) = registration.add(&self.poller, added.key as usize) {
-            links.core.del(added.key);
-            return Err(error);
-        }
-        let source = Arc::new(Source { registration, key: added.key, turn: Mutex::new(()) });
-        links.place(source.clone());
-        Ok(source)
+        Err(refused(aio::FULL))
     }
 
     pub(crate) fn remove_io(&self, source: &Source) -> io::Result<()> {
-        let mut links = self.links();
+        let mut links = self.shard(source.shard);
         let (place, dropped) = links.unplace(source.key);
         let removed = source.registration.delete(&self.poller);
         if removed.is_err() {
@@ -103,31 +143,34 @@ impl Reactor {
     pub(crate) fn insert_timer(&self, when: Instant, waker: &Waker) -> usize {
         let mut waker = Some(waker.clone());
         let at = self.moment(when);
-        let mut links = self.links();
-        let Some(number) = links.number(&mut waker, Home::None) else {
-            drop(links);
+        let mut timers = self.timers();
+        let Some(number) = timers.links.next_number() else {
+            drop(timers);
             panic!("no timer: {}", too_many_wakers());
         };
-        let timer = links.core.insert_timer(at, number);
+        let timer = timers.links.core.insert_timer(at, number);
         if timer.code != aio::DONE {
-            let dropped = links.give_up(number);
-            drop(links);
-            drop(dropped);
+            drop(timers);
             panic!("no timer: {}", refused(timer.code));
         }
-        links.settle(number, Home::Timer(timer.number));
-        drop(links);
-        self.notify();
+        timers.links.give(&mut waker, Home::Timer(timer.number));
+        // a wait that is over by then needs no notice, and a round that has yet to begin none either
+        let is_late = timers.links.runs && timers.until.map_or(true, |until| at < until);
+        drop(timers);
+        if is_late {
+            self.notify();
+        }
         (timer.number | u64::from(number) << ID_BITS) as usize
     }
 
     pub(crate) fn remove_timer(&self, when: Instant, timer: usize) {
         let id = timer as u64 & ((1 << ID_BITS) - 1);
         let number = (timer as u64 >> ID_BITS) as u32;
-        let mut links = self.links();
-        links.core.remove_timer(self.moment(when), id);
-        let dropped = links.give_up_of(number, Home::Timer(id));
-        drop(links);
+        let at = self.moment(when);
+        let mut timers = self.timers();
+        timers.links.core.remove_timer(at, id);
+        let dropped = timers.links.give_up_of(number, Home::Timer(id));
+        drop(timers);
         drop(dropped);
     }
 
@@ -136,139 +179,187 @@ impl Reactor {
     }
 
     pub(crate) fn lock(&self) -> ReactorLock<'_> {
-        ReactorLock { reactor: self, events: self.events.lock().unwrap() }
+        ReactorLock { reactor: self, rounds: self.rounds.lock().unwrap() }
     }
 
     pub(crate) fn try_lock(&self) -> Option<ReactorLock<'_>> {
-        let events = self.events.try_lock().ok()?;
-        Some(ReactorLock { reactor: self, events })
-    }
-
-    /// The links, with the system's poller armed as the next call of the core on this source asks,
-    /// which `ask` tells; a failure is told to the core, for that call to answer it.
-    ///
-    /// The poller is armed outside of the links' lock, while no other call on the source may arm.
-    /// An event that was handled meanwhile may be the one that was armed for: then all is done
-    /// again.
-    fn armed<'a>(
-        &'a self,
-        source: &'a Source,
-        mut ask: impl FnMut(&mut Links) -> AskAnswer,
-    ) -> (MutexGuard<'a, ()>, MutexGuard<'a, Links>, io::Result<()>) {
-        let turn = source.turn.lock().unwrap();
-        let mut links = self.links();
-        loop {
-            let asked = ask(&mut links);
-            if !asked.arms {
-                return (turn, links, Ok(()));
-            }
-            let seen = links.events_of(source.key);
-            drop(links);
-            let armed = source.modify(&self.poller, &asked);
-            links = self.links();
-            if links.events_of(source.key) == seen {
-                if armed.is_err() {
-                    links.core.fail_next(aio::ARM);
-                }
-                return (turn, links, armed);
-            }
-        }
+        let rounds = self.rounds.try_lock().ok()?;
+        Some(ReactorLock { reactor: self, rounds })
     }
 }
 
 /// The right to make rounds.
 pub(crate) struct ReactorLock<'a> {
     reactor: &'a Reactor,
-    events: MutexGuard<'a, Events>,
+    rounds: MutexGuard<'a, Rounds>,
 }
 
 impl ReactorLock<'_> {
     /// One round, which waits for at most `timeout`; or the rest of the one before, where memory
     /// ran out in that.
     pub(crate) fn react(&mut self, timeout: Option<Duration>) -> io::Result<()> {
-        let mut wakers = Vec::new();
-        let answer = self.round(timeout, &mut wakers);
-        for waker in wakers {
+        let answer = self.rounds.round(self.reactor, timeout);
+        for waker in self.rounds.wakers.drain(..) {
             // a waker that panics keeps none of the others from being woken
             panic::catch_unwind(|| waker.wake()).ok();
         }
         answer
     }
+}
 
-    fn round(&mut self, timeout: Option<Duration>, wakers: &mut Vec<Waker>) -> io::Result<()> {
-        let reactor = self.reactor;
-        let now = reactor.moment(Instant::now());
-        let mut links = reactor.links();
-        if links.runs {
-            // memory ran out in the round before, which is ended: no wait comes before its wakes
-            self.tell_events(&mut links)?;
-            return self.end(&mut links, now, wakers);
+/// A round of the reactor: one of the timers' core around a wait of the system, and then one of
+/// each core that has events of that wait.
+struct Rounds {
+    events: Events,
+    /// The events of each shard.
+    hands: [Hand; SHARDS],
+    /// Whether the timers' round is to be ended, and a bit for each shard whose round is.
+    timers_left: bool,
+    shards_left: u64,
+    wakers: Vec<Waker>,
+}
+
+const _: () = assert!(SHARDS <= u64::BITS as usize, "each shard has a bit");
+
+impl Rounds {
+    fn new() -> Rounds {
+        Rounds {
+            events: Events::new(),
+            hands: array::from_fn(|_| Hand::default()),
+            timers_left: false,
+            shards_left: 0,
+            wakers: Vec::new(),
         }
-        let begun = links.core.begin(now, timeout.map(nanoseconds));
+    }
+
+    fn round(&mut self, reactor: &Reactor, timeout: Option<Duration>) -> io::Result<()> {
+        let now = reactor.moment(Instant::now());
+        let mut timers = reactor.timers();
+        if self.timers_left || self.shards_left != 0 {
+            // memory ran out in the round before, which is ended: no wait comes before its wakes
+            return self.end(reactor, timers, now);
+        }
+        let begun = timers.links.core.begin(now, timeout.map(nanoseconds));
         if begun.code != aio::DONE {
             return Err(refused(begun.code));
         }
-        links.runs = true;
-        links.told = 0;
-        links.waited = false;
-        links.handled = 0;
+        timers.links.runs = true;
+        timers.links.takes = true;
+        timers.until = begun.limited.then(|| now.saturating_add(begun.limit));
+        drop(timers);
         reactor.ticker.store(begun.number as usize, Ordering::SeqCst);
-        drop(links);
         self.events.clear();
         let limit = begun.limited.then(|| Duration::from_nanos(begun.limit));
         let waited = reactor.poller.wait(&mut self.events, limit);
+        for event in self.events.iter() {
+            let shard = event.key >> KEY_BITS;
+            self.hands[shard].events.push(event);
+            self.shards_left |= 1 << shard;
+        }
         let now = reactor.moment(Instant::now());
-        let mut links = reactor.links();
+        let mut timers = reactor.timers();
         // a wait that failed behind its events gave them: they are handled, and its error is told
         let failed = match waited {
-            Err(error) if !self.events.is_empty() => Err(error),
+            Err(error) if self.shards_left != 0 => Err(error),
             Err(error) if error.kind() == io::ErrorKind::Interrupted => {
-                links.core.interrupt_next();
+                timers.links.core.interrupt_next();
                 Ok(())
             }
             Err(error) => {
-                links.core.fail_next(aio::WAIT);
+                timers.links.core.fail_next(aio::WAIT);
                 Err(error)
             }
             Ok(_) => Ok(()),
         };
-        self.tell_events(&mut links)?;
-        let ended = self.end(&mut links, now, wakers);
+        timers.links.core.wait();
+        self.timers_left = true;
+        let ended = self.end(reactor, timers, now);
         failed.and(ended)
     }
 
-    /// Tells the poller in memory each event that it was not told yet, and has the core take them
-    /// in hand. Where memory runs out, the next call goes on from there.
-    fn tell_events(&self, links: &mut Links) -> io::Result<()> {
-        for event in self.events.iter().skip(links.told) {
-            if links.refuses() {
+    /// Ends each round that is to be ended, and takes the wakers that it has to wake. Where memory
+    /// runs out in one of them the others go on, and the next call goes on from there.
+    fn end(
+        &mut self,
+        reactor: &Reactor,
+        timers: MutexGuard<'_, Timers>,
+        now: u64,
+    ) -> io::Result<()> {
+        let mut first = Ok(());
+        if self.timers_left {
+            first = self.end_timers(timers, now);
+        } else {
+            drop(timers);
+        }
+        let mut left = self.shards_left;
+        while left != 0 {
+            let shard = left.trailing_zeros() as usize;
+            left &= left - 1;
+            let hand = &mut self.hands[shard];
+            let ended = hand.end(reactor, &mut reactor.shard(shard), &mut self.wakers);
+            if hand.events.is_empty() {
+                self.shards_left &= !(1 << shard);
+            }
+            first = first.and(ended);
+        }
+        first
+    }
+
+    fn end_timers(&mut self, mut timers: MutexGuard<'_, Timers>, now: u64) -> io::Result<()> {
+        if links::refuses() {
+            return Err(refused(aio::OUT_OF_MEMORY));
+        }
+        let ended = timers.links.core.finish(now);
+        if ended.code != aio::DONE {
+            return Err(refused(ended.code));
+        }
+        timers.links.take_woken(ended.wakers, &mut self.wakers);
+        self.timers_left = false;
+        Ok(())
+    }
+}
+
+/// The events of a wait for one shard, how many of them its core was told, whether it has them in
+/// hand, and how many of them were handled.
+#[derive(Default)]
+struct Hand {
+    events: Vec<Event>,
+    told: usize,
+    waited: bool,
+    handled: usize,
+}
+
+impl Hand {
+    /// Has the core handle each event and ends its round. Where memory runs out, the next call goes
+    /// on from there; otherwise no event is left.
+    fn end(
+        &mut self,
+        reactor: &Reactor,
+        links: &mut Links,
+        wakers: &mut Vec<Waker>,
+    ) -> io::Result<()> {
+        links.meet(reactor.ticker()).map_err(refused)?;
+        for event in &self.events[self.told..] {
+            if links::refuses() {
                 return Err(refused(aio::OUT_OF_MEMORY));
             }
-            let code = links
-                .core
-                .give(event.key as u32, event.readable, event.writable);
+            let code = links.core.give(core_key(event), event.readable, event.writable);
             if code != aio::DONE {
                 return Err(refused(code));
             }
-            links.told += 1;
+            self.told += 1;
         }
-        if !links.waited {
+        if !self.waited {
             links.core.wait();
-            links.waited = true;
+            self.waited = true;
         }
-        Ok(())
-    }
-
-    /// Handles each event in hand, ends the round, and takes the wakers that it has to wake.
-    fn end(&self, links: &mut Links, now: u64, wakers: &mut Vec<Waker>) -> io::Result<()> {
-        let reactor = self.reactor;
         let mut first = Ok(());
-        for event in self.events.iter().skip(links.handled) {
-            if links.refuses() {
+        for event in &self.events[self.handled..] {
+            if links::refuses() {
                 return Err(refused(aio::OUT_OF_MEMORY));
             }
             let asked = links.core.handle_asks();
-            let armed = match links.source_of_event(event.key as u32) {
+            let armed = match links.source(core_key(event)) {
                 Some(source) if asked.arms => source.modify(&reactor.poller, &asked),
                 _ => Ok(()),
             };
@@ -280,18 +371,27 @@ impl ReactorLock<'_> {
             if code != aio::DONE && code != aio::ARM_FAULT {
                 return Err(refused(code));
             }
-            links.handled += 1;
+            links.takes = true;
+            self.handled += 1;
         }
-        if links.refuses() {
+        if links::refuses() {
             return Err(refused(aio::OUT_OF_MEMORY));
         }
-        let ended = links.core.finish(now);
+        let ended = links.core.finish(0);
         if ended.code != aio::DONE {
             return Err(refused(ended.code));
         }
         links.take_woken(ended.wakers, wakers);
+        self.events.clear();
+        self.told = 0;
+        self.waited = false;
+        self.handled = 0;
         first
     }
+}
+
+fn core_key(event: &Event) -> u32 {
+    (event.key & ((1 << KEY_BITS) - 1)) as u32
 }
 
 fn nanoseconds(duration: Duration) -> u64 {
@@ -301,7 +401,7 @@ fn nanoseconds(duration: Duration) -> u64 {
 /// The error that tells a refusal of the core.
 fn refused(code: u32) -> io::Error {
     let text = match code {
-        11 => "4,096 sources are registered",
+        aio::FULL => "4,096 sources are registered in each of 32 shards",
         aio::OUT_OF_MEMORY => "memory ran out",
         18 => "2^40 - 1 timers were registered",
         _ => "the core refused the call",
@@ -317,17 +417,33 @@ fn too_many_wakers() -> io::Error {
 #[derive(Debug)]
 pub(crate) struct Source {
     registration: Registration,
+    shard: usize,
     key: u32,
-    /// Held by the one call that arms for the source.
-    turn: Mutex<()>,
 }
 
 impl Source {
+    fn poller_key(&self) -> usize {
+        self.shard << KEY_BITS | self.key as usize
+    }
+
     fn modify(&self, poller: &Poller, asked: &AskAnswer) -> io::Result<()> {
-        let mut event = Event::none(self.key as usize);
+        let mut event = Event::none(self.poller_key());
         event.readable = asked.read;
         event.writable = asked.write;
         self.registration.modify(poller, event)
+    }
+
+    /// Arms the system's poller as the next call of the core on this source asks; a failure is told
+    /// to the core, for that call to answer it.
+    fn arm(&self, reactor: &Reactor, links: &mut Links, asked: &AskAnswer) -> io::Result<()> {
+        if !asked.arms {
+            return Ok(());
+        }
+        let armed = self.modify(&reactor.poller, asked);
+        if armed.is_err() {
+            links.core.fail_next(aio::ARM);
+        }
+        armed
     }
 
     pub(crate) fn poll_readable(&self, cx: &mut Context<'_>) -> Poll<io::Result<()>> {
@@ -341,27 +457,28 @@ impl Source {
     fn poll_direction(&self, write: bool, cx: &mut Context<'_>) -> Poll<io::Result<()>> {
         let reactor = Reactor::get();
         let mut waker = Some(cx.waker().clone());
-        let (turn, mut links, armed) =
-            reactor.armed(self, |links| links.core.poll_asks(self.key, write));
-        let Some(number) = links.poll_number(self.key, write, &mut waker) else {
+        let mut links = reactor.shard(self.shard);
+        if let Err(code) = links.meet(reactor.ticker()) {
+            return Poll::Ready(Err(refused(code)));
+        }
+        let Some(number) = links.poll_number(self.key, write, cx.waker()) else {
             return Poll::Ready(Err(too_many_wakers()));
         };
+        let asked = links.core.poll_asks(self.key, write);
+        let armed = self.arm(reactor, &mut links, &asked);
         let polled = links.core.poll(self.key, write, number);
         if polled.code != aio::DONE && polled.code != aio::ARM_FAULT {
-            let dropped = links.give_up_new(self.key, write, number);
-            drop((links, turn));
-            drop(dropped);
             return Poll::Ready(match polled.code {
                 aio::READY => Ok(()),
                 code => Err(refused(code)),
             });
         }
-        links.keep_poll(self.key, write, number);
+        links.keep_poll(self.key, write, number, &mut waker);
         let replaced = match polled.wakes {
             true => links.give_up(polled.waker),
             false => None,
         };
-        drop((links, turn));
+        drop(links);
         if let Some(waker) = replaced {
             panic::catch_unwind(|| waker.wake()).ok();
         }
@@ -445,37 +562,40 @@ impl<H: Borrow<crate::Async<T>>, T> Future for Ready<H, T> {
         let reactor = Reactor::get();
         let source: &Source = &this.handle.borrow().source;
         let mut waker = Some(cx.waker().clone());
-        let mut refusal = None;
-        let (turn, mut links, armed) = reactor.armed(source, |links| {
-            if this.listener.is_none() {
+        let mut links = reactor.shard(source.shard);
+        // a later poll goes by the rounds that the first one remembered
+        if this.number.is_none() {
+            if let Err(code) = links.meet(reactor.ticker()) {
+                return Poll::Ready(Err(refused(code)));
+            }
+        }
+        let listener = match this.listener {
+            Some(listener) => listener,
+            None => {
                 let made = links.core.listen(source.key, this.write);
                 if made.code != aio::DONE {
-                    refusal = Some(refused(made.code));
-                    return AskAnswer::NOTHING;
+                    return Poll::Ready(Err(refused(made.code)));
                 }
                 links.listen(source.key, made.number);
                 this.listener = Some(made.number);
+                made.number
             }
-            this.listener.map_or(AskAnswer::NOTHING, |listener| links.core.step_asks(listener))
-        });
-        let Some(listener) = this.listener else {
-            return Poll::Ready(refusal.map_or(Ok(()), Err));
         };
-        let home = Home::Listener(listener);
-        let Some(number) = links.number(&mut waker, home) else {
+        let Some(number) = links.next_number() else {
             return Poll::Ready(Err(too_many_wakers()));
         };
+        let asked = links.core.step_asks(listener);
+        let armed = source.arm(reactor, &mut links, &asked);
         let code = links.core.step(listener, number);
         if code != aio::DONE && code != aio::ARM_FAULT {
-            let dropped = links.give_up(number);
-            drop((links, turn));
-            drop(dropped);
             return Poll::Ready(if code == aio::READY { Ok(()) } else { Err(refused(code)) });
         }
+        let home = Home::Listener(listener);
+        links.give(&mut waker, home);
         // one that was woken may have been given again, to this very poll too
         let old = this.number.replace(number).filter(|old| *old != number);
         let dropped = old.and_then(|old| links.give_up_of(old, home));
-        drop((links, turn));
+        drop(links);
         drop(dropped);
         match armed {
             Ok(()) => Poll::Pending,
@@ -487,9 +607,9 @@ impl<H: Borrow<crate::Async<T>>, T> Future for Ready<H, T> {
 impl<H: Borrow<crate::Async<T>>, T> Drop for Ready<H, T> {
     fn drop(&mut self) {
         let Some(listener) = self.listener else { return };
-        let reactor = Reactor::get();
-        let mut links = reactor.links();
-        links.unlisten(self.handle.borrow().source.key, listener);
+        let source: &Source = &self.handle.borrow().source;
+        let mut links = Reactor::get().shard(source.shard);
+        links.unlisten(source.key, listener);
         let number = self.number;
         let dropped = number.and_then(|n| links.give_up_of(n, Home::Listener(listener)));
         drop(links);
