@@ -1,12 +1,12 @@
 //! Sources of several shards, and timers beside a wait.
 use async_io::{block_on, Async, Timer};
 use futures_lite::future;
-use std::future::poll_fn;
 use std::io::Write;
 use std::os::unix::net::UnixStream;
 use std::sync::atomic::{AtomicUsize, Ordering};
 use std::sync::Arc;
 use std::task::{Context, Poll, Wake, Waker};
+use std::thread;
 use std::time::{Duration, Instant};
 
 /// Counts its wakes.
@@ -72,29 +72,24 @@ fn more_sources_live_than_one_core_has() {
     }
 }
 
-/// A timer that comes while the system waits ends that wait where it would last longer, and is met
-/// where it would not.
+/// Threads whose timers come while another one waits, with no limit of its own: each ends that wait
+/// where it would last longer, and is met where it would not.
 #[test]
 fn a_timer_is_met_whatever_the_wait_had_as_its_limit() {
-    let waits = std::thread::spawn(|| {
-        for _ in 0..20 {
-            block_on(Timer::after(Duration::from_millis(30)));
-        }
-        // from here on nobody waits but the crate's own thread
-    });
-    for step in 0..60 {
-        let (near, _far) = Async::<UnixStream>::pair().unwrap();
-        let start = Instant::now();
-        let due = Duration::from_millis(step);
-        block_on(future::or(
-            async {
-                Timer::after(due).await;
-            },
-            async {
-                poll_fn(|cx| near.poll_readable(cx)).await.unwrap();
-            },
-        ));
-        assert!(start.elapsed() >= due && start.elapsed() < due + Duration::from_secs(2));
+    let (near, far) = Async::<UnixStream>::pair().unwrap();
+    let waits = thread::spawn(move || block_on(near.readable()).unwrap());
+    for _ in 0..12 {
+        thread::sleep(Duration::from_millis(10));
+        let timers = thread::spawn(|| {
+            for due in [30, 10, 20].map(Duration::from_millis) {
+                let start = Instant::now();
+                block_on(future::zip(Timer::after(due), Timer::after(due * 2)));
+                let past = start.elapsed();
+                assert!(past >= due * 2 && past < due * 2 + Duration::from_secs(2));
+            }
+        });
+        timers.join().unwrap();
     }
+    far.get_ref().write_all(b"x").unwrap();
     waits.join().unwrap();
 }

@@ -11,8 +11,8 @@ use std::task::Waker;
 /// No number.
 const NONE: u32 = u32::MAX;
 
-/// The numbers of wakers are below this, so that one lies beside a timer's id in 64 bits.
-const NUMBERS: usize = 1 << 24;
+/// The numbers of wakers are below this, so that one lies beside a timer's core and id in 64 bits.
+const NUMBERS: usize = 1 << 21;
 
 /// Where in the core the number of a waker may stand.
 #[derive(Clone, Copy, PartialEq, Eq)]

@@ -3,6 +3,7 @@
 //! poller, the wakers and the locks, and makes the wait. Nothing of it is proved.
 use std::array;
 use std::borrow::Borrow;
+use std::cell::Cell;
 use std::fmt;
 use std::future::Future;
 use std::io;
@@ -28,27 +29,45 @@ pub use unix::Registration;
 /// How many cores have sources.
 const SHARDS: usize = 32;
 
+/// How many cores have timers. The threads take them in turn, and each has its timers in one.
+const TIMER_CORES: usize = 8;
+
+/// How many shards beside such a core have the sources that its threads make.
+const OWN: usize = SHARDS / TIMER_CORES;
+
 /// The bits of the poller's key that are the key in a core; those above name its shard.
 const KEY_BITS: u32 = 12;
 
 /// The last moment of the core, in nanoseconds from the start: 31 years later.
 const LAST_MOMENT: u128 = 1_000_000_000_000_000_000;
 
-/// The bits of a timer's number that are its id; those above name its waker.
+/// The bits of a timer's number that are its id; those above name its core, and then its waker.
 const ID_BITS: u32 = 40;
+const CORE_BITS: u32 = 3;
 
 const _: () = assert!(usize::BITS == 64, "a timer's number has 64 bits");
+const _: () = assert!(TIMER_CORES == 1 << CORE_BITS, "a timer's number names its core");
 
 /// A core with sources, in a lock of its own.
 #[repr(align(128))]
 struct Shard(Mutex<Links>);
 
-/// The core with the timers.
+/// A core with timers, in a lock of its own.
 #[repr(align(128))]
+struct TimerCore(Mutex<Timers>);
+
 struct Timers {
     links: Links,
-    /// The moment when the wait of the running round is over, where it has a limit.
+    /// Whether each round of the reactor has one of this core: not before a thread has come to it.
+    joined: bool,
+    /// The moment when the wait of the running round is over at the latest, where it has a limit.
     until: Option<u64>,
+}
+
+impl Timers {
+    fn new() -> Timers {
+        Timers { links: Links::new(), joined: false, until: None }
+    }
 }
 
 /// The one reactor of a program.
@@ -58,7 +77,9 @@ pub(crate) struct Reactor {
     ticker: AtomicUsize,
     /// Held by the thread that makes a round.
     rounds: Mutex<Rounds>,
-    timers: Mutex<Timers>,
+    timers: [TimerCore; TIMER_CORES],
+    /// How many threads have had timers or sources.
+    threads: AtomicUsize,
     shards: [Shard; SHARDS],
     /// How many sources came.
     came: AtomicUsize,
@@ -74,7 +95,8 @@ impl Reactor {
                 poller: Poller::new().expect("the system gives no poller"),
                 ticker: AtomicUsize::new(0),
                 rounds: Mutex::new(Rounds::new()),
-                timers: Mutex::new(Timers { links: Links::new(), until: None }),
+                timers: array::from_fn(|_| TimerCore(Mutex::new(Timers::new()))),
+                threads: AtomicUsize::new(0),
                 shards: array::from_fn(|_| Shard(Mutex::new(Links::new()))),
                 came: AtomicUsize::new(0),
                 start: Instant::now(),
@@ -82,8 +104,22 @@ impl Reactor {
         })
     }
 
-    fn timers(&self) -> MutexGuard<'_, Timers> {
-        self.timers.lock().unwrap()
+    fn timers(&self, core: usize) -> MutexGuard<'_, Timers> {
+        self.timers[core].0.lock().unwrap()
+    }
+
+    /// The core that has the timers of this thread.
+    fn core_of_thread(&self) -> usize {
+        thread_local! {
+            static CORE: Cell<usize> = const { Cell::new(usize::MAX) };
+        }
+        let known = CORE.get();
+        if known != usize::MAX {
+            return known;
+        }
+        let core = self.threads.fetch_add(1, Ordering::SeqCst) % TIMER_CORES;
+        CORE.set(core);
+        core
     }
 
     fn shard(&self, shard: usize) -> MutexGuard<'_, Links> {
@@ -99,13 +135,18 @@ impl Reactor {
         self.ticker.load(Ordering::SeqCst)
     }
 
-    /// The shards take the sources in turn; one that is full is passed over.
+    /// The shards of this thread take its sources in turn; one that is full is passed over, at last
+    /// for those of others.
     pub(crate) fn insert_io(&self, registration: Registration) -> io::Result<Arc<Source>> {
+        let own = self.core_of_thread() * OWN;
         let came = self.came.fetch_add(1, Ordering::Relaxed);
         // of each number of sources that come again and again, as in pairs, all have their turn
-        let turn = came.wrapping_add(came / SHARDS);
+        let turn = came.wrapping_add(came / OWN);
         for at in 0..SHARDS {
-            let shard = turn.wrapping_add(at) % SHARDS;
+            let shard = match at < OWN {
+                true => own + turn.wrapping_add(at) % OWN,
+                false => (own + at) % SHARDS,
+            };
             let mut links = self.shard(shard);
             let added = links.core.add();
             match added.code {
@@ -143,7 +184,8 @@ impl Reactor {
     pub(crate) fn insert_timer(&self, when: Instant, waker: &Waker) -> usize {
         let mut waker = Some(waker.clone());
         let at = self.moment(when);
-        let mut timers = self.timers();
+        let core = self.core_of_thread();
+        let mut timers = self.timers(core);
         let Some(number) = timers.links.next_number() else {
             drop(timers);
             panic!("no timer: {}", too_many_wakers());
@@ -154,22 +196,25 @@ impl Reactor {
             panic!("no timer: {}", refused(timer.code));
         }
         timers.links.give(&mut waker, Home::Timer(timer.number));
-        // a wait that is over by then needs no notice, and a round that has yet to begin none either
-        let is_late = timers.links.runs && timers.until.map_or(true, |until| at < until);
+        // no notice where the wait is over by then, nor where this core's round is yet to begin
+        let outlasts = timers.until.map_or(true, |until| at < until);
+        let is_late = !timers.joined || timers.links.runs && outlasts;
         drop(timers);
         if is_late {
             self.notify();
         }
-        (timer.number | u64::from(number) << ID_BITS) as usize
+        let names = u64::from(number) << CORE_BITS | core as u64;
+        (timer.number | names << ID_BITS) as usize
     }
 
     pub(crate) fn remove_timer(&self, when: Instant, timer: usize) {
-        let id = timer as u64 & ((1 << ID_BITS) - 1);
-        let number = (timer as u64 >> ID_BITS) as u32;
+        let id = timer & ((1 << ID_BITS) - 1);
+        let names = timer >> ID_BITS;
+        let number = (names >> CORE_BITS) as u32;
         let at = self.moment(when);
-        let mut timers = self.timers();
-        timers.links.core.remove_timer(at, id);
-        let dropped = timers.links.give_up_of(number, Home::Timer(id));
+        let mut timers = self.timers(names % TIMER_CORES);
+        timers.links.core.remove_timer(at, id as u64);
+        let dropped = timers.links.give_up_of(number, Home::Timer(id as u64));
         drop(timers);
         drop(dropped);
     }
@@ -198,98 +243,123 @@ impl ReactorLock<'_> {
     /// One round, which waits for at most `timeout`; or the rest of the one before, where memory
     /// ran out in that.
     pub(crate) fn react(&mut self, timeout: Option<Duration>) -> io::Result<()> {
-        let answer = self.rounds.round(self.reactor, timeout);
-        for waker in self.rounds.wakers.drain(..) {
-            // a waker that panics keeps none of the others from being woken
-            panic::catch_unwind(|| waker.wake()).ok();
-        }
-        answer
+        self.rounds.round(self.reactor, timeout)
     }
 }
 
-/// A round of the reactor: one of the timers' core around a wait of the system, and then one of
-/// each core that has events of that wait.
+/// A round of the reactor: one of each core with timers around a wait of the system, and then one
+/// of each shard that has events of that wait.
 struct Rounds {
     events: Events,
     /// The events of each shard.
     hands: [Hand; SHARDS],
-    /// Whether the timers' round is to be ended, and a bit for each shard whose round is.
-    timers_left: bool,
+    /// What a wait came to, and a bit for each core with timers that is to be told it.
+    wait: Wait,
+    untold: u64,
+    /// A bit for each core with timers, and for each shard, whose round is to be ended.
+    timers_left: u64,
     shards_left: u64,
     wakers: Vec<Waker>,
 }
 
 const _: () = assert!(SHARDS <= u64::BITS as usize, "each shard has a bit");
 
+#[derive(Clone, Copy)]
+enum Wait {
+    Over,
+    Interrupted,
+    Failed,
+}
+
 impl Rounds {
     fn new() -> Rounds {
         Rounds {
             events: Events::new(),
             hands: array::from_fn(|_| Hand::default()),
-            timers_left: false,
+            wait: Wait::Over,
+            untold: 0,
+            timers_left: 0,
             shards_left: 0,
             wakers: Vec::new(),
         }
     }
 
     fn round(&mut self, reactor: &Reactor, timeout: Option<Duration>) -> io::Result<()> {
-        let now = reactor.moment(Instant::now());
-        let mut timers = reactor.timers();
-        if self.timers_left || self.shards_left != 0 {
+        if self.timers_left != 0 || self.shards_left != 0 {
             // memory ran out in the round before, which is ended: no wait comes before its wakes
-            return self.end(reactor, timers, now);
+            return self.end(reactor);
         }
-        let begun = timers.links.core.begin(now, timeout.map(nanoseconds));
-        if begun.code != aio::DONE {
-            return Err(refused(begun.code));
-        }
-        timers.links.runs = true;
-        timers.links.takes = true;
-        timers.until = begun.limited.then(|| now.saturating_add(begun.limit));
-        drop(timers);
-        reactor.ticker.store(begun.number as usize, Ordering::SeqCst);
+        let (number, limit) = match self.begin(reactor, timeout) {
+            Ok(begun) => begun,
+            Err(refused) => {
+                // no wait is made; what began is ended
+                self.end(reactor).ok();
+                return Err(refused);
+            }
+        };
+        reactor.ticker.store(number, Ordering::SeqCst);
         self.events.clear();
-        let limit = begun.limited.then(|| Duration::from_nanos(begun.limit));
         let waited = reactor.poller.wait(&mut self.events, limit);
         for event in self.events.iter() {
             let shard = event.key >> KEY_BITS;
             self.hands[shard].events.push(event);
             self.shards_left |= 1 << shard;
         }
-        let now = reactor.moment(Instant::now());
-        let mut timers = reactor.timers();
         // a wait that failed behind its events gave them: they are handled, and its error is told
-        let failed = match waited {
-            Err(error) if self.shards_left != 0 => Err(error),
-            Err(error) if error.kind() == io::ErrorKind::Interrupted => {
-                timers.links.core.interrupt_next();
-                Ok(())
-            }
-            Err(error) => {
-                timers.links.core.fail_next(aio::WAIT);
-                Err(error)
-            }
-            Ok(_) => Ok(()),
+        let (wait, failed) = match waited {
+            Err(error) if self.shards_left != 0 => (Wait::Over, Err(error)),
+            Err(error) if error.kind() == io::ErrorKind::Interrupted => (Wait::Interrupted, Ok(())),
+            Err(error) => (Wait::Failed, Err(error)),
+            Ok(_) => (Wait::Over, Ok(())),
         };
-        timers.links.core.wait();
-        self.timers_left = true;
-        let ended = self.end(reactor, timers, now);
+        self.wait = wait;
+        self.untold = self.timers_left;
+        let ended = self.end(reactor);
         failed.and(ended)
     }
 
-    /// Ends each round that is to be ended, and takes the wakers that it has to wake. Where memory
-    /// runs out in one of them the others go on, and the next call goes on from there.
-    fn end(
+    /// Begins a round of each core with timers: each takes the limit of the one before, so that the
+    /// last tells that of the wait. Answers the number of the first one's round beside it.
+    fn begin(
         &mut self,
         reactor: &Reactor,
-        timers: MutexGuard<'_, Timers>,
-        now: u64,
-    ) -> io::Result<()> {
+        timeout: Option<Duration>,
+    ) -> io::Result<(usize, Option<Duration>)> {
+        let now = reactor.moment(Instant::now());
+        let cores = reactor.threads.load(Ordering::SeqCst).clamp(1, TIMER_CORES);
+        let mut number = 0;
+        let mut limit = timeout.map(nanoseconds);
+        for core in 0..cores {
+            let mut timers = reactor.timers(core);
+            timers.joined = true;
+            let begun = timers.links.core.begin(now, limit);
+            if begun.code != aio::DONE {
+                return Err(refused(begun.code));
+            }
+            limit = begun.limited.then_some(begun.limit);
+            timers.links.runs = true;
+            timers.links.takes = true;
+            timers.until = limit.map(|limit| now.saturating_add(limit));
+            self.timers_left |= 1 << core;
+            if core == 0 {
+                number = begun.number as usize;
+            }
+        }
+        Ok((number, limit.map(Duration::from_nanos)))
+    }
+
+    /// Ends each round that is to be ended, and wakes whom it has to wake before the next one ends.
+    /// Where memory runs out in one of them the others go on, and the next call goes on from there.
+    fn end(&mut self, reactor: &Reactor) -> io::Result<()> {
         let mut first = Ok(());
-        if self.timers_left {
-            first = self.end_timers(timers, now);
-        } else {
-            drop(timers);
+        let now = reactor.moment(Instant::now());
+        let mut left = self.timers_left;
+        while left != 0 {
+            let core = left.trailing_zeros() as usize;
+            left &= left - 1;
+            let ended = self.end_timers(core, &mut reactor.timers(core).links, now);
+            self.wake();
+            first = first.and(ended);
         }
         let mut left = self.shards_left;
         while left != 0 {
@@ -300,21 +370,38 @@ impl Rounds {
             if hand.events.is_empty() {
                 self.shards_left &= !(1 << shard);
             }
+            self.wake();
             first = first.and(ended);
         }
         first
     }
 
-    fn end_timers(&mut self, mut timers: MutexGuard<'_, Timers>, now: u64) -> io::Result<()> {
+    fn wake(&mut self) {
+        for waker in self.wakers.drain(..) {
+            // a waker that panics keeps none of the others from being woken
+            panic::catch_unwind(|| waker.wake()).ok();
+        }
+    }
+
+    fn end_timers(&mut self, core: usize, links: &mut Links, now: u64) -> io::Result<()> {
+        if self.untold & 1 << core != 0 {
+            match self.wait {
+                Wait::Over => {}
+                Wait::Interrupted => links.core.interrupt_next(),
+                Wait::Failed => links.core.fail_next(aio::WAIT),
+            }
+            links.core.wait();
+            self.untold &= !(1 << core);
+        }
         if links::refuses() {
             return Err(refused(aio::OUT_OF_MEMORY));
         }
-        let ended = timers.links.core.finish(now);
+        let ended = links.core.finish(now);
         if ended.code != aio::DONE {
             return Err(refused(ended.code));
         }
-        timers.links.take_woken(ended.wakers, &mut self.wakers);
-        self.timers_left = false;
+        links.take_woken(ended.wakers, &mut self.wakers);
+        self.timers_left &= !(1 << core);
         Ok(())
     }
 }
@@ -403,14 +490,14 @@ fn refused(code: u32) -> io::Error {
     let text = match code {
         aio::FULL => "4,096 sources are registered in each of 32 shards",
         aio::OUT_OF_MEMORY => "memory ran out",
-        18 => "2^40 - 1 timers were registered",
+        18 => "2^40 - 1 timers were registered in a core",
         _ => "the core refused the call",
     };
     io::Error::new(io::ErrorKind::Other, text)
 }
 
 fn too_many_wakers() -> io::Error {
-    io::Error::new(io::ErrorKind::Other, "2^24 wakers wait")
+    io::Error::new(io::ErrorKind::Other, "2^21 wakers wait in a core")
 }
 
 /// A registered source.
