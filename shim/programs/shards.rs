@@ -1,6 +1,7 @@
 //! Sources of several shards, and timers beside a wait.
 use async_io::{block_on, Async, Timer};
 use futures_lite::future;
+use std::fs;
 use std::io::Write;
 use std::os::unix::net::UnixStream;
 use std::sync::atomic::{AtomicUsize, Ordering};
@@ -25,6 +26,24 @@ fn polls(source: &Async<UnixStream>, count: &Arc<Count>) -> bool {
         Poll::Ready(answer) => answer.is_ok(),
         Poll::Pending => false,
     }
+}
+
+/// How many sources each of the 32 shards has, as the system tells what its poller watches.
+fn live() -> Vec<usize> {
+    let mut live = vec![0; 32];
+    for file in fs::read_dir("/proc/self/fdinfo").unwrap() {
+        // the descriptor of the folder itself is gone by now
+        let text = fs::read_to_string(file.unwrap().path()).unwrap_or_default();
+        for line in text.lines().filter(|line| line.starts_with("tfd:")) {
+            let mut words = line.split_whitespace().skip_while(|word| *word != "data:");
+            let key = u64::from_str_radix(words.nth(1).unwrap(), 16).unwrap();
+            // the poller's own descriptors have a key past those of all shards
+            if let Some(count) = live.get_mut((key >> 12) as usize) {
+                *count += 1;
+            }
+        }
+    }
+    live
 }
 
 fn pairs(count: usize) -> Vec<(Async<UnixStream>, Async<UnixStream>)> {
@@ -69,6 +88,30 @@ fn more_sources_live_than_one_core_has() {
     for (near, far) in &pairs {
         far.get_ref().write_all(b"x").unwrap();
         block_on(near.readable()).unwrap();
+    }
+}
+
+#[test]
+fn threads_that_make_equally_many_sources_keep_to_their_own_shards() {
+    let threads: Vec<_> = (0..8).map(|_| thread::spawn(|| pairs(25))).collect();
+    let made: Vec<_> = threads.into_iter().map(|thread| thread.join().unwrap()).collect();
+    let live = live();
+    drop(made);
+    for own in live.chunks(4) {
+        assert_eq!(own.iter().sum::<usize>(), 50, "{live:?}");
+        assert!(own.iter().all(|count| [12, 13].contains(count)), "{live:?}");
+    }
+}
+
+#[test]
+fn the_sources_of_one_thread_come_to_all_shards() {
+    for count in [200, 2_000] {
+        let pairs = pairs(count);
+        let (live, average) = (live(), 2 * count / 32);
+        drop(pairs);
+        assert_eq!(live.iter().sum::<usize>(), 2 * count);
+        assert!(live.iter().all(|count| *count > average / 2), "{live:?}");
+        assert!(live.iter().all(|count| *count <= 2 * average + 16), "{live:?}");
     }
 }
 

@@ -1,6 +1,7 @@
 //! 8 threads with 25 socket pairs each: every pair sends a byte there and one back 400 times,
 //! beside timers, as a task with a waker of its own. A round trip that is not made within the time
-//! of the first argument in seconds, 20 where there is none, ends the program with status 1.
+//! of the first argument in seconds, 20 where there is none, ends the program with status 1. Each
+//! thread makes its own pairs; where the second argument is `one`, the main thread makes all.
 use async_io::{Async, Timer};
 use futures_lite::io::{AsyncReadExt, AsyncWriteExt};
 use futures_lite::FutureExt;
@@ -17,6 +18,7 @@ const PAIRS: usize = 25;
 const TRIPS: u32 = 400;
 
 type Work = Pin<Box<dyn Future<Output = ()> + Send>>;
+type Pair = (Async<UnixStream>, Async<UnixStream>);
 
 /// The tasks of one thread that are to be polled, and the waker of that thread.
 #[derive(Default)]
@@ -76,7 +78,11 @@ async fn run_all(works: Vec<Work>) {
     .await
 }
 
-async fn trips(mut near: Async<UnixStream>, mut far: Async<UnixStream>, patience: Duration) {
+fn pairs() -> Vec<Pair> {
+    (0..PAIRS).map(|_| Async::<UnixStream>::pair().unwrap()).collect()
+}
+
+async fn trips((mut near, mut far): Pair, patience: Duration) {
     let mut byte = [0];
     for trip in 0..TRIPS {
         if trip % 50 == 0 {
@@ -105,14 +111,16 @@ async fn trips(mut near: Async<UnixStream>, mut far: Async<UnixStream>, patience
 
 fn main() {
     let seconds = std::env::args().nth(1).map_or(20, |word| word.parse().unwrap());
+    let patience = Duration::from_secs(seconds);
+    let makes_all = std::env::args().nth(2).map_or(false, |word| word == "one");
     let start = Instant::now();
-    let threads: Vec<_> = (0..THREADS)
-        .map(|_| {
+    let made: Vec<_> = (0..THREADS).map(|_| makes_all.then(pairs)).collect();
+    let threads: Vec<_> = made
+        .into_iter()
+        .map(|made| {
             std::thread::spawn(move || {
-                let works = (0..PAIRS).map(|_| {
-                    let (near, far) = Async::<UnixStream>::pair().unwrap();
-                    Box::pin(trips(near, far, Duration::from_secs(seconds))) as Work
-                });
+                let pairs = made.unwrap_or_else(pairs).into_iter();
+                let works = pairs.map(|pair| Box::pin(trips(pair, patience)) as Work);
                 async_io::block_on(run_all(works.collect()))
             })
         })
@@ -121,5 +129,6 @@ fn main() {
         thread.join().unwrap();
     }
     let made = THREADS * PAIRS * TRIPS as usize;
-    println!("{made} round trips in {} ms", start.elapsed().as_millis());
+    let whose = if makes_all { " over pairs of one thread" } else { "" };
+    println!("{made} round trips{whose} in {} ms", start.elapsed().as_millis());
 }

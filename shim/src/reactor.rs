@@ -32,8 +32,11 @@ const SHARDS: usize = 32;
 /// How many cores have timers. The threads take them in turn, and each has its timers in one.
 const TIMER_CORES: usize = 8;
 
-/// How many shards beside such a core have the sources that its threads make.
+/// How many shards beside such a core are its threads' own.
 const OWN: usize = SHARDS / TIMER_CORES;
+
+/// A thread's own shards take its sources up to this many past twice the average of all shards.
+const FEW: usize = 16;
 
 /// The bits of the poller's key that are the key in a core; those above name its shard.
 const KEY_BITS: u32 = 12;
@@ -81,8 +84,8 @@ pub(crate) struct Reactor {
     /// How many threads have had timers or sources.
     threads: AtomicUsize,
     shards: [Shard; SHARDS],
-    /// How many sources came.
-    came: AtomicUsize,
+    /// How many sources each shard has.
+    live: [AtomicUsize; SHARDS],
     start: Instant,
 }
 
@@ -98,7 +101,7 @@ impl Reactor {
                 timers: array::from_fn(|_| TimerCore(Mutex::new(Timers::new()))),
                 threads: AtomicUsize::new(0),
                 shards: array::from_fn(|_| Shard(Mutex::new(Links::new()))),
-                came: AtomicUsize::new(0),
+                live: array::from_fn(|_| AtomicUsize::new(0)),
                 start: Instant::now(),
             }
         })
@@ -135,18 +138,30 @@ impl Reactor {
         self.ticker.load(Ordering::SeqCst)
     }
 
-    /// The shards of this thread take its sources in turn; one that is full is passed over, at last
-    /// for those of others.
+    /// The shard for a source of this thread: the least full of its own, or of all where that one
+    /// has too many. Others may change the numbers meanwhile: they guide, and promise nothing.
+    fn next_shard(&self) -> usize {
+        let live: [usize; SHARDS] = array::from_fn(|at| self.live[at].load(Ordering::Relaxed));
+        let all: usize = live.iter().sum();
+        // of sources that come again and again in one order, as in pairs, each comes to all shards
+        let turn = all + all / OWN;
+        let least_full = |from, count| {
+            let shards = (0..count).map(|at| from + (turn + at) % count);
+            shards.min_by_key(|shard| live[*shard]).unwrap_or(from)
+        };
+        let own = least_full(self.core_of_thread() * OWN, OWN);
+        let most = (2 * all / SHARDS + FEW).min(1 << KEY_BITS);
+        match live[own] < most {
+            true => own,
+            false => least_full(0, SHARDS),
+        }
+    }
+
+    /// A shard that is full is passed over for the next one.
     pub(crate) fn insert_io(&self, registration: Registration) -> io::Result<Arc<Source>> {
-        let own = self.core_of_thread() * OWN;
-        let came = self.came.fetch_add(1, Ordering::Relaxed);
-        // of each number of sources that come again and again, as in pairs, all have their turn
-        let turn = came.wrapping_add(came / OWN);
+        let first = self.next_shard();
         for at in 0..SHARDS {
-            let shard = match at < OWN {
-                true => own + turn.wrapping_add(at) % OWN,
-                false => (own + at) % SHARDS,
-            };
+            let shard = (first + at) % SHARDS;
             let mut links = self.shard(shard);
             let added = links.core.add();
             match added.code {
@@ -161,6 +176,7 @@ impl Reactor {
                 return Err(error);
             }
             links.place(source.clone());
+            self.live[shard].fetch_add(1, Ordering::Relaxed);
             return Ok(source);
         }
         Err(refused(aio::FULL))
@@ -174,6 +190,7 @@ impl Reactor {
             links.core.fail_next(aio::REMOVE);
         }
         links.core.del(source.key);
+        self.live[source.shard].fetch_sub(1, Ordering::Relaxed);
         drop(links);
         drop((place, dropped));
         removed
