@@ -2,8 +2,10 @@
 use async_io::{block_on, Async, Timer};
 use futures_lite::future;
 use std::fs;
+use std::future::Future;
 use std::io::Write;
 use std::os::unix::net::UnixStream;
+use std::pin::Pin;
 use std::sync::atomic::{AtomicUsize, Ordering};
 use std::sync::Arc;
 use std::task::{Context, Poll, Wake, Waker};
@@ -135,4 +137,23 @@ fn a_timer_is_met_whatever_the_wait_had_as_its_limit() {
     }
     far.get_ref().write_all(b"x").unwrap();
     waits.join().unwrap();
+}
+
+/// More timers come and go in one wait than a core has numbers. None of them ends it, for it is over
+/// before they are due.
+#[test]
+fn timers_that_go_while_the_system_waits_leave_their_numbers() {
+    let waker = Waker::from(Arc::<Count>::default());
+    let start = Instant::now();
+    let comes = |seconds| {
+        let mut timer = Timer::at(start + Duration::from_secs(seconds));
+        assert!(Pin::new(&mut timer).poll(&mut Context::from_waker(&waker)).is_pending());
+        timer
+    };
+    let limit = comes(1_000);
+    thread::sleep(Duration::from_millis(50));
+    for _ in 0..=1 << 21 {
+        drop(comes(2_000));
+    }
+    drop(limit);
 }

@@ -41,8 +41,8 @@ pub(super) struct Links {
     pub(super) core: Core,
     /// Whether a round runs: begun, and not yet ended.
     pub(super) runs: bool,
-    /// Whether the running round may have taken numbers: it began with timers, or has handled an
-    /// event.
+    /// Whether the running round may have taken numbers: it may have begun with timers that were
+    /// due, or has handled an event.
     pub(super) takes: bool,
     /// The number of the system's wait that the last round belongs to.
     wait: usize,

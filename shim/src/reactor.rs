@@ -355,7 +355,8 @@ impl Rounds {
             }
             limit = begun.limited.then_some(begun.limit);
             timers.links.runs = true;
-            timers.links.takes = true;
+            // a begin that took a timer tells the limit 0: no round that lasts has taken a number
+            timers.links.takes = limit == Some(0);
             timers.until = limit.map(|limit| now.saturating_add(limit));
             self.timers_left |= 1 << core;
             if core == 0 {
