@@ -8,7 +8,7 @@ use Rattle.aio_base.specs.Text.{ended_line, reason_text}
 use Rattle.aio_bytes.specs.declared.traits.SinkRefusal.{SinkRefusal}
 use Rattle.aio_bytes.specs.Sinks.{AppendsPart, Writes}
 use Rattle.aio_run.specs.Commands.{refusal_text}
-use Rattle.aio_replay.proofs.StepLemmas.{written_behind}
+use Rattle.aio_replay.proofs.DrivingLemmas.{Sends-writes}
 
 parted : (a b c d e : List ℕ) → (((a ++ b) ++ c) ++ d) ++ e ≡ a ++ (b ++ ((c ++ d) ++ e))
 parted a b c d e = ap (λ t. t ++ e) (append_assoc (a ++ b) c d) ∙ append_assoc (a ++ b) (c ++ d) e ∙ append_assoc a b ((c ++ d) ++ e)
@@ -44,6 +44,9 @@ second_refused line reason old mid new p q =
 pub end_written : (r : Result (Unit {0}) SinkRefusal) (line : ℕ) (reason : Reason) (old first second new : Option (List ℕ)) → Appends old first (codes "line ")
     → Appends first second (decimal line) → Writes r second new (ended_line (codes ": " ++ reason_text reason)) → Writes r old new (refusal_text line reason)
 end_written r line reason old first second new p q w =
-    written_behind r old second new (codes "line " ++ decimal line) (ended_line (codes ": " ++ reason_text reason)) (refusal_text line reason)
-    (Appends-trans old first second (codes "line ") (decimal line) p q) w
-    (append_assoc (codes "line ") (decimal line) (ended_line (codes ": " ++ reason_text reason)) ∙ sym (in_pieces line reason))
+    let end = ended_line (codes ": " ++ reason_text reason) in
+    Sends-writes r old second new (refusal_text line reason) end (record {
+      sent = codes "line " ++ decimal line;
+      appended = Appends-trans old first second (codes "line ") (decimal line) p q;
+      whole = in_pieces line reason ∙ sym (append_assoc (codes "line ") (decimal line) end);
+    }) w

@@ -16,7 +16,7 @@ use Rattle.aio_bytes.specs.Sinks.{AppendsPart, HasFailed, Writes}
 use Rattle.aio_generator.specs.Generating.{StepsLeft, steps_left}
 use Rattle.aio_generator.proofs.Ranges.{all_spelled, in_range}
 use Rattle.aio_replay.specs.Driving.{Sends}
-use Rattle.aio_replay.proofs.StepLemmas.{written_behind}
+use Rattle.aio_replay.proofs.DrivingLemmas.{Sends-writes}
 use Rattle.aio_run.specs.Commands.{header_text, trace_text}
 
 -- the lines of some steps
@@ -95,7 +95,11 @@ pub traces_all : (n seed : ℕ) (left : StepsLeft) (first now new : Option (List
     → steps_left left ≡ [] → Writes r now new text → Writes r first new (trace_text (generated_steps n seed))
 traces_all n seed left first now new text r traces none written =
     let whole : generated_steps n seed ≡ traces.done = traces.whole ∙ ap (λ more. traces.done ++ more) none ∙ append-nil traces.done in
-    written_behind r first now new traces.sent text (trace_text (generated_steps n seed)) traces.appended written (traces.text_is ∙ ap trace_text (sym whole))
+    Sends-writes r first now new (trace_text (generated_steps n seed)) text (record {
+      sent = traces.sent;
+      appended = traces.appended;
+      whole = sym (traces.text_is ∙ ap trace_text (sym whole));
+    }) written
 
 -- a call before which no call failed
 pub tells_on : {S : Type 0} (count : S → ℕ) (is_sure : S → Bool) (old mid new : S) (failed : Type 0) → TellsFaults count is_sure old mid ⊥ → TellsFaults count is_sure mid new failed
