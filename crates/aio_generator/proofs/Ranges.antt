@@ -1,9 +1,8 @@
 -- The steps that a seed gives have spellings.
-use Rattle.std.proofs.Common.{ℕ, zero, suc, ◌+◌, ◌*◌, ◌%◌, ◌≤◌, ◌^◌, ◌==◌, Bool, true, false, cond, nat_lt, List, ◌∷◌, None, Some, arith}
+use Rattle.std.proofs.Common.{ℕ, zero, suc, ◌+◌, ◌*◌, ◌%◌, ◌≤◌, ◌^◌, ◌==◌, Bool, true, false, cond, nat_lt, List, ◌∷◌, arith}
 use Rattle.std.specs.List.{All}
 use Rattle.aio_base.specs.declared.steps.Step.{Step}
-use Rattle.aio_base.specs.declared.steps.Step.TheVariants as step
-use Rattle.aio_base.specs.Lines.{HasSpelling, IsInRange}
+use Rattle.aio_base.specs.Lines.{HasSpelling}
 use Rattle.aio_base.specs.Generated.{Generator, Generated, draw, first_generator, generated_by, generated_of, generated_steps, steps_from, after_draws}
 
 -- so many steps more keep a generator's counts and its moment small
@@ -47,28 +46,3 @@ all_given (suc n) g fits =
 pub all_spelled : (n seed : ℕ) → n ≤ 999999 → All HasSpelling (generated_steps n seed)
 unfolding generated_steps
 all_spelled n seed few = all_given n (first_generator seed) (omega arith, omega arith, omega arith)
-
-pub in_range : (s : Step) → HasSpelling s → IsInRange s
-in_range (step.TimerEvery deadline period) fits = fits.1
-in_range (step.SetEvery number deadline period) fits = fits.2
-in_range (step.Begin (Some limit)) fits = fits
-in_range (step.Begin None) fits = tt
-in_range step.Add fits = tt
-in_range (step.Del key) fits = tt
-in_range (step.Poll key dir waker) fits = tt
-in_range (step.New key dir) fits = tt
-in_range (step.StepEar number waker) fits = tt
-in_range (step.DropEar number) fits = tt
-in_range (step.TimerAt deadline) fits = tt
-in_range step.TimerNever fits = tt
-in_range (step.Tick number waker) fits = tt
-in_range (step.SetAt number deadline) fits = tt
-in_range (step.End number) fits = tt
-in_range (step.Now moment) fits = tt
-in_range (step.Note event) fits = tt
-in_range (step.Fault kind) fits = tt
-in_range step.Interrupt fits = tt
-in_range step.Wait fits = tt
-in_range step.Handle fits = tt
-in_range step.Finish fits = tt
-in_range step.React fits = tt

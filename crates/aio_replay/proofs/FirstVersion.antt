@@ -13,7 +13,7 @@ use Rattle.aio_base.specs.Lines.{body_of, fault_of, line_bytes, step_read, words
 use Rattle.aio_base.specs.Trace.{refused, with_step, lines_of, trace_of, trace_of_lines, trace_from, trace_after, reason_of, is_header, header_words, line_limit}
 use Rattle.aio_laws.proofs.traces.Shapes.{is_read}
 use Rattle.aio_trace.proofs.LineLaws.{no_fault}
-use Rattle.aio_generator.proofs.Ranges.{in_range}
+use Rattle.aio_trace.proofs.Ranges.{in_range}
 use Rattle.aio_replay.specs.Language.{SaysByLines, first_version}
 
 says_of : (input : List ℕ) → trace_of input ≡ trace_of_lines (lines_of input)

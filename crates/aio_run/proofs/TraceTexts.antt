@@ -14,7 +14,8 @@ use Rattle.aio_base.specs.Text.{ended_line}
 use Rattle.aio_bytes.specs.declared.traits.SinkRefusal.{SinkRefusal}
 use Rattle.aio_bytes.specs.Sinks.{AppendsPart, HasFailed, Writes}
 use Rattle.aio_generator.specs.Generating.{StepsLeft, steps_left}
-use Rattle.aio_generator.proofs.Ranges.{all_spelled, in_range}
+use Rattle.aio_generator.proofs.Ranges.{all_spelled}
+use Rattle.aio_trace.proofs.Ranges.{in_range}
 use Rattle.aio_replay.specs.Driving.{Sends}
 use Rattle.aio_replay.proofs.DrivingLemmas.{Sends-writes}
 use Rattle.aio_run.specs.Commands.{header_text, trace_text}

@@ -1,9 +1,11 @@
 pub mod Bodies
+pub mod Handed
 pub mod LeadingRuns
 pub mod LineLaws
 pub mod LineNumbers
 pub mod LineWords
 pub mod Printed
+pub mod Ranges
 pub mod ReadBack
 pub mod Telling
 pub mod WrittenLines

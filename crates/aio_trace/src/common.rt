@@ -1,13 +1,16 @@
 //! Lines in their plainest spelling: one space between words, no other blank, and numbers of a few
-//! digits. They are read from their front in one pass, compiled in place where they are used; every
-//! other line is left to `reading`.
+//! digits. They are read from their front in one pass, compiled in place where they are used, and
+//! the arm that read a step hands it on; every other line is left to `reading`.
 
-ghost use Rattle.std.specs.Prelude.{◌≡◌, ◌<◌, ◌≤◌, ◌+◌, ◌^◌, ℕ, [], None, Ok, Some, IfSome, OnSome, length};
+ghost use Rattle.std.specs.Prelude.{◌≡◌, ◌<◌, ◌≤◌, ◌+◌, ◌^◌, ℕ, [], None, Ok, Some, IfSome, MatchOption, OnSome, length};
 ghost use Rattle.aio_base.specs.World.{last_moment};
 ghost use Rattle.aio_base.specs.Lines.{last_number, words_in};
+ghost use Rattle.aio_base.specs.declared.steps.Step.{Step};
 ghost use Rattle.aio_trace.specs.Reading.{begin_of, event_of, fault_line_of, listener_poll_of, new_of, poll_of, set_of, step_of_words, take_direction, take_flags, take_number, take_period, tick_of, timer_of};
+ghost use Rattle.aio_trace.specs.Taking.{HandsStep};
 
 use crate::reading::moment_at;
+use crate::taking::StepTaker;
 use aio_base::{Dir, Event, Interest, Key, Moment, Step, Waker, Which};
 
 /// So many digits stand for no more than a key, a waker, a listener or a timer may be.
@@ -16,68 +19,158 @@ const NUMBER_DIGITS: usize = 9;
 /// So many digits stand for no more than a moment, a period or a limit may be.
 const MOMENT_DIGITS: usize = 18;
 
-/// The step that a line in its plainest spelling reads as; `None` for any other line. The commonest
-/// commands are looked for first.
+/// Hands the step that a line in its plainest spelling reads as to a taker, in the arm that read it;
+/// `None` for any other line, and then the taker is as it was. The commonest commands are looked for
+/// first.
 #[inline(always)]
-pub(crate) fn common_step(line: &[u8]) -> Option<Step>
-    ensures read { IfSome result (λ s. step_of_words (words_in line.now) ≡ Ok s) }
-    ensures short { OnSome result (length line.now ≤ 256) }
+pub(crate) fn take_common<T: StepTaker>(line: &[u8], taker: &mut T) -> Option<T::Answer>
+    requires ready { T.is_ready taker.old }
+    ensures { MatchOption result (taker.new ≡ taker.old)
+        (λ answer. HandsStep T.takes taker.old line.now answer taker.new) }
 {
     match line {
-        [b'p', b'o', b'l', b'l', b' ', places @ ..] => poll_step(places),
-        [b'e', b'v', b'e', b'n', b't', b' ', places @ ..] => event_step(places),
-        [b's', b't', b'e', b'p', b' ', places @ ..] => listener_poll_step(places),
-        [b't', b'i', b'c', b'k', b' ', places @ ..] => tick_step(places),
-        _ => rarer_step(line),
+        [b'p', b'o', b'l', b'l', b' ', places @ ..] => Some(hand(line, poll_step(places)?, taker)),
+        [b'e', b'v', b'e', b'n', b't', b' ', places @ ..] => {
+            let step = event_step(places)?;
+            Some(hand(line, step, taker))
+        }
+        [b's', b't', b'e', b'p', b' ', places @ ..] => {
+            let step = listener_poll_step(places)?;
+            Some(hand(line, step, taker))
+        }
+        [b't', b'i', b'c', b'k', b' ', places @ ..] => Some(hand(line, tick_step(places)?, taker)),
+        _ => take_rarer(line, taker),
     }
 }
 
 /// The same of the other commands.
 #[inline(always)]
-fn rarer_step(line: &[u8]) -> Option<Step>
-    ensures read { IfSome result (λ s. step_of_words (words_in line.now) ≡ Ok s) }
-    ensures short { OnSome result (length line.now ≤ 256) }
+fn take_rarer<T: StepTaker>(line: &[u8], taker: &mut T) -> Option<T::Answer>
+    requires ready { T.is_ready taker.old }
+    ensures { MatchOption result (taker.new ≡ taker.old)
+        (λ answer. HandsStep T.takes taker.old line.now answer taker.new) }
 {
     match line {
-        b"react" => Some(Step::React),
-        b"add" => Some(Step::Add),
-        b"handle" => Some(Step::Handle),
-        b"wait" => Some(Step::Wait),
-        b"finish" => Some(Step::Finish),
-        b"interrupt" => Some(Step::Interrupt),
-        _ => short_command_step(line),
+        b"react" => Some(hand(line, Step::React, taker)),
+        b"add" => Some(hand(line, Step::Add, taker)),
+        b"handle" => Some(hand(line, Step::Handle, taker)),
+        b"wait" => Some(hand(line, Step::Wait, taker)),
+        b"finish" => Some(hand(line, Step::Finish, taker)),
+        b"interrupt" => Some(hand(line, Step::Interrupt, taker)),
+        _ => take_short_command(line, taker),
     }
 }
 
 /// The same of the commands of three or four letters that have places.
 #[inline(always)]
-fn short_command_step(line: &[u8]) -> Option<Step>
-    ensures read { IfSome result (λ s. step_of_words (words_in line.now) ≡ Ok s) }
-    ensures short { OnSome result (length line.now ≤ 256) }
+fn take_short_command<T: StepTaker>(line: &[u8], taker: &mut T) -> Option<T::Answer>
+    requires ready { T.is_ready taker.old }
+    ensures { MatchOption result (taker.new ≡ taker.old)
+        (λ answer. HandsStep T.takes taker.old line.now answer taker.new) }
 {
     match line {
-        [b'n', b'e', b'w', b' ', places @ ..] => new_step(places),
-        [b'n', b'o', b'w', b' ', places @ ..] => Some(Step::Now(whole_moment(places)?)),
-        [b'd', b'r', b'o', b'p', b' ', places @ ..] => Some(Step::DropEar(whole_number(places)?)),
-        [b'd', b'e', b'l', b' ', places @ ..] => Some(Step::Del(Key(whole_number(places)?))),
-        [b'e', b'n', b'd', b' ', places @ ..] => Some(Step::End(whole_number(places)?)),
-        _ => rarest_step(line),
+        [b'n', b'e', b'w', b' ', places @ ..] => Some(hand(line, new_step(places)?, taker)),
+        [b'n', b'o', b'w', b' ', places @ ..] => {
+            let step = Step::Now(whole_moment(places)?);
+            Some(hand(line, step, taker))
+        }
+        [b'd', b'r', b'o', b'p', b' ', places @ ..] => {
+            let step = Step::DropEar(whole_number(places)?);
+            Some(hand(line, step, taker))
+        }
+        [b'd', b'e', b'l', b' ', places @ ..] => {
+            let step = Step::Del(Key(whole_number(places)?));
+            Some(hand(line, step, taker))
+        }
+        [b'e', b'n', b'd', b' ', places @ ..] => {
+            let step = Step::End(whole_number(places)?);
+            Some(hand(line, step, taker))
+        }
+        _ => take_rarest(line, taker),
     }
 }
 
 /// The same of the commands that set timers, begin a round or let a call fail.
 #[inline(always)]
-fn rarest_step(line: &[u8]) -> Option<Step>
-    ensures read { IfSome result (λ s. step_of_words (words_in line.now) ≡ Ok s) }
-    ensures short { OnSome result (length line.now ≤ 256) }
+fn take_rarest<T: StepTaker>(line: &[u8], taker: &mut T) -> Option<T::Answer>
+    requires ready { T.is_ready taker.old }
+    ensures { MatchOption result (taker.new ≡ taker.old)
+        (λ answer. HandsStep T.takes taker.old line.now answer taker.new) }
 {
     match line {
-        [b't', b'i', b'm', b'e', b'r', b' ', choice @ ..] => timer_step(choice),
-        [b's', b'e', b't', b' ', places @ ..] => set_step(places),
-        [b'b', b'e', b'g', b'i', b'n', b' ', places @ ..] => begin_step(places),
-        [b'f', b'a', b'u', b'l', b't', b' ', kind @ ..] => fault_step(kind),
+        [b't', b'i', b'm', b'e', b'r', b' ', choice @ ..] => take_timer(line, choice, taker),
+        [b's', b'e', b't', b' ', places @ ..] => take_set(line, places, taker),
+        [b'b', b'e', b'g', b'i', b'n', b' ', places @ ..] => {
+            let step = begin_step(places)?;
+            Some(hand(line, step, taker))
+        }
+        [b'f', b'a', b'u', b'l', b't', b' ', kind @ ..] => {
+            let step = fault_step(kind)?;
+            Some(hand(line, step, taker))
+        }
         _ => None,
     }
+}
+
+/// The same of a line `timer at T`, `timer every T P` or `timer never`, read behind its command.
+#[inline(always)]
+fn take_timer<T: StepTaker>(line: &[u8], choice: &[u8], taker: &mut T) -> Option<T::Answer>
+    requires ready { T.is_ready taker.old }
+    requires line { (s : Step) → timer_of (words_in choice.now) ≡ Ok s
+        → step_of_words (words_in line.now) ≡ Ok s }
+    requires short { length line.now ≤ length choice.now + 6 }
+    ensures { MatchOption result (taker.new ≡ taker.old)
+        (λ answer. HandsStep T.takes taker.old line.now answer taker.new) }
+{
+    match choice {
+        [b'a', b't', b' ', places @ ..] => {
+            let step = Step::TimerAt(whole_moment(places)?);
+            Some(hand(line, step, taker))
+        }
+        [b'e', b'v', b'e', b'r', b'y', b' ', places @ ..] => {
+            let (first, rest) = first_nanoseconds(places)?;
+            let period = whole_period(rest)?;
+            Some(hand(line, Step::TimerEvery(moment_at(first), period), taker))
+        }
+        [b'n', b'e', b'v', b'e', b'r'] => Some(hand(line, Step::TimerNever, taker)),
+        _ => None,
+    }
+}
+
+/// The same of a line `set N at T` or `set N every T P`, read behind its command.
+#[inline(always)]
+fn take_set<T: StepTaker>(line: &[u8], places: &[u8], taker: &mut T) -> Option<T::Answer>
+    requires ready { T.is_ready taker.old }
+    requires line { (s : Step) → set_of (words_in places.now) ≡ Ok s
+        → step_of_words (words_in line.now) ≡ Ok s }
+    requires short { length line.now ≤ length places.now + 4 }
+    ensures { MatchOption result (taker.new ≡ taker.old)
+        (λ answer. HandsStep T.takes taker.old line.now answer taker.new) }
+{
+    let (timer, choice) = first_number(places)?;
+    match choice {
+        [b'a', b't', b' ', places @ ..] => {
+            let step = Step::SetAt(timer, whole_moment(places)?);
+            Some(hand(line, step, taker))
+        }
+        [b'e', b'v', b'e', b'r', b'y', b' ', places @ ..] => {
+            let (first, rest) = first_nanoseconds(places)?;
+            let period = whole_period(rest)?;
+            Some(hand(line, Step::SetEvery(timer, moment_at(first), period), taker))
+        }
+        _ => None,
+    }
+}
+
+/// Hands the step that a line was read as to a taker.
+#[inline(always)]
+fn hand<T: StepTaker>(line: &[u8], step: Step, taker: &mut T) -> T::Answer
+    requires ready { T.is_ready taker.old }
+    requires read { step_of_words (words_in line.now) ≡ Ok step }
+    requires short { length line.now ≤ 256 }
+    ensures { HandsStep T.takes taker.old line.now result taker.new }
+{
+    taker.take(step)
 }
 
 /// The step of a line `poll K D W`, read behind its command.
@@ -135,42 +228,6 @@ fn new_step(places: &[u8]) -> Option<Step>
     let (key, rest) = first_number(places)?;
     let direction = whole_direction(rest)?;
     Some(Step::New(Key(key), direction))
-}
-
-/// The step of a line `timer at T`, `timer every T P` or `timer never`, read behind its command.
-#[inline(always)]
-fn timer_step(choice: &[u8]) -> Option<Step>
-    ensures read { IfSome result (λ s. timer_of (words_in choice.now) ≡ Ok s) }
-    ensures short { OnSome result (length choice.now ≤ 44) }
-{
-    match choice {
-        [b'a', b't', b' ', places @ ..] => Some(Step::TimerAt(whole_moment(places)?)),
-        [b'e', b'v', b'e', b'r', b'y', b' ', places @ ..] => {
-            let (first, rest) = first_nanoseconds(places)?;
-            let period = whole_period(rest)?;
-            Some(Step::TimerEvery(moment_at(first), period))
-        }
-        [b'n', b'e', b'v', b'e', b'r'] => Some(Step::TimerNever),
-        _ => None,
-    }
-}
-
-/// The step of a line `set N at T` or `set N every T P`, read behind its command.
-#[inline(always)]
-fn set_step(places: &[u8]) -> Option<Step>
-    ensures read { IfSome result (λ s. set_of (words_in places.now) ≡ Ok s) }
-    ensures short { OnSome result (length places.now ≤ 54) }
-{
-    let (timer, choice) = first_number(places)?;
-    match choice {
-        [b'a', b't', b' ', places @ ..] => Some(Step::SetAt(timer, whole_moment(places)?)),
-        [b'e', b'v', b'e', b'r', b'y', b' ', places @ ..] => {
-            let (first, rest) = first_nanoseconds(places)?;
-            let period = whole_period(rest)?;
-            Some(Step::SetEvery(timer, moment_at(first), period))
-        }
-        _ => None,
-    }
 }
 
 /// The step of a line `begin L`, read behind its command.

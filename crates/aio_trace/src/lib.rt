@@ -12,9 +12,11 @@ pub mod laws;
 mod reading;
 mod runs;
 mod step_lines;
+mod taking;
 mod words;
 mod writing;
 
 pub use aio_base::LineFault;
-pub use reading::{is_header, read_line};
+pub use reading::{hand_line, is_header, read_line};
+pub use taking::{HandsOut, StepTaker};
 pub use writing::{write_answer, write_line, write_reply};

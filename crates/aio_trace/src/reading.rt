@@ -9,8 +9,10 @@ ghost use Rattle.aio_base.specs.Trace.{is_header};
 ghost use Rattle.aio_base.specs.declared.steps.LineFault.{LineFault};
 ghost use Rattle.aio_base.specs.declared.steps.Step.{Step};
 ghost use Rattle.aio_trace.specs.Reading.{begin_of, clock_command_named, command_named, del_of, dir_of, drop_of, end_of, event_of, fault_chosen, fault_line_of, flags_of_word, limit_of, line_read, listener_poll_of, new_of, now_of, poll_of, round_command_named, set_at_of, set_chosen, set_every_of, set_of, step_of, step_of_words, take_direction, take_flags, take_limit, take_number, take_period, tick_of, timer_at_of, timer_chosen, timer_command_named, timer_every_of, timer_of};
+ghost use Rattle.aio_trace.specs.Taking.{HandsLine};
 
-use crate::common::common_step;
+use crate::common::take_common;
+use crate::taking::{HandsOut, StepTaker};
 use crate::words::{ended, next_number, next_word};
 use aio_base::{Dir, Event, Interest, Key, LineFault, Moment, Step, Waker, Which};
 
@@ -58,17 +60,30 @@ pub fn read_line(line: &[u8]) -> Result<Step, LineFault>
     ensures step { (s : Step) → Reads s line.now ↔ (result ≡ Ok s) }
     ensures fault { (f : LineFault) → (fault_of line.now ≡ Some f) ↔ (result ≡ Err f) }
 {
-    match common_step(line) {
-        Some(step) => Ok(step),
-        // Taken apart, so that a common step is not laid in memory where the answer of this call is.
+    hand_line(line, &mut HandsOut)
+}
+
+/// Hands the step that a line reads as, given without its line feed, to a taker in the arm that read
+/// it, and answers what the taker answered. It takes no memory itself.
+///
+/// # Errors
+///
+/// What is wrong with a line that reads as no step, as `read_line` says; the taker is then as it was.
+#[inline(always)]
+pub fn hand_line<T: StepTaker>(line: &[u8], taker: &mut T) -> Result<T::Answer, LineFault>
+    requires ready { T.is_ready taker.old }
+    ensures { HandsLine T.takes taker.old line.now result taker.new }
+{
+    match take_common(line, taker) {
+        Some(answer) => Ok(answer),
         None => match read_any_line(line) {
-            Ok(step) => Ok(step),
+            Ok(step) => Ok(taker.take(step)),
             Err(fault) => Err(fault),
         },
     }
 }
 
-/// The same of any line.
+/// The step that any line reads as, or what is wrong with it.
 #[inline(never)]
 fn read_any_line(line: &[u8]) -> Result<Step, LineFault>
     ensures { result ≡ line_read line.now }

@@ -1,4 +1,5 @@
-use Rattle.aio_generator.proofs.Ranges.{all_spelled, in_range}
+use Rattle.aio_generator.proofs.Ranges.{all_spelled}
+use Rattle.aio_trace.proofs.Ranges.{in_range}
 use Rattle.aio_generator.proofs.laws.each_generated_step_has_a_spelling.Goals as goal
 
 pub returns-clause-spelled : goal.returns-clause-spelled

@@ -1,10 +1,10 @@
-//! What a generator hands its steps to.
+//! What a reader of lines or a generator hands its steps to.
 
 ghost use Rattle.std.specs.Prelude.{◌≡◌};
 
 use aio_base::Step;
 
-/// What takes each step in the arm of the generator that drew it. There it is known which step it
+/// What takes each step in the arm that read it from a line or drew it. There it is known which step it
 /// is, so it need not be laid in memory and told apart again.
 pub trait StepTaker {
     ghost use Rattle.aio_base.specs.declared.steps.Step.{Step};
@@ -28,7 +28,7 @@ pub trait StepTaker {
 
 /// Hands each step out as it is.
 #[derive(Drop)]
-pub(crate) struct HandsOut;
+pub struct HandsOut;
 
 impl StepTaker for HandsOut {
     type Answer = Step;
