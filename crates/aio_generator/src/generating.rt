@@ -5,8 +5,8 @@ ghost use Rattle.std.specs.Iterator.{YieldsFirst, item_count};
 ghost use Rattle.aio_base.specs.Generated.{after_draws, dir_drawn, draw, drawn, generated_by, generated_of, generated_steps, interest_drawn, listener_drawn, next_state, timer_drawn};
 ghost use Rattle.aio_generator.specs.Generating.{HandsNext, LeavesRoom, StepsLeft, steps_left};
 
-use crate::taking::{HandsOut, StepTaker};
 use aio_base::{Dir, Draws, Event, Interest, Key, Moment, Step, Waker};
+use aio_trace::{HandsOut, StepTaker};
 use std::marker::Model;
 
 /// The steps that a seed gives, one after the other. Seen by contracts as how many are left, and

@@ -8,7 +8,8 @@ use crate::counts::Summary;
 use crate::replayer::Replayer;
 use crate::wakes::WakeCount;
 use aio_base::{OutOfMemory, Step};
-use aio_generator::{StepTaker, gen_steps};
+use aio_generator::gen_steps;
+use aio_trace::StepTaker;
 use std::alloc::{AllocError, Global};
 
 /// Runs the first `n` steps that the seed gives, on a core over the poller in memory as `replay` runs

@@ -1,4 +1,4 @@
-use Rattle.std.proofs.Common.{◌≡◌, sym, subst, ◌∙◌}
+use Rattle.std.proofs.Common.{sym, subst, ◌∙◌}
 use Rattle.aio_trace.proofs.Handed.{read_in_range}
 use Rattle.aio_trace.proofs.LineLaws.{is_fault, is_read}
 use Rattle.aio_trace.proofs.reading.hand_line.Goals as goal
