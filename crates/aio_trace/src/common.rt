@@ -6,7 +6,7 @@ ghost use Rattle.std.specs.Prelude.{◌≡◌, ◌<◌, ◌≤◌, ◌+◌, ◌^
 ghost use Rattle.aio_base.specs.World.{last_moment};
 ghost use Rattle.aio_base.specs.Lines.{last_number, words_in};
 ghost use Rattle.aio_base.specs.declared.steps.Step.{Step};
-ghost use Rattle.aio_trace.specs.Reading.{begin_of, event_of, fault_line_of, listener_poll_of, new_of, poll_of, set_of, step_of_words, take_direction, take_flags, take_number, take_period, tick_of, timer_of};
+ghost use Rattle.aio_trace.specs.Reading.{begin_of, event_of, fault_line_of, listener_poll_of, new_of, poll_of, set_of, step_of_words, take_direction, take_number, take_period, tick_of, timer_of};
 ghost use Rattle.aio_trace.specs.Taking.{HandsStep};
 
 use crate::reading::moment_at;
@@ -35,10 +35,13 @@ pub(crate) fn take_common<T: StepTaker>(line: &[u8], taker: &mut T) -> Option<T:
             Some(hand(line, step, taker))
         }
         [b's', b't', b'e', b'p', b' ', places @ ..] => {
-            let step = listener_poll_step(places)?;
-            Some(hand(line, step, taker))
+            let (listener, waker) = number_and_waker(places)?;
+            Some(hand(line, Step::StepEar(listener, waker), taker))
         }
-        [b't', b'i', b'c', b'k', b' ', places @ ..] => Some(hand(line, tick_step(places)?, taker)),
+        [b't', b'i', b'c', b'k', b' ', places @ ..] => {
+            let (timer, waker) = number_and_waker(places)?;
+            Some(hand(line, Step::Tick(timer, waker), taker))
+        }
         _ => take_rarer(line, taker),
     }
 }
@@ -192,31 +195,28 @@ fn event_step(places: &[u8]) -> Option<Step>
     ensures short { OnSome result (length places.now ≤ 12) }
 {
     let (key, rest) = first_number(places)?;
-    let on = whole_flags(rest)?;
+    let on = match rest {
+        b"r" => Interest::READ,
+        b"w" => Interest::WRITE,
+        b"rw" => Interest::BOTH,
+        b"-" => Interest::NONE,
+        _ => return None,
+    };
     let event = Event { key: Key(key), on };
     Some(Step::Note(event))
 }
 
-/// The step of a line `step N W`, read behind its command.
+/// The listener or timer and the waker that are the two words of a text.
 #[inline(always)]
-fn listener_poll_step(places: &[u8]) -> Option<Step>
-    ensures read { IfSome result (λ s. listener_poll_of (words_in places.now) ≡ Ok s) }
+fn number_and_waker(places: &[u8]) -> Option<(u32, Waker)>
+    ensures listener { IfSome result (λ r.
+        listener_poll_of (words_in places.now) ≡ Ok (Step.StepEar r.0 r.1)) }
+    ensures timer { IfSome result (λ r. tick_of (words_in places.now) ≡ Ok (Step.Tick r.0 r.1)) }
     ensures short { OnSome result (length places.now ≤ 20) }
 {
-    let (listener, rest) = first_number(places)?;
+    let (number, rest) = first_number(places)?;
     let waker = whole_number(rest)?;
-    Some(Step::StepEar(listener, Waker(waker)))
-}
-
-/// The step of a line `tick N W`, read behind its command.
-#[inline(always)]
-fn tick_step(places: &[u8]) -> Option<Step>
-    ensures read { IfSome result (λ s. tick_of (words_in places.now) ≡ Ok s) }
-    ensures short { OnSome result (length places.now ≤ 20) }
-{
-    let (timer, rest) = first_number(places)?;
-    let waker = whole_number(rest)?;
-    Some(Step::Tick(timer, Waker(waker)))
+    Some((number, Waker(waker)))
 }
 
 /// The step of a line `new K D`, read behind its command.
@@ -226,8 +226,11 @@ fn new_step(places: &[u8]) -> Option<Step>
     ensures short { OnSome result (length places.now ≤ 11) }
 {
     let (key, rest) = first_number(places)?;
-    let direction = whole_direction(rest)?;
-    Some(Step::New(Key(key), direction))
+    match rest {
+        b"r" => Some(Step::New(Key(key), Dir::Read)),
+        b"w" => Some(Step::New(Key(key), Dir::Write)),
+        _ => None,
+    }
 }
 
 /// The step of a line `begin L`, read behind its command.
@@ -367,34 +370,6 @@ fn first_direction(text: &[u8]) -> Option<(Dir, &[u8])>
     match text {
         [b'r', b' ', rest @ ..] => Some((Dir::Read, rest)),
         [b'w', b' ', rest @ ..] => Some((Dir::Write, rest)),
-        _ => None,
-    }
-}
-
-/// The direction that is all of a text.
-#[inline(always)]
-fn whole_direction(text: &[u8]) -> Option<Dir>
-    ensures read { IfSome result (λ dir. take_direction (words_in text.now) ≡ Ok (dir, [])) }
-    ensures short { OnSome result (length text.now ≤ 1) }
-{
-    match text {
-        b"r" => Some(Dir::Read),
-        b"w" => Some(Dir::Write),
-        _ => None,
-    }
-}
-
-/// The directions of an event that are all of a text.
-#[inline(always)]
-fn whole_flags(text: &[u8]) -> Option<Interest>
-    ensures read { IfSome result (λ on. take_flags (words_in text.now) ≡ Ok (on, [])) }
-    ensures short { OnSome result (length text.now ≤ 2) }
-{
-    match text {
-        b"r" => Some(Interest::READ),
-        b"w" => Some(Interest::WRITE),
-        b"rw" => Some(Interest::BOTH),
-        b"-" => Some(Interest::NONE),
         _ => None,
     }
 }
