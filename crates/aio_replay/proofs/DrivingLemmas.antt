@@ -1,5 +1,5 @@
 -- Facts on what is written of a text, and on lines that are too long.
-use Rattle.std.proofs.Common.{◌≡◌, ℕ, false, List, [], ◌∷◌, ◌++◌, length, Option, Some, Result, Ok, Err, sym, ap, ◌∙◌, subst, append_assoc, append-nil, arith}
+use Rattle.std.proofs.Common.{◌≡◌, ℕ, ◌<◌, false, List, [], ◌∷◌, ◌++◌, length, length-append, Option, Some, Result, Ok, Err, refl, sym, ap, ◌∙◌, subst, append_assoc, append-nil, arith}
 use Rattle.std.specs.Io.KnownBytes.{Appends}
 use Rattle.std.proofs.KnownBytes.{Appends-trans}
 use Rattle.aio_base.specs.Trace.{lines_of}
@@ -8,7 +8,7 @@ use Rattle.aio_bytes.specs.declared.traits.SinkRefusal.{SinkRefusal}
 use Rattle.aio_bytes.specs.Sinks.{AppendsPart, Writes}
 use Rattle.aio_bytes.specs.Unread.{BeginsLong}
 use Rattle.aio_bytes.proofs.Finding.{lines_of-begins}
-use Rattle.aio_replay.specs.Language.{Language, SaysByLines}
+use Rattle.aio_replay.specs.Language.{Language, RefusesLong}
 use Rattle.aio_replay.specs.Driving.{Sends}
 
 -- ## What is written of a text
@@ -37,28 +37,48 @@ pub Sends-writes : (r : Result (Unit {0}) SinkRefusal) (a b c : Option (List ℕ
 Sends-writes (Ok done) a b c x y p q = subst (Appends a c) (sym p.whole) (Appends-trans a b c p.sent y p.appended q)
 Sends-writes (Err refusal) a b c x y p q = Sends-part a b c x y p q
 
+-- the same with a text behind
+pub Sends-behind : (a b : Option (List ℕ)) (x y z : List ℕ) → Sends a b x y → Sends a b (x ++ z) (y ++ z)
+Sends-behind a b x y z p = record { sent = p.sent; appended = p.appended; whole = ap (λ t. t ++ z) p.whole ∙ append_assoc p.sent y z }
+
+-- at least a front part of the text was written, also of one that is longer
+pub written_part : (r : Result (Unit {0}) SinkRefusal) (old new : Option (List ℕ)) (bytes : List ℕ) → Writes r old new bytes → AppendsPart old new bytes
+written_part (Ok done) old new bytes q = record { added = bytes; rest = []; whole = sym (append-nil bytes); appended = q }
+written_part (Err refusal) old new bytes q = q
+
+pub written_of_more : (r : Result (Unit {0}) SinkRefusal) (old new : Option (List ℕ)) (bytes more : List ℕ) → Writes r old new bytes → AppendsPart old new (bytes ++ more)
+written_of_more (Ok done) old new bytes more q = record { added = bytes; rest = more; whole = refl; appended = q }
+written_of_more (Err refusal) old new bytes more q = record {
+  added = q.added;
+  rest = q.rest ++ more;
+  whole = ap (λ t. t ++ more) q.whole ∙ append_assoc q.added q.rest more;
+  appended = q.appended;
+}
+
 -- ## Lines that are too long
 
 -- the first of these lines is refused as too long, and is no header
-pub record BeginsRefused (l : Language) (unread : List ℕ) : Type 0 where
+pub record BeginsRefused {State : Type 0} (l : Language State) (unread : List ℕ) : Type 0 where
   pub first : List ℕ
   pub others : List (List ℕ)
   pub lines : lines_of unread ≡ first ∷ others
-  pub no_step : l.refusal first ≡ Some l.long
+  pub too_long : (s : State) → l.line s first ≡ Err l.long
   pub no_header : l.is_header first ≡ false
 
-long_first : (l : Language) (unread front more : List ℕ) → SaysByLines l → unread ≡ front ++ more → length front ≡ 257 → HasNoLineFeed front → BeginsRefused l unread
-long_first l unread [] more says whole full none = absurd (omega (arith, full))
-long_first l unread (c ∷ front) more says whole full none =
+long_first : {State : Type 0} (l : Language State) (unread front more : List ℕ) → RefusesLong l → unread ≡ front ++ more → length front ≡ 257 → HasNoLineFeed front
+    → BeginsRefused l unread
+long_first l unread [] more refuses whole full none = absurd (omega (arith, full))
+long_first l unread (c ∷ front) more refuses whole full none =
     let found = lines_of-begins front more c none in
+    let long : 256 < length (c ∷ front ++ found.0) = omega (arith, full, length-append front found.0) in
     record {
       first = c ∷ front ++ found.0;
       others = found.1;
       lines = ap lines_of whole ∙ found.2;
-      no_step = says.too_long (c ∷ front) found.0 full;
-      no_header = says.no_header (c ∷ front) found.0 full;
+      too_long = λ s. refuses.too_long s (c ∷ front ++ found.0) long;
+      no_header = refuses.no_header (c ∷ front ++ found.0) long;
     }
 
--- a line that is too long is none that a trace can have
-pub long_is_refused : (l : Language) (unread : List ℕ) → SaysByLines l → BeginsLong unread → BeginsRefused l unread
-long_is_refused l unread says b = long_first l unread b.front b.more says b.whole b.long b.no_line_feed
+-- a line that is too long is none that an input can have
+pub long_is_refused : {State : Type 0} (l : Language State) (unread : List ℕ) → RefusesLong l → BeginsLong unread → BeginsRefused l unread
+long_is_refused l unread refuses b = long_first l unread b.front b.more refuses b.whole b.long b.no_line_feed

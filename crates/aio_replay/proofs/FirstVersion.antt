@@ -1,83 +1,170 @@
--- An input of the first version says what its lines say.
-use Rattle.std.proofs.Common.{◌≡◌, ℕ, ◌+◌, ◌<◌, ◌≤◌, Bool, true, false, ◌&&◌, leb, nat_lt, if◌then◌else◌, List, ◌∷◌, ◌++◌, length, length-append, Option, None, Some, refl, ap, ◌∙◌, arith}
-use Rattle.std.specs.Prelude.{bytes_eq}
-use Rattle.std.specs.Cmp.Lexicographic.{pointwise}
-use Rattle.std.specs.Option.{option_map}
-use Rattle.std.proofs.lemmas.Bool.Decides.{nat_tests, Decides-ltb}
+-- What the lines of an input come to in the first version is the run of its trace.
+use Rattle.std.proofs.Common.{◌≡◌, ◌≢◌, ℕ, ◌+◌, Bool, true, false, nat_lt, if◌then◌else◌, List, [], ◌∷◌, ◌++◌, length, Option, None, Some, Result, Ok, Err, refl, sym, ap, ◌∙◌, subst, append_assoc, append-nil, arith}
+use Rattle.std.proofs.Common.{⊎_elim}
+use Rattle.std.specs.Io.KnownBytes.{Appends}
 use Rattle.aio_base.specs.declared.steps.LineFault.{LineFault}
-use Rattle.aio_base.specs.declared.steps.LineFault.TheVariants as fault
 use Rattle.aio_base.specs.declared.steps.Step.{Step}
-use Rattle.aio_base.specs.declared.steps.Reason.{Reason}
 use Rattle.aio_base.specs.declared.steps.Reason.TheVariants as reason
-use Rattle.aio_base.specs.Lines.{body_of, fault_of, line_bytes, step_read, words_in}
-use Rattle.aio_base.specs.Trace.{refused, with_step, lines_of, trace_of, trace_of_lines, trace_from, trace_after, reason_of, is_header, header_words, line_limit}
-use Rattle.aio_laws.proofs.traces.Shapes.{is_read}
+use Rattle.aio_base.specs.Lines.{Reads, fault_of, step_read}
+use Rattle.aio_base.specs.Script.{output, output_from, world_after, script_step, reply_text}
+use Rattle.aio_base.specs.Trace.{Refusal, Trace, complete, refused, with_step, lines_of, trace_of, trace_of_lines, trace_from, trace_after, reason_of, is_header, line_limit}
+use Rattle.aio_base.specs.World.{World, opening}
+use Rattle.aio_bytes.specs.declared.traits.SinkRefusal.{SinkRefusal}
+use Rattle.aio_bytes.specs.Sinks.{AppendsPart, Writes}
+use Rattle.aio_laws.proofs.traces.Shapes.{read_is}
+use Rattle.aio_react.specs.Cores.{CoreValue}
+use Rattle.aio_script.specs.Script.{Script}
 use Rattle.aio_trace.proofs.LineLaws.{no_fault}
-use Rattle.aio_trace.proofs.Ranges.{in_range}
-use Rattle.aio_replay.specs.Language.{SaysByLines, first_version}
+use Rattle.aio_replay.specs.declared.ends.Cause.TheVariants as cause
+use Rattle.aio_replay.specs.declared.ends.Stop.{Stop}
+use Rattle.aio_replay.specs.declared.version.FirstVersion.{FirstVersion}
+use Rattle.aio_replay.specs.Answering.{Replied}
+use Rattle.aio_replay.specs.Driving.{StoppedBehind, ToldWhole}
+use Rattle.aio_replay.specs.Ends.{StandsAt, StandsOnTheWay}
+use Rattle.aio_replay.specs.Language.{Told, LeadsTo, ends_in, first_reply, first_version, refused_in, refusal_at, told_after, told_from, told_of, with_text}
+use Rattle.aio_replay.specs.Replaying.{StandsFor}
+use Rattle.aio_replay.specs.Versions.{Answers, first_rules}
+use Rattle.aio_replay.proofs.DrivingLemmas.{written_part, written_of_more}
 
-says_of : (input : List ℕ) → trace_of input ≡ trace_of_lines (lines_of input)
+-- ## The run of a trace
+
+-- what a trace comes to from a world on: the output of its steps, the world behind them, and its refusal
+abbrev run_of : World → Trace → Told World
+run_of w t = record { text = output_from w t.steps; state = world_after w t.steps; refusal = t.refusal }
+
+runs_line : (past : Bool) (line : ℕ) (w : World) (fault : Option LineFault) (read : Option Step) (lines : List (List ℕ))
+    → ((v : World) → told_from first_version (line + 1) v lines ≡ run_of v (trace_from (line + 1) lines))
+    → (if past then refused_in first_version w line reason.Lines
+    else told_after first_version w line (first_reply w fault read) (λ behind. told_from first_version (line + 1) behind lines))
+    ≡ run_of w (if past then refused line reason.Lines else trace_after line fault read (trace_from (line + 1) lines))
+runs_line true line w fault read lines behind = refl
+runs_line false line w (Some f) read lines behind = refl
+runs_line false line w None (Some s) lines behind =
+    ap (with_text (reply_text (script_step w s).answer (script_step w s).wakes)) (behind (script_step w s).world)
+runs_line false line w None None lines behind = behind w
+
+runs_from : (line : ℕ) (w : World) (lines : List (List ℕ)) → told_from first_version line w lines ≡ run_of w (trace_from line lines)
+runs_from line w [] = refl
+runs_from line w (text ∷ lines) = runs_line (nat_lt line_limit line) line w (fault_of text) (step_read text) lines (λ v. runs_from (line + 1) v lines)
+
+runs_headed : (headed : Bool) (lines : List (List ℕ))
+    → (if headed then told_from first_version 2 opening lines else refused_in first_version opening 1 reason.Header)
+    ≡ run_of opening (if headed then trace_from 2 lines else refused 1 reason.Header)
+runs_headed true lines = runs_from 2 opening lines
+runs_headed false lines = refl
+
+runs_lines : (lines : List (List ℕ)) → told_of first_version lines ≡ run_of opening (trace_of_lines lines)
+runs_lines [] = refl
+runs_lines (header ∷ lines) = runs_headed (is_header header) lines
+
+says_of : (input : List ℕ) → trace_of_lines (lines_of input) ≡ trace_of input
 unfolding trace_of
 says_of input = refl
 
-headed : (test : Bool) (input header : List ℕ) (lines : List (List ℕ)) → lines_of input ≡ header ∷ lines → is_header header ≡ test
-    → trace_of input ≡ if test then trace_from 2 lines else refused 1 reason.Header
-headed test input header lines is same =
-    says_of input ∙ ap trace_of_lines is ∙ ap (λ (b : Bool). if b then trace_from 2 lines else refused 1 reason.Header) same
+-- what an input comes to is the run of its trace
+pub runs : (input : List ℕ) → told_of first_version (lines_of input) ≡ run_of opening (trace_of input)
+runs input = runs_lines (lines_of input) ∙ ap (run_of opening) (says_of input)
 
-within : (line : ℕ) (text : List ℕ) (lines : List (List ℕ)) → line ≤ 1000000
-    → trace_from line (text ∷ lines) ≡ trace_after line (fault_of text) (step_read text) (trace_from (line + 1) lines)
-within line text lines le =
-    let test : nat_lt line_limit line ≡ false = grind (arith, nat_tests) in
-    ap (λ t. if t then refused line reason.Lines else trace_after line (fault_of text) (step_read text) (trace_from (line + 1) lines)) test
+-- ## A front part of the lines
 
-past : (line : ℕ) (text : List ℕ) (lines : List (List ℕ)) → 1000000 < line → trace_from line (text ∷ lines) ≡ refused line reason.Lines
-past line text lines lt =
-    let test : nat_lt line_limit line ≡ true = grind (arith, nat_tests) in
-    ap (λ t. if t then refused line reason.Lines else trace_after line (fault_of text) (step_read text) (trace_from (line + 1) lines)) test
+-- the steps of lines in front that are all answered are a front part of those of all lines
+abbrev IsFront : Trace → Trace → Type 0
+IsFront front whole = (more : List Step) × (whole.steps ≡ front.steps ++ more)
 
-refuses : (line : ℕ) (text : List ℕ) (lines : List (List ℕ)) (why : Reason) → line ≤ 1000000 → option_map reason_of (fault_of text) ≡ Some why
-    → trace_from line (text ∷ lines) ≡ refused line why
-refuses line text lines why le e = within line text lines le ∙ by_fault (fault_of text) e
-  where
-    by_fault : (o : Option LineFault) → option_map reason_of o ≡ Some why → trace_after line o (step_read text) (trace_from (line + 1) lines) ≡ refused line why
-    by_fault None e = absurd cc
-    by_fault (Some f) e = let same : reason_of f ≡ why = cc in ap (refused line) same
+front_line : (past : Bool) (line : ℕ) (fault : Option LineFault) (read : Option Step) (front back : List (List ℕ))
+    → ((trace_from (line + 1) front).refusal ≡ None → IsFront (trace_from (line + 1) front) (trace_from (line + 1) (front ++ back)))
+    → (if past then refused line reason.Lines else trace_after line fault read (trace_from (line + 1) front)).refusal ≡ None
+    → IsFront (if past then refused line reason.Lines else trace_after line fault read (trace_from (line + 1) front))
+    (if past then refused line reason.Lines else trace_after line fault read (trace_from (line + 1) (front ++ back)))
+front_line true line fault read front back behind none = absurd cc
+front_line false line (Some f) read front back behind none = absurd cc
+front_line false line None (Some s) front back behind none = let found = behind none in (found.0, ap (λ (steps : List Step). s ∷ steps) found.1)
+front_line false line None None front back behind none = behind none
 
-steps : (line : ℕ) (text : List ℕ) (lines : List (List ℕ)) (s : Step) → line ≤ 1000000 → step_read text ≡ Some s
-    → trace_from line (text ∷ lines) ≡ with_step s (trace_from (line + 1) lines)
-steps line text lines s le e =
-    within line text lines le
-    ∙ ap (λ o. trace_after line o (step_read text) (trace_from (line + 1) lines)) (no_fault s text (is_read s text e))
-    ∙ ap (λ o. trace_after line None o (trace_from (line + 1) lines)) e
+front_from : (line : ℕ) (front back : List (List ℕ)) → (trace_from line front).refusal ≡ None → IsFront (trace_from line front) (trace_from line (front ++ back))
+front_from line [] back none = ((trace_from line back).steps, refl)
+front_from line (text ∷ front) back none = front_line (nat_lt line_limit line) line (fault_of text) (step_read text) front back (front_from (line + 1) front back) none
 
--- ## Long lines
+front_headed : (headed : Bool) (front back : List (List ℕ)) → (if headed then trace_from 2 front else refused 1 reason.Header).refusal ≡ None
+    → IsFront (if headed then trace_from 2 front else refused 1 reason.Header) (if headed then trace_from 2 (front ++ back) else refused 1 reason.Header)
+front_headed true front back none = front_from 2 front back none
+front_headed false front back none = absurd cc
 
-is_long : (front more : List ℕ) → length front ≡ 257 → 256 < length (front ++ more)
-is_long front more long = omega (arith, length-append front more)
+-- lines in front that lead to a text and a world: these are the output of a front part of the steps, and the world behind it
+record Reached (front back : List (List ℕ)) (text : List ℕ) (w : World) : Type 0 where
+  done : List Step
+  more : List Step
+  whole : (trace_of_lines (front ++ back)).steps ≡ done ++ more
+  text_is : text ≡ output done
+  world_is : w ≡ world_after opening done
 
-long_is_refused : (front more : List ℕ) → length front ≡ 257 → fault_of (front ++ more) ≡ Some fault.Long
-unfolding fault_of
-long_is_refused front more long = rw ((Decides-ltb line_bytes (length (front ++ more))).1 (is_long front more long)) refl
+reached : (front back : List (List ℕ)) (text : List ℕ) (w : World) → LeadsTo first_version front text w → Reached front back text w
+reached [] back text w leads = record { done = []; more = (trace_of_lines back).steps; whole = refl; text_is = leads.0; world_is = leads.1 }
+reached (header ∷ front) back text w leads =
+    let told : with_text text (ends_in first_version w None) ≡ run_of opening (trace_of_lines (header ∷ front)) =
+    sym (leads []) ∙ ap (λ x. told_of first_version (header ∷ x)) (append-nil front) ∙ runs_lines (header ∷ front) in
+    let before = front_headed (is_header header) front back (sym (ap (λ (t : Told World). t.refusal) told)) in
+    record {
+      done = (trace_of_lines (header ∷ front)).steps;
+      more = before.0;
+      whole = before.1;
+      text_is = sym (append-nil text) ∙ ap (λ (t : Told World). t.text) told;
+      world_is = ap (λ (t : Told World). t.state) told;
+    }
 
-long_is_no_header : (front more : List ℕ) → length front ≡ 257 → is_header (front ++ more) ≡ false
-long_is_no_header front more long =
-    let many = is_long front more long in
-    let test : leb (length (front ++ more)) line_bytes ≡ false = grind (arith, nat_tests) in
-    ap (λ t. t && pointwise bytes_eq (words_in (body_of (front ++ more))) header_words) test
+-- ## What an end says
 
-pub first_version_says : SaysByLines first_version
-first_version_says = record {
-  some = omega arith;
-  few = omega arith;
-  headed = λ input text lines is same. headed true input text lines is same;
-  headless = λ input text lines is other. headed false input text lines is other;
-  empty = λ input none. says_of input ∙ ap trace_of_lines none;
-  ends = λ line. refl;
-  steps = steps;
-  refuses = refuses;
-  past = past;
-  in_range = λ text s e. in_range s (is_read s text e).in_range;
-  too_long = λ front more long. ap (option_map reason_of) (long_is_refused front more long);
-  no_header = long_is_no_header;
+-- where the lines were answered, except those from one on that is refused
+pub whole_says : (refusal : Option Refusal) (input : List ℕ) (old new : Option (List ℕ)) (first : FirstVersion) → ToldWhole first_rules refusal input old new first
+    → ((trace_of input).refusal ≡ refusal) × Appends old new (output (trace_of input).steps) × StandsFor first.replayer (world_after opening (trace_of input).steps)
+whole_says refusal input old new first t = (
+  sym (ap (λ (told : Told World). told.refusal) (runs input)) ∙ t.refusal_is,
+  subst (Appends old new) (ap (λ (told : Told World). told.text) (runs input)) t.written,
+  subst (StandsFor first.replayer) (ap (λ (told : Told World). told.state) (runs input)) t.stands,
+)
+
+-- where it was stopped, a front part of its output is written
+pub stopped_part : (s : Stop) (input : List ℕ) (old new : Option (List ℕ)) (first : FirstVersion) → StoppedBehind first_rules s input old new first
+    → AppendsPart old new (output (trace_of input).steps)
+stopped_part s input old new first b =
+    subst (AppendsPart old new) (sym b.whole ∙ ap (λ (told : Told World). told.text) (runs input)) (written_of_more s.sent old new (b.text ++ b.held) b.left b.written)
+
+-- where memory did not run out, the core stands for the world after steps among which are all those that the output tells of
+stands_on_the_way : (s : Stop) (input : List ℕ) (old new : Option (List ℕ)) (first : FirstVersion) → s.cause ≢ cause.Memory
+    → StoppedBehind first_rules s input old new first → StandsOnTheWay first.replayer.core (trace_of input).steps old new
+stands_on_the_way s input old new first other b =
+    let r = reached b.front b.back b.text b.state b.leads in
+    let none : b.held ≡ [] = ⊎_elim (λ is. is) (λ is. is) b.is_held in
+    let text : b.text ++ b.held ≡ output r.done = ap (λ x. b.text ++ x) none ∙ append-nil b.text ∙ r.text_is in
+    record {
+      done = r.done;
+      more = r.more;
+      whole = ap (λ (t : Trace). t.steps) (sym (says_of input) ∙ ap trace_of_lines b.lines) ∙ r.whole;
+      written = subst (AppendsPart old new) text (written_part s.sent old new (b.text ++ b.held) b.written);
+      stands = subst (StandsAt first.replayer.core) r.world_is (b.stands other).core;
+    }
+
+-- the same of the core that is handed back
+pub core_stands : (core : Script × CoreValue) (refusal : Option Refusal) (input : List ℕ) (old new : Option (List ℕ)) (first : FirstVersion) → core ≡ first.replayer.core
+    → ToldWhole first_rules refusal input old new first → StandsAt core (world_after opening (trace_of input).steps)
+core_stands core refusal input old new first same t =
+    subst (λ (x : Script × CoreValue). StandsAt x (world_after opening (trace_of input).steps)) (sym same) (whole_says refusal input old new first t).2.core
+
+pub core_on_the_way : (core : Script × CoreValue) (s : Stop) (input : List ℕ) (old new : Option (List ℕ)) (first : FirstVersion) → core ≡ first.replayer.core
+    → s.cause ≢ cause.Memory → StoppedBehind first_rules s input old new first → StandsOnTheWay core (trace_of input).steps old new
+core_on_the_way core s input old new first same other b =
+    subst (λ (x : Script × CoreValue). StandsOnTheWay x (trace_of input).steps old new) (sym same) (stands_on_the_way s input old new first other b)
+
+-- ## A line
+
+-- a line that reads as a step is answered by the reply to it
+pub replied : (s : Step) (line : List ℕ) (w : World) (old new : FirstVersion) (text_old text_new : List ℕ) → Reads s line
+    → Answers s old.replayer new.replayer text_old text_new → StandsFor old.replayer w
+    → Replied first_rules (first_reply w (fault_of line) (step_read line)) text_old text_new new
+replied s line w old new text_old text_new reads answers stands = record {
+  added = reply_text (script_step w s).answer (script_step w s).wakes;
+  state = (script_step w s).world;
+  is = ap (λ f. first_reply w f (step_read line)) (no_fault s line reads) ∙ ap (first_reply w None) (read_is s line reads);
+  text = (answers w stands).0;
+  stands = (answers w stands).1;
 }

@@ -8,6 +8,7 @@ pub mod Noting
 pub mod Padding
 pub mod PlacedTimers
 pub mod Refusing
+pub mod Runs
 pub mod Scripted
 pub mod Starting
 pub mod StepLemmas

@@ -1,16 +1,13 @@
 -- From what stands before a line to what stands after it, or to what an end says.
-use Rattle.std.proofs.Common.{◌≡◌, ◌≢◌, ℕ, ◌+◌, ◌-◌, ◌*◌, ◌≤◌, true, false, List, [], ◌∷◌, ◌++◌, length, length-append, take, Option, None, Some, Result, Ok, Err, refl, sym, ap, ◌∙◌, subst, append_assoc, append-nil, arith}
+use Rattle.std.proofs.Common.{◌≡◌, ◌≢◌, ℕ, ◌+◌, ◌-◌, ◌*◌, ◌<◌, ◌≤◌, Bool, true, false, nat_lt, if◌then◌else◌, List, [], ◌∷◌, ◌++◌, length, length-append, take, Option, None, Some, Result, Ok, Err, inl, inr, refl, sym, ap, ◌∙◌, subst, append_assoc, append-nil, arith}
+use Rattle.std.proofs.lemmas.Bool.Decides.{nat_tests}
 use Rattle.std.proofs.lemmas.List.{take_at}
 use Rattle.std.specs.Io.KnownBytes.{Appends}
-use Rattle.std.proofs.KnownBytes.{Appends-nil}
-use Rattle.aio_base.specs.declared.names.Waker.{Waker}
-use Rattle.aio_base.specs.declared.steps.Step.{Step}
-use Rattle.aio_base.specs.declared.steps.Answer.{Answer}
+use Rattle.std.specs.Option.{option_map}
+use Rattle.std.proofs.KnownBytes.{Appends-nil, Appends-trans}
 use Rattle.aio_base.specs.declared.steps.Reason.{Reason}
 use Rattle.aio_base.specs.declared.steps.Reason.TheVariants as reason
-use Rattle.aio_base.specs.World.{World, opening}
-use Rattle.aio_base.specs.Script.{output, output_from, world_after, script_step, reply_text}
-use Rattle.aio_base.specs.Trace.{Trace, lines_of, with_step, refused}
+use Rattle.aio_base.specs.Trace.{Refusal, lines_of}
 use Rattle.aio_bytes.specs.declared.traits.SinkRefusal.{SinkRefusal}
 use Rattle.aio_bytes.specs.Sinks.{AppendsPart, Writes}
 use Rattle.aio_bytes.specs.Unread.{Unread, LeavesAllBut, BeginsLong, TakesLine, length_of_lines, bytes_before}
@@ -18,83 +15,82 @@ use Rattle.aio_replay.specs.declared.ends.Stop.{Stop}
 use Rattle.aio_replay.specs.declared.ends.Cause.TheVariants as cause
 use Rattle.aio_replay.specs.declared.ends.End.{End}
 use Rattle.aio_replay.specs.declared.ends.End.TheVariants as ends
-use Rattle.aio_replay.specs.declared.replayer.Replayer.{Replayer}
-use Rattle.aio_replay.specs.Language.{Language, SaysByLines}
-use Rattle.aio_replay.specs.Replaying.{Replays, StandsFor}
-use Rattle.aio_replay.specs.Driving.{Done, DoneSoFar, Sends, StoppedBehind, EndsSo, UnlessMemory, after_steps, bytes_of_end, most_bytes}
-use Rattle.aio_replay.specs.Ends.{StandsOnTheWay}
-use Rattle.aio_replay.specs.Steps.{Opens, Answers, TakesLines, Standing, LineTaken, Closes, Closing, left_by, IsRead}
-use Rattle.aio_replay.proofs.DrivingLemmas.{Sends-trans, Sends-writes, long_is_refused}
+use Rattle.aio_replay.specs.Answering.{AnswerRules, Replied}
+use Rattle.aio_replay.specs.Language.{Language, LeadsTo, RefusesLong, Reply, Told, ends_in, refused_in, refusal_at, with_text, told_after, told_from, told_of}
+use Rattle.aio_replay.specs.Driving.{EndsSo, Sends, StoppedBehind, ToldWhole, UnlessMemory, bytes_of_end, most_bytes}
+use Rattle.aio_replay.specs.Steps.{Answered, Closes, Closing, Finishes, IsRead, LacksMemory, LineTaken, Opens, Standing, TakesLines, end_before, refusal_of}
+use Rattle.aio_replay.proofs.DrivingLemmas.{Sends-behind, Sends-trans, Sends-writes, long_is_refused}
 
--- ## Steps at the end of a run
+-- ## What lines come to
 
-pub output-append : (w : World) (done more : List Step) → output_from w (done ++ more) ≡ output_from w done ++ output_from (world_after w done) more
-output-append w [] more = refl
-output-append w (s ∷ done) more =
-    ap (λ t. reply_text (script_step w s).answer (script_step w s).wakes ++ t) (output-append (script_step w s).world done more)
-    ∙ sym (append_assoc (reply_text (script_step w s).answer (script_step w s).wakes) (output_from (script_step w s).world done) (output_from (world_after (script_step w s).world done) more))
+-- a line within the limit is answered or refused
+told_within : {S : Type 0} (l : Language S) (line : ℕ) (s : S) (bytes : List ℕ) (lines : List (List ℕ)) → line ≤ l.limit
+    → told_from l line s (bytes ∷ lines) ≡ told_after l s line (l.line s bytes) (λ behind. told_from l (line + 1) behind lines)
+told_within l line s bytes lines le =
+    let test : nat_lt l.limit line ≡ false = grind (arith, nat_tests) in
+    ap (λ t. if t then refused_in l s line reason.Lines else told_after l s line (l.line s bytes) (λ behind. told_from l (line + 1) behind lines)) test
 
-pub output-push : (done : List Step) (s : Step)
-    → output (done ++ s ∷ []) ≡ output done ++ reply_text (script_step (world_after opening done) s).answer (script_step (world_after opening done) s).wakes
-output-push done s = output-append opening done (s ∷ [])
-    ∙ ap (λ t. output done ++ t) (append-nil (reply_text (script_step (world_after opening done) s).answer (script_step (world_after opening done) s).wakes))
+told_answered : {S : Type 0} (l : Language S) (line : ℕ) (s : S) (bytes : List ℕ) (lines : List (List ℕ)) (added : List ℕ) (t : S) → line ≤ l.limit
+    → l.line s bytes ≡ Ok (added, t) → told_from l line s (bytes ∷ lines) ≡ with_text added (told_from l (line + 1) t lines)
+told_answered l line s bytes lines added t le is =
+    told_within l line s bytes lines le ∙ ap (λ (reply : Reply _). told_after l s line reply (λ behind. told_from l (line + 1) behind lines)) is
 
-pub world_after-push : (w : World) (done : List Step) (s : Step) → world_after w (done ++ s ∷ []) ≡ (script_step (world_after w done) s).world
-world_after-push w [] s = refl
-world_after-push w (d ∷ done) s = world_after-push (script_step w d).world done s
+told_refused : {S : Type 0} (l : Language S) (line : ℕ) (s : S) (bytes : List ℕ) (lines : List (List ℕ)) (why : Reason) → line ≤ l.limit
+    → l.line s bytes ≡ Err why → told_from l line s (bytes ∷ lines) ≡ refused_in l s line why
+told_refused l line s bytes lines why le is =
+    told_within l line s bytes lines le ∙ ap (λ (reply : Reply _). told_after l s line reply (λ behind. told_from l (line + 1) behind lines)) is
 
--- a step that was run and answered
-pub answered : (old new : Replayer) (s : Step) (a : Answer) (wakes : List Waker) (text_old text_new : List ℕ) → Replays s a wakes old new
-    → text_new ≡ text_old ++ reply_text a wakes → Answers s old new text_old text_new
-answered old new s a wakes text_old text_new replays text w stands =
-    let gives = replays w stands in (
-      text ∙ ap (λ t. text_old ++ reply_text t wakes) (sym gives.answer_is)
-          ∙ ap (λ t. text_old ++ reply_text (script_step w s).answer t) (sym gives.wakes_are),
-      gives.stands,
-    )
+told_past : {S : Type 0} (l : Language S) (line : ℕ) (s : S) (bytes : List ℕ) (lines : List (List ℕ)) → l.limit < line
+    → told_from l line s (bytes ∷ lines) ≡ refused_in l s line reason.Lines
+told_past l line s bytes lines lt =
+    let test : nat_lt l.limit line ≡ true = grind (arith, nat_tests) in
+    ap (λ t. if t then refused_in l s line reason.Lines else told_after l s line (l.line s bytes) (λ behind. told_from l (line + 1) behind lines)) test
 
--- ## The steps of an input
+with_texts : {S : Type 0} (x y : List ℕ) (t : Told S) → with_text x (with_text y t) ≡ with_text (x ++ y) t
+with_texts x y t = ap (λ text. let r : Told _ = record { text = text; state = t.state; refusal = t.refusal } in r) (sym (append_assoc x y t.text))
 
-after_steps-push : (done : List Step) (s : Step) (t : Trace) → after_steps done (with_step s t) ≡ after_steps (done ++ s ∷ []) t
-after_steps-push done s t = ap (λ (steps : List Step). let r : Trace = record { steps = steps; refusal = t.refusal } in r) (sym (append_assoc done (s ∷ []) t.steps))
+-- lines that lead to a state lead with one more to the state behind it
+leads_on : {S : Type 0} (l : Language S) (header : List ℕ) (front : List (List ℕ)) (text : List ℕ) (s : S) (bytes added : List ℕ) (t : S)
+    → LeadsTo l (header ∷ front) text s → length front + 2 ≤ l.limit → l.line s bytes ≡ Ok (added, t) → LeadsTo l (header ∷ front ++ bytes ∷ []) (text ++ added) t
+leads_on l header front text s bytes added t leads le is = λ more.
+    let longer : length front + 2 + 1 ≡ length (front ++ bytes ∷ []) + 2 = omega (arith, length-append front (bytes ∷ [])) in
+    ap (λ x. told_of l (header ∷ x)) (append_assoc front (bytes ∷ []) more)
+    ∙ leads (bytes ∷ more)
+    ∙ ap (with_text text) (told_answered l (length front + 2) s bytes more added t le is)
+    ∙ with_texts text added (told_from l (length front + 2 + 1) t more)
+    ∙ ap (λ n. with_text (text ++ added) (told_from l n t more)) longer
 
--- the lines that are left say this too
-left_is : (l : Language) (input : List ℕ) (left other : Trace) (Stands : World → Type 0) (Written : List ℕ → Type 0) → left ≡ other
-    → Done l input left Stands Written → Done l input other Stands Written
-left_is l input left other Stands Written same d = record {
-  steps = d.steps;
-  says = d.says ∙ ap (after_steps d.steps) same;
-  stands = d.stands;
-  written = d.written;
-}
+-- ## The lines of an input
+
+-- what an input comes to before a line is read
+told_standing : {A : Type 0} (r : AnswerRules A) (input : List ℕ) (told first out : Option (List ℕ)) (line : ℕ) (ahead text : List ℕ) (a : A)
+    → (s : Standing r input told first out line ahead text a)
+    → told_of r.language (lines_of input) ≡ with_text s.answered.whole (told_from r.language line s.answered.state (lines_of s.rest))
+told_standing r input told first out line ahead text a s =
+    let at : length s.front + 2 ≡ line = omega (arith, s.before.count) in
+    ap (told_of r.language) s.before.lines
+    ∙ s.answered.leads (lines_of s.rest)
+    ∙ ap (λ n. with_text s.answered.whole (told_from r.language n s.answered.state (lines_of s.rest))) at
+
+-- the same once the bytes of the line are taken
+told_taken : {A : Type 0} (r : AnswerRules A) (input : List ℕ) (told first out : Option (List ℕ)) (line : ℕ) (bytes ahead text : List ℕ) (a : A)
+    → (t : LineTaken r input told first out line bytes ahead text a)
+    → told_of r.language (lines_of input) ≡ with_text t.answered.whole (told_from r.language line t.answered.state (bytes ∷ lines_of t.rest))
+told_taken r input told first out line bytes ahead text a t =
+    ap (told_of r.language) (t.before.lines ∙ ap (λ x. t.header ∷ x) (append_assoc t.front (bytes ∷ []) (lines_of t.rest)))
+    ∙ t.answered.leads (bytes ∷ lines_of t.rest)
+    ∙ ap (λ n. with_text t.answered.whole (told_from r.language n t.answered.state (bytes ∷ lines_of t.rest))) t.count
 
 -- more of the text was written
-sends_more : (l : Language) (input : List ℕ) (left : Trace) (first old new : Option (List ℕ)) (text kept_text : List ℕ) (r : Replayer)
-    → DoneSoFar l input left first old text r → Sends old new text kept_text → DoneSoFar l input left first new kept_text r
-sends_more l input left first old new text kept_text r d sends = record {
-  steps = d.steps;
-  says = d.says;
+abbrev sends_more : {A : Type 0} (r : AnswerRules A) (front : List (List ℕ)) (first old new : Option (List ℕ)) (text kept_text : List ℕ) (a : A)
+    → Answered r front first old text a → Sends old new text kept_text → Answered r front first new kept_text a
+sends_more r front first old new text kept_text a d sends = record {
+  whole = d.whole;
+  state = d.state;
+  leads = d.leads;
   stands = d.stands;
-  written = Sends-trans first old new (output d.steps) text kept_text d.written sends;
+  written = Sends-trans first old new d.whole text kept_text d.written sends;
 }
-
--- the next step was run, and its reply stands at the end of the text
-runs_step : (l : Language) (input : List ℕ) (s : Step) (left : Trace) (first out : Option (List ℕ)) (text new : List ℕ) (r after : Replayer)
-    → DoneSoFar l input (with_step s left) first out text r → Answers s r after text new → DoneSoFar l input left first out new after
-runs_step l input s left first out text new r after d answers =
-    let w = world_after opening d.steps in
-    let said = reply_text (script_step w s).answer (script_step w s).wakes in
-    let reply = answers w d.stands in
-    record {
-      steps = d.steps ++ s ∷ [];
-      says = d.says ∙ after_steps-push d.steps s left;
-      stands = subst (StandsFor after) (sym (world_after-push opening d.steps s)) reply.1;
-      written = record {
-        sent = d.written.sent;
-        appended = d.written.appended;
-        whole = output-push d.steps s ∙ ap (λ x. x ++ said) d.written.whole ∙ append_assoc d.written.sent text said ∙ ap (λ x. d.written.sent ++ x) (sym reply.0);
-      };
-    }
 
 -- ## The bytes before a line
 
@@ -102,42 +98,45 @@ length_of_lines-push : (lines : List (List ℕ)) (line : List ℕ) → length_of
 length_of_lines-push [] line = omega arith
 length_of_lines-push (first ∷ lines) line = omega (arith, length_of_lines-push lines line)
 
+before_is : (input : List ℕ) (front : List (List ℕ)) (line : ℕ) (rest : List ℕ) → TakesLines input front line rest → bytes_before line input ≡ length_of_lines front
+before_is input front line rest t =
+    let count : length front ≡ line - 1 = omega (arith, t.count) in
+    ap (λ lines. length_of_lines (take (line - 1) lines)) t.lines ∙ ap length_of_lines (take_at front (lines_of rest) (line - 1) count)
+
 -- nothing is taken before the first line
-takes_none : (input : List ℕ) → TakesLines input 1 input
-takes_none input = record { front = []; taken = []; whole = refl; lines = refl; count = refl; within = omega arith; most = omega arith }
+takes_none : (input : List ℕ) → TakesLines input [] 1 input
+takes_none input = record { taken = []; whole = refl; lines = refl; count = refl; within = omega arith; most = omega arith; last = λ before is. omega arith }
 
 -- one more line
-takes_one : (input : List ℕ) (now : Option (List ℕ)) (line : ℕ) (bytes left rest : List ℕ) → TakesLines input line rest
-    → (t : TakesLine now bytes left rest) → TakesLines input (line + 1) t.rest
-takes_one input now line bytes left rest s t = record {
-  front = s.front ++ bytes ∷ [];
+takes_one : (input : List ℕ) (front : List (List ℕ)) (now : Option (List ℕ)) (line : ℕ) (bytes left rest : List ℕ) → TakesLines input front line rest
+    → (t : TakesLine now bytes left rest) → TakesLines input (front ++ bytes ∷ []) (line + 1) t.rest
+takes_one input front now line bytes left rest s t = record {
   taken = s.taken ++ t.taken;
   whole = s.whole ∙ ap (λ x. s.taken ++ x) t.whole ∙ sym (append_assoc s.taken t.taken t.rest);
-  lines = s.lines ∙ ap (λ x. s.front ++ x) t.lines ∙ sym (append_assoc s.front (bytes ∷ []) (lines_of t.rest));
-  count = omega (arith, length-append s.front (bytes ∷ []), s.count);
-  within = omega (arith, length-append s.taken t.taken, length_of_lines-push s.front bytes, s.within, t.within);
+  lines = s.lines ∙ ap (λ x. front ++ x) t.lines ∙ sym (append_assoc front (bytes ∷ []) (lines_of t.rest));
+  count = omega (arith, length-append front (bytes ∷ []), s.count);
+  within = omega (arith, length-append s.taken t.taken, length_of_lines-push front bytes, s.within, t.within);
   most = omega (arith, length-append s.taken t.taken, s.most, t.most);
+  last = λ before is.
+      let same : before ≡ line = omega (arith, is) in
+      let at : bytes_before before input ≡ length_of_lines front = ap (λ n. bytes_before n input) same ∙ before_is input front line rest s in
+      omega (arith, length-append s.taken t.taken, s.within, t.most, at);
 }
 
-before_is : (input : List ℕ) (line : ℕ) (rest : List ℕ) → (t : TakesLines input line rest) → bytes_before line input ≡ length_of_lines t.front
-before_is input line rest t =
-    let count : length t.front ≡ line - 1 = omega (arith, t.count) in
-    ap (λ lines. length_of_lines (take (line - 1) lines)) t.lines ∙ ap length_of_lines (take_at t.front (lines_of rest) (line - 1) count)
-
 -- what a source gave of the rest, it gave of the input behind the lines before
-held_behind : (input : List ℕ) (now : Option (List ℕ)) (line : ℕ) (rest : List ℕ) → TakesLines input line rest → LeavesAllBut 257 now rest
+held_behind : (input : List ℕ) (front : List (List ℕ)) (now : Option (List ℕ)) (line : ℕ) (rest : List ℕ) → TakesLines input front line rest → LeavesAllBut 257 now rest
     → LeavesAllBut (bytes_before line input + 257) now input
-held_behind input now line rest t l = record {
+held_behind input front now line rest t l = record {
   taken = t.taken ++ l.taken;
   left = l.left;
   is_left = l.is_left;
   whole = t.whole ∙ ap (λ x. t.taken ++ x) l.whole ∙ sym (append_assoc t.taken l.taken l.left);
-  most = omega (arith, length-append t.taken l.taken, t.within, l.most, before_is input line rest t);
+  most = omega (arith, length-append t.taken l.taken, t.within, l.most, before_is input front line rest t);
 }
 
-held_few : (input : List ℕ) (now : Option (List ℕ)) (line : ℕ) (rest : List ℕ) → TakesLines input line rest → LeavesAllBut 257 now rest
+held_few : (input : List ℕ) (front : List (List ℕ)) (now : Option (List ℕ)) (line : ℕ) (rest : List ℕ) → TakesLines input front line rest → LeavesAllBut 257 now rest
     → LeavesAllBut (257 * line) now input
-held_few input now line rest t l = record {
+held_few input front now line rest t l = record {
   taken = t.taken ++ l.taken;
   left = l.left;
   is_left = l.is_left;
@@ -149,270 +148,383 @@ pub leaves_more : (a b : ℕ) (now : Option (List ℕ)) (input : List ℕ) → a
 leaves_more a b now input le l = record { taken = l.taken; left = l.left; is_left = l.is_left; whole = l.whole; most = omega (arith, le, l.most) }
 
 -- at most the bytes of all lines and of one more
-held_at_last : (l : Language) (input : List ℕ) (now : Option (List ℕ)) (line : ℕ) (rest : List ℕ) → line ≤ l.limit + 1 → TakesLines input line rest → LeavesAllBut 257 now rest
-    → LeavesAllBut (most_bytes l) now input
-held_at_last l input now line rest le t h = leaves_more (257 * line) (257 * (l.limit + 1)) now input (omega (arith, le)) (held_few input now line rest t h)
+held_at_last : (limit : ℕ) (input : List ℕ) (front : List (List ℕ)) (now : Option (List ℕ)) (line : ℕ) (rest : List ℕ) → line ≤ limit + 1
+    → TakesLines input front line rest → LeavesAllBut 257 now rest → LeavesAllBut (most_bytes limit) now input
+held_at_last limit input front now line rest le t h =
+    leaves_more (257 * line) (257 * (limit + 1)) now input (omega (arith, le)) (held_few input front now line rest t h)
 
 -- ## From a line that is found
 
-pub takes : (l : Language) (input : List ℕ) (told now first old new : Option (List ℕ)) (line : ℕ) (ahead bytes left text kept_text : List ℕ) (r : Replayer)
-    → (s : Standing l input told first old line ahead text r) → TakesLine now bytes left s.rest → Sends old new text kept_text
-    → LineTaken l input now first new line bytes left kept_text r
-takes l input told now first old new line ahead bytes left text kept_text r s t sends = record {
+pub takes : {A : Type 0} (r : AnswerRules A) (input : List ℕ) (told now first old new : Option (List ℕ)) (line : ℕ) (ahead bytes left text kept_text : List ℕ) (a : A)
+    → (s : Standing r input told first old line ahead text a) → TakesLine now bytes left s.rest → Sends old new text kept_text
+    → LineTaken r input now first new line bytes left kept_text a
+takes r input told now first old new line ahead bytes left text kept_text a s t sends = record {
+  header = s.header;
+  front = s.front;
   rest = t.rest;
   is_rest = t.is_rest;
-  done = sends_more l input (l.from line (bytes ∷ lines_of t.rest)) first old new text kept_text r
-      (left_is l input _ _ _ _ (ap (l.from line) t.lines) s.done) sends;
-  before = takes_one input now line bytes left s.rest s.before t;
-  held = held_behind input now line s.rest s.before t.held;
-  held_few = held_few input now line s.rest s.before t.held;
+  answered = sends_more r (s.header ∷ s.front) first old new text kept_text a s.answered sends;
+  count = omega (arith, s.before.count);
+  before = takes_one input (s.header ∷ s.front) now line bytes left s.rest s.before t;
+  held = held_behind input (s.header ∷ s.front) now line s.rest s.before t.held;
+  held_few = held_few input (s.header ∷ s.front) now line s.rest s.before t.held;
 }
 
-pub goes_on : (l : Language) (input : List ℕ) (told first out : Option (List ℕ)) (line : ℕ) (bytes ahead text new : List ℕ) (r after : Replayer) (s : Step)
-    → SaysByLines l → LineTaken l input told first out line bytes ahead text r → line ≤ l.limit → l.step bytes ≡ Some s → Answers s r after text new
-    → Standing l input told first out (line + 1) ahead new after
-goes_on l input told first out line bytes ahead text new r after s laws t le read answers = record {
-  rest = t.rest;
-  is_rest = t.is_rest;
-  done = runs_step l input s (l.from (line + 1) (lines_of t.rest)) first out text new r after
-      (left_is l input _ _ _ _ (laws.steps line bytes (lines_of t.rest) s le read) t.done) answers;
-  before = t.before;
-}
+-- the line is answered, and its text stands behind that of the lines before
+pub goes_on : {A : Type 0} (r : AnswerRules A) (input : List ℕ) (told first out : Option (List ℕ)) (line : ℕ) (bytes ahead text new : List ℕ) (a after : A)
+    → (t : LineTaken r input told first out line bytes ahead text a) → line ≤ r.language.limit
+    → Replied r (r.language.line t.answered.state bytes) text new after → Standing r input told first out (line + 1) ahead new after
+goes_on r input told first out line bytes ahead text new a after t le reply =
+    let d = t.answered in
+    let few : length t.front + 2 ≤ r.language.limit = omega (arith, t.count, le) in
+    record {
+      header = t.header;
+      front = t.front ++ bytes ∷ [];
+      rest = t.rest;
+      is_rest = t.is_rest;
+      answered = record {
+        whole = d.whole ++ reply.added;
+        state = reply.state;
+        leads = leads_on r.language t.header t.front d.whole d.state bytes reply.added reply.state d.leads few reply.is;
+        stands = reply.stands;
+        written = record {
+          sent = d.written.sent;
+          appended = d.written.appended;
+          whole = ap (λ x. x ++ reply.added) d.written.whole ∙ append_assoc d.written.sent text reply.added ∙ ap (λ x. d.written.sent ++ x) (sym reply.text);
+        };
+      };
+      before = t.before;
+    }
 
 -- the text is written between two lines
-pub flushed : (l : Language) (input : List ℕ) (told first old new : Option (List ℕ)) (line : ℕ) (ahead text kept_text : List ℕ) (r : Replayer)
-    → Standing l input told first old line ahead text r → Sends old new text kept_text → Standing l input told first new line ahead kept_text r
-flushed l input told first old new line ahead text kept_text r s sends = record {
+pub flushed : {A : Type 0} (r : AnswerRules A) (input : List ℕ) (told first old new : Option (List ℕ)) (line : ℕ) (ahead text kept_text : List ℕ) (a : A)
+    → Standing r input told first old line ahead text a → Sends old new text kept_text → Standing r input told first new line ahead kept_text a
+flushed r input told first old new line ahead text kept_text a s sends = record {
+  header = s.header;
+  front = s.front;
   rest = s.rest;
   is_rest = s.is_rest;
-  done = sends_more l input _ first old new text kept_text r s.done sends;
+  answered = sends_more r (s.header ∷ s.front) first old new text kept_text a s.answered sends;
   before = s.before;
 }
 
--- ## To an end
+-- ## To a stop
 
-written_part : (r : Result (Unit {0}) SinkRefusal) (old new : Option (List ℕ)) (bytes : List ℕ) → Writes r old new bytes → AppendsPart old new bytes
-written_part (Ok done) old new bytes q = record { added = bytes; rest = []; whole = sym (append-nil bytes); appended = q }
-written_part (Err refusal) old new bytes q = q
-
-written_of_more : (r : Result (Unit {0}) SinkRefusal) (old new : Option (List ℕ)) (bytes more : List ℕ) → Writes r old new bytes → AppendsPart old new (bytes ++ more)
-written_of_more (Ok done) old new bytes more q = record { added = bytes; rest = more; whole = refl; appended = q }
-written_of_more (Err refusal) old new bytes more q = record {
-  added = q.added;
-  rest = q.rest ++ more;
-  whole = ap (λ t. t ++ more) q.whole ∙ append_assoc q.added q.rest more;
-  appended = q.appended;
+-- it was stopped behind the lines in front, and their text was written as far as the output took it
+stops_behind : {A : Type 0} (r : AnswerRules A) (input : List ℕ) (first old new : Option (List ℕ)) (text : List ℕ) (front back : List (List ℕ)) (left : Told r.State)
+    (e : Stop) (a after : A) → lines_of input ≡ front ++ back → (d : Answered r front first old text a)
+    → told_of r.language (lines_of input) ≡ with_text d.whole left → UnlessMemory e (r.stands after d.state) → Writes e.sent old new text
+    → StoppedBehind r e input first new after
+stops_behind r input first old new text front back left e a after lines d says keeps part = record {
+  front = front;
+  back = back;
+  lines = lines;
+  text = d.whole;
+  state = d.state;
+  leads = d.leads;
+  held = [];
+  is_held = inl refl;
+  left = left.text;
+  whole = ap (λ (t : Told _). t.text) says ∙ ap (λ t. t ++ left.text) (sym (append-nil d.whole));
+  written = subst (Writes e.sent first new) (sym (append-nil d.whole)) (Sends-writes e.sent first old new d.whole text d.written part);
+  stands = keeps;
 }
 
--- where a replay was stopped, a front part of its output is written
-pub stopped_part : (l : Language) (s : Stop) (input : List ℕ) (old new : Option (List ℕ)) (r : Replayer) → StoppedBehind l s input old new r
-    → AppendsPart old new (output (l.trace input).steps)
-stopped_part l s input old new r b =
-    let steps = b.done.steps in
-    let more = b.left.steps in
-    subst (AppendsPart old new) (sym (ap (λ (t : Trace). output t.steps) b.done.says ∙ output-append opening steps more))
-    (written_of_more s.sent old new (output steps) (output_from (world_after opening steps) more) b.done.written)
+stops : {A : Type 0} (r : AnswerRules A) (input : List ℕ) (now first new : Option (List ℕ)) (e : Stop) (a : A)
+    → StoppedBehind r e input first new a → LeavesAllBut (most_bytes r.language.limit) now input → EndsSo r (ends.Stopped e) input now first new a
+stops r input now first new e a b taken = record { says = b; taken = taken; few = taken }
 
--- where memory did not run out, the core stands for the world after steps among which are all those that the output tells of
-pub stands_on_the_way : (l : Language) (s : Stop) (input : List ℕ) (old new : Option (List ℕ)) (r : Replayer) → s.cause ≢ cause.Memory
-    → StoppedBehind l s input old new r → StandsOnTheWay r.core (l.trace input).steps old new
-stands_on_the_way l s input old new r other b = record {
-  done = b.done.steps;
-  more = b.left.steps;
-  whole = ap (λ (t : Trace). t.steps) b.done.says;
-  written = written_part s.sent old new (output b.done.steps) b.done.written;
-  stands = (b.done.stands other).core;
-}
+-- while a line was looked for
+pub stops_before : {A : Type 0} (r : AnswerRules A) (input : List ℕ) (told now first old new : Option (List ℕ)) (line : ℕ) (ahead text : List ℕ) (a : A) (e : Stop)
+    → (s : Standing r input told first old line ahead text a) → line ≤ r.language.limit + 1 → LeavesAllBut 257 now s.rest → Writes e.sent old new text
+    → EndsSo r (ends.Stopped e) input now first new a
+stops_before r input told now first old new line ahead text a e s le h part =
+    stops r input now first new e a
+    (stops_behind r input first old new text (s.header ∷ s.front) (lines_of s.rest) _ e a a s.before.lines s.answered
+    (told_standing r input told first old line ahead text a s) (λ other. s.answered.stands) part)
+    (held_at_last r.language.limit input (s.header ∷ s.front) now line s.rest le s.before h)
 
--- it was stopped, and the text was written as far as the output took it
-stops : (l : Language) (input : List ℕ) (now first old new : Option (List ℕ)) (text : List ℕ) (left : Trace) (s : Stop) (r after : Replayer)
-    → DoneSoFar l input left first old text r → ((w : World) → StandsFor r w → UnlessMemory s (StandsFor after w)) → Writes s.sent old new text
-    → LeavesAllBut (most_bytes l) now input → EndsSo l (ends.Stopped s) input now first new after
-stops l input now first old new text left s r after d keeps part taken = record {
-  says = record {
-    left = left;
-    done = record {
-      steps = d.steps;
-      says = d.says;
-      stands = keeps (world_after opening d.steps) d.stands;
-      written = Sends-writes s.sent first old new (output d.steps) text d.written part;
-    };
-  };
-  taken = taken;
-  few = taken;
-}
+-- memory ran out for a line
+pub stops_in_line : {A : Type 0} (r : AnswerRules A) (result : End) (input : List ℕ) (told first old new : Option (List ℕ)) (line : ℕ) (bytes ahead text : List ℕ) (a after : A)
+    → LineTaken r input told first old line bytes ahead text a → line ≤ r.language.limit → LacksMemory result old new text → EndsSo r result input told first new after
+stops_in_line r ends.Done input told first old new line bytes ahead text a after t le lacks = absurd lacks
+stops_in_line r (ends.Refused at why) input told first old new line bytes ahead text a after t le lacks = absurd lacks
+stops_in_line r (ends.Stopped e) input told first old new line bytes ahead text a after t le lacks =
+    stops r input told first new e after
+    (stops_behind r input first old new text (t.header ∷ t.front) (bytes ∷ lines_of t.rest) _ e a after
+    (t.before.lines ∙ ap (λ x. t.header ∷ x) (append_assoc t.front (bytes ∷ []) (lines_of t.rest))) t.answered
+    (told_taken r input told first old line bytes ahead text a t) (λ other. absurd (other lacks.0)) lacks.1)
+    (leaves_more (257 * line) (257 * (r.language.limit + 1)) told input (omega (arith, le)) t.held_few)
 
--- it was stopped while a line was looked for
-pub stops_before : (l : Language) (input : List ℕ) (told now first old new : Option (List ℕ)) (line : ℕ) (ahead text : List ℕ) (r : Replayer) (e : Stop)
-    → (s : Standing l input told first old line ahead text r) → line ≤ l.limit + 1 → LeavesAllBut 257 now s.rest → Writes e.sent old new text
-    → EndsSo l (ends.Stopped e) input now first new r
-stops_before l input told now first old new line ahead text r e s le h part =
-    stops l input now first old new text _ e r r s.done (λ w stands other. stands) part (held_at_last l input now line s.rest le s.before h)
+-- before the next line
+pub stops_between : {A : Type 0} (r : AnswerRules A) (input : List ℕ) (told first old new : Option (List ℕ)) (line : ℕ) (ahead text : List ℕ) (a : A) (e : Stop)
+    → Standing r input told first old line ahead text a → LeavesAllBut (most_bytes r.language.limit) told input → Writes e.sent old new text
+    → EndsSo r (ends.Stopped e) input told first new a
+stops_between r input told first old new line ahead text a e s h part =
+    stops r input told first new e a
+    (stops_behind r input first old new text (s.header ∷ s.front) (lines_of s.rest) _ e a a s.before.lines s.answered
+    (told_standing r input told first old line ahead text a s) (λ other. s.answered.stands) part) h
 
--- memory ran out for the step of a line, or for its reply
-pub stops_in_step : (l : Language) (input : List ℕ) (told first old new : Option (List ℕ)) (line : ℕ) (bytes ahead text : List ℕ) (r after : Replayer) (e : Stop)
-    → LineTaken l input told first old line bytes ahead text r → line ≤ l.limit → e.cause ≡ cause.Memory → Writes e.sent old new text
-    → EndsSo l (ends.Stopped e) input told first new after
-stops_in_step l input told first old new line bytes ahead text r after e t le memory part =
-    stops l input told first old new text _ e r after t.done (λ w stands other. absurd (other memory)) part
-    (leaves_more (257 * line) (257 * (l.limit + 1)) told input (omega (arith, le)) t.held_few)
+-- ## To an end that is wanted
 
--- it was stopped before the next line
-pub stops_between : (l : Language) (input : List ℕ) (told first old new : Option (List ℕ)) (line : ℕ) (ahead text : List ℕ) (r : Replayer) (e : Stop)
-    → Standing l input told first old line ahead text r → LeavesAllBut (most_bytes l) told input → Writes e.sent old new text
-    → EndsSo l (ends.Stopped e) input told first new r
-stops_between l input told first old new line ahead text r e s h part =
-    stops l input told first old new text _ e r r s.done (λ w stands other. stands) part h
-
--- what is said of an end behind which no step is left, once the whole text is written
-ends_whole : (l : Language) (input : List ℕ) (left : Trace) (first old new : Option (List ℕ)) (text : List ℕ) (r : Replayer) → left.steps ≡ []
-    → DoneSoFar l input left first old text r → Appends old new text
-    → ((l.trace input).refusal ≡ left.refusal) × Appends first new (output (l.trace input).steps) × StandsFor r (world_after opening (l.trace input).steps)
-ends_whole l input left first old new text r none d rest =
-    let steps : d.steps ≡ (l.trace input).steps = sym (ap (λ (t : Trace). t.steps) d.says ∙ ap (λ x. d.steps ++ x) none ∙ append-nil d.steps) in (
-      ap (λ (t : Trace). t.refusal) d.says,
-      subst (λ (x : List Step). Appends first new (output x)) steps (Sends-writes (Ok tt) first old new (output d.steps) text d.written rest),
-      subst (λ (x : List Step). StandsFor r (world_after opening x)) steps d.stands,
-    )
-
-pub closes : (l : Language) (result wanted : End) (input : List ℕ) (told first old new : Option (List ℕ)) (text : List ℕ) (r : Replayer)
-    → Closing l wanted input told first old text r → Closes result wanted old new text → EndsSo l result input told first new r
-closes l ends.Done wanted input told first old new text r c e =
-    let same : wanted ≡ ends.Done = e.0 in
-    let whole = ends_whole l input _ first old new text r refl (left_is l input _ _ _ _ (ap left_by same) c.done) e.1 in
+-- what is said where the whole text went out, with what was held back
+told_whole : {A : Type 0} (r : AnswerRules A) (wanted : End) (input : List ℕ) (told first old new : Option (List ℕ)) (text : List ℕ) (a : A)
+    → (c : Closing r wanted input told first old text a) → Appends old new (text ++ r.language.held c.answered.state) → ToldWhole r (refusal_of wanted) input first new a
+told_whole r wanted input told first old new text a c rest =
+    let d = c.answered in
+    let held = r.language.held d.state in
+    let written : Appends first new (d.whole ++ held) = Sends-writes (Ok tt) first old new _ _ (Sends-behind first old d.whole text held d.written) rest in
     record {
-      says = (subst (λ (x : End). IsRead x told) same c.is_read, whole.0, whole.1, whole.2);
-      taken = subst (λ (x : End). LeavesAllBut (bytes_of_end l x input) told input) same c.taken;
+      refusal_is = ap (λ (t : Told _). t.refusal) c.ends;
+      written = subst (Appends first new) (sym (ap (λ (t : Told _). t.text) c.ends)) written;
+      stands = subst (r.stands a) (sym (ap (λ (t : Told _). t.state) c.ends)) d.stands;
+    }
+
+-- the output took a part
+closes_part : {A : Type 0} (r : AnswerRules A) (e : Stop) (wanted : End) (input : List ℕ) (told first old new : Option (List ℕ)) (text : List ℕ) (a : A)
+    → (c : Closing r wanted input told first old text a) → Writes e.sent old new (text ++ r.language.held c.answered.state) → StoppedBehind r e input first new a
+closes_part r e wanted input told first old new text a c part =
+    let d = c.answered in
+    let held = r.language.held d.state in
+    record {
+      front = c.front;
+      back = c.back;
+      lines = c.lines;
+      text = d.whole;
+      state = d.state;
+      leads = d.leads;
+      held = held;
+      is_held = inr refl;
+      left = [];
+      whole = ap (λ (t : Told _). t.text) c.ends ∙ sym (append-nil (d.whole ++ held));
+      written = Sends-writes e.sent first old new _ _ (Sends-behind first old d.whole text held d.written) part;
+      stands = λ other. d.stands;
+    }
+
+closes_whole : {A : Type 0} (r : AnswerRules A) (result wanted : End) (input : List ℕ) (told first old new : Option (List ℕ)) (text : List ℕ) (a : A)
+    → (c : Closing r wanted input told first old text a) → Closes result wanted old new (text ++ r.language.held c.answered.state) → EndsSo r result input told first new a
+closes_whole r ends.Done wanted input told first old new text a c e =
+    let same : wanted ≡ ends.Done = e.0 in
+    record {
+      says = (
+        subst (λ (x : End). IsRead x told) same c.is_read,
+        subst (λ (x : End). ToldWhole r (refusal_of x) input first new a) same (told_whole r wanted input told first old new text a c e.1),
+      );
+      taken = subst (λ (x : End). LeavesAllBut (bytes_of_end r.language.limit x input) told input) same c.taken;
       few = c.taken_few;
     }
-closes l (ends.Refused line why) wanted input told first old new text r c e =
+closes_whole r (ends.Refused line why) wanted input told first old new text a c e =
     let same : wanted ≡ ends.Refused line why = e.0 in
     record {
-      says = ends_whole l input _ first old new text r refl (left_is l input _ _ _ _ (ap left_by same) c.done) e.1;
-      taken = subst (λ (x : End). LeavesAllBut (bytes_of_end l x input) told input) same c.taken;
+      says = subst (λ (x : End). ToldWhole r (refusal_of x) input first new a) same (told_whole r wanted input told first old new text a c e.1);
+      taken = subst (λ (x : End). LeavesAllBut (bytes_of_end r.language.limit x input) told input) same c.taken;
       few = c.taken_few;
     }
-closes l (ends.Stopped s) wanted input told first old new text r c e =
-    stops l input told first old new text _ s r r c.done (λ w stands other. stands) e c.taken_few
+closes_whole r (ends.Stopped s) wanted input told first old new text a c e =
+    stops r input told first new s a (closes_part r s wanted input told first old new text a c e) c.taken_few
 
--- a line that reads as no step is refused
-pub refuses_line : (l : Language) (input : List ℕ) (told first out : Option (List ℕ)) (line : ℕ) (bytes ahead text : List ℕ) (r : Replayer) (why : Reason)
-    → SaysByLines l → LineTaken l input told first out line bytes ahead text r → line ≤ l.limit → l.refusal bytes ≡ Some why
-    → Closing l (ends.Refused line why) input told first out text r
-refuses_line l input told first out line bytes ahead text r why laws t le none = record {
-  done = left_is l input _ _ _ _ (laws.refuses line bytes (lines_of t.rest) why le none) t.done;
+closes_short : {A : Type 0} (r : AnswerRules A) (result wanted : End) (input : List ℕ) (told first old new : Option (List ℕ)) (text : List ℕ) (a : A)
+    → Closing r wanted input told first old text a → LacksMemory result old new text → EndsSo r result input told first new a
+closes_short r ends.Done wanted input told first old new text a c e = absurd e
+closes_short r (ends.Refused line why) wanted input told first old new text a c e = absurd e
+closes_short r (ends.Stopped s) wanted input told first old new text a c e =
+    stops r input told first new s a
+    (stops_behind r input first old new text c.front c.back _ s a a c.lines c.answered c.ends (λ other. absurd (other e.0)) e.1) c.taken_few
+
+-- whatever the end came to in the state behind the lines
+closes_in : {A : Type 0} (r : AnswerRules A) (result wanted : End) (input : List ℕ) (told first old new : Option (List ℕ)) (text : List ℕ) (a after : A)
+    → (c : Closing r wanted input told first old text a) → after ≡ a → Finishes r c.answered.state result wanted old new text → EndsSo r result input told first new after
+closes_in r result wanted input told first old new text a after c same e = subst (λ (x : _). EndsSo r result input told first new x) (sym same) (by_case e)
+  where
+    by_case : Finishes r c.answered.state result wanted old new text → EndsSo r result input told first new a
+    by_case (inl whole) = closes_whole r result wanted input told first old new text a c whole
+    by_case (inr short) = closes_short r result wanted input told first old new text a c short
+
+pub closes : {A : Type 0} (r : AnswerRules A) (result wanted : End) (input : List ℕ) (told first old new : Option (List ℕ)) (text : List ℕ) (a after : A)
+    → Closing r wanted input told first old text a → after ≡ a → ((s : r.State) → r.stands a s → Finishes r s result wanted old new text)
+    → EndsSo r result input told first new after
+closes r result wanted input told first old new text a after c same e =
+    closes_in r result wanted input told first old new text a after c same (e c.answered.state c.answered.stands)
+
+-- a line is refused
+pub refuses_line : {A : Type 0} (r : AnswerRules A) (input : List ℕ) (told first out : Option (List ℕ)) (line : ℕ) (bytes ahead text : List ℕ) (a : A) (why : Reason)
+    → (t : LineTaken r input told first out line bytes ahead text a) → line ≤ r.language.limit → r.language.line t.answered.state bytes ≡ Err why
+    → Closing r (ends.Refused line why) input told first out text a
+refuses_line r input told first out line bytes ahead text a why t le is = record {
+  front = t.header ∷ t.front;
+  back = bytes ∷ lines_of t.rest;
+  lines = t.before.lines ∙ ap (λ x. t.header ∷ x) (append_assoc t.front (bytes ∷ []) (lines_of t.rest));
+  answered = t.answered;
+  ends = told_taken r input told first out line bytes ahead text a t
+      ∙ ap (with_text t.answered.whole) (told_refused r.language line t.answered.state bytes (lines_of t.rest) why le is);
   is_read = tt;
   taken = t.held;
-  taken_few = leaves_more (257 * line) (257 * (l.limit + 1)) told input (omega (arith, le)) t.held_few;
+  taken_few = leaves_more (257 * line) (257 * (r.language.limit + 1)) told input (omega (arith, le)) t.held_few;
 }
 
--- nothing is left of the input
-pub ends_here : (l : Language) (input : List ℕ) (told now first old new : Option (List ℕ)) (line : ℕ) (ahead text kept_text : List ℕ) (r : Replayer)
-    → SaysByLines l → (s : Standing l input told first old line ahead text r) → line ≤ l.limit + 1 → (s.rest ≡ []) × (now ≡ Some []) → Sends old new text kept_text
-    → Closing l ends.Done input now first new kept_text r
-ends_here l input told now first old new line ahead text kept_text r laws s le nothing sends =
-    let taken : LeavesAllBut (most_bytes l) now input = record {
-      taken = s.before.taken;
-      left = [];
-      is_left = nothing.1;
-      whole = s.before.whole ∙ ap (λ x. s.before.taken ++ x) nothing.0;
-      most = omega (arith, s.before.most, le);
-    } in record {
-      done = sends_more l input _ first old new text kept_text r
-          (left_is l input _ _ _ _ (ap (λ x. l.from line (lines_of x)) nothing.0 ∙ laws.ends line) s.done) sends;
-      is_read = nothing.1;
-      taken = taken;
-      taken_few = taken;
-    }
-
 -- the first line that is left is refused, whatever it says
-refuses_first : (l : Language) (input : List ℕ) (told now first old new : Option (List ℕ)) (line : ℕ) (ahead text kept_text : List ℕ) (why : Reason) (r : Replayer)
-    → (s : Standing l input told first old line ahead text r) → line ≤ l.limit + 1 → l.from line (lines_of s.rest) ≡ refused line why → LeavesAllBut 257 now s.rest
-    → Sends old new text kept_text → Closing l (ends.Refused line why) input now first new kept_text r
-refuses_first l input told now first old new line ahead text kept_text why r s le is h sends = record {
-  done = sends_more l input _ first old new text kept_text r (left_is l input _ _ _ _ is s.done) sends;
+refuses_first : {A : Type 0} (r : AnswerRules A) (input : List ℕ) (told now first old new : Option (List ℕ)) (line : ℕ) (ahead text kept_text : List ℕ) (why : Reason) (a : A)
+    → (s : Standing r input told first old line ahead text a) → line ≤ r.language.limit + 1
+    → told_from r.language line s.answered.state (lines_of s.rest) ≡ refused_in r.language s.answered.state line why → LeavesAllBut 257 now s.rest
+    → Sends old new text kept_text → Closing r (ends.Refused line why) input now first new kept_text a
+refuses_first r input told now first old new line ahead text kept_text why a s le is h sends = record {
+  front = s.header ∷ s.front;
+  back = lines_of s.rest;
+  lines = s.before.lines;
+  answered = sends_more r (s.header ∷ s.front) first old new text kept_text a s.answered sends;
+  ends = told_standing r input told first old line ahead text a s ∙ ap (with_text s.answered.whole) is;
   is_read = tt;
-  taken = held_behind input now line s.rest s.before h;
-  taken_few = held_at_last l input now line s.rest le s.before h;
+  taken = held_behind input (s.header ∷ s.front) now line s.rest s.before h;
+  taken_few = held_at_last r.language.limit input (s.header ∷ s.front) now line s.rest le s.before h;
 }
 
 -- a line that is too long is refused
-pub refuses_long : (l : Language) (input : List ℕ) (told now first old new : Option (List ℕ)) (line : ℕ) (ahead text kept_text : List ℕ) (r : Replayer)
-    → SaysByLines l → (s : Standing l input told first old line ahead text r) → line ≤ l.limit → BeginsLong s.rest → LeavesAllBut 257 now s.rest → Sends old new text kept_text
-    → Closing l (ends.Refused line l.long) input now first new kept_text r
-refuses_long l input told now first old new line ahead text kept_text r laws s le long h sends =
-    let b = long_is_refused l s.rest laws long in
-    refuses_first l input told now first old new line ahead text kept_text l.long r s (omega (arith, le))
-    (ap (l.from line) b.lines ∙ laws.refuses line b.first b.others l.long le b.no_step) h sends
+pub refuses_long : {A : Type 0} (r : AnswerRules A) (input : List ℕ) (told now first old new : Option (List ℕ)) (line : ℕ) (ahead text kept_text : List ℕ) (a : A)
+    → RefusesLong r.language → (s : Standing r input told first old line ahead text a) → line ≤ r.language.limit → BeginsLong s.rest → LeavesAllBut 257 now s.rest
+    → Sends old new text kept_text → Closing r (ends.Refused line r.language.long) input now first new kept_text a
+refuses_long r input told now first old new line ahead text kept_text a laws s le long h sends =
+    let b = long_is_refused r.language s.rest laws long in
+    refuses_first r input told now first old new line ahead text kept_text r.language.long a s (omega (arith, le))
+    (ap (told_from r.language line s.answered.state) b.lines
+    ∙ told_refused r.language line s.answered.state b.first b.others r.language.long le (b.too_long s.answered.state)) h sends
 
--- a line past the last that a trace may have is refused, whatever it says
-pub refuses_past : (l : Language) (input : List ℕ) (told now first old new : Option (List ℕ)) (line : ℕ) (ahead text kept_text first_line : List ℕ) (others : List (List ℕ)) (r : Replayer)
-    → SaysByLines l → (s : Standing l input told first old line ahead text r) → line ≡ l.limit + 1 → lines_of s.rest ≡ first_line ∷ others → LeavesAllBut 257 now s.rest
-    → Sends old new text kept_text → Closing l (ends.Refused line reason.Lines) input now first new kept_text r
-refuses_past l input told now first old new line ahead text kept_text first_line others r laws s last lines h sends =
-    refuses_first l input told now first old new line ahead text kept_text reason.Lines r s (omega (arith, last))
-    (ap (l.from line) lines ∙ laws.past line first_line others (omega (arith, last))) h sends
+-- a line past the last that an input may have is refused, whatever it says
+pub refuses_past : {A : Type 0} (r : AnswerRules A) (input : List ℕ) (told now first old new : Option (List ℕ)) (line : ℕ) (ahead text kept_text first_line : List ℕ)
+    (others : List (List ℕ)) (a : A) → (s : Standing r input told first old line ahead text a) → line ≡ r.language.limit + 1 → lines_of s.rest ≡ first_line ∷ others
+    → LeavesAllBut 257 now s.rest → Sends old new text kept_text → Closing r (ends.Refused line reason.Lines) input now first new kept_text a
+refuses_past r input told now first old new line ahead text kept_text first_line others a s last lines h sends =
+    refuses_first r input told now first old new line ahead text kept_text reason.Lines a s (omega (arith, last))
+    (ap (told_from r.language line s.answered.state) lines
+    ∙ told_past r.language line s.answered.state first_line others (omega (arith, last))) h sends
+
+-- where nothing is left of the input, so many bytes at most are taken of it
+all_taken : (input rest : List ℕ) (front : List (List ℕ)) (line most : ℕ) (now : Option (List ℕ)) → (t : TakesLines input front line rest) → (rest ≡ []) × (now ≡ Some [])
+    → length t.taken ≤ most → LeavesAllBut most now input
+all_taken input rest front line most now t nothing few = record {
+  taken = t.taken;
+  left = [];
+  is_left = nothing.1;
+  whole = t.whole ∙ ap (λ x. t.taken ++ x) nothing.0;
+  most = few;
+}
+
+taken_at_end : (limit : ℕ) (input rest : List ℕ) (front : List (List ℕ)) (line : ℕ) (now : Option (List ℕ)) (why : Option Reason) → TakesLines input front line rest
+    → line ≤ limit + 1 → (rest ≡ []) × (now ≡ Some []) → LeavesAllBut (bytes_of_end limit (end_before line why) input) now input
+taken_at_end limit input rest front line now None t le nothing = all_taken input rest front line (257 * (limit + 1)) now t nothing (omega (arith, t.most, le))
+taken_at_end limit input rest front line now (Some why) t le nothing =
+    let before : line - 1 + 1 ≡ line = omega (arith, t.count) in
+    all_taken input rest front line (bytes_before (line - 1) input + 257) now t nothing (t.last (line - 1) before)
+
+read_at_end : (line : ℕ) (now : Option (List ℕ)) (why : Option Reason) → now ≡ Some [] → IsRead (end_before line why) now
+read_at_end line now None is = is
+read_at_end line now (Some why) is = tt
+
+refusal_at_end : (line : ℕ) (why : Option Reason) → option_map (refusal_at (line - 1)) why ≡ refusal_of (end_before line why)
+refusal_at_end line None = refl
+refusal_at_end line (Some why) = refl
+
+-- nothing is left of the input: it is done, or the last line is refused, where the lines may not end with it
+pub ends_here : {A : Type 0} (r : AnswerRules A) (result : End) (input : List ℕ) (told now first old mid new : Option (List ℕ)) (line : ℕ) (ahead text kept_text : List ℕ)
+    (a after : A) → Standing r input told first old line ahead text a → line ≤ r.language.limit + 1 → (nothing : (rest : List ℕ) → Unread told ahead rest
+    → (rest ≡ []) × (now ≡ Some [])) → Sends old mid text kept_text → after ≡ a
+    → ((s : r.State) → r.stands a s → Finishes r s result (end_before line (r.language.unended s)) mid new kept_text) → EndsSo r result input now first new after
+ends_here r result input told now first old mid new line ahead text kept_text a after s le finds sends same e =
+    let nothing = finds s.rest s.is_rest in
+    let state = s.answered.state in
+    let why = r.language.unended state in
+    let c : Closing r (end_before line why) input now first mid kept_text a = record {
+      front = s.header ∷ s.front;
+      back = lines_of s.rest;
+      lines = s.before.lines;
+      answered = sends_more r (s.header ∷ s.front) first old mid text kept_text a s.answered sends;
+      ends = told_standing r input told first old line ahead text a s
+          ∙ ap (λ x. with_text s.answered.whole (told_from r.language line state (lines_of x))) nothing.0
+          ∙ ap (λ x. with_text s.answered.whole (ends_in r.language state x)) (refusal_at_end line why);
+      is_read = read_at_end line now why nothing.1;
+      taken = taken_at_end r.language.limit input s.rest (s.header ∷ s.front) line now why s.before le nothing;
+      taken_few = all_taken input s.rest (s.header ∷ s.front) line (257 * (r.language.limit + 1)) now s.before nothing (omega (arith, s.before.most, le));
+    } in
+    closes_in r result (end_before line why) input now first mid new kept_text a after c same (e state s.answered.stands)
 
 -- ## The header
 
-pub opens_unread : (input ahead text : List ℕ) (told : Option (List ℕ)) (r : Replayer) → Opens ahead text r → told ≡ Some input → Unread told ahead input
-opens_unread input ahead text told r o is = record { left = input; is_left = is; whole = ap (λ t. t ++ input) (sym o.nothing_ahead) }
+pub opens_unread : {A : Type 0} (r : AnswerRules A) (input ahead text : List ℕ) (told : Option (List ℕ)) (a : A) → Opens r ahead text a → told ≡ Some input
+    → Unread told ahead input
+opens_unread r input ahead text told a o is = record { left = input; is_left = is; whole = ap (λ t. t ++ input) (sym o.nothing_ahead) }
 
--- nothing is done yet, and the lines that are left say what the input says
-opens_done : (l : Language) (input ahead text : List ℕ) (left : Trace) (first : Option (List ℕ)) (r : Replayer) → Opens ahead text r → l.trace input ≡ left
-    → DoneSoFar l input left first first text r
-opens_done l input ahead text left first r o says = record {
-  steps = [];
-  says = says;
+-- no line is answered yet
+abbrev opens_answered : {A : Type 0} (r : AnswerRules A) (ahead text kept_text : List ℕ) (first new : Option (List ℕ)) (a : A) → Opens r ahead text a
+    → Sends first new text kept_text → Answered r [] first new kept_text a
+opens_answered r ahead text kept_text first new a o sends = record {
+  whole = [];
+  state = r.language.opening;
+  leads = (refl, refl);
   stands = o.stands;
-  written = record { sent = []; appended = Appends-nil first; whole = sym o.no_text };
+  written = subst (λ x. Sends first new x kept_text) o.no_text sends;
 }
 
 -- the first line is the header
-pub header_read : (l : Language) (input ahead text kept_text bytes left : List ℕ) (now first new : Option (List ℕ)) (r : Replayer) → SaysByLines l → Opens ahead text r
-    → TakesLine now bytes left input → l.is_header bytes ≡ true → Sends first new text kept_text
-    → Standing l input now first new 2 left kept_text r
-header_read l input ahead text kept_text bytes left now first new r laws o t is sends = record {
+pub header_read : {A : Type 0} (r : AnswerRules A) (input ahead text kept_text bytes left : List ℕ) (now first new : Option (List ℕ)) (a : A) → Opens r ahead text a
+    → TakesLine now bytes left input → r.language.is_header bytes ≡ true → Sends first new text kept_text → Standing r input now first new 2 left kept_text a
+header_read r input ahead text kept_text bytes left now first new a o t is sends = record {
+  header = bytes;
+  front = [];
   rest = t.rest;
   is_rest = t.is_rest;
-  done = sends_more l input _ first first new text kept_text r (opens_done l input ahead text _ first r o (laws.headed input bytes (lines_of t.rest) t.lines is)) sends;
-  before = takes_one input now 1 bytes left input (takes_none input) t;
+  answered = record {
+    whole = [];
+    state = r.language.opening;
+    leads = λ more. ap (λ b. if b then told_from r.language 2 r.language.opening more else refused_in r.language r.language.opening 1 reason.Header) is;
+    stands = o.stands;
+    written = subst (λ x. Sends first new x kept_text) o.no_text sends;
+  };
+  before = takes_one input [] now 1 bytes left input (takes_none input) t;
 }
 
-header_closing : (l : Language) (input ahead text kept_text : List ℕ) (now first new : Option (List ℕ)) (r : Replayer) → SaysByLines l → Opens ahead text r
-    → l.trace input ≡ refused 1 reason.Header → LeavesAllBut 257 now input → Sends first new text kept_text
-    → Closing l (ends.Refused 1 reason.Header) input now first new kept_text r
-header_closing l input ahead text kept_text now first new r laws o says h sends = record {
-  done = sends_more l input _ first first new text kept_text r (opens_done l input ahead text _ first r o says) sends;
+pub header_closing : {A : Type 0} (r : AnswerRules A) (input ahead text kept_text : List ℕ) (now first new : Option (List ℕ)) (a : A) → Opens r ahead text a
+    → told_of r.language (lines_of input) ≡ refused_in r.language r.language.opening 1 reason.Header → LeavesAllBut 257 now input → Sends first new text kept_text
+    → Closing r (ends.Refused 1 reason.Header) input now first new kept_text a
+header_closing r input ahead text kept_text now first new a o says h sends = record {
+  front = [];
+  back = lines_of input;
+  lines = refl;
+  answered = opens_answered r ahead text kept_text first new a o sends;
+  ends = says;
   is_read = tt;
-  taken = held_behind input now 1 input (takes_none input) h;
-  taken_few = held_at_last l input now 1 input (omega (arith, laws.some)) (takes_none input) h;
+  taken = held_behind input [] now 1 input (takes_none input) h;
+  taken_few = held_at_last r.language.limit input [] now 1 input (omega arith) (takes_none input) h;
 }
+
+no_header : {S : Type 0} (l : Language S) (lines others : List (List ℕ)) (first : List ℕ) → lines ≡ first ∷ others → l.is_header first ≡ false
+    → told_of l lines ≡ refused_in l l.opening 1 reason.Header
+no_header l lines others first is other =
+    ap (told_of l) is ∙ ap (λ b. if b then told_from l 2 l.opening others else refused_in l l.opening 1 reason.Header) other
 
 -- the first line is no header
-pub header_refused : (l : Language) (input ahead text kept_text bytes left : List ℕ) (now first new : Option (List ℕ)) (r : Replayer) → SaysByLines l → Opens ahead text r
-    → TakesLine now bytes left input → l.is_header bytes ≡ false → Sends first new text kept_text
-    → Closing l (ends.Refused 1 reason.Header) input now first new kept_text r
-header_refused l input ahead text kept_text bytes left now first new r laws o t other sends =
-    header_closing l input ahead text kept_text now first new r laws o (laws.headless input bytes (lines_of t.rest) t.lines other) t.held sends
+pub header_refused : {A : Type 0} (r : AnswerRules A) (input ahead text kept_text bytes left : List ℕ) (now first new : Option (List ℕ)) (a : A) → Opens r ahead text a
+    → TakesLine now bytes left input → r.language.is_header bytes ≡ false → Sends first new text kept_text
+    → Closing r (ends.Refused 1 reason.Header) input now first new kept_text a
+header_refused r input ahead text kept_text bytes left now first new a o t other sends =
+    header_closing r input ahead text kept_text now first new a o (no_header r.language _ (lines_of t.rest) bytes t.lines other) t.held sends
 
-pub header_long : (l : Language) (input ahead text kept_text : List ℕ) (now first new : Option (List ℕ)) (r : Replayer) → SaysByLines l → Opens ahead text r
-    → BeginsLong input × LeavesAllBut 257 now input → Sends first new text kept_text
-    → Closing l (ends.Refused 1 reason.Header) input now first new kept_text r
-header_long l input ahead text kept_text now first new r laws o b sends =
-    let u = long_is_refused l input laws b.0 in
-    header_closing l input ahead text kept_text now first new r laws o (laws.headless input u.first u.others u.lines u.no_header) b.1 sends
+pub header_long : {A : Type 0} (r : AnswerRules A) (input ahead text kept_text : List ℕ) (now first new : Option (List ℕ)) (a : A) → RefusesLong r.language
+    → Opens r ahead text a → BeginsLong input × LeavesAllBut 257 now input → Sends first new text kept_text
+    → Closing r (ends.Refused 1 reason.Header) input now first new kept_text a
+header_long r input ahead text kept_text now first new a laws o b sends =
+    let u = long_is_refused r.language input laws b.0 in
+    header_closing r input ahead text kept_text now first new a o (no_header r.language _ u.others u.first u.lines u.no_header) b.1 sends
 
-pub header_missing : (l : Language) (input ahead text kept_text : List ℕ) (now first new : Option (List ℕ)) (r : Replayer) → SaysByLines l → Opens ahead text r
-    → (input ≡ []) × (now ≡ Some []) → Sends first new text kept_text
-    → Closing l (ends.Refused 1 reason.Header) input now first new kept_text r
-header_missing l input ahead text kept_text now first new r laws o e sends =
-    header_closing l input ahead text kept_text now first new r laws o (laws.empty input (ap lines_of e.0))
+pub header_missing : {A : Type 0} (r : AnswerRules A) (input ahead text kept_text : List ℕ) (now first new : Option (List ℕ)) (a : A) → Opens r ahead text a
+    → (input ≡ []) × (now ≡ Some []) → Sends first new text kept_text → Closing r (ends.Refused 1 reason.Header) input now first new kept_text a
+header_missing r input ahead text kept_text now first new a o e sends =
+    header_closing r input ahead text kept_text now first new a o (ap (λ x. told_of r.language (lines_of x)) e.0)
     (record { taken = []; left = []; is_left = e.1; whole = e.0; most = omega arith }) sends
 
 -- it was stopped before the header was read
-pub header_stopped : (l : Language) (input ahead text : List ℕ) (now first new : Option (List ℕ)) (r : Replayer) (s : Stop) → SaysByLines l → Opens ahead text r
-    → LeavesAllBut 257 now input → Writes s.sent first new text → EndsSo l (ends.Stopped s) input now first new r
-header_stopped l input ahead text now first new r s laws o h part =
-    stops l input now first first new text (l.trace input) s r r (opens_done l input ahead text _ first r o refl) (λ w stands other. stands) part
-    (leaves_more 257 (257 * (l.limit + 1)) now input (omega (arith, laws.some)) h)
+pub header_stopped : {A : Type 0} (r : AnswerRules A) (input ahead text : List ℕ) (now first new : Option (List ℕ)) (a : A) (s : Stop) → Opens r ahead text a
+    → LeavesAllBut 257 now input → Writes s.sent first new text → EndsSo r (ends.Stopped s) input now first new a
+header_stopped r input ahead text now first new a s o h part =
+    let d = opens_answered r ahead text text first first a o (record { sent = []; appended = Appends-nil first; whole = refl }) in
+    stops r input now first new s a
+    (stops_behind r input first first new text [] (lines_of input) _ s a a refl d refl (λ other. o.stands) part)
+    (leaves_more 257 (257 * (r.language.limit + 1)) now input (omega arith) h)

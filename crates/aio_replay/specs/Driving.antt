@@ -1,12 +1,9 @@
--- What stands while a trace is replayed, and what its end says.
-use Rattle.std.specs.Prelude.{◌≡◌, ◌≢◌, ℕ, ◌+◌, ◌-◌, ◌*◌, ◌≤◌, Bool, true, false, IsTrue, List, [], ◌∷◌, ◌++◌, length, take, Option, None, Some, Result, Ok, Err, IfErr, ⊤}
+-- What stands while the lines of an input are answered, and what its end says.
+use Rattle.std.specs.Prelude.{◌≡◌, ◌≢◌, ◌⊎◌, ℕ, ◌+◌, ◌-◌, ◌*◌, ◌≤◌, Bool, true, false, IsTrue, List, [], ◌∷◌, ◌++◌, length, take, Option, None, Some, Result, Ok, Err, IfErr, ⊤}
 use Rattle.std.specs.Io.KnownBytes.{Appends, Keeps}
 use Rattle.aio_base.specs.Devices.{TellsFaults}
 use Rattle.aio_base.specs.declared.outcomes.Failed.{Failed}
-use Rattle.aio_base.specs.Script.{output, world_after}
-use Rattle.aio_base.specs.Trace.{Trace}
-use Rattle.aio_base.specs.World.{World, opening}
-use Rattle.aio_base.specs.declared.steps.Step.{Step}
+use Rattle.aio_base.specs.Trace.{Refusal, lines_of}
 use Rattle.aio_bytes.specs.declared.traits.SinkRefusal.{SinkRefusal}
 use Rattle.aio_bytes.specs.Sinks.{RefusedBy, Writes, is_failed}
 use Rattle.aio_bytes.specs.Held.{PutsAhead}
@@ -16,9 +13,8 @@ use Rattle.aio_replay.specs.declared.ends.Cause.{Cause}
 use Rattle.aio_replay.specs.declared.ends.Cause.TheVariants as cause
 use Rattle.aio_replay.specs.declared.ends.End.{End}
 use Rattle.aio_replay.specs.declared.ends.End.TheVariants as ends
-use Rattle.aio_replay.specs.declared.replayer.Replayer.{Replayer}
-use Rattle.aio_replay.specs.Language.{Language}
-use Rattle.aio_replay.specs.Replaying.{StandsFor}
+use Rattle.aio_replay.specs.Answering.{AnswerRules}
+use Rattle.aio_replay.specs.Language.{LeadsTo, refusal_at, told_of}
 
 -- the stop of an output that refused answers
 abbrev pub write_stop : SinkRefusal → Stop
@@ -77,54 +73,52 @@ abbrev pub SendsOrStops : {T : Type 0} → Result T Stop → Option (List ℕ) �
 SendsOrStops (Ok x) out_old out_new text_old text_new = Sends out_old out_new text_old text_new
 SendsOrStops (Err s) out_old out_new text_old text_new = Writes s.sent out_old out_new text_old
 
--- the bytes of all lines that a trace may have, and of one more, each of at most 256 bytes and its line feed
-abbrev pub most_bytes : Language → ℕ
-most_bytes l = 257 * (l.limit + 1)
+-- the bytes of so many lines, and of one more, each of at most 256 bytes and its line feed
+abbrev pub most_bytes : ℕ → ℕ
+most_bytes limit = 257 * (limit + 1)
 
--- how many bytes of a source an end has taken at most
-abbrev pub bytes_of_end : Language → End → List ℕ → ℕ
-bytes_of_end l ends.Done input = most_bytes l
-bytes_of_end l (ends.Refused line reason) input = bytes_before line input + 257
-bytes_of_end l (ends.Stopped s) input = most_bytes l
+-- how many bytes of a source an end has taken at most, where an input may have so many lines
+abbrev pub bytes_of_end : ℕ → End → List ℕ → ℕ
+bytes_of_end limit ends.Done input = most_bytes limit
+bytes_of_end limit (ends.Refused line reason) input = bytes_before line input + 257
+bytes_of_end limit (ends.Stopped s) input = most_bytes limit
 
--- where memory did not run out in a step
+-- where memory did not run out for a line
 abbrev pub UnlessMemory : Stop → Type 0 → Type 0
 UnlessMemory s P = s.cause ≢ cause.Memory → P
 
--- these steps in front of a trace
-abbrev pub after_steps : List Step → Trace → Trace
-after_steps steps trace = record trace { steps = steps ++ trace.steps }
+-- The lines in front of an input were answered, and then it was stopped. Their text was written as far as the sink took it; and behind it what was
+-- held back, where the lines had ended. Unless memory ran out, the value stands for the state behind those lines.
+pub record StoppedBehind {A : Type 0} (r : AnswerRules A) (s : Stop) (input : List ℕ) (out_old out_new : Option (List ℕ)) (a : A) : Type 0 where
+  pub front : List (List ℕ)
+  pub back : List (List ℕ)
+  pub lines : lines_of input ≡ front ++ back
+  pub text : List ℕ
+  pub state : r.State
+  pub leads : LeadsTo r.language front text state
+  pub held : List ℕ
+  pub is_held : (held ≡ []) ⊎ (held ≡ r.language.held state)
+  pub left : List ℕ
+  pub whole : (told_of r.language (lines_of input)).text ≡ (text ++ held) ++ left
+  pub written : Writes s.sent out_old out_new (text ++ held)
+  pub stands : UnlessMemory s (r.stands a state)
 
--- Some steps of an input were run, and the lines that are left say this: it is told for which world the replay stands after these steps, and what
--- was written of their output.
-pub record Done (l : Language) (input : List ℕ) (left : Trace) (Stands : World → Type 0) (Written : List ℕ → Type 0) : Type 0 where
-  pub steps : List Step
-  pub says : l.trace input ≡ after_steps steps left
-  pub stands : Stands (world_after opening steps)
-  pub written : Written (output steps)
+-- the lines of an input were answered, except those from one on that is refused: the whole text is written, and the value stands for the last state
+pub record ToldWhole {A : Type 0} (r : AnswerRules A) (refusal : Option Refusal) (input : List ℕ) (out_old out_new : Option (List ℕ)) (a : A) : Type 0 where
+  pub refusal_is : (told_of r.language (lines_of input)).refusal ≡ refusal
+  pub written : Appends out_old out_new (told_of r.language (lines_of input)).text
+  pub stands : r.stands a (told_of r.language (lines_of input)).state
 
--- the same of a replay that goes on: the replayer stands for that world, and what was written, with the text that is not written yet, is that output
-abbrev pub DoneSoFar : Language → List ℕ → Trace → Option (List ℕ) → Option (List ℕ) → List ℕ → Replayer → Type 0
-DoneSoFar l input left out_old out_new text r = Done l input left (StandsFor r) (λ bytes. Sends out_old out_new bytes text)
+-- what an end says of the input: whether it is whole, which line is refused, what was written, and which state the value stands for
+abbrev pub Says : {A : Type 0} → AnswerRules A → End → List ℕ → Option (List ℕ) → Option (List ℕ) → Option (List ℕ) → A → Type 0
+Says r ends.Done input told out_old out_new a = (told ≡ Some []) × ToldWhole r None input out_old out_new a
+Says r (ends.Refused line reason) input told out_old out_new a = ToldWhole r (Some (refusal_at line reason)) input out_old out_new a
+Says r (ends.Stopped s) input told out_old out_new a = StoppedBehind r s input out_old out_new a
 
--- a replay was stopped after some steps of its trace, whose answers were written as far as the sink took them
-pub record StoppedBehind (l : Language) (s : Stop) (input : List ℕ) (out_old out_new : Option (List ℕ)) (r : Replayer) : Type 0 where
-  pub left : Trace
-  pub done : Done l input left (λ w. UnlessMemory s (StandsFor r w)) (Writes s.sent out_old out_new)
-
--- what an end says of the input: whether it is whole, which line is refused, what was written, and which world the replayer stands for
-abbrev pub Says : Language → End → List ℕ → Option (List ℕ) → Option (List ℕ) → Option (List ℕ) → Replayer → Type 0
-Says l ends.Done input told out_old out_new r =
-    (told ≡ Some []) × ((l.trace input).refusal ≡ None) × Appends out_old out_new (output (l.trace input).steps) × StandsFor r (world_after opening (l.trace input).steps)
-Says l (ends.Refused line reason) input told out_old out_new r =
-    ((l.trace input).refusal ≡ Some (record { line = line; reason = reason })) × Appends out_old out_new (output (l.trace input).steps)
-    × StandsFor r (world_after opening (l.trace input).steps)
-Says l (ends.Stopped s) input told out_old out_new r = StoppedBehind l s input out_old out_new r
-
-pub record EndsSo (l : Language) (result : End) (input : List ℕ) (told out_old out_new : Option (List ℕ)) (r : Replayer) : Type 0 where
-  pub says : Says l result input told out_old out_new r
-  pub taken : LeavesAllBut (bytes_of_end l result input) told input
-  pub few : LeavesAllBut (most_bytes l) told input
+pub record EndsSo {A : Type 0} (r : AnswerRules A) (result : End) (input : List ℕ) (told out_old out_new : Option (List ℕ)) (a : A) : Type 0 where
+  pub says : Says r result input told out_old out_new a
+  pub taken : LeavesAllBut (bytes_of_end r.language.limit result input) told input
+  pub few : LeavesAllBut (most_bytes r.language.limit) told input
 
 -- where an end is a stop, this holds of it
 abbrev pub IfStopped : End → (Stop → Type 0) → Type 0

@@ -1,57 +1,93 @@
--- What depends on the version of the trace language, and what the driver of lines asks of it.
-use Rattle.std.specs.Prelude.{◌≡◌, ℕ, ◌+◌, ◌<◌, ◌≤◌, Bool, true, false, List, [], ◌∷◌, ◌++◌, length, Option, Some, Result, Ok, Err}
+-- What depends on the language of the lines that are answered, and what the lines of an input come to.
+use Rattle.std.specs.Prelude.{◌≡◌, ℕ, ◌+◌, ◌-◌, ◌<◌, Bool, true, false, nat_lt, if◌then◌else◌, List, [], ◌∷◌, ◌++◌, length, Option, None, Some, Result, Ok, Err}
 use Rattle.std.specs.Option.{option_map}
+use Rattle.aio_base.specs.declared.steps.LineFault.{LineFault}
 use Rattle.aio_base.specs.declared.steps.Step.{Step}
 use Rattle.aio_base.specs.declared.steps.Reason.{Reason}
 use Rattle.aio_base.specs.declared.steps.Reason.TheVariants as reason
 use Rattle.aio_base.specs.Lines.{fault_of, step_read}
-use Rattle.aio_replay.specs.Replaying.{step_limit}
-use Rattle.aio_base.specs.Trace.{IsInRange, Trace, complete, refused, with_step, lines_of, is_header, line_limit, reason_of, trace_from, trace_of}
+use Rattle.aio_base.specs.Script.{reply_text, script_step}
+use Rattle.aio_base.specs.Trace.{Refusal, is_header, line_limit, reason_of}
+use Rattle.aio_base.specs.World.{World, opening}
 
--- Which first line is the header; how many lines a trace may have, the header among them; which step a line reads as, and why a line that reads as
--- none is refused; why a line of more than 256 bytes is; and with these what an input says, and what lines say, the first of which has a number.
-pub record Language : Type 0 where
+-- The text that a line is answered by and the state behind it, or why the line is refused.
+abbrev pub Reply : Type 0 → Type 0
+Reply State = Result (List ℕ × State) Reason
+
+-- Which first line is the header; how many lines an input may have, the header among them; why a line of more than 256 bytes is refused; the state
+-- behind the header; what a line is answered by; the text that a state holds back until the lines end; and why they may not end in it.
+pub record Language (State : Type 0) : Type 0 where
   pub is_header : List ℕ → Bool
   pub limit : ℕ
-  pub step : List ℕ → Option Step
-  pub refusal : List ℕ → Option Reason
   pub long : Reason
-  pub trace : List ℕ → Trace
-  pub from : ℕ → List (List ℕ) → Trace
+  pub opening : State
+  pub line : State → List ℕ → Reply State
+  pub held : State → List ℕ
+  pub unended : State → Option Reason
 
--- a line reads as a step, or is refused for a reason
-abbrev pub ReadsAs : Language → List ℕ → Result Step Reason → Type 0
-ReadsAs l text (Ok s) = l.step text ≡ Some s
-ReadsAs l text (Err why) = l.refusal text ≡ Some why
+-- A line of more than 256 bytes is no header, and is refused for its length in each state.
+pub record RefusesLong {State : Type 0} (l : Language State) : Type 0 where
+  pub too_long : (s : State) (bytes : List ℕ) → 256 < length bytes → l.line s bytes ≡ Err l.long
+  pub no_header : (bytes : List ℕ) → 256 < length bytes → l.is_header bytes ≡ false
 
--- An input says what its lines say one by one: the first is the header, each later one is read, and one past the limit is refused.
-pub record SaysByLines (l : Language) : Type 0 where
-  pub some : 1 ≤ l.limit
-  pub few : l.limit ≤ step_limit
-  pub headed : (input text : List ℕ) (lines : List (List ℕ)) → lines_of input ≡ text ∷ lines → l.is_header text ≡ true → l.trace input ≡ l.from 2 lines
-  pub headless : (input text : List ℕ) (lines : List (List ℕ)) → lines_of input ≡ text ∷ lines → l.is_header text ≡ false
-      → l.trace input ≡ refused 1 reason.Header
-  pub empty : (input : List ℕ) → lines_of input ≡ [] → l.trace input ≡ refused 1 reason.Header
-  pub ends : (line : ℕ) → l.from line [] ≡ complete
-  pub steps : (line : ℕ) (text : List ℕ) (lines : List (List ℕ)) (s : Step) → line ≤ l.limit → l.step text ≡ Some s
-      → l.from line (text ∷ lines) ≡ with_step s (l.from (line + 1) lines)
-  pub refuses : (line : ℕ) (text : List ℕ) (lines : List (List ℕ)) (why : Reason) → line ≤ l.limit → l.refusal text ≡ Some why
-      → l.from line (text ∷ lines) ≡ refused line why
-  pub past : (line : ℕ) (text : List ℕ) (lines : List (List ℕ)) → l.limit < line → l.from line (text ∷ lines) ≡ refused line reason.Lines
-  pub in_range : (text : List ℕ) (s : Step) → l.step text ≡ Some s → IsInRange s
-  pub too_long : (front more : List ℕ) → length front ≡ 257 → l.refusal (front ++ more) ≡ Some l.long
-  pub no_header : (front more : List ℕ) → length front ≡ 257 → l.is_header (front ++ more) ≡ false
+-- ## What lines come to
 
--- ## The first version
+-- the text that is written of them, the state behind the last that is answered, and the one that is refused
+pub record Told (State : Type 0) : Type 0 where
+  pub text : List ℕ
+  pub state : State
+  pub refusal : Option Refusal
 
--- a line is read in any spelling, and one with a fault is refused for that fault
-abbrev pub first_version : Language
+-- no line is answered any more: the text that was held back is written
+abbrev pub ends_in : {State : Type 0} → Language State → State → Option Refusal → Told State
+ends_in l s refusal = record { text = l.held s; state = s; refusal = refusal }
+
+abbrev pub refusal_at : ℕ → Reason → Refusal
+refusal_at line why = record { line = line; reason = why }
+
+abbrev pub refused_in : {State : Type 0} → Language State → State → ℕ → Reason → Told State
+refused_in l s line why = ends_in l s (Some (refusal_at line why))
+
+abbrev pub with_text : {State : Type 0} → List ℕ → Told State → Told State
+with_text text told = record told { text = text ++ told.text }
+
+-- the text of a line is in front of what the lines behind it come to
+abbrev pub told_after : {State : Type 0} → Language State → State → ℕ → Reply State → (State → Told State) → Told State
+told_after l s line (Ok reply) behind = with_text reply.0 (behind reply.1)
+told_after l s line (Err why) behind = refused_in l s line why
+
+-- What these lines come to from a state on, the first of which has this number. Where they may not end, the last of them is refused.
+abbrev pub told_from : {State : Type 0} → Language State → ℕ → State → List (List ℕ) → Told State
+told_from l line s [] = ends_in l s (option_map (refusal_at (line - 1)) (l.unended s))
+told_from l line s (bytes ∷ lines) =
+    if nat_lt l.limit line then refused_in l s line reason.Lines else told_after l s line (l.line s bytes) (λ behind. told_from l (line + 1) behind lines)
+
+-- what the lines of an input come to
+abbrev pub told_of : {State : Type 0} → Language State → List (List ℕ) → Told State
+told_of l [] = refused_in l l.opening 1 reason.Header
+told_of l (header ∷ lines) = if l.is_header header then told_from l 2 l.opening lines else refused_in l l.opening 1 reason.Header
+
+-- Lines in front come to this text and this state, where all are answered: whatever lines follow, the text is in front of what these come to from
+-- that state on.
+abbrev pub LeadsTo : {State : Type 0} → Language State → List (List ℕ) → List ℕ → State → Type 0
+LeadsTo l [] text s = (text ≡ []) × (s ≡ l.opening)
+LeadsTo l (header ∷ front) text s = (more : List (List ℕ)) → told_of l (header ∷ front ++ more) ≡ with_text text (told_from l (length front + 2) s more)
+
+-- ## The first version of the trace language
+
+-- a line with a fault is refused for it, and one without a fault is answered by the reply to its step
+abbrev pub first_reply : World → Option LineFault → Option Step → Reply World
+first_reply w (Some fault) read = Err (reason_of fault)
+first_reply w None (Some s) = Ok (reply_text (script_step w s).answer (script_step w s).wakes, (script_step w s).world)
+first_reply w None None = Ok ([], w)
+
+abbrev pub first_version : Language World
 first_version = record {
   is_header = is_header;
   limit = line_limit;
-  step = step_read;
-  refusal = λ text. option_map reason_of (fault_of text);
   long = reason.Long;
-  trace = trace_of;
-  from = trace_from;
+  opening = opening;
+  line = λ w text. first_reply w (fault_of text) (step_read text);
+  held = λ w. [];
+  unended = λ w. None;
 }

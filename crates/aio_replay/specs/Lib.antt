@@ -1,6 +1,8 @@
+pub mod Answering
 pub mod Driving
 pub mod Ends
 pub mod Language
+pub mod LongLines
 pub mod Replaying
 pub mod Replies
 pub mod Steps
@@ -8,3 +10,4 @@ pub mod Summing
 pub mod TimerLoans
 pub mod TimerPlaces
 pub mod Timers
+pub mod Versions

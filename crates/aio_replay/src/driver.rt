@@ -1,4 +1,4 @@
-//! The driver of lines: they are read, their steps run, and the answers gathered in a block of text.
+//! The driver of lines: they are read and answered one by one, and their text is gathered in a block.
 
 ghost use Rattle.std.specs.Prelude.{◌≡◌, ℕ, ◌+◌, ◌-◌, ◌<◌, ◌≤◌, ◌≢◌, [], List, Option};
 ghost use Rattle.std.specs.Prelude.{drop, length, vec_len, IfErr, OnOk, OnErr, false, true};
@@ -8,252 +8,212 @@ ghost use Rattle.aio_bytes.specs.Unread.{FindsNext, Unread};
 ghost use Rattle.aio_replay.specs.Driving.{ends_with, Causes, is_read_fault, is_write_fault};
 ghost use Rattle.aio_replay.specs.Driving.{stops_with, write_stop, StopsBy, IfStopped};
 ghost use Rattle.aio_replay.specs.Driving.{SendsOrStops, ReadsMore, ReadsOnce};
-ghost use Rattle.aio_replay.specs.Steps.{Closes};
+ghost use Rattle.aio_replay.specs.Steps.{Closes, LacksMemory};
 
+use crate::answerer::{Answerer, Gathered, Unanswered};
 use crate::ends::{Cause, End, Stop};
-use crate::replayer::Replayer;
-use crate::version::Version;
-use aio_base::{Reason, Step, Waker};
+use aio_base::Reason;
 use aio_bytes::{BLOCK, LineReader, Next, Sink, SinkRefusal, Source, flush};
-use aio_react::Core;
-use aio_script::ScriptPoller;
-use aio_trace::write_reply;
 use std::alloc::{AllocError, Global};
 
-/// Room for the reply that fills a block: an answer and the wakes of a round.
-const REPLY_ROOM: usize = 32_768;
+/// Room for the text that fills a block, of one line.
+const LINE_ROOM: usize = 32_768;
 
-/// A replay in the middle: the reader of the input's lines, what runs the steps, and the answers that
-/// are not written yet. Between two steps there are no wakes.
+/// Lines in the middle of their input: the reader of them, what answers them, and the text that is not
+/// written yet.
 #[derive(Drop)]
-pub(crate) struct Driver {
+pub(crate) struct Driver<A> {
     pub reader: LineReader,
-    pub replayer: Replayer,
-    pub text: Vec<u8>,
-    pub wakes: Vec<Waker>,
+    pub gathered: Gathered<A>,
 }
 
-impl Driver {
+impl<A: Answerer + Drop> Driver<A> {
     ghost use Rattle.std.specs.Prelude.{◌⊎◌, IfOk, List, None, Option, Some};
-    ghost use Rattle.aio_base.specs.Trace.{IsInRange};
     ghost use Rattle.aio_replay.specs.Driving.{ends_with, Causes, goes_on_with};
     ghost use Rattle.aio_replay.specs.Driving.{is_read_fault, is_write_fault};
     ghost use Rattle.aio_replay.specs.Driving.{BlockWent, StopsBy, IfStopped, EndsSo};
-    ghost use Rattle.aio_replay.specs.Language.{SaysByLines};
-    ghost use Rattle.aio_replay.specs.Replaying.{IsWithin, step_limit};
-    ghost use Rattle.aio_replay.specs.Steps.{Answers, Standing, LineTaken, StandsOrEnds};
-    ghost use Rattle.aio_replay.specs.Steps.{IfEnded, Opens};
+    ghost use Rattle.aio_replay.specs.Steps.{Standing, LineTaken, StandsOrEnds};
+    ghost use Rattle.aio_replay.specs.Steps.{Finishes, IfEnded, Opens, end_before};
 
-    /// A replay that has read nothing. `AllocError` where there is no memory for its parts.
-    pub(crate) fn new(alloc: Global) -> Result<Driver, AllocError>
-        ensures opens { IfOk result (λ d. Opens d.reader.ahead d.text.items d.replayer) }
-        ensures within { IfOk result (λ d. IsWithin 0 d.replayer) }
-        ensures none { IfOk result (λ d. d.wakes.items ≡ []) }
+    /// A driver that has read nothing, over what answers the lines. `AllocError` where there is no memory
+    /// for its parts.
+    pub(crate) fn new(alloc: Global, answerer: A) -> Result<Driver<A>, AllocError>
+        ensures ahead { IfOk result (λ d. d.reader.ahead ≡ []) }
+        ensures text { IfOk result (λ d. d.gathered.text.items ≡ []) }
+        ensures answerer { IfOk result (λ d. d.gathered.answerer ≡ answerer) }
     {
         let reader = LineReader::new(alloc)?;
-        let replayer = Replayer::new(alloc)?;
-        let text = Vec::with_capacity(alloc, BLOCK + REPLY_ROOM)?;
+        let text = Vec::with_capacity(alloc, BLOCK + LINE_ROOM)?;
         Ok(Driver {
             reader,
-            replayer,
-            text,
-            wakes: Vec::new(alloc),
+            gathered: Gathered { answerer, text },
         })
     }
 
-    /// The core that ran the steps.
-    pub(crate) fn into_core(self) -> Core<ScriptPoller>
-        ensures { result ≡ self.replayer.core }
+    /// What answered the lines.
+    pub(crate) fn into_answerer(self) -> A
+        ensures { result ≡ self.gathered.answerer }
     {
-        self.replayer.into_core()
+        self.gathered.into_answerer()
     }
 
-    /// Runs a step, and puts its answer and its wakes at the end of the text. `AllocError` where
-    /// memory ran out; then the text is as it was.
-    fn answer(&mut self, step: &Step) -> Result<(), AllocError>
-        requires range { IsInRange step.now }
-        requires within { IsWithin step_limit self.old.replayer }
-        requires none { self.old.wakes.items ≡ [] }
-        ensures answers { OnOk result (Answers step.now self.old.replayer self.new.replayer
-            self.old.text.items self.new.text.items) }
-        ensures kept { OnErr result (self.new.text.items ≡ self.old.text.items) }
-        ensures counted { OnOk result ((bound : ℕ) → IsWithin bound self.old.replayer
-            → IsWithin (bound + 1) self.new.replayer) }
-        ensures none { OnOk result (self.new.wakes.items ≡ []) }
-        ensures reader { self.new.reader ≡ self.old.reader }
-    {
-        let answer = self.replayer.step(step, &mut self.wakes)?;
-        match write_reply(answer, &mut self.wakes, &mut self.text) {
-            Ok(()) => Ok(()),
-            Err(_) => Err(AllocError),
-        }
-    }
-
-    /// Replays a trace, from its header to its end.
-    pub(crate) fn drive<V: Version, S: Source, K: Sink>(
-        &mut self,
-        version: &V,
-        input: &mut S,
-        out: &mut K,
-    ) -> End
-        requires says { SaysByLines V.language }
-        requires opens { Opens self.old.reader.ahead self.old.text.items self.old.replayer }
-        requires within { IsWithin 0 self.old.replayer }
-        requires none { self.old.wakes.items ≡ [] }
+    /// Answers the lines of an input, from its header to its end.
+    pub(crate) fn drive<S: Source, K: Sink>(&mut self, input: &mut S, out: &mut K) -> End
+        requires opens { Opens A.rules self.old.reader.ahead self.old.gathered.text.items
+            self.old.gathered.answerer }
+        requires within { A.rules.within 2 self.old.gathered.answerer }
         ensures ends { (all : List ℕ) → S.remaining input.old ≡ Some all
-            → EndsSo V.language result all (S.remaining input.new)
-            (K.contents out.old) (K.contents out.new) self.new.replayer }
+            → EndsSo A.rules result all (S.remaining input.new)
+            (K.contents out.old) (K.contents out.new) self.new.gathered.answerer }
         ensures read_cause { Causes S.fault_count S.is_sure
             input.old input.new (ends_with is_read_fault result) }
         ensures write_cause { Causes K.fault_count K.is_sure
             out.old out.new (ends_with is_write_fault result) }
         ensures refused { IfStopped result (StopsBy K.write_step out.new) }
     {
-        match self.header(version, input, out) {
-            None => {}
-            Some(end) => return end,
+        match self.header(input, out) {
+            None => self.body(input, out),
+            Some(end) => end,
         }
-        for line in 2..version.line_limit() + 1 {
-            match self.drive_line(version, line, input, out) {
-                None => {}
-                Some(end) => return end,
-            }
-        }
-        self.after_last(version, input, out)
     }
 
     /// Reads the header, which is the first line.
-    fn header<V: Version, S: Source, K: Sink>(
-        &mut self,
-        version: &V,
-        input: &mut S,
-        out: &mut K,
-    ) -> Option<End>
-        requires says { SaysByLines V.language }
-        requires opens { Opens self.old.reader.ahead self.old.text.items self.old.replayer }
+    fn header<S: Source, K: Sink>(&mut self, input: &mut S, out: &mut K) -> Option<End>
+        requires opens { Opens A.rules self.old.reader.ahead self.old.gathered.text.items
+            self.old.gathered.answerer }
         ensures goes_on { (all : List ℕ) → S.remaining input.old ≡ Some all
-            → StandsOrEnds V.language result all (S.remaining input.new)
+            → StandsOrEnds A.rules result all (S.remaining input.new)
             (K.contents out.old) (K.contents out.new)
-            2 self.new.reader.ahead self.new.text.items self.new.replayer }
+            2 self.new.reader.ahead self.new.gathered.text.items self.new.gathered.answerer }
         ensures bound { length self.new.reader.ahead ≤ 257 }
-        ensures replayer { self.new.replayer ≡ self.old.replayer }
-        ensures wakes { self.new.wakes ≡ self.old.wakes }
+        ensures answerer { self.new.gathered.answerer ≡ self.old.gathered.answerer }
         ensures read_cause { Causes S.fault_count S.is_sure
             input.old input.new (goes_on_with is_read_fault result) }
         ensures write_cause { Causes K.fault_count K.is_sure
             out.old out.new (goes_on_with is_write_fault result) }
         ensures refused { IfEnded result (StopsBy K.write_step out.new) }
     {
-        let next = match next_line(&mut self.reader, &mut self.text, input, out) {
+        let next = match next_line(&mut self.reader, &mut self.gathered.text, input, out) {
             Ok(next) => next,
             Err(stop) => return Some(End::Stopped(stop)),
         };
         match next {
             Next::Line => {
-                if version.is_header(self.reader.line()) {
+                if self.gathered.answerer.is_header(self.reader.line()) {
                     return None;
                 }
-                Some(refuse(&mut self.text, out, 1, Reason::Header))
+                Some(self.refuse(out, 1, Reason::Header))
             }
-            Next::Long => Some(refuse(&mut self.text, out, 1, Reason::Header)),
-            Next::End => Some(refuse(&mut self.text, out, 1, Reason::Header)),
+            Next::Long => Some(self.refuse(out, 1, Reason::Header)),
+            Next::End => Some(self.refuse(out, 1, Reason::Header)),
         }
     }
 
-    /// Reads and answers the line of this number, where there is one.
-    #[inline(always)]
-    fn drive_line<V: Version, S: Source, K: Sink>(
-        &mut self,
-        version: &V,
-        line: u64,
-        input: &mut S,
-        out: &mut K,
-    ) -> Option<End>
-        requires says { SaysByLines V.language }
-        requires limit { line ≤ V.language.limit }
+    /// Answers the lines behind the header, to the end of the input.
+    pub(crate) fn body<S: Source, K: Sink>(&mut self, input: &mut S, out: &mut K) -> End
         requires bound { length self.old.reader.ahead ≤ 257 }
-        requires within { IsWithin line self.old.replayer }
-        requires none { self.old.wakes.items ≡ [] }
-        ensures goes_on { (all : List ℕ) (first : Option (List ℕ))
-            → Standing V.language all (S.remaining input.old) first (K.contents out.old)
-            line self.old.reader.ahead self.old.text.items self.old.replayer
-            → StandsOrEnds V.language result all (S.remaining input.new) first (K.contents out.new)
-            (line + 1) self.new.reader.ahead self.new.text.items self.new.replayer }
-        ensures bound { length self.new.reader.ahead ≤ 257 }
-        ensures within { result ≡ None → IsWithin (line + 1) self.new.replayer }
-        ensures none { result ≡ None → self.new.wakes.items ≡ [] }
-        ensures block { result ≡ None → vec_len self.new.text < 65536 }
-        ensures read_cause { Causes S.fault_count S.is_sure
-            input.old input.new (goes_on_with is_read_fault result) }
-        ensures write_cause { Causes K.fault_count K.is_sure
-            out.old out.new (goes_on_with is_write_fault result) }
-        ensures refused { IfEnded result (StopsBy K.write_step out.new) }
-    {
-        let next = match next_line(&mut self.reader, &mut self.text, input, out) {
-            Ok(next) => next,
-            Err(stop) => return Some(End::Stopped(stop)),
-        };
-        match next {
-            Next::Line => self.answer_line(version, line, out),
-            Next::Long => Some(refuse(&mut self.text, out, line, version.long_line())),
-            Next::End => Some(close(&mut self.text, out, End::Done)),
-        }
-    }
-
-    /// Looks for a line past the last that a trace may have, and refuses it.
-    fn after_last<V: Version, S: Source, K: Sink>(
-        &mut self,
-        version: &V,
-        input: &mut S,
-        out: &mut K,
-    ) -> End
-        requires says { SaysByLines V.language }
-        requires bound { length self.old.reader.ahead ≤ 257 }
+        requires within { A.rules.within 2 self.old.gathered.answerer }
         ensures ends { (all : List ℕ) (first : Option (List ℕ))
-            → Standing V.language all (S.remaining input.old) first (K.contents out.old)
-            (V.language.limit + 1) self.old.reader.ahead self.old.text.items self.old.replayer
-            → EndsSo V.language result all (S.remaining input.new) first (K.contents out.new)
-            self.new.replayer }
+            → Standing A.rules all (S.remaining input.old) first (K.contents out.old)
+            2 self.old.reader.ahead self.old.gathered.text.items self.old.gathered.answerer
+            → EndsSo A.rules result all (S.remaining input.new) first (K.contents out.new)
+            self.new.gathered.answerer }
         ensures read_cause { Causes S.fault_count S.is_sure
             input.old input.new (ends_with is_read_fault result) }
         ensures write_cause { Causes K.fault_count K.is_sure
             out.old out.new (ends_with is_write_fault result) }
         ensures refused { IfStopped result (StopsBy K.write_step out.new) }
     {
-        let line = version.line_limit() + 1;
-        let next = match next_line(&mut self.reader, &mut self.text, input, out) {
+        for line in 2..self.gathered.answerer.line_limit() + 1 {
+            match self.drive_line(line, input, out) {
+                None => {}
+                Some(end) => return end,
+            }
+        }
+        self.after_last(input, out)
+    }
+
+    /// Reads and answers the line of this number, where there is one.
+    #[inline(always)]
+    fn drive_line<S: Source, K: Sink>(
+        &mut self,
+        line: u64,
+        input: &mut S,
+        out: &mut K,
+    ) -> Option<End>
+        requires behind { 2 ≤ line }
+        requires limit { line ≤ A.rules.language.limit }
+        requires bound { length self.old.reader.ahead ≤ 257 }
+        requires within { A.rules.within line self.old.gathered.answerer }
+        ensures goes_on { (all : List ℕ) (first : Option (List ℕ))
+            → Standing A.rules all (S.remaining input.old) first (K.contents out.old)
+            line self.old.reader.ahead self.old.gathered.text.items self.old.gathered.answerer
+            → StandsOrEnds A.rules result all (S.remaining input.new) first (K.contents out.new)
+            (line + 1) self.new.reader.ahead self.new.gathered.text.items self.new.gathered.answerer }
+        ensures bound { length self.new.reader.ahead ≤ 257 }
+        ensures within { result ≡ None → A.rules.within (line + 1) self.new.gathered.answerer }
+        ensures block { result ≡ None → vec_len self.new.gathered.text < 65536 }
+        ensures read_cause { Causes S.fault_count S.is_sure
+            input.old input.new (goes_on_with is_read_fault result) }
+        ensures write_cause { Causes K.fault_count K.is_sure
+            out.old out.new (goes_on_with is_write_fault result) }
+        ensures refused { IfEnded result (StopsBy K.write_step out.new) }
+    {
+        let next = match next_line(&mut self.reader, &mut self.gathered.text, input, out) {
+            Ok(next) => next,
+            Err(stop) => return Some(End::Stopped(stop)),
+        };
+        match next {
+            Next::Line => self.answer_line(line, out),
+            Next::Long => {
+                let reason = self.gathered.answerer.long_line();
+                Some(self.refuse(out, line, reason))
+            }
+            Next::End => Some(self.end(out, line)),
+        }
+    }
+
+    /// Looks for a line past the last that an input may have, and refuses it.
+    fn after_last<S: Source, K: Sink>(&mut self, input: &mut S, out: &mut K) -> End
+        requires bound { length self.old.reader.ahead ≤ 257 }
+        ensures ends { (all : List ℕ) (first : Option (List ℕ))
+            → Standing A.rules all (S.remaining input.old) first (K.contents out.old)
+            (A.rules.language.limit + 1) self.old.reader.ahead self.old.gathered.text.items
+            self.old.gathered.answerer
+            → EndsSo A.rules result all (S.remaining input.new) first (K.contents out.new)
+            self.new.gathered.answerer }
+        ensures read_cause { Causes S.fault_count S.is_sure
+            input.old input.new (ends_with is_read_fault result) }
+        ensures write_cause { Causes K.fault_count K.is_sure
+            out.old out.new (ends_with is_write_fault result) }
+        ensures refused { IfStopped result (StopsBy K.write_step out.new) }
+    {
+        let line = self.gathered.answerer.line_limit() + 1;
+        let next = match next_line(&mut self.reader, &mut self.gathered.text, input, out) {
             Ok(next) => next,
             Err(stop) => return End::Stopped(stop),
         };
         match next {
-            Next::Line => refuse(&mut self.text, out, line, Reason::Lines),
-            Next::Long => refuse(&mut self.text, out, line, Reason::Lines),
-            Next::End => close(&mut self.text, out, End::Done),
+            Next::Line => self.refuse(out, line, Reason::Lines),
+            Next::Long => self.refuse(out, line, Reason::Lines),
+            Next::End => self.end(out, line),
         }
     }
 
-    /// Answers the line that was found, which has this number. The answers are written where they fill
-    /// a block, and else kept. Where memory runs out, what was answered before is written as far as the
-    /// output takes it.
+    /// Answers the line that was found, which has this number. The text is written where it fills a
+    /// block, and else kept. Where memory runs out, the text of the lines before is written as far as
+    /// the output takes it.
     #[inline(always)]
-    fn answer_line<V: Version, K: Sink>(
-        &mut self,
-        version: &V,
-        line: u64,
-        out: &mut K,
-    ) -> Option<End>
-        requires says { SaysByLines V.language }
-        requires limit { line ≤ V.language.limit }
-        requires within { IsWithin line self.old.replayer }
-        requires none { self.old.wakes.items ≡ [] }
+    fn answer_line<K: Sink>(&mut self, line: u64, out: &mut K) -> Option<End>
+        requires limit { line ≤ A.rules.language.limit }
+        requires within { A.rules.within line self.old.gathered.answerer }
         ensures goes_on { (input : List ℕ) (told first : Option (List ℕ))
-            → LineTaken V.language input told first (K.contents out.old) line
-            self.old.reader.line self.old.reader.ahead self.old.text.items self.old.replayer
-            → StandsOrEnds V.language result input told first (K.contents out.new)
-            (line + 1) self.new.reader.ahead self.new.text.items self.new.replayer }
-        ensures within { result ≡ None → IsWithin (line + 1) self.new.replayer }
-        ensures none { result ≡ None → self.new.wakes.items ≡ [] }
-        ensures block { result ≡ None → vec_len self.new.text < 65536 }
+            → LineTaken A.rules input told first (K.contents out.old) line
+            self.old.reader.line self.old.reader.ahead self.old.gathered.text.items self.old.gathered.answerer
+            → StandsOrEnds A.rules result input told first (K.contents out.new)
+            (line + 1) self.new.reader.ahead self.new.gathered.text.items self.new.gathered.answerer }
+        ensures within { result ≡ None → A.rules.within (line + 1) self.new.gathered.answerer }
+        ensures block { result ≡ None → vec_len self.new.gathered.text < 65536 }
         ensures gathers { result ≡ None → (out.new ≡ out.old)
             ⊎ BlockWent (K.contents out.old) (K.contents out.new) }
         ensures reader { self.new.reader ≡ self.old.reader }
@@ -262,26 +222,89 @@ impl Driver {
             out.old out.new (goes_on_with is_write_fault result) }
         ensures refused { IfEnded result (StopsBy K.write_step out.new) }
     {
-        let step = match version.read_line(self.reader.line()) {
-            Ok(step) => step,
-            Err(reason) => return Some(refuse(&mut self.text, out, line, reason)),
-        };
-        match self.answer(&step) {
+        match A::answer(&mut self.gathered, self.reader.line()) {
             Ok(()) => {}
-            Err(_) => {
-                let sent = flush(&mut self.text, out);
-                let cause = Cause::Memory;
-                return Some(End::Stopped(Stop { cause, sent }));
-            }
+            Err(Unanswered::Refused(reason)) => return Some(self.refuse(out, line, reason)),
+            Err(Unanswered::OutOfMemory) => return Some(lacks_memory(&mut self.gathered.text, out)),
         }
-        if self.text.len() < BLOCK {
+        if self.gathered.text.len() < BLOCK {
             return None;
         }
-        match flush(&mut self.text, out) {
+        match flush(&mut self.gathered.text, out) {
             Ok(()) => None,
             Err(refusal) => Some(End::Stopped(refused_by(refusal))),
         }
     }
+
+    /// Ends with the input, before the line of this number; or refuses the last line, where the lines
+    /// may not end there.
+    fn end<K: Sink>(&mut self, out: &mut K, line: u64) -> End
+        requires { 1 ≤ line }
+        ensures finishes { (s : A.rules.State) → A.rules.stands self.old.gathered.answerer s
+            → Finishes A.rules s result (end_before line (A.rules.language.unended s))
+            (K.contents out.old) (K.contents out.new) self.old.gathered.text.items }
+        ensures answerer { self.new.gathered.answerer ≡ self.old.gathered.answerer }
+        ensures reader { self.new.reader ≡ self.old.reader }
+        ensures reads { ends_with is_read_fault result ≡ false }
+        ensures cause { Causes K.fault_count K.is_sure
+            out.old out.new (ends_with is_write_fault result) }
+        ensures refused { IfStopped result (StopsBy K.write_step out.new) }
+    {
+        match self.gathered.answerer.unended() {
+            None => self.finish(out, End::Done),
+            Some(reason) => self.refuse(out, line - 1, reason),
+        }
+    }
+
+    /// Refuses a line after the text is written.
+    fn refuse<K: Sink>(&mut self, out: &mut K, line: u64, reason: Reason) -> End
+        ensures finishes { (s : A.rules.State) → A.rules.stands self.old.gathered.answerer s
+            → Finishes A.rules s result (End.Refused line reason)
+            (K.contents out.old) (K.contents out.new) self.old.gathered.text.items }
+        ensures answerer { self.new.gathered.answerer ≡ self.old.gathered.answerer }
+        ensures reader { self.new.reader ≡ self.old.reader }
+        ensures reads { ends_with is_read_fault result ≡ false }
+        ensures cause { Causes K.fault_count K.is_sure
+            out.old out.new (ends_with is_write_fault result) }
+        ensures refused { IfStopped result (StopsBy K.write_step out.new) }
+    {
+        self.finish(out, End::Refused { line, reason })
+    }
+
+    /// Puts what is held back at the end of the text, writes that, and ends so; or with what stopped
+    /// that.
+    fn finish<K: Sink>(&mut self, out: &mut K, end: End) -> End
+        ensures finishes { (s : A.rules.State) → A.rules.stands self.old.gathered.answerer s
+            → Finishes A.rules s result end
+            (K.contents out.old) (K.contents out.new) self.old.gathered.text.items }
+        ensures answerer { self.new.gathered.answerer ≡ self.old.gathered.answerer }
+        ensures reader { self.new.reader ≡ self.old.reader }
+        ensures reads { ends_with is_read_fault end ≡ false
+            → ends_with is_read_fault result ≡ false }
+        ensures cause { ends_with is_write_fault end ≡ false → Causes K.fault_count K.is_sure
+            out.old out.new (ends_with is_write_fault result) }
+        ensures refused { IfStopped end (λ stop. ⊥)
+            → IfStopped result (StopsBy K.write_step out.new) }
+    {
+        match self.gathered.answerer.put_held(&mut self.gathered.text) {
+            Ok(()) => close(&mut self.gathered.text, out, end),
+            Err(_) => lacks_memory(&mut self.gathered.text, out),
+        }
+    }
+}
+
+/// Ends where memory ran out: what is left of the text is written as far as the output takes it.
+fn lacks_memory<K: Sink>(text: &mut Vec<u8>, out: &mut K) -> End
+    ensures lacks { LacksMemory result (K.contents out.old) (K.contents out.new)
+        text.old.items }
+    ensures reads { ends_with is_read_fault result ≡ false }
+    ensures cause { Causes K.fault_count K.is_sure
+        out.old out.new (ends_with is_write_fault result) }
+    ensures refused { IfStopped result (StopsBy K.write_step out.new) }
+{
+    let sent = flush(text, out);
+    let cause = Cause::Memory;
+    End::Stopped(Stop { cause, sent })
 }
 
 /// Writes what is left of the text, and ends so; or with what stopped that.
@@ -308,18 +331,6 @@ fn refused_by(refusal: SinkRefusal) -> Stop
         cause: Cause::Write,
         sent: Err(refusal),
     }
-}
-
-/// Refuses a line after the text is written.
-fn refuse<K: Sink>(text: &mut Vec<u8>, out: &mut K, line: u64, reason: Reason) -> End
-    ensures closes { Closes result (End.Refused line reason)
-        (K.contents out.old) (K.contents out.new) text.old.items }
-    ensures reads { ends_with is_read_fault result ≡ false }
-    ensures cause { Causes K.fault_count K.is_sure
-        out.old out.new (ends_with is_write_fault result) }
-    ensures refused { IfStopped result (StopsBy K.write_step out.new) }
-{
-    close(text, out, End::Refused { line, reason })
 }
 
 /// Reads more of the input. Where the input has no byte in hand, so that the read may have to wait, the

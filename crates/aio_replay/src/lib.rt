@@ -10,6 +10,7 @@
 //! none. And of a trace that a number describes, that its summary tells the counts of the machine's run.
 #![tactic(auto)]
 
+mod answerer;
 pub mod counts;
 mod driver;
 pub mod ends;

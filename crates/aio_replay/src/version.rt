@@ -1,42 +1,52 @@
-//! What depends on the version of the trace language: the header, the limit of lines, and how a line
-//! is read.
+//! The versions of the trace language, as they answer its lines.
 
-ghost use Rattle.std.specs.Prelude.{◌≡◌};
+ghost use Rattle.std.specs.Prelude.{◌≡◌, [], IfOk};
+ghost use Rattle.aio_base.specs.World.{opening};
+ghost use Rattle.aio_replay.specs.Versions.{first_rules};
 
-use aio_base::{Reason, Step};
-use aio_trace::{is_header, read_line};
+use crate::answerer::{Answerer, Gathered, Unanswered};
+use crate::replayer::Replayer;
+use aio_base::{Reason, Step, Waker};
+use aio_react::Core;
+use aio_script::ScriptPoller;
+use aio_trace::{StepTaker, hand_line, is_header, write_reply};
+use std::alloc::{AllocError, Global};
 
-/// A version of the trace language, as a driver of lines asks for it.
-pub(crate) trait Version {
-    ghost use Rattle.aio_replay.specs.Language.{Language, ReadsAs};
-
-    /// What depends on the version.
-    ghost language: { Language };
-
-    /// Whether the first line, without its line feed, is the header.
-    fn is_header(&self, line: &[u8]) -> bool
-        ensures { result ≡ language.is_header line.now };
-
-    /// How many lines a trace has at most, its header among them.
-    fn line_limit(&self) -> u64
-        ensures { result ≡ language.limit };
-
-    /// The step that a line is read as, without its line feed, or why the line is refused.
-    fn read_line(&self, line: &[u8]) -> Result<Step, Reason>
-        ensures { ReadsAs language line.now result };
-
-    /// Why a line of more than 256 bytes is refused.
-    fn long_line(&self) -> Reason
-        ensures { result ≡ language.long };
+/// The first version: a line is read in each of its spellings, or refused for its fault, and its step is
+/// run. Between two steps there are no wakes.
+#[derive(Drop)]
+pub(crate) struct FirstVersion {
+    pub replayer: Replayer,
+    pub wakes: Vec<Waker>,
 }
 
-/// The first version: a line is read in each of its spellings, or refused for its fault.
-pub(crate) struct FirstVersion;
+impl FirstVersion {
+    /// The first version before its first step. `AllocError` where there is no memory for its parts.
+    pub(crate) fn new(alloc: Global) -> Result<FirstVersion, AllocError>
+        ensures stands { IfOk result (λ first. first_rules.stands first opening) }
+        ensures within { IfOk result (first_rules.within 2) }
+    {
+        Ok(FirstVersion {
+            replayer: Replayer::new(alloc)?,
+            wakes: Vec::new(alloc),
+        })
+    }
 
-impl Version for FirstVersion {
-    ghost use Rattle.aio_replay.specs.Language.{first_version};
+    /// The core that ran the steps.
+    pub(crate) fn into_core(self) -> Core<ScriptPoller>
+        ensures { result ≡ self.replayer.core }
+    {
+        self.replayer.into_core()
+    }
+}
 
-    ghost language = { first_version };
+impl Answerer for FirstVersion {
+    ghost use Rattle.aio_replay.specs.LongLines.{first_refuses_long};
+    ghost use Rattle.aio_replay.specs.Versions.{first_rules};
+
+    ghost rules = { first_rules };
+
+    ghost refuses_long = { first_refuses_long };
 
     fn is_header(&self, line: &[u8]) -> bool {
         is_header(line)
@@ -46,15 +56,48 @@ impl Version for FirstVersion {
         1_000_000
     }
 
+    fn long_line(&self) -> Reason {
+        Reason::Long
+    }
+
     #[inline(always)]
-    fn read_line(&self, line: &[u8]) -> Result<Step, Reason> {
-        match read_line(line) {
-            Ok(step) => Ok(step),
-            Err(fault) => Err(Reason::from(fault)),
+    fn answer(gathered: &mut Gathered<FirstVersion>, line: &[u8]) -> Result<(), Unanswered> {
+        match hand_line(line, gathered) {
+            Ok(Ok(())) => Ok(()),
+            Ok(Err(_)) => Err(Unanswered::OutOfMemory),
+            Err(fault) => Err(Unanswered::Refused(Reason::from(fault))),
         }
     }
 
-    fn long_line(&self) -> Reason {
-        Reason::Long
+    fn unended(&self) -> Option<Reason> {
+        None
+    }
+
+    fn put_held(&self, _text: &mut Vec<u8>) -> Result<(), AllocError> {
+        Ok(())
+    }
+}
+
+impl StepTaker for Gathered<FirstVersion> {
+    ghost use Rattle.aio_replay.specs.Versions.{MayRun, RunsStep};
+
+    type Answer = Result<(), AllocError>;
+
+    ghost is_ready = { MayRun };
+
+    ghost takes = { RunsStep };
+
+    /// Runs a step, and puts its answer and its wakes at the end of the text. `AllocError` where memory
+    /// ran out; then the text is as it was.
+    #[inline(always)]
+    fn take(&mut self, step: Step) -> Result<(), AllocError> {
+        let answer = self
+            .answerer
+            .replayer
+            .step(&step, &mut self.answerer.wakes)?;
+        match write_reply(answer, &mut self.answerer.wakes, &mut self.text) {
+            Ok(()) => Ok(()),
+            Err(_) => Err(AllocError),
+        }
     }
 }

@@ -1,57 +1,47 @@
-use Rattle.std.proofs.Common.{◌≡◌, Some, refl, ap, sym, ◌∙◌, arith, inr, subst}
-use Rattle.aio_bytes.specs.Sinks.{Writes}
-use Rattle.aio_replay.proofs.Counting.{within_more}
+use Rattle.std.proofs.Common.{◌≡◌, Some, Err, refl, ap, sym, ◌∙◌, arith, inr, subst}
+use Rattle.aio_replay.specs.Answering.{Replied}
+use Rattle.aio_replay.specs.Steps.{Finishes, LacksMemory}
 use Rattle.aio_replay.proofs.DrivingLemmas.{Sends-all}
-use Rattle.aio_replay.proofs.StepLemmas.{closes, refuses_line, goes_on, flushed, stops_in_step, leaves_more, stops_between}
+use Rattle.aio_replay.proofs.StepLemmas.{closes, refuses_line, goes_on, flushed, stops_in_line, leaves_more, stops_between}
 use Rattle.aio_replay.proofs.driver.Driver.answer_line.Goals as goal
-use Rattle.aio_replay.specs.declared.ends.Cause.TheVariants as cause
-use Rattle.aio_replay.specs.Replaying.{step_limit}
 
-pub returns-in-Err-clause-goes_on : goal.returns-in-Err-clause-goes_on
-returns-in-Err-clause-goes_on g c = λ input told first taken.
-    let refused : g.V.Version.language.refusal c.args.self.now.reader.line ≡ Some c.in-Err.reason =
-    ap g.V.Version.language.refusal (sym c.line.ensures.value) ∙ rw c.in-Err.is at c.read_line.ensures in
-    closes _ _ _ input told first _ _ _ _ (refuses_line _ input told first _ _ _ _ _ _ _ c.requires.says taken c.requires.limit refused) c.refuse.ensures.closes
+pub returns-in-Err-Refused-clause-goes_on : goal.returns-in-Err-Refused-clause-goes_on
+returns-in-Err-Refused-clause-goes_on g c = λ input told first taken.
+    let r = g.A.Answerer.rules in
+    let unchanged = rw c.in-Err-Refused.field-0-is at c.in-Err-Refused.ensures.answers in
+    let refused : r.language.line taken.answered.state c.args.self.now.reader.line ≡ Err c.in-Err-Refused.reason =
+    ap (r.language.line taken.answered.state) (sym c.line.ensures.value) ∙ unchanged.2 taken.answered.state taken.answered.stands in
+    closes r _ _ input told first _ _ _ _ _ (refuses_line r input told first _ _ _ _ _ _ _ taken c.requires.limit refused)
+    (c.refuse.ensures.answerer ∙ unchanged.0)
+    (λ s stands. subst (Finishes r s _ _ _ _) unchanged.1 (c.refuse.ensures.finishes s (subst (λ (x : _). r.stands x s) (sym unchanged.0) stands)))
 
-pub answer-requires-clause-range : goal.answer-requires-clause-range
-answer-requires-clause-range g c =
-    c.requires.says.in_range c.line.result.now c.in-Ok.step (rw c.in-Ok.is at c.read_line.ensures)
-
-pub answer-requires-clause-within : goal.answer-requires-clause-within
-answer-requires-clause-within g c = within_more c.args.line step_limit _ (omega (arith, c.requires.limit, c.requires.says.few)) c.requires.within
-
-pub returns-in-Err-answer-clause-goes_on : goal.returns-in-Err-answer-clause-goes_on
-returns-in-Err-answer-clause-goes_on g c = λ input told first taken.
-    let written = subst (Writes c.flush-sent.result _ _) c.in-Err-answer.ensures.kept c.flush-sent.ensures.written in
-    stops_in_step _ input told first _ _ _ _ _ _ _ _ (record { cause = cause.Memory; sent = c.flush-sent.result }) taken c.requires.limit refl written
+pub returns-in-Err-OutOfMemory-clause-goes_on : goal.returns-in-Err-OutOfMemory-clause-goes_on
+returns-in-Err-OutOfMemory-clause-goes_on g c = λ input told first taken.
+    stops_in_line _ _ input told first _ _ _ _ _ _ _ _ taken c.requires.limit
+    (subst (LacksMemory c.lacks_memory.result _ _) (rw c.in-Err-OutOfMemory.field-0-is at c.in-Err-OutOfMemory.ensures.answers) c.lacks_memory.ensures.lacks)
 
 pub returns-then-len-lt-BLOCK-clause-goes_on : goal.returns-then-len-lt-BLOCK-clause-goes_on
 returns-then-len-lt-BLOCK-clause-goes_on g c = λ input told first taken.
-    let read : g.V.Version.language.step c.args.self.now.reader.line ≡ Some c.in-Ok.step =
-    ap g.V.Version.language.step (sym c.line.ensures.value) ∙ rw c.in-Ok.is at c.read_line.ensures in
-    let after = goes_on _ input told first _ _ _ _ _ _ _ _ c.in-Ok.step c.requires.says taken c.requires.limit read c.in-Ok-answer.ensures.answers in
-    rw c.answer.ensures.reader after
+    let r = g.A.Answerer.rules in
+    let s = taken.answered in
+    goes_on r input told first _ _ _ _ c.args.self.now.gathered.text.items c.answer.new.gathered.text.items c.args.self.now.gathered.answerer c.answer.new.gathered.answerer taken c.requires.limit
+    (subst (λ bytes. Replied r (r.language.line s.state bytes) c.args.self.now.gathered.text.items c.answer.new.gathered.text.items c.answer.new.gathered.answerer) c.line.ensures.value
+    (c.in-Ok.ensures.answers s.state s.stands))
 
 pub returns-in-Ok-flush-clause-goes_on : goal.returns-in-Ok-flush-clause-goes_on
 returns-in-Ok-flush-clause-goes_on g c = λ input told first taken.
-    let read : g.V.Version.language.step c.args.self.now.reader.line ≡ Some c.in-Ok.step =
-    ap g.V.Version.language.step (sym c.line.ensures.value) ∙ rw c.in-Ok.is at c.read_line.ensures in
-    let after = goes_on _ input told first _ _ _ _ _ _ _ _ c.in-Ok.step c.requires.says taken c.requires.limit read c.in-Ok-answer.ensures.answers in
-    rw c.answer.ensures.reader (flushed _ input told first _ _ _ _ _ _ _ after (Sends-all _ _ _ _ c.in-Ok-flush.ensures.written c.in-Ok-flush.ensures.empty))
+    let r = g.A.Answerer.rules in
+    let s = taken.answered in
+    flushed r input told first _ _ _ _ _ _ _ (goes_on r input told first _ _ _ _ c.args.self.now.gathered.text.items c.answer.new.gathered.text.items c.args.self.now.gathered.answerer c.answer.new.gathered.answerer taken c.requires.limit
+    (subst (λ bytes. Replied r (r.language.line s.state bytes) c.args.self.now.gathered.text.items c.answer.new.gathered.text.items c.answer.new.gathered.answerer) c.line.ensures.value
+    (c.in-Ok.ensures.answers s.state s.stands)))
+    (Sends-all _ _ _ _ c.in-Ok-flush.ensures.written c.in-Ok-flush.ensures.empty)
 
-pub returns-in-Err-flush-clause-goes_on : goal.returns-in-Err-flush-clause-goes_on
-returns-in-Err-flush-clause-goes_on g c = λ input told first taken.
-    let read : g.V.Version.language.step c.args.self.now.reader.line ≡ Some c.in-Ok.step =
-    ap g.V.Version.language.step (sym c.line.ensures.value) ∙ rw c.in-Ok.is at c.read_line.ensures in
-    let after = goes_on _ input told first _ _ _ _ _ _ _ _ c.in-Ok.step c.requires.says taken c.requires.limit read c.in-Ok-answer.ensures.answers in
-    stops_between _ input told first _ _ _ _ _ _ c.refused_by.result after (leaves_more _ _ _ _ (omega (arith, c.requires.limit)) taken.held_few)
-    (rw c.refused_by.ensures c.in-Err-flush.ensures.written)
-
-pub returns-then-len-lt-BLOCK-clause-within : goal.returns-then-len-lt-BLOCK-clause-within
-returns-then-len-lt-BLOCK-clause-within g c = λ none. c.in-Ok-answer.ensures.counted c.args.line c.requires.within
-
-pub returns-in-Ok-flush-clause-within : goal.returns-in-Ok-flush-clause-within
-returns-in-Ok-flush-clause-within g c = λ none. c.in-Ok-answer.ensures.counted c.args.line c.requires.within
-
-pub returns-in-Ok-flush-clause-gathers : goal.returns-in-Ok-flush-clause-gathers
-returns-in-Ok-flush-clause-gathers g c = λ none. inr (record { block = c.answer.new.self.text.items; appended = c.in-Ok-flush.ensures.written; full = omega arith })
+pub returns-in-Err-clause-goes_on : goal.returns-in-Err-clause-goes_on
+returns-in-Err-clause-goes_on g c = λ input told first taken.
+    let r = g.A.Answerer.rules in
+    let s = taken.answered in
+    stops_between r input told first _ _ _ _ _ _ c.refused_by.result (goes_on r input told first _ _ _ _ c.args.self.now.gathered.text.items c.answer.new.gathered.text.items c.args.self.now.gathered.answerer c.answer.new.gathered.answerer taken c.requires.limit
+    (subst (λ bytes. Replied r (r.language.line s.state bytes) c.args.self.now.gathered.text.items c.answer.new.gathered.text.items c.answer.new.gathered.answerer) c.line.ensures.value
+    (c.in-Ok.ensures.answers s.state s.stands)))
+    (leaves_more _ _ _ _ (omega (arith, c.requires.limit)) taken.held_few) (rw c.refused_by.ensures c.in-Err.ensures.written)

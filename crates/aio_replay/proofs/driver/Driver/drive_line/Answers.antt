@@ -14,10 +14,10 @@ returns-in-Line-clause-goes_on g c = λ all first s.
 pub returns-in-Long-clause-goes_on : goal.returns-in-Long-clause-goes_on
 returns-in-Long-clause-goes_on g c = λ all first s.
     let found = rw c.in-Long.is at (c.in-Ok.ensures.found s.rest s.is_rest) in
-    closes _ _ _ all _ first _ _ _ _ (refuses_long _ all _ _ first _ _ c.args.line _ _ _ _ c.requires.says s c.requires.limit found.0 found.1 c.in-Ok.ensures.sends)
-    (rw c.long_line.ensures at c.refuse.ensures.closes)
+    closes _ _ _ all _ first _ _ _ _ _ (refuses_long _ all _ _ first _ _ c.args.line _ _ _ _ g.met.A.Answerer.refuses_long s c.requires.limit found.0 found.1 c.in-Ok.ensures.sends)
+    c.refuse.ensures.answerer (rw c.long_line-reason.ensures at c.refuse.ensures.finishes)
 
 pub returns-in-End-clause-goes_on : goal.returns-in-End-clause-goes_on
 returns-in-End-clause-goes_on g c = λ all first s.
-    let found = rw c.in-End.is at (c.in-Ok.ensures.found s.rest s.is_rest) in
-    closes _ _ _ all _ first _ _ _ _ (ends_here _ all _ _ first _ _ c.args.line _ _ _ _ c.requires.says s (omega (arith, c.requires.limit)) found c.in-Ok.ensures.sends) c.close.ensures.closes
+    ends_here _ _ all _ _ first _ _ _ c.args.line _ _ _ _ _ s (omega (arith, c.requires.limit)) (λ rest is. rw c.in-End.is at (c.in-Ok.ensures.found rest is)) c.in-Ok.ensures.sends
+    c.end.ensures.answerer c.end.ensures.finishes

@@ -1,0 +1,23 @@
+-- The first version refuses a line of more than 256 bytes for its length.
+use Rattle.std.specs.Prelude.{◌≡◌, ℕ, ◌<◌, Bool, true, false, ◌&&◌, nat_lt, if◌then◌else◌, List, length, Option, Some, refl, bytes_eq}
+use Rattle.std.specs.List.{list_all}
+use Rattle.std.specs.Cmp.Lexicographic.{pointwise}
+use Rattle.std.proofs.Common.{ap}
+use Rattle.std.proofs.lemmas.Bool.{lt-leb, lt-ltb}
+use Rattle.aio_base.specs.declared.steps.LineFault.{LineFault}
+use Rattle.aio_base.specs.declared.steps.LineFault.TheVariants as fault
+use Rattle.aio_base.specs.Lines.{body_of, fault_of, fault_of_words, is_allowed, line_bytes, step_read, words_in}
+use Rattle.aio_base.specs.Trace.{header_words}
+use Rattle.aio_replay.specs.Language.{RefusesLong, first_reply, first_version}
+
+fault_of_long : (bytes : List ℕ) → 256 < length bytes → fault_of bytes ≡ Some fault.Long
+unfolding fault_of
+fault_of_long bytes long =
+    ap (λ (t : Bool). if t then Some fault.Long
+    else (if list_all is_allowed (body_of bytes) then fault_of_words (words_in (body_of bytes)) else Some fault.Byte)) (lt-ltb line_bytes (length bytes) long)
+
+pub first_refuses_long : RefusesLong first_version
+first_refuses_long = record {
+  too_long = λ w bytes long. ap (λ (f : Option LineFault). first_reply w f (step_read bytes)) (fault_of_long bytes long);
+  no_header = λ bytes long. ap (λ (t : Bool). t && pointwise bytes_eq (words_in (body_of bytes)) header_words) (lt-leb (length bytes) line_bytes long);
+}
