@@ -6,7 +6,7 @@ ghost use Rattle.aio_replay.specs.Versions.{first_rules};
 
 use crate::answerer::{Answerer, Gathered, Unanswered};
 use crate::replayer::Replayer;
-use aio_base::{Reason, Step, Waker};
+use aio_base::{Dir, Event, Key, Reason, Step, Waker};
 use aio_react::Core;
 use aio_script::ScriptPoller;
 use aio_trace::{StepTaker, hand_line, is_header, write_reply};
@@ -78,6 +78,54 @@ impl Answerer for FirstVersion {
     }
 }
 
+impl Gathered<FirstVersion> {
+    ghost use Rattle.aio_base.specs.Lines.{IsInRange};
+    ghost use Rattle.aio_base.specs.declared.steps.Step.TheVariants as step;
+    ghost use Rattle.aio_replay.specs.Versions.{MayRun, RunsStep};
+
+    /// Polls a source, as `run` does.
+    #[inline(always)]
+    fn poll(&mut self, key: Key, dir: Dir, waker: Waker) -> Result<(), AllocError>
+        requires { MayRun self.old }
+        ensures { RunsStep self.old (step.Poll key dir waker) result self.new }
+    {
+        let wakes = &mut self.answerer.wakes;
+        let answer = self.answerer.replayer.step_poll(key, dir, waker, wakes)?;
+        match write_reply(answer, &mut self.answerer.wakes, &mut self.text) {
+            Ok(()) => Ok(()),
+            Err(_) => Err(AllocError),
+        }
+    }
+
+    /// Notes an event, as `run` does.
+    #[inline(always)]
+    fn note(&mut self, event: Event) -> Result<(), AllocError>
+        requires { MayRun self.old }
+        ensures { RunsStep self.old (step.Note event) result self.new }
+    {
+        let answer = self.answerer.replayer.step_note(event)?;
+        match write_reply(answer, &mut self.answerer.wakes, &mut self.text) {
+            Ok(()) => Ok(()),
+            Err(_) => Err(AllocError),
+        }
+    }
+
+    /// Runs a step, and puts its answer and its wakes at the end of the text. `AllocError` where memory
+    /// ran out; then the text is as it was.
+    #[inline(never)]
+    fn run(&mut self, step: &Step) -> Result<(), AllocError>
+        requires ready { MayRun self.old }
+        requires range { IsInRange step.now }
+        ensures { RunsStep self.old step.now result self.new }
+    {
+        let answer = self.answerer.replayer.step(step, &mut self.answerer.wakes)?;
+        match write_reply(answer, &mut self.answerer.wakes, &mut self.text) {
+            Ok(()) => Ok(()),
+            Err(_) => Err(AllocError),
+        }
+    }
+}
+
 impl StepTaker for Gathered<FirstVersion> {
     ghost use Rattle.aio_replay.specs.Versions.{MayRun, RunsStep};
 
@@ -87,17 +135,14 @@ impl StepTaker for Gathered<FirstVersion> {
 
     ghost takes = { RunsStep };
 
-    /// Runs a step, and puts its answer and its wakes at the end of the text. `AllocError` where memory
-    /// ran out; then the text is as it was.
+    /// Runs a step. Polls of sources and notes of events, which come most often, are run where they
+    /// were read; of the other steps there is one copy.
     #[inline(always)]
     fn take(&mut self, step: Step) -> Result<(), AllocError> {
-        let answer = self
-            .answerer
-            .replayer
-            .step(&step, &mut self.answerer.wakes)?;
-        match write_reply(answer, &mut self.answerer.wakes, &mut self.text) {
-            Ok(()) => Ok(()),
-            Err(_) => Err(AllocError),
+        match step {
+            Step::Poll(key, dir, waker) => self.poll(key, dir, waker),
+            Step::Note(event) => self.note(event),
+            _ => self.run(&step),
         }
     }
 }
