@@ -1,12 +1,13 @@
 //! The versions of the trace language, as they answer its lines.
 
-ghost use Rattle.std.specs.Prelude.{◌≡◌, [], IfOk};
+ghost use Rattle.std.specs.Prelude.{◌≡◌, ◌++◌, [], IfOk, OnErr, OnOk};
+ghost use Rattle.aio_base.specs.Script.{reply_text};
 ghost use Rattle.aio_base.specs.World.{opening};
 ghost use Rattle.aio_replay.specs.Versions.{first_rules};
 
 use crate::answerer::{Answerer, Gathered, Unanswered};
 use crate::replayer::Replayer;
-use aio_base::{Dir, Event, Key, Reason, Step, Waker};
+use aio_base::{Answer, Dir, Event, Key, Reason, Step, Waker};
 use aio_react::Core;
 use aio_script::ScriptPoller;
 use aio_trace::{StepTaker, hand_line, is_header, write_reply};
@@ -91,10 +92,7 @@ impl Gathered<FirstVersion> {
     {
         let wakes = &mut self.answerer.wakes;
         let answer = self.answerer.replayer.step_poll(key, dir, waker, wakes)?;
-        match write_reply(answer, &mut self.answerer.wakes, &mut self.text) {
-            Ok(()) => Ok(()),
-            Err(_) => Err(AllocError),
-        }
+        write_short(answer, &mut self.answerer.wakes, &mut self.text)
     }
 
     /// Notes an event, as `run` does.
@@ -104,10 +102,7 @@ impl Gathered<FirstVersion> {
         ensures { RunsStep self.old (step.Note event) result self.new }
     {
         let answer = self.answerer.replayer.step_note(event)?;
-        match write_reply(answer, &mut self.answerer.wakes, &mut self.text) {
-            Ok(()) => Ok(()),
-            Err(_) => Err(AllocError),
-        }
+        write_short(answer, &mut self.answerer.wakes, &mut self.text)
     }
 
     /// Runs a step, and puts its answer and its wakes at the end of the text. `AllocError` where memory
@@ -123,6 +118,30 @@ impl Gathered<FirstVersion> {
             Ok(()) => Ok(()),
             Err(_) => Err(AllocError),
         }
+    }
+}
+
+/// Writes what a step gives, as `write_reply` does. The answers that come most often, without wakes, are
+/// written in place.
+#[inline(always)]
+#[tactic(auto, unfolding(aio_base::specs::Script::reply_text, aio_base::specs::Text::answer_line))]
+fn write_short(answer: Answer, wakes: &mut Vec<Waker>, text: &mut Vec<u8>) -> Result<(), AllocError>
+    ensures ok { OnOk result (text.new.items
+        ≡ text.old.items ++ reply_text answer wakes.old.items) }
+    ensures taken { OnOk result (wakes.new.items ≡ []) }
+    ensures kept { OnErr result (text.new.items ≡ text.old.items) }
+{
+    if wakes.is_empty() {
+        match answer {
+            Answer::Pending => return text.extend_from_slice(b"pending\n"),
+            Answer::Ready => return text.extend_from_slice(b"ready\n"),
+            Answer::Noted => return text.extend_from_slice(b"noted\n"),
+            _ => {}
+        }
+    }
+    match write_reply(answer, wakes, text) {
+        Ok(()) => Ok(()),
+        Err(_) => Err(AllocError),
     }
 }
 
