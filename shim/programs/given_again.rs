@@ -53,9 +53,7 @@ mod links;
 
 use links::{Home, Links};
 
-struct Source {
-    key: u32,
-}
+struct Source;
 
 struct Task;
 
@@ -78,7 +76,7 @@ fn gives(links: &mut Links, task: &Waker, home: Home) -> u32 {
 fn ends(links: &mut Links, woken: &[u32]) -> Vec<Waker> {
     let mut wakers = Vec::new();
     links.core.woken = woken.to_vec();
-    links.take_woken(woken.len() as u64, &mut wakers);
+    links.take_woken(woken.len() as u64, &mut Vec::new(), &mut wakers);
     wakers
 }
 
@@ -86,24 +84,24 @@ fn ends(links: &mut Links, woken: &[u32]) -> Vec<Waker> {
 fn a_number_that_a_round_took_is_not_polled_with() {
     let task = Waker::from(Arc::new(Task));
     let mut links = Links::new();
-    links.place(Arc::new(Source { key: 0 }));
+    links.place(0, Arc::new(Source));
     let taken = polls(&mut links, &task);
     assert_eq!(polls(&mut links, &task), taken);
-    let timer = gives(&mut links, &task, Home::Timer(9));
+    let timer = gives(&mut links, &task, Home::Timer(9, 0));
     // an event of the source was handled, and for the next one memory ran out
     links.runs = true;
     links.takes = true;
     let stored = polls(&mut links, &task);
     assert_ne!(stored, taken);
     // the round may have taken the timer too, which goes: nobody has its number before the end
-    assert!(links.give_up_of(timer, Home::Timer(9)).is_some());
-    assert_ne!(gives(&mut links, &task, Home::Timer(8)), timer);
+    assert!(links.give_up_of(timer, Home::Timer(9, 0)).is_some());
+    assert_ne!(gives(&mut links, &task, Home::Timer(8, 0)), timer);
     let wakers = ends(&mut links, &[timer, taken]);
     assert!(wakers.len() == 1 && wakers[0].will_wake(&task));
     // the core holds the number of the second poll: nobody else has it, and it is known
     for timer in 1..4 {
         let other = Waker::from(Arc::new(Task));
-        assert_ne!(gives(&mut links, &other, Home::Timer(timer)), stored);
+        assert_ne!(gives(&mut links, &other, Home::Timer(timer, 0)), stored);
     }
     assert_eq!(polls(&mut links, &task), stored);
     links.runs = true;
@@ -119,6 +117,37 @@ fn a_number_that_no_round_took_is_given_at_once() {
     let number = gives(&mut links, &task, Home::Listener(1));
     assert!(links.give_up_of(number, Home::Listener(1)).is_some());
     assert_eq!(gives(&mut links, &task, Home::Listener(2)), number);
+}
+
+#[test]
+fn a_waker_comes_behind_its_number_unless_a_round_took_that() {
+    let task = Waker::from(Arc::new(Task));
+    let mut links = Links::new();
+    let gives_none = |links: &mut Links, home| {
+        let number = links.next_number().unwrap();
+        links.give(&mut None, home);
+        number
+    };
+    let first = Home::Listener(1);
+    let number = gives_none(&mut links, first);
+    assert!(!links.keeps(number, first, &task));
+    assert!(links.fill(number, first, &mut Some(task.clone())));
+    assert!(links.keeps(number, first, &task));
+    assert_eq!(ends(&mut links, &[number]).len(), 1);
+    // a round takes the number first: nobody is woken, and it is free again
+    let second = Home::Listener(2);
+    let number = gives_none(&mut links, second);
+    assert!(ends(&mut links, &[number]).is_empty());
+    assert!(!links.fill(number, second, &mut Some(task.clone())));
+    assert_eq!(gives(&mut links, &task, first), number);
+    assert!(!links.fill(number, second, &mut Some(task)));
+    // where a round may have taken it, the same task gets another one
+    let task = Waker::from(Arc::new(Task));
+    let third = Home::Listener(3);
+    let number = gives(&mut links, &task, third);
+    assert!(links.keeps(number, third, &task));
+    links.takes = true;
+    assert!(!links.keeps(number, third, &task));
 }
 
 #[test]

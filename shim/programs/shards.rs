@@ -52,6 +52,14 @@ fn pairs(count: usize) -> Vec<(Async<UnixStream>, Async<UnixStream>)> {
     (0..count).map(|_| Async::<UnixStream>::pair().unwrap()).collect()
 }
 
+/// Has each source of these pairs join a shard.
+fn poll_all(pairs: &[(Async<UnixStream>, Async<UnixStream>)]) {
+    let count = Arc::default();
+    for (near, far) in pairs {
+        assert!(!polls(near, &count) && !polls(far, &count));
+    }
+}
+
 /// In each shard several of the sources have events and several have none, and those of one shard
 /// have the keys of those of another.
 #[test]
@@ -87,21 +95,47 @@ fn more_sources_live_than_one_core_has() {
     // the places of those that go are given again
     pairs.drain(..100);
     pairs.extend((0..100).map(|_| Async::<UnixStream>::pair().unwrap()));
+    poll_all(&pairs);
+    assert_eq!(live().iter().sum::<usize>(), 4_400);
     for (near, far) in &pairs {
         far.get_ref().write_all(b"x").unwrap();
         block_on(near.readable()).unwrap();
     }
 }
 
+/// A source has no shard before its first poll, and hears of no event before: its peer is gone,
+/// which the poll after that finds all the same.
 #[test]
-fn threads_that_make_equally_many_sources_keep_to_their_own_shards() {
-    let threads: Vec<_> = (0..8).map(|_| thread::spawn(|| pairs(25))).collect();
+fn a_source_joins_at_its_first_poll() {
+    let (near, far) = Async::<UnixStream>::pair().unwrap();
+    let others = pairs(10);
+    drop(far);
+    block_on(Timer::after(Duration::from_millis(50)));
+    assert_eq!(live(), [0; 32]);
+    block_on(near.readable()).unwrap();
+    assert_eq!(live().iter().sum::<usize>(), 1);
+    drop((near, others));
+    assert_eq!(live(), [0; 32]);
+}
+
+/// One thread has made all sources.
+#[test]
+fn threads_that_poll_equally_many_sources_keep_to_their_own_shards() {
+    let threads: Vec<_> = (0..8)
+        .map(|_| {
+            let pairs = pairs(25);
+            thread::spawn(move || {
+                poll_all(&pairs);
+                pairs
+            })
+        })
+        .collect();
     let made: Vec<_> = threads.into_iter().map(|thread| thread.join().unwrap()).collect();
     let live = live();
     drop(made);
     for own in live.chunks(4) {
         assert_eq!(own.iter().sum::<usize>(), 50, "{live:?}");
-        assert!(own.iter().all(|count| [12, 13].contains(count)), "{live:?}");
+        assert!(own.iter().all(|count| *count <= 16), "{live:?}");
     }
 }
 
@@ -109,6 +143,7 @@ fn threads_that_make_equally_many_sources_keep_to_their_own_shards() {
 fn the_sources_of_one_thread_come_to_all_shards() {
     for count in [200, 2_000] {
         let pairs = pairs(count);
+        poll_all(&pairs);
         let (live, average) = (live(), 2 * count / 32);
         drop(pairs);
         assert_eq!(live.iter().sum::<usize>(), 2 * count);

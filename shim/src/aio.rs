@@ -110,6 +110,7 @@ macro_rules! calls {
     ($($name:ident = $export:ident($($argument:ident: $type:ty),*) -> $answer:ty;)*) => {
         impl Core {
             $(
+                #[inline]
                 pub(super) fn $name(&mut self $(, $argument: $type)*) -> $answer {
                     let taken = self.handle;
                     unsafe { $export(taken, &mut self.handle $(, $argument)*) }

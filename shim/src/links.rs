@@ -2,7 +2,6 @@
 //! Nothing of this file is proved.
 use super::aio::{Core, DONE};
 use super::Source;
-use std::mem;
 #[cfg(any(aio_loses_wakes, aio_refuses_memory))]
 use std::sync::atomic::{AtomicU64, Ordering};
 use std::sync::Arc;
@@ -21,7 +20,8 @@ pub(super) enum Home {
     /// The poll waiter of a direction of the source of this key.
     Poll(u32, bool),
     Listener(u64),
-    Timer(u64),
+    /// A timer of this id, which is due at this moment.
+    Timer(u64, u64),
 }
 
 struct Slot {
@@ -36,7 +36,9 @@ pub(super) struct Place {
     listeners: Vec<u64>,
 }
 
-/// A core, and all that its numbers stand for.
+/// A core, and all that its numbers stand for. The fields lie in this order, those of most calls
+/// first.
+#[repr(C)]
 pub(super) struct Links {
     pub(super) core: Core,
     /// Whether a round runs: begun, and not yet ended.
@@ -46,13 +48,12 @@ pub(super) struct Links {
     pub(super) takes: bool,
     /// The number of the system's wait that the last round belongs to.
     wait: usize,
-    places: Vec<Option<Place>>,
     slots: Vec<Slot>,
     free: Vec<u32>,
+    places: Vec<Option<Place>>,
     /// Numbers that were given up while a round runs that may have taken them. They are free only
     /// when it has ended.
     given_up: Vec<u32>,
-    woken: Vec<u32>,
 }
 
 impl Links {
@@ -62,11 +63,10 @@ impl Links {
             runs: false,
             takes: false,
             wait: 0,
-            places: Vec::new(),
             slots: Vec::new(),
             free: Vec::new(),
+            places: Vec::new(),
             given_up: Vec::new(),
-            woken: Vec::new(),
         }
     }
 
@@ -76,6 +76,7 @@ impl Links {
     /// the wait began, for all that asks comes here first: so it is as if the round had begun
     /// before the wait did, and that of the wait before had ended, which took nobody. A refusal is
     /// told by its code. It is for a core without timers.
+    #[inline]
     pub(super) fn meet(&mut self, wait: usize) -> Result<(), u32> {
         if self.wait == wait {
             return Ok(());
@@ -99,8 +100,8 @@ impl Links {
     // ## Sources
 
     /// The new source of a key.
-    pub(super) fn place(&mut self, source: Arc<Source>) {
-        let at = source.key as usize;
+    pub(super) fn place(&mut self, key: u32, source: Arc<Source>) {
+        let at = key as usize;
         while self.places.len() <= at {
             self.places.push(None);
         }
@@ -136,12 +137,14 @@ impl Links {
 
     // ## Listeners
 
+    #[inline]
     pub(super) fn listen(&mut self, key: u32, listener: u64) {
         if let Some(Some(place)) = self.places.get_mut(key as usize) {
             place.listeners.push(listener);
         }
     }
 
+    #[inline]
     pub(super) fn unlisten(&mut self, key: u32, listener: u64) {
         self.core.unlisten(listener);
         if let Some(Some(place)) = self.places.get_mut(key as usize) {
@@ -155,12 +158,14 @@ impl Links {
 
     /// The number for the next waker, which no call of the core can still hold for another. None
     /// where all numbers are given.
+    #[inline]
     pub(super) fn next_number(&self) -> Option<u32> {
         let unused = (self.slots.len() < NUMBERS).then(|| self.slots.len() as u32);
         self.free.last().copied().or(unused)
     }
 
     /// Gives that number to a waker, which it takes, and says where the number stands.
+    #[inline]
     pub(super) fn give(&mut self, waker: &mut Option<Waker>, home: Home) {
         let slot = Slot { waker: waker.take(), home };
         match self.free.pop() {
@@ -170,36 +175,67 @@ impl Links {
     }
 
     /// Gives a number up, and answers its waker, to be dropped or woken outside of the lock.
+    #[inline]
     pub(super) fn give_up(&mut self, number: u32) -> Option<Waker> {
         let slot = &mut self.slots[number as usize];
-        let waker = slot.waker.take()?;
+        if slot.home == Home::None {
+            return None;
+        }
         slot.home = Home::None;
         if self.takes {
             self.given_up.push(number);
         } else {
             self.free.push(number);
         }
-        Some(waker)
+        slot.waker.take()
     }
 
     /// The same where the number still stands there: it may have been woken, and given again.
+    #[inline]
     pub(super) fn give_up_of(&mut self, number: u32, home: Home) -> Option<Waker> {
         let stands = self.slots.get(number as usize)?.home == home;
         stands.then(|| self.give_up(number)).flatten()
+    }
+
+    /// The moment of the timer of this id, where the number still stands for that.
+    #[inline]
+    pub(super) fn moment_of(&self, number: u32, timer: u64) -> Option<u64> {
+        match self.slots.get(number as usize)?.home {
+            Home::Timer(id, at) if id == timer => Some(at),
+            _ => None,
+        }
+    }
+
+    /// Puts a waker where the number was given without one. `false` where the number was woken.
+    pub(super) fn fill(&mut self, number: u32, home: Home, waker: &mut Option<Waker>) -> bool {
+        let slot = &mut self.slots[number as usize];
+        let stands = slot.home == home;
+        if stands {
+            slot.waker = waker.take();
+        }
+        stands
+    }
+
+    /// Whether the number still stands there, for the task of this waker, and no round may have
+    /// taken it.
+    #[inline]
+    pub(super) fn keeps(&self, number: u32, home: Home, waker: &Waker) -> bool {
+        if self.takes {
+            return false;
+        }
+        let slot = &self.slots[number as usize];
+        let held = slot.waker.as_ref().filter(|_| slot.home == home);
+        held.map_or(false, |held| held.will_wake(waker))
     }
 
     /// The number with which a waker polls: that of the poll waiter where both wake the same task,
     /// otherwise the next one. So it is where memory ran out behind an event of the running round,
     /// which may have taken the poll waiter's number.
     pub(super) fn poll_number(&self, key: u32, write: bool, waker: &Waker) -> Option<u32> {
-        if let (false, Some(Some(place))) = (self.takes, self.places.get(key as usize)) {
+        if let Some(Some(place)) = self.places.get(key as usize) {
             let kept = place.polled[write as usize];
-            if kept != NONE {
-                if let Some(held) = &self.slots[kept as usize].waker {
-                    if held.will_wake(waker) {
-                        return Some(kept);
-                    }
-                }
+            if kept != NONE && self.keeps(kept, Home::Poll(key, write), waker) {
+                return Some(kept);
             }
         }
         self.next_number()
@@ -231,18 +267,21 @@ impl Links {
         }
     }
 
-    /// Takes the wakers of the round that ended; their numbers and those given up meanwhile are
-    /// free from now on.
-    pub(super) fn take_woken(&mut self, count: u64, wakers: &mut Vec<Waker>) {
-        let mut woken = mem::take(&mut self.woken);
+    /// Takes the wakers of the round that ended, by way of `numbers`; their numbers and those given
+    /// up meanwhile are free from now on.
+    pub(super) fn take_woken(
+        &mut self,
+        count: u64,
+        numbers: &mut Vec<u32>,
+        wakers: &mut Vec<Waker>,
+    ) {
+        numbers.clear();
         if count > 0 {
-            self.core.woken(count, &mut woken);
-        } else {
-            woken.clear();
+            self.core.woken(count, numbers);
         }
         self.runs = false;
         self.takes = false;
-        for number in &woken {
+        for number in numbers.iter() {
             if let Home::Poll(key, write) = self.slots[*number as usize].home {
                 self.forget_poll(key, write, *number);
             }
@@ -254,8 +293,9 @@ impl Links {
                 wakers.push(waker);
             }
         }
-        self.woken = woken;
-        self.free.append(&mut self.given_up);
+        if !self.given_up.is_empty() {
+            self.free.append(&mut self.given_up);
+        }
     }
 }
 
