@@ -1,5 +1,5 @@
 -- A step counts at most one round, one timer id and one number of a listener.
-use Rattle.std.proofs.Common.{◌≡◌, ℕ, ◌+◌, ◌≤◌, Bool, true, false, cond, List, [], find, Option, None, Some, is_some, Result, Ok, Err, IfOk, OnOk, refl, sym, subst, arith}
+use Rattle.std.proofs.Common.{◌≡◌, ℕ, ◌+◌, ◌≤◌, Bool, true, false, cond, List, find, Option, None, Some, is_some, Result, Ok, Err, IfOk, OnOk, refl, sym, subst, arith}
 use Rattle.std.specs.Prelude.{nat_lt}
 use Rattle.aio_base.specs.declared.names.Waker.{Waker}
 use Rattle.aio_base.specs.declared.outcomes.Which.{Which}
@@ -164,9 +164,3 @@ pub each_within : {W E : Type 0} (holds : W → List Waker → Type 0) (told : R
     → IfOk told (λ a. ReplaysInto holds s a wakes old new) → OnOk told ((bound : ℕ) → IsWithin bound old → IsWithin (bound + 1) new)
 each_within holds (Ok a) s wakes old new into = λ bound within. within_after s a into.woken old new bound into.replays within
 each_within holds (Err e) s wakes old new into = tt
-
--- the same of a step that wakes none
-pub quietly_within : {E : Type 0} (told : Result Answer E) (s : Step) (old new : Replayer) → IfOk told (λ a. Replays s a [] old new)
-    → OnOk told ((bound : ℕ) → IsWithin bound old → IsWithin (bound + 1) new)
-quietly_within (Ok a) s old new replays = λ bound within. within_after s a [] old new bound replays within
-quietly_within (Err e) s old new replays = tt

@@ -4,8 +4,7 @@
 ghost use Rattle.std.specs.Prelude.{◌≡◌, ◌+◌, ℕ, [], IfOk, OnOk};
 ghost use Rattle.aio_base.specs.Trace.{IsInRange};
 ghost use Rattle.aio_base.specs.World.{opening};
-ghost use Rattle.aio_base.specs.declared.steps.Step.TheVariants as step;
-ghost use Rattle.aio_replay.specs.Replaying.{StandsFor, Replays, ReplaysInto, IsWithin, step_limit};
+ghost use Rattle.aio_replay.specs.Replaying.{StandsFor, ReplaysInto, IsWithin, step_limit};
 
 mod calls;
 mod clock;
@@ -14,7 +13,7 @@ mod timers;
 
 use crate::timer_table::TimerTable;
 use crate::wakes::TakesWakes;
-use aio_base::{Answer, Dir, Event, Key, OutOfMemory, Step, Waker};
+use aio_base::{Answer, OutOfMemory, Step};
 use aio_future::Timer;
 use aio_react::Core;
 use aio_script::{ScriptClock, ScriptPoller};
@@ -65,35 +64,6 @@ impl Replayer {
             → IsWithin (bound + 1) self.new) }
     {
         self.run(step, wakes)
-    }
-
-    /// Runs a poll of a source, as `step` does.
-    #[inline(always)]
-    pub(crate) fn step_poll<W: TakesWakes>(
-        &mut self,
-        key: Key,
-        dir: Dir,
-        waker: Waker,
-        wakes: &mut W,
-    ) -> Result<Answer, AllocError>
-        requires none { W.holds wakes.old [] }
-        ensures replays { IfOk result (λ answer. ReplaysInto W.holds
-            (step.Poll key dir waker) answer wakes.new self.old self.new) }
-        ensures within { OnOk result ((bound : ℕ) → IsWithin bound self.old
-            → IsWithin (bound + 1) self.new) }
-    {
-        self.poll(key, dir, waker, wakes)
-    }
-
-    /// Notes an event, as `step` does. It wakes none.
-    #[inline(always)]
-    pub(crate) fn step_note(&mut self, event: Event) -> Result<Answer, AllocError>
-        ensures replays { IfOk result (λ answer.
-            Replays (step.Note event) answer [] self.old self.new) }
-        ensures within { OnOk result ((bound : ℕ) → IsWithin bound self.old
-            → IsWithin (bound + 1) self.new) }
-    {
-        self.note(event)
     }
 
     /// The core that ran the steps.
