@@ -1,5 +1,5 @@
 -- What the lines of an input come to in the first version is the run of its trace.
-use Rattle.std.proofs.Common.{◌≡◌, ◌≢◌, ℕ, ◌+◌, Bool, true, false, nat_lt, if◌then◌else◌, List, [], ◌∷◌, ◌++◌, length, Option, None, Some, Result, Ok, Err, refl, sym, ap, ◌∙◌, subst, append_assoc, append-nil, arith}
+use Rattle.std.proofs.Common.{◌≡◌, ◌≢◌, ℕ, ◌+◌, Bool, true, false, nat_lt, if◌then◌else◌, List, [], ◌∷◌, ◌++◌, Option, None, Some, refl, sym, ap, ◌∙◌, subst, append-nil}
 use Rattle.std.proofs.Common.{⊎_elim}
 use Rattle.std.specs.Io.KnownBytes.{Appends}
 use Rattle.aio_base.specs.declared.steps.LineFault.{LineFault}
@@ -7,10 +7,9 @@ use Rattle.aio_base.specs.declared.steps.Step.{Step}
 use Rattle.aio_base.specs.declared.steps.Reason.TheVariants as reason
 use Rattle.aio_base.specs.Lines.{Reads, fault_of, step_read}
 use Rattle.aio_base.specs.Script.{output, output_from, world_after, script_step, reply_text}
-use Rattle.aio_base.specs.Trace.{Refusal, Trace, complete, refused, with_step, lines_of, trace_of, trace_of_lines, trace_from, trace_after, reason_of, is_header, line_limit}
+use Rattle.aio_base.specs.Trace.{Refusal, Trace, refused, lines_of, trace_of, trace_of_lines, trace_from, trace_after, is_header, line_limit}
 use Rattle.aio_base.specs.World.{World, opening}
-use Rattle.aio_bytes.specs.declared.traits.SinkRefusal.{SinkRefusal}
-use Rattle.aio_bytes.specs.Sinks.{AppendsPart, Writes}
+use Rattle.aio_bytes.specs.Sinks.{AppendsPart}
 use Rattle.aio_laws.proofs.traces.Shapes.{read_is}
 use Rattle.aio_react.specs.Cores.{CoreValue}
 use Rattle.aio_script.specs.Script.{Script}
@@ -21,7 +20,7 @@ use Rattle.aio_replay.specs.declared.version.FirstVersion.{FirstVersion}
 use Rattle.aio_replay.specs.Answering.{Replied}
 use Rattle.aio_replay.specs.Driving.{StoppedBehind, ToldWhole}
 use Rattle.aio_replay.specs.Ends.{StandsAt, StandsOnTheWay}
-use Rattle.aio_replay.specs.Language.{Told, LeadsTo, ends_in, first_reply, first_version, refused_in, refusal_at, told_after, told_from, told_of, with_text}
+use Rattle.aio_replay.specs.Language.{Told, LeadsTo, ends_in, first_reply, first_version, refused_in, told_after, told_from, told_of, with_text}
 use Rattle.aio_replay.specs.Replaying.{StandsFor}
 use Rattle.aio_replay.specs.Versions.{Answers, first_rules}
 use Rattle.aio_replay.proofs.DrivingLemmas.{written_part, written_of_more}

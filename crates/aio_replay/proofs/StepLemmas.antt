@@ -1,18 +1,16 @@
 -- From what stands before a line to what stands after it, or to what an end says.
-use Rattle.std.proofs.Common.{◌≡◌, ◌≢◌, ℕ, ◌+◌, ◌-◌, ◌*◌, ◌<◌, ◌≤◌, Bool, true, false, nat_lt, if◌then◌else◌, List, [], ◌∷◌, ◌++◌, length, length-append, take, Option, None, Some, Result, Ok, Err, inl, inr, refl, sym, ap, ◌∙◌, subst, append_assoc, append-nil, arith}
+use Rattle.std.proofs.Common.{◌≡◌, ℕ, ◌+◌, ◌-◌, ◌*◌, ◌<◌, ◌≤◌, true, false, nat_lt, if◌then◌else◌, List, [], ◌∷◌, ◌++◌, length, length-append, take, Option, None, Some, Ok, Err, inl, inr, refl, sym, ap, ◌∙◌, subst, append_assoc, append-nil, arith}
 use Rattle.std.proofs.lemmas.Bool.Decides.{nat_tests}
 use Rattle.std.proofs.lemmas.List.{take_at}
 use Rattle.std.specs.Io.KnownBytes.{Appends}
 use Rattle.std.specs.Option.{option_map}
-use Rattle.std.proofs.KnownBytes.{Appends-nil, Appends-trans}
+use Rattle.std.proofs.KnownBytes.{Appends-nil}
 use Rattle.aio_base.specs.declared.steps.Reason.{Reason}
 use Rattle.aio_base.specs.declared.steps.Reason.TheVariants as reason
-use Rattle.aio_base.specs.Trace.{Refusal, lines_of}
-use Rattle.aio_bytes.specs.declared.traits.SinkRefusal.{SinkRefusal}
-use Rattle.aio_bytes.specs.Sinks.{AppendsPart, Writes}
+use Rattle.aio_base.specs.Trace.{lines_of}
+use Rattle.aio_bytes.specs.Sinks.{Writes}
 use Rattle.aio_bytes.specs.Unread.{Unread, LeavesAllBut, BeginsLong, TakesLine, length_of_lines, bytes_before}
 use Rattle.aio_replay.specs.declared.ends.Stop.{Stop}
-use Rattle.aio_replay.specs.declared.ends.Cause.TheVariants as cause
 use Rattle.aio_replay.specs.declared.ends.End.{End}
 use Rattle.aio_replay.specs.declared.ends.End.TheVariants as ends
 use Rattle.aio_replay.specs.Answering.{AnswerRules, Replied}

@@ -1,4 +1,4 @@
-use Rattle.std.proofs.Common.{◌≡◌, ap, ◌∙◌}
+use Rattle.std.proofs.Common.{ap, ◌∙◌}
 use Rattle.aio_replay.specs.declared.version.FirstVersion.{FirstVersion}
 use Rattle.aio_replay.proofs.FirstVersion.{core_on_the_way, core_stands, stopped_part, whole_says}
 use Rattle.aio_replay.proofs.trace.replay.Goals as goal

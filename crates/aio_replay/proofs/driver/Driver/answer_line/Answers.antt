@@ -1,4 +1,4 @@
-use Rattle.std.proofs.Common.{◌≡◌, Some, Err, refl, ap, sym, ◌∙◌, arith, inr, subst}
+use Rattle.std.proofs.Common.{◌≡◌, Err, ap, sym, ◌∙◌, arith, subst}
 use Rattle.aio_replay.specs.Answering.{Replied}
 use Rattle.aio_replay.specs.Steps.{Finishes, LacksMemory}
 use Rattle.aio_replay.proofs.DrivingLemmas.{Sends-all}
