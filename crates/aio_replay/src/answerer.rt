@@ -6,7 +6,7 @@ use aio_base::Reason;
 use std::alloc::AllocError;
 
 /// Why a line is not answered.
-#[derive(Clone, Copy, Debug, PartialEq, Eq)]
+#[derive(Clone, Copy)]
 pub(crate) enum Unanswered {
     /// The line is refused.
     Refused(Reason),

@@ -15,10 +15,19 @@ use std::alloc::{AllocError, Global};
 
 /// The first version: a line is read in each of its spellings, or refused for its fault, and its step is
 /// run. Between two steps there are no wakes.
-#[derive(Drop)]
 pub(crate) struct FirstVersion {
     pub replayer: Replayer,
     pub wakes: Vec<Waker>,
+}
+
+// Written out: a derived one has those of all that lies in it proved again.
+impl Drop for FirstVersion {
+    fn drop(self) {
+        let FirstVersion {
+            replayer: _,
+            wakes: _,
+        } = self;
+    }
 }
 
 impl FirstVersion {
@@ -37,7 +46,8 @@ impl FirstVersion {
     pub(crate) fn into_core(self) -> Core<ScriptPoller>
         ensures { result ≡ self.replayer.core }
     {
-        self.replayer.into_core()
+        let FirstVersion { replayer, wakes: _ } = self;
+        replayer.into_core()
     }
 }
 
