@@ -643,35 +643,40 @@ impl Source {
         Ok((self.reactor.shard(shard), key))
     }
 
-    /// Joins a shard. One that is full is passed over for the next one.
+    /// Joins a shard, unless another thread has it join one. One that is full is passed over for the
+    /// next one, as often as it takes: there is a place for each source that was let in, which others
+    /// that come and go may move meanwhile.
     #[cold]
     fn join(self: &Arc<Source>) -> io::Result<(MutexGuard<'static, Links>, u32)> {
-        let first = self.reactor.next_shard();
-        for at in 0..SHARDS {
-            let shard = (first + at) % SHARDS;
+        let mut shard = self.reactor.next_shard();
+        loop {
+            let earlier = self.place.load(Ordering::SeqCst);
+            if earlier != NOWHERE {
+                let (shard, key) = split(earlier);
+                return Ok((self.reactor.shard(shard), key));
+            }
             let mut links = self.reactor.shard(shard);
             let added = links.core.add();
             match added.code {
                 aio::DONE => {}
-                aio::FULL => continue,
+                aio::FULL => {
+                    shard = (shard + 1) % SHARDS;
+                    continue;
+                }
                 code => return Err(refused(code)),
             }
             let key = added.key;
             let place = (shard as u32) << KEY_BITS | key;
             let joins =
                 self.place.compare_exchange(NOWHERE, place, Ordering::SeqCst, Ordering::SeqCst);
-            if let Err(earlier) = joins {
-                // another thread polls it too
+            if joins.is_err() {
                 links.core.del(key);
-                drop(links);
-                let (shard, key) = split(earlier);
-                return Ok((self.reactor.shard(shard), key));
+                continue;
             }
             links.place(key, self.clone());
             self.reactor.live[shard].fetch_add(1, Ordering::Relaxed);
             return Ok((links, key));
         }
-        Err(refused(aio::FULL))
     }
 
     fn modify(&self, asked: &AskAnswer) -> io::Result<()> {
