@@ -19,7 +19,8 @@ pub enum PairEnd {
     /// Both connections ended, and every whole line of either was written to the other: so many bytes
     /// altogether.
     Ended { to_a: u64, to_b: u64 },
-    /// At `now`, the idle time had passed since the last byte was read or written, at `last`.
+    /// At `now`, the idle time had passed since `last`, the moment of the last poll that read or wrote
+    /// a byte.
     Idle { last: Moment, now: Moment },
     /// A line has no line feed within its first 4,096 bytes: these are the last of the side's first `at`
     /// bytes.

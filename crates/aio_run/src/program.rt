@@ -59,7 +59,8 @@ const USAGE: &[u8] =
 ///
 /// - `Why::Done`: the command was done, and `out` grew by exactly its output. Of `replay`: the input was
 ///   read to its end, and no line of it is refused.
-/// - `Why::Usage`: exactly where the words name none of these commands; nothing was touched.
+/// - `Why::Usage`: exactly where the words name none of these commands; `input`, `out` and the devices are
+///   as they were.
 /// - `Why::Refused`, of `replay` alone: exactly the first refused line and its reason, unless a fault
 ///   came before; `out` grew by the output of the steps before it. A line is refused for the first of
 ///   its faults, `Long`, `Byte`, `Empty`, `Command`, `Count`, `Number`, `Direction`, `Flags` or
