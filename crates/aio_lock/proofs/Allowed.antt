@@ -94,18 +94,22 @@ module _ {T : Type 0} (n0 n1 : T → List ℕ) where
       ))
       (λ e. (without_slot nobody, keeps, tt, record { word = 1; place = k.place; one_word = words_after s k 1; one_slot = k.one_slot; rule = late_arrival_keeps_rule n0 n1 k.place s.views (rule_at s k 1 e) }, refl))
 
+  -- a load leaves the word as it was
+  abbrev same : ℕ → ℕ
+  same n = n
+
   -- a step of a seat that is inside, so that it finds 1
   inside : (s : Lists) → (k : Ruled n0 n1 s) → k.word ≡ 1 → (F : ℕ → Type 0) → F 1 → F (slice_index s.words 0)
   inside s k one F shown = subst F (sym (word_of s k ∙ one)) shown
 
-  leaves : (slots id : ℕ) (v : LockView) → Allows (Ruled n0 n1) slots id (with_slot v, (0, None) ∷ []) 0 to_one (λ _. LeavesSlot (with_slot v, (0, None) ∷ []))
+  leaves : (slots id : ℕ) (v : LockView) → Allows (Ruled n0 n1) slots id (with_slot v, (0, None) ∷ []) 0 same (λ _. LeavesSlot (with_slot v, (0, None) ∷ []))
   leaves slots id v s k len at small = let back = slot_goes_back n0 n1 k.word k.place s.views id (with_slot v) k.rule at refl in
-      inside s k back.0 (Shows s id ((0, None) ∷ []) to_one (λ _. LeavesSlot (with_slot v, (0, None) ∷ [])))
+      inside s k back.0 (Shows s id ((0, None) ∷ []) same (λ _. LeavesSlot (with_slot v, (0, None) ∷ [])))
       (without_slot v, gives, tt, record { word = k.word; place = some None; one_word = words_after s k 1 ∙ ap (λ (n : ℕ). n ∷ []) (sym back.0); one_slot = place_after s k (some None); rule = back.1 }, refl)
 
-  fetches : (slots id : ℕ) (v : LockView) → is_inside v ≡ true → Allows (Ruled n0 n1) slots id (without_slot v, []) 0 to_one (λ _. FetchesSlot (without_slot v, []))
+  fetches : (slots id : ℕ) (v : LockView) → is_inside v ≡ true → Allows (Ruled n0 n1) slots id (without_slot v, []) 0 same (λ _. FetchesSlot (without_slot v, []))
   fetches slots id v t s k len at small = let out = slot_comes_out n0 n1 k.word k.place s.views id (without_slot v) k.rule at t refl in
-      inside s k out.0 (Shows s id [] to_one (λ _. FetchesSlot (without_slot v, [])))
+      inside s k out.0 (Shows s id [] same (λ _. FetchesSlot (without_slot v, [])))
       (with_slot v, takes 0 None, at_home s k None out.1, record { word = k.word; place = none; one_word = words_after s k 1 ∙ ap (λ (n : ℕ). n ∷ []) (sym out.0); one_slot = place_after s k none; rule = out.2 }, refl)
 
   abbrev value_or : T → List (ℕ × Option T) → T
@@ -133,8 +137,8 @@ module _ {T : Type 0} (n0 n1 : T → List ℕ) where
     pub may_close : Allows (Ruled n0 n1) slots id start 0 to_one (Closes n0 n1 start)
     may_close = subst (λ (m : SeatState T). Allows (Ruled n0 n1) slots id m 0 to_one (Closes n0 n1 m)) (sym rests) (closes slots id (without_slot v))
 
-    pub may_fetch_slot : is_inside v ≡ true → Allows (Ruled n0 n1) slots id start 0 to_one (λ _. FetchesSlot start)
-    may_fetch_slot t = subst (λ (m : SeatState T). Allows (Ruled n0 n1) slots id m 0 to_one (λ _. FetchesSlot m)) (sym rests) (fetches slots id v t)
+    pub may_fetch_slot : is_inside v ≡ true → Allows (Ruled n0 n1) slots id start 0 same (λ _. FetchesSlot start)
+    may_fetch_slot t = subst (λ (m : SeatState T). Allows (Ruled n0 n1) slots id m 0 same (λ _. FetchesSlot m)) (sym rests) (fetches slots id v t)
 
     -- it fetched the slot, and put a value in
     pub may_open : (y : T) (fetched filled : SeatState T) → FetchesSlot start fetched → filled ≡ (fetched.0, (0, Some y) ∷ rest fetched.1) → MayPutBack v (n0 y) (n1 y)
@@ -145,6 +149,6 @@ module _ {T : Type 0} (n0 n1 : T → List ℕ) where
 
   -- and of a seat whose slot was emptied
   pub may_leave_slot : (slots id : ℕ) (laden emptied : SeatState T) → IsLaden laden → emptied ≡ (laden.0, (0, None) ∷ rest laden.1)
-      → Allows (Ruled n0 n1) slots id emptied 0 to_one (λ _. LeavesSlot emptied)
+      → Allows (Ruled n0 n1) slots id emptied 0 same (λ _. LeavesSlot emptied)
   may_leave_slot slots id laden emptied has empty = let is : emptied ≡ (with_slot laden.0.view, (0, None) ∷ []) = empty ∙ ap (λ (m : SeatState T). (m.0, (0, None) ∷ rest m.1)) has.1 in
-      subst (λ (m : SeatState T). Allows (Ruled n0 n1) slots id m 0 to_one (λ _. LeavesSlot m)) (sym is) (leaves slots id laden.0.view)
+      subst (λ (m : SeatState T). Allows (Ruled n0 n1) slots id m 0 same (λ _. LeavesSlot m)) (sym is) (leaves slots id laden.0.view)

@@ -105,7 +105,7 @@ impl<T: Noted> Gate<T> {
     {
         let table = &self.table.shared;
         let content = table.exchange(&mut seat, PLACE, None);
-        table.compare_exchange::<LeaveSlot>(&mut seat, TAKEN, 0, OUT);
+        table.load::<LeaveSlot>(&mut seat, TAKEN);
         (content.unwrap(), Token::of(seat))
     }
 
@@ -170,7 +170,7 @@ impl<T: Noted> Gate<T> {
     {
         let table = &self.table.shared;
         let mut seat = Token::seat(&mut token.badge);
-        table.compare_exchange::<FetchSlot>(&mut seat, TAKEN, 0, OUT);
+        table.load::<FetchSlot>(&mut seat, TAKEN);
         match table.exchange(&mut seat, PLACE, Some(value)) {
             None => table.store::<Open<T>>(&mut seat, TAKEN, 0),
             Some(_) => unreachable!(),

@@ -64,8 +64,7 @@ impl<T: Noted> Play<Option<T>, LockSeat> for Arrive<T> {
     ghost then = { λ at me found after. Arrived T.first_note T.second_note found after };
 }
 
-/// An exchange from 0 to 1 by the seat that has taken, which finds 1: the slot, with no value, goes
-/// back to its place.
+/// A load by the seat that has taken, which finds 1: the slot, with no value, goes back to its place.
 pub struct LeaveSlot;
 
 impl<T> Play<Option<T>, LockSeat> for LeaveSlot {

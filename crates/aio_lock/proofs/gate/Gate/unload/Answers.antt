@@ -6,5 +6,5 @@ use Rattle.aio_lock.proofs.gate.Gate.unload.Goals as goal
 pub exchange-content-requires : goal.exchange-content-requires
 exchange-content-requires g c = let has = c.requires.laden in let out = ap (λ m. m.1) has.1 in (search rules, (Some has.0, out ∙ ap (λ l. (0, Some has.0) ∷ rest l) (sym out)))
 
-pub compare_exchange-requires : goal.compare_exchange-requires
-compare_exchange-requires g c = (search rules, search rules, may_leave_slot _ _ _ _ _ _ c.requires.laden c.exchange-content.ensures.3)
+pub load-requires : goal.load-requires
+load-requires g c = (search rules, search rules, may_leave_slot _ _ _ _ _ _ c.requires.laden c.exchange-content.ensures.3)
