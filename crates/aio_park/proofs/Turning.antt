@@ -5,8 +5,8 @@ use Rattle.aio_shared.specs.declared.reacting.ReactedIn.{ReactedIn}
 use Rattle.aio_shared.specs.declared.reacting.ReactFault.{ReactFault}
 use Rattle.aio_shared.specs.Cells.{CellValue, WaitTells}
 use Rattle.aio_shared.specs.Members.{MemberValue, SharedValue}
-use Rattle.aio_shared.specs.Reacting.{Start, until}
-use Rattle.aio_park.specs.Driving.{Passes, ReactsAtOnce, ReactsBlocked, SwapsFirst, TakesTurns, TriesRound, TriesUntil, TriesWithoutLimit, TurnsInVain, TurnsOver, Waits, start_of}
+use Rattle.aio_shared.specs.Reacting.{Start, until, start_of}
+use Rattle.aio_park.specs.Driving.{Passes, ReactsAtOnce, ReactsBlocked, SwapsFirst, TakesTurns, TriesRound, TriesUntil, TriesWithoutLimit, TurnsInVain, TurnsOver, Waits}
 use Rattle.aio_park.specs.Driving.Passes.{FindsNoCell, TriesOneRound}
 use Rattle.aio_park.specs.Driving.Waits.{WaitsInRounds, WaitsParked}
 use Rattle.aio_park.proofs.Holding.{try_of}

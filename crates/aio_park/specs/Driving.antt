@@ -3,7 +3,6 @@ use Rattle.std.specs.Prelude.{◌≡◌, ◌≢◌, ℕ, zero, suc, ◌+◌, ◌
 use Rattle.aio_rules.specs.declared.seats.SeatView.{SeatView}
 use Rattle.aio_rules.specs.declared.seats.WordStep.{WordStep}
 use Rattle.aio_rules.specs.declared.seats.WordStep.TheVariants as word_step
-use Rattle.aio_base.specs.ClockBounds.{ClockBounds}
 use Rattle.aio_rules.specs.SharedWords.{after}
 use Rattle.aio_words.specs.Calls.{Parks}
 use Rattle.aio_shared.specs.declared.reacting.ReactedIn.{ReactedIn}
@@ -23,11 +22,6 @@ GainsNone old new = (parker : ℕ) → Gains parker old new []
 -- the member after a step of its seat
 abbrev pub member_did : {N : Type 0} → WordStep → MemberValue N → MemberValue N
 member_did step m = record m { pass = record m.pass { view = after step m.pass.view } }
-
--- what the rounds of a call are handed: no limit, the bounds of the clock and its latest moment, and what the half that waits tells of its waits
-abbrev pub start_of : {C W : Type 0} → (C → ClockBounds) → (C → ℕ) → WaitTells W → C → Start W
-start_of bounds_of latest_of step clock =
-    record { given = None; bounds = bounds_of clock; earliest = latest_of clock; latest = latest_of clock; step = step }
 
 module _ {N W : Type 0} where
   -- Tries to begin a round came to nothing: of the cell changed nothing but its seat, and of the member nothing but its seat, which did nothing but look at

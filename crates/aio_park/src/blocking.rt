@@ -7,10 +7,10 @@ ghost use Rattle.aio_shared.specs.Cells.{IsIdle};
 ghost use Rattle.aio_shared.specs.Inside.{IsLaterInside};
 ghost use Rattle.aio_shared.specs.Members.{IsLaterMember, IsMemberOf};
 ghost use Rattle.aio_shared.specs.OneCell.{IsCellOf};
-ghost use Rattle.aio_shared.specs.Reacting.{until};
+ghost use Rattle.aio_shared.specs.Reacting.{until, start_of};
 ghost use Rattle.aio_words.specs.Seats.{Blocks};
 ghost use Rattle.aio_park.specs.Blocking.{Gains, GainsOneAtMost, HasFaultCause, IsPast, KeepsThread, PolledUntil, gained, mask_list, taken_of};
-ghost use Rattle.aio_park.specs.Driving.{GainsNone, ParksFor, Passes, ReactsAtOnce, ReactsBlocked, SwapsFirst, TakesTurns, TriesUntil, TurnsOver, Waits, member_did, start_of};
+ghost use Rattle.aio_park.specs.Driving.{GainsNone, ParksFor, Passes, ReactsAtOnce, ReactsBlocked, SwapsFirst, TakesTurns, TriesUntil, TurnsOver, Waits, member_did};
 ghost use Rattle.aio_park.specs.Looks.{BlocksWhile, HasSeenWoken, WaitsAfterLooks};
 ghost use Rattle.aio_park.specs.Polls.{Polled};
 

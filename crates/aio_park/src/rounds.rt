@@ -4,12 +4,12 @@ ghost use Rattle.std.specs.Prelude.{◌≡◌, ◌≤◌, ℕ, true, [], IfOk, I
 ghost use Rattle.aio_rules.specs.SharedWords.{blocking};
 ghost use Rattle.aio_shared.specs.Notifying.{NotifiesAsWon};
 ghost use Rattle.aio_shared.specs.Cells.{IsIdle};
-ghost use Rattle.aio_shared.specs.Members.{IsLaterMember, IsMemberOf};
+ghost use Rattle.aio_shared.specs.Members.{IsLaterMember, IsMemberOf, moved_on};
 ghost use Rattle.aio_shared.specs.OneCell.{IsCellOf};
-ghost use Rattle.aio_shared.specs.Reacting.{until};
+ghost use Rattle.aio_shared.specs.Reacting.{until, start_of};
 ghost use Rattle.aio_words.specs.Seats.{IsIdleOrWaits};
 ghost use Rattle.aio_park.specs.Blocking.{HasFaultCause, KeepsThread};
-ghost use Rattle.aio_park.specs.Driving.{Drives, DrivesRound, DrivesRounds, DrivesUntilFault, FailsRound, FailsWithin, GainsNone, Tries, start_of};
+ghost use Rattle.aio_park.specs.Driving.{Drives, DrivesRound, DrivesRounds, DrivesUntilFault, FailsRound, FailsWithin, GainsNone, Tries};
 ghost use Rattle.aio_park.specs.Looks.{WaitsAfterLooks};
 
 use aio_base::{Arm, Clock, EventWait, Notify};
@@ -100,11 +100,7 @@ fn drive_rounds<R: Wait, N: Notify, C: Clock, A: Arm, W: EventWait>(
     ensures keeps { KeepsThread N.fault_count N.is_sure N.call_count C.bounds C.latest
         shared.now m.old m.new clock.old clock.new result }
     ensures idle { IsIdle cell.new }
-    ensures kept { m.new ≡ record m.old {
-      pass = m.new.pass;
-      ops = m.new.ops;
-      notifier = m.new.notifier;
-    } }
+    ensures kept { m.new ≡ moved_on m.old m.new }
     ensures cell { IsCellOf m.new.claim cell.new }
 {
     let mut events = 0;
@@ -141,11 +137,7 @@ fn drive_round<R: Wait, N: Notify, C: Clock, A: Arm, W: EventWait>(
     ensures keeps { KeepsThread N.fault_count N.is_sure N.call_count C.bounds C.latest
         shared.now m.old m.new clock.old clock.new result }
     ensures idle { IsIdle cell.new }
-    ensures kept { m.new ≡ record m.old {
-      pass = m.new.pass;
-      ops = m.new.ops;
-      notifier = m.new.notifier;
-    } }
+    ensures kept { m.new ≡ moved_on m.old m.new }
     ensures cell { IsCellOf m.new.claim cell.new }
 {
     for _ in rt.forever() {
@@ -173,13 +165,8 @@ pub(crate) fn react_once<R: Wait, N: Notify, C: Clock, A: Arm, W: EventWait>(
     requires cell { IsCellOf m.old.claim cell.old }
     requires seat { IsIdleOrWaits cell.old.seat }
     ensures tries { Tries shared.now.words.parkers shared.now.sure_of_arms
-        (record {
-          given = limit;
-          bounds = C.bounds clock.old;
-          earliest = C.latest clock.old;
-          latest = C.latest clock.new;
-          step = W.wait_step;
-        })
+        (record (until (C.latest clock.new) (start_of C.bounds C.latest W.wait_step clock.old))
+        { given = limit })
         cell.old cell.new m.old m.new
         (record { before = N.fault_count m.old.notifier; after = N.fault_count m.new.notifier })
         result }
@@ -189,11 +176,7 @@ pub(crate) fn react_once<R: Wait, N: Notify, C: Clock, A: Arm, W: EventWait>(
     ensures seat { cell.new.seat.view.mode ≡ blocking cell.old.seat.view.mode }
     ensures looks { (parker : ℕ)
         → WaitsAfterLooks parker true cell.old.seat.view cell.new.seat.view }
-    ensures kept { m.new ≡ record m.old {
-      pass = m.new.pass;
-      ops = m.new.ops;
-      notifier = m.new.notifier;
-    } }
+    ensures kept { m.new ≡ moved_on m.old m.new }
     ensures cell { IsCellOf m.new.claim cell.new }
 {
     match shared.react_in(rt, m, cell, clock, limit) {

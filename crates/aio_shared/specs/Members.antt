@@ -48,6 +48,10 @@ with_one_more_made first = record first {
   ops = record first.ops { splits = first.ops.splits + 1 };
 }
 
+-- the first state of a member with the seats and the notifier of the second one, and all else as before
+abbrev pub moved_on : {N : Type 0} → MemberValue N → MemberValue N → MemberValue N
+moved_on m later = record m { pass = later.pass; ops = later.ops; notifier = later.notifier }
+
 -- the second list begins with the first one
 abbrev pub Extends : {X : Type 0} → List X → List X → Type 0
 Extends {X} old new = (more : List X) × (new ≡ old ++ more)

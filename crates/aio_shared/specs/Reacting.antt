@@ -123,6 +123,12 @@ pub record Start (W : Type 0) : Type 1 where
   pub latest : ℕ
   pub step : WaitTells W
 
+-- what a call without a limit is handed, as far as its start tells: the bounds of the clock and its latest moment, and what the half that waits tells of
+-- its waits
+abbrev pub start_of : {C W : Type 0} → (C → ClockBounds) → (C → ℕ) → WaitTells W → C → Start W
+start_of bounds_of latest_of step clock =
+    record { given = None; bounds = bounds_of clock; earliest = latest_of clock; latest = latest_of clock; step = step }
+
 -- the same call, with a later moment as its latest
 abbrev pub until : {W : Type 0} → ℕ → Start W → Start W
 until latest start = record start { latest = latest }

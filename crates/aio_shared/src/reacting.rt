@@ -7,9 +7,9 @@ ghost use Rattle.aio_rules.specs.declared.seats.WordStep.TheVariants as word_ste
 ghost use Rattle.aio_words.specs.Seats.{Belongs, IsIdleOrWaits, is_waiting};
 ghost use Rattle.aio_shared.specs.Cells.{Awaits, EndsInRise};
 ghost use Rattle.aio_shared.specs.Notifying.{NotifiesAsWon};
-ghost use Rattle.aio_shared.specs.Members.{IsLaterMember, IsMemberOf};
+ghost use Rattle.aio_shared.specs.Members.{IsLaterMember, IsMemberOf, moved_on};
 ghost use Rattle.aio_shared.specs.OneCell.{IsCellOf};
-ghost use Rattle.aio_shared.specs.Reacting.{BeginRefused, BeginsAs, BeginsOver, ClockGoesOn, DrainsAtMost, EnterRefused, Enters, Finishes, FinishesOver, NotifyFailed, Reacts, Settles, ReportsRound, Wakes, rose};
+ghost use Rattle.aio_shared.specs.Reacting.{BeginRefused, BeginsAs, BeginsOver, ClockGoesOn, DrainsAtMost, EnterRefused, Enters, Finishes, FinishesOver, NotifyFailed, Reacts, Settles, ReportsRound, Wakes, rose, start_of, until};
 ghost use Rattle.aio_shared.specs.Waking.{TellsFirstWake};
 ghost use Rattle.aio_sources.specs.Events.{HandlesSome};
 ghost use Rattle.aio_ops.specs.Passes.{Drained};
@@ -82,13 +82,8 @@ impl<A: Arm, W: EventWait> Shared<A, W> {
         requires cell { IsCellOf m.old.claim cell.old }
         requires seat { IsIdleOrWaits cell.old.seat }
         ensures reacts { Reacts self.now.words.parkers self.now.sure_of_arms
-            (record {
-              given = limit;
-              bounds = C.bounds clock.old;
-              earliest = C.latest clock.old;
-              latest = C.latest clock.new;
-              step = W.wait_step;
-            })
+            (record (until (C.latest clock.new) (start_of C.bounds C.latest W.wait_step clock.old))
+            { given = limit })
             cell.old cell.new m.old m.new
             (record { before = N.fault_count m.old.notifier; after = N.fault_count m.new.notifier })
             result }
@@ -100,11 +95,7 @@ impl<A: Arm, W: EventWait> Shared<A, W> {
         ensures calls { NotifiesAsWon m.old.pass.view m.new.pass.view
             (N.call_count m.old.notifier) (N.call_count m.new.notifier) }
         ensures seat { cell.new.seat.view.mode ≡ blocking cell.old.seat.view.mode }
-        ensures kept { m.new ≡ record m.old {
-          pass = m.new.pass;
-          ops = m.new.ops;
-          notifier = m.new.notifier;
-        } }
+        ensures kept { m.new ≡ moved_on m.old m.new }
         ensures belongs { IsMemberOf self.now m.new }
         ensures cell { IsCellOf m.new.claim cell.new }
         ensures later { IsLaterMember N.fault_count N.is_sure m.old m.new }
@@ -144,13 +135,8 @@ impl<A: Arm, W: EventWait> Shared<A, W> {
         requires seat { IsIdleOrWaits cell.old.seat }
         ensures kept { m.new ≡ record m.old { ops = m.new.ops } }
         ensures entered { OnOk result (Enters
-            (record {
-              given = limit;
-              bounds = C.bounds clock.old;
-              earliest = C.latest clock.old;
-              latest = C.latest clock.new;
-              step = W.wait_step;
-            })
+            (record (until (C.latest clock.new) (start_of C.bounds C.latest W.wait_step clock.old))
+            { given = limit })
             cell.old cell.new m.old.ops m.new.ops) }
         ensures refused { IfErr result (λ fault.
             EnterRefused fault cell.old cell.new m.old.ops m.new.ops) }

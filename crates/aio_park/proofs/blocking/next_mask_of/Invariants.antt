@@ -1,7 +1,7 @@
 use Rattle.std.proofs.Common.{ℕ, Ok}
-use Rattle.aio_shared.specs.Reacting.{until}
+use Rattle.aio_shared.specs.Reacting.{until, start_of}
 use Rattle.aio_park.specs.Blocking.{KeepsThread}
-use Rattle.aio_park.specs.Driving.{GainsNone, TurnsInVain, start_of}
+use Rattle.aio_park.specs.Driving.{GainsNone, TurnsInVain}
 use Rattle.aio_park.proofs.blocking.next_mask_of.Given as goal
 
 -- the turns so far took no mask

@@ -1,6 +1,5 @@
 use Rattle.std.proofs.Common.{refl, le_refl, Some, Ok, Err}
-use Rattle.aio_shared.specs.Reacting.{until}
-use Rattle.aio_park.specs.Driving.{start_of}
+use Rattle.aio_shared.specs.Reacting.{until, start_of}
 use Rattle.aio_park.specs.Driving.Passes.{FindsNoCell, TriesOneRound}
 use Rattle.aio_park.proofs.Holding.{later_waited, try_of}
 use Rattle.aio_park.proofs.Keeping.{called_turn, keeps_as, keeps_locked, keeps_member}

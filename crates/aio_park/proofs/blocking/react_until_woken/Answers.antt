@@ -5,8 +5,7 @@ use Rattle.aio_rules.specs.SharedWords.{after, blocking}
 use Rattle.aio_words.specs.Seats.{SeatValue}
 use Rattle.aio_shared.specs.Members.{MemberValue}
 use Rattle.aio_shared.proofs.Notifying.{notifies_nobody}
-use Rattle.aio_shared.specs.Reacting.{until}
-use Rattle.aio_park.specs.Driving.{start_of}
+use Rattle.aio_shared.specs.Reacting.{until, start_of}
 use Rattle.aio_park.proofs.Gaining.{gains_itself, gains_neither, member_itself}
 use Rattle.aio_park.proofs.Holding.{tries_after, tries_further, tries_until, try_of}
 use Rattle.aio_park.proofs.Keeping.{keeps_as, keeps_member, keeps_then}

@@ -1,9 +1,9 @@
 use Rattle.std.proofs.Common.{◌≡◌, ℕ, false, Ok}
 use Rattle.aio_rules.specs.declared.seats.Mode.TheVariants.{Block}
 use Rattle.aio_shared.specs.OneCell.{IsCellOf}
-use Rattle.aio_shared.specs.Reacting.{until}
+use Rattle.aio_shared.specs.Reacting.{until, start_of}
 use Rattle.aio_park.specs.Blocking.{KeepsThread}
-use Rattle.aio_park.specs.Driving.{GainsNone, TriesWithoutLimit, start_of}
+use Rattle.aio_park.specs.Driving.{GainsNone, TriesWithoutLimit}
 use Rattle.aio_park.specs.Looks.{WaitsAfterLooks}
 use Rattle.aio_park.proofs.blocking.react_until_woken.Given as goal
 

@@ -1,7 +1,6 @@
 use Rattle.std.proofs.Common.{refl}
 use Rattle.aio_park.specs.Blocking.{mask_list}
-use Rattle.aio_shared.specs.Reacting.{until}
-use Rattle.aio_park.specs.Driving.{start_of}
+use Rattle.aio_shared.specs.Reacting.{until, start_of}
 use Rattle.aio_park.proofs.Gaining.{gains_before, gains_most, gains_where}
 use Rattle.aio_park.proofs.Holding.{swaps_first}
 use Rattle.aio_park.proofs.Keeping.{called_swap, keeps_as, keeps_member, keeps_then}

@@ -1,8 +1,7 @@
 use Rattle.std.proofs.Common.{◌≡◌, true, false, sym, ap, ◌∙◌}
 use Rattle.aio_shared.specs.Members.{MemberValue}
 use Rattle.aio_shared.specs.OneCell.{ClaimValue}
-use Rattle.aio_shared.specs.Reacting.{until}
-use Rattle.aio_park.specs.Driving.{start_of}
+use Rattle.aio_shared.specs.Reacting.{until, start_of}
 use Rattle.aio_park.proofs.Holding.{drives_where, fails_where}
 use Rattle.aio_park.proofs.Keeping.{keeps_locked}
 use Rattle.aio_park.proofs.rounds.drive.Goals as goal

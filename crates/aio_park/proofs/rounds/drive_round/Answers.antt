@@ -1,7 +1,6 @@
 use Rattle.std.proofs.Common.{refl, ap, ◌∙◌, le_refl, None, Ok, Err}
 use Rattle.aio_rules.specs.SharedWords.{blocking}
-use Rattle.aio_shared.specs.Reacting.{until}
-use Rattle.aio_park.specs.Driving.{start_of}
+use Rattle.aio_shared.specs.Reacting.{until, start_of}
 use Rattle.aio_park.proofs.Holding.{nothing_further, try_of, with_bounds}
 use Rattle.aio_park.proofs.Keeping.{keeps_as, keeps_then}
 use Rattle.aio_park.proofs.rounds.drive_round.Goals as goal

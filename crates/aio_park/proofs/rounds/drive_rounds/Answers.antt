@@ -1,6 +1,5 @@
 use Rattle.std.proofs.Common.{rules, arith}
-use Rattle.aio_shared.specs.Reacting.{until}
-use Rattle.aio_park.specs.Driving.{start_of}
+use Rattle.aio_shared.specs.Reacting.{until, start_of}
 use Rattle.aio_park.proofs.Holding.{fails_earlier, from_earlier, one_more, rounds_until}
 use Rattle.aio_park.proofs.Keeping.{keeps_as, keeps_then}
 use Rattle.aio_park.proofs.rounds.drive_rounds.Goals as goal
