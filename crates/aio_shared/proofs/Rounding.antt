@@ -1,5 +1,5 @@
 -- A round of a shared reactor, section by section.
-use Rattle.std.proofs.Common.{◌≡◌, inr, ℕ, ◌≤◌, Bool, true, false, true≢false, List, [], ◌∷◌, ◌++◌, length, append_assoc, append-nil, refl, sym, ap, ◌∙◌, subst, le_trans, Option, Some, None, Result, Ok, Err, IsErr, arith}
+use Rattle.std.proofs.Common.{◌≡◌, inr, ℕ, ◌≤◌, Bool, true, false, true≢false, List, [], ◌∷◌, ◌++◌, length, append_assoc, append-nil, refl, sym, ap, ◌∙◌, subst, le_refl, le_trans, Option, Some, None, Result, Ok, Err, IsErr, arith}
 use Rattle.aio_base.specs.declared.outcomes.CountFault.{CountFault}
 use Rattle.aio_base.specs.declared.outcomes.Waited.{Waited}
 use Rattle.aio_rules.specs.declared.seats.SeatView.{SeatView}
@@ -22,8 +22,9 @@ use Rattle.aio_shared.specs.Members.{IsLaterMember, MemberValue}
 use Rattle.aio_shared.specs.OneCell.{ClaimValue, about, with_empties}
 use Rattle.aio_sources.specs.Events.{KeepsFault, HandlesSome}
 use Rattle.aio_shared.specs.TimerCalls.{PushedNothing}
+use Rattle.aio_timers.specs.Room.{Book}
 use Rattle.aio_shared.proofs.Draining.{drained_pushed_nothing, pushed_nothing_itself, pushed_nothing_further}
-use Rattle.aio_shared.specs.Reacting.{Begins, BeginsAs, Ends, Enters, Finished, Finishes, IsMoment, NotifierCounts, RaisesOnce, RanOut, Reacts, RunsOn, Start, ReportsRound, WaitFailed, Wakes, WholeRound, rose, until}
+use Rattle.aio_shared.specs.Reacting.{Begins, BeginsAs, DrainsThen, Ends, Enters, Finished, Finishes, NotifierCounts, RaisesOnce, RanOut, Reacts, RunsOn, Start, ReportsRound, WaitFailed, Wakes, WholeRound, rose, until}
 
 by_bool : {A : Type 0} (b : Bool) → (b ≡ true → A) → (b ≡ false → A) → A
 by_bool true t f = t refl
@@ -71,18 +72,24 @@ told_wait all_sure (Err told_fault) before after sure f g fault was keeps is cou
 module _ {W : Type 0} (step : WaitTells W) (wait wait_after : W) (number : ℕ) (bounds : ClockBounds) (earliest latest : ℕ) (given : Option ℕ) (ops ops_after : PassView) (begun new : RoundValue) (waits faults after_waits after_faults : ℕ) (sure : Bool)
     (b : BeginsAs number bounds earliest latest given ops ops_after begun) (a : Awaits step begun new wait wait_after waits faults after_waits after_faults sure) where
   fault_is : new.fault ≡ wait_fault a.answer
-  fault_is = ap (λ (r : RoundValue). r.fault) a.round ∙ ap (λ (r : RoundValue). (waited r a.answer new.hand).fault) b.round
+  fault_is = ap (λ (r : RoundValue). r.fault) a.round ∙ ap (λ (r : RoundValue). (waited r a.answer new.hand).fault) b.2.did.0
 
   pub begun_may : (arms : Bool) → MayTell sure arms new.fault
   begun_may arms = subst (λ f. MayTell sure arms f) (sym fault_is) (wait_may a.answer faults after_faults sure arms a.cause)
 
 -- ## The clock
 
-moment_until : (bounds : ClockBounds) (earliest latest later now : ℕ) → latest ≤ later → IsMoment bounds earliest latest now → IsMoment bounds earliest later now
-moment_until bounds earliest latest later now on x = (x.0, le_trans x.1 on, x.2)
-
-moment_from : (bounds all : ClockBounds) (earliest later latest now : ℕ) → bounds ≡ all → earliest ≤ later → IsMoment bounds later latest now → IsMoment all earliest latest now
-moment_from bounds all earliest later latest now same on x = (le_trans on x.0, x.1, subst (λ (b : ClockBounds). IsWithin b now) same x.2)
+-- what was done between two moments of a clock was done between two wider ones
+drains_within : (bounds all : ClockBounds) (earliest later latest stop : ℕ) (ops ops_after : PassView) (found : Book) (Did : ℕ → Book → Type 0) → bounds ≡ all → earliest ≤ later → latest ≤ stop
+    → DrainsThen bounds later latest ops ops_after found Did → DrainsThen all earliest stop ops ops_after found Did
+drains_within bounds all earliest later latest stop ops ops_after found Did same from on x = record {
+  count = x.count;
+  book = x.book;
+  drains = x.drains;
+  now = x.now;
+  moment = (le_trans from x.moment.0, le_trans x.moment.1 on, subst (λ (b : ClockBounds). IsWithin b x.now) same x.moment.2);
+  did = x.did;
+}
 
 -- ## The seat
 
@@ -102,7 +109,7 @@ module _ {W : Type 0} where
   begins_until start latest old new ops ops_after on b = let a = b.begins in record {
     room = b.room;
     begun = b.begun;
-    begins = record { count = a.count; found = a.found; book = a.book; drains = a.drains; now = a.now; moment = moment_until start.bounds start.earliest start.latest latest a.now on a.moment; round = a.round };
+    begins = (a.0, a.1, drains_within start.bounds start.bounds start.earliest start.earliest start.latest latest ops ops_after a.0 _ refl (le_refl start.earliest) on a.2);
     found = b.found;
     seat = b.seat;
     waits = b.waits;
@@ -156,15 +163,15 @@ module _ {W : Type 0} where
         handled = handled.round;
         handles = h;
         none_left = none;
-        finishes = record { count = f.count; found = f.found; book = f.book; drains = f.drains; now = f.now; moment = moment_from bounds start.bounds start.earliest later start.latest f.now one_clock on f.moment; round = f.round };
+        finishes = (f.0, f.1, drains_within bounds start.bounds start.earliest later start.latest start.latest between ops_after f.0 _ one_clock on (le_refl start.latest) f.2);
         cell = new_is;
         drained = d;
-        idle = ap (λ (r : RoundValue). r.running) f.round;
+        idle = ap (λ (r : RoundValue). r.running) f.2.did.0;
         whole = whole;
       }
 
       fault_kept : new.round.fault ≡ handled.round.fault
-      fault_kept = ap (λ (r : RoundValue). r.fault) f.round
+      fault_kept = ap (λ (r : RoundValue). r.fault) f.2.did.0
 
       -- a wait that is told failed in this call, where the round began in it
       wait_failed : (fault : CountFault) → new.round.fault ≡ Some (round_fault.Wait fault) → old.round.running ≡ false → WaitFailed old new fault
@@ -212,7 +219,7 @@ module _ {N W : Type 0} (all_sure : Bool) (start : Start W) (old entered handled
     new_says = let s = handled_says m3.claim claim_is in record {
       words = ap (λ (c : CellValue W). c.seat.words) fc ∙ s.words;
       wait = ap (λ (c : CellValue W). c.sure) fc ∙ s.wait;
-      fault = subst (λ x. MayTell m3.claim.sure_of_wait m3.claim.sure_of_arms x) (sym (ap (λ (r : RoundValue). r.fault) f.round)) s.fault;
+      fault = subst (λ x. MayTell m3.claim.sure_of_wait m3.claim.sure_of_arms x) (sym (ap (λ (r : RoundValue). r.fault) f.2.did.0)) s.fault;
     }
 
     module _ (parkers : ℕ) (woke : Wakes parkers new.round.taken m2.pass m3.pass) where

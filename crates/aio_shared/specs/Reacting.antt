@@ -34,47 +34,32 @@ pub record ClockGoesOn {C : Type 0} (bounds_of : C → ClockBounds) (latest_of :
   pub bounds : bounds_of new ≡ bounds_of old
   pub latest : latest_of old ≤ latest_of new
 
--- A round of this number began: the queue of operations was drained into a book of timers, and then a pass over the book that the drain left was made,
--- at a moment of the clock.
-pub record BeginsAs (number : ℕ) (bounds : ClockBounds) (earliest latest : ℕ) (given : Option ℕ) (ops ops_after : PassView) (new : RoundValue) : Type 0 where
+-- The queue of operations was drained into this book of timers, and then this was done to the book that the drain left, at a moment of the clock.
+pub record DrainsThen (bounds : ClockBounds) (earliest latest : ℕ) (ops ops_after : PassView) (found : Book) (Did : ℕ → Book → Type 0) : Type 0 where
   pub count : ℕ
-  pub found : Book
   pub book : Book
   pub drains : Drains count ops ops_after found book
   pub now : ℕ
   pub moment : IsMoment bounds earliest latest now
-  pub round : new ≡ begun number (limit_of now book.entries given) (due_wakers now book.entries)
+  pub did : Did now book
 
--- The same over this book, which the pass left so.
-pub record BeginsOver (number : ℕ) (bounds : ClockBounds) (earliest latest : ℕ) (given : Option ℕ) (ops ops_after : PassView) (found left : Book) (new : RoundValue) : Type 0 where
-  pub count : ℕ
-  pub book : Book
-  pub drains : Drains count ops ops_after found book
-  pub now : ℕ
-  pub moment : IsMoment bounds earliest latest now
-  pub round : new ≡ begun number (limit_of now book.entries given) (due_wakers now book.entries)
-  pub left_is : left.entries ≡ after_pass now book.entries
+-- A round of this number began over this book, once the queue was drained into it: by a pass, which left the book so.
+abbrev pub BeginsOver : ℕ → ClockBounds → ℕ → ℕ → Option ℕ → PassView → PassView → Book → Book → RoundValue → Type 0
+BeginsOver number bounds earliest latest given ops ops_after found left new = DrainsThen bounds earliest latest ops ops_after found
+    (λ now book. (new ≡ begun number (limit_of now book.entries given) (due_wakers now book.entries)) × (left.entries ≡ after_pass now book.entries))
 
--- A round ended: the queue of operations was drained into a book of timers, and then, where the round asks for it, a second pass over the book that the
--- drain left was made, at a moment of the clock.
-pub record Finishes (bounds : ClockBounds) (earliest latest : ℕ) (ops ops_after : PassView) (old new : RoundValue) : Type 0 where
-  pub count : ℕ
-  pub found : Book
-  pub book : Book
-  pub drains : Drains count ops ops_after found book
-  pub now : ℕ
-  pub moment : IsMoment bounds earliest latest now
-  pub round : new ≡ finished old (second_wakers old now book.entries)
+-- the same over some book
+abbrev pub BeginsAs : ℕ → ClockBounds → ℕ → ℕ → Option ℕ → PassView → PassView → RoundValue → Type 0
+BeginsAs number bounds earliest latest given ops ops_after new = (found left : Book) × BeginsOver number bounds earliest latest given ops ops_after found left new
 
--- The same over this book, which the pass, where one was made, left so.
-pub record FinishesOver (bounds : ClockBounds) (earliest latest : ℕ) (ops ops_after : PassView) (found left : Book) (old new : RoundValue) : Type 0 where
-  pub count : ℕ
-  pub book : Book
-  pub drains : Drains count ops ops_after found book
-  pub now : ℕ
-  pub moment : IsMoment bounds earliest latest now
-  pub round : new ≡ finished old (second_wakers old now book.entries)
-  pub left_is : left.entries ≡ second_book old now book.entries
+-- A round ended over this book, once the queue was drained into it: where the round asks for it by a second pass, which left the book so.
+abbrev pub FinishesOver : ClockBounds → ℕ → ℕ → PassView → PassView → Book → Book → RoundValue → RoundValue → Type 0
+FinishesOver bounds earliest latest ops ops_after found left old new = DrainsThen bounds earliest latest ops ops_after found
+    (λ now book. (new ≡ finished old (second_wakers old now book.entries)) × (left.entries ≡ second_book old now book.entries))
+
+-- the same over some book
+abbrev pub Finishes : ClockBounds → ℕ → ℕ → PassView → PassView → RoundValue → RoundValue → Type 0
+Finishes bounds earliest latest ops ops_after old new = (found left : Book) × FinishesOver bounds earliest latest ops ops_after found left old new
 
 -- What want of memory leaves of a book: it is as it was, or the queue was drained into it, and nothing else was done to it.
 abbrev pub DrainsAtMost : PassView → PassView → Book → Book → Type 0
