@@ -1,5 +1,5 @@
 -- What a thread does inside a source, and what it does with the waker that a poll replaced.
-use Rattle.std.specs.Prelude.{◌≡◌, ℕ, ◌≤◌, List, Option, None, Some, Result, Ok, Err, IsOk}
+use Rattle.std.specs.Prelude.{◌≡◌, ℕ, ◌≤◌, Bool, List, Option, None, Some, IfSome, Result, Ok, Err, IsOk}
 use Rattle.aio_base.specs.declared.names.Waker.{Waker}
 use Rattle.aio_base.specs.declared.outcomes.ArmFault.{ArmFault}
 use Rattle.aio_base.specs.declared.outcomes.CountFault.{CountFault}
@@ -12,7 +12,9 @@ use Rattle.aio_rules.specs.SharedWords.{after}
 use Rattle.aio_rules.specs.WordCalls.{wake_steps}
 use Rattle.aio_source.specs.declared.source.SourceCell.{SourceCell}
 use Rattle.aio_words.specs.Calls.{Offers}
-use Rattle.aio_shared.specs.Inside.{InsideValue}
+use Rattle.aio_shared.specs.Inside.{InsideValue, IsLaterInside, with_seat}
+use Rattle.aio_react.specs.Hosts.{NotifierTells}
+use Rattle.aio_sources.specs.Visits.{IsUnsureArm}
 use Rattle.aio_sources.specs.Sources.{SourceRefValue}
 use Rattle.aio_shared.specs.declared.polling.PollFault.{PollFault}
 use Rattle.aio_shared.specs.declared.polling.PollFault.TheVariants as poll_fault
@@ -72,3 +74,11 @@ notify_fault_in (Ready (Err (poll_fault.Notify fault))) = Some fault
 notify_fault_in (Ready (Err (poll_fault.Arm fault))) = None
 notify_fault_in (Ready (Ok output)) = None
 notify_fault_in Pending = None
+
+-- What work inside a source leaves of the host, by its answer: the fault of an arm is one of this source, in a reactor that is not sure of its arms; that
+-- of the notifier has a cause in it, and tells its counts; nothing changed but the member's seat and notifier; and the host is later.
+pub record LeavesInside {N O : Type 0} (faults : N → ℕ) (is_sure : N → Bool) (all_sure : Bool) (key : ℕ) (old new : InsideValue N) (answer : Poll (Result O PollFault)) : Type 0 where
+  pub arm : IfSome (arm_fault_in answer) (IsUnsureArm all_sure key)
+  pub notifier : NotifierTells (is_sure old.member.notifier) (faults old.member.notifier) (faults new.member.notifier) (notify_fault_in answer)
+  pub kept : new ≡ with_seat old new.member.pass new.member.notifier
+  pub later : IsLaterInside faults is_sure old new

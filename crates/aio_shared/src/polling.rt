@@ -5,7 +5,7 @@ ghost use Rattle.std.specs.Prelude.{◌≡◌, ℕ, false, List, length, None, S
 ghost use Rattle.aio_react.specs.Hosts.{NotifierTells, wake_fault};
 ghost use Rattle.aio_shared.specs.Inside.{IsLaterInside, with_seat};
 ghost use Rattle.aio_sources.specs.Visits.{IsUnsureArm, PollsCell, TriesCell, arm_fault_of};
-ghost use Rattle.aio_shared.specs.Polling.{VisitsOnce, WakesReplaced, WorksOn, answer_of, arm_fault_in, notify_fault_in};
+ghost use Rattle.aio_shared.specs.Polling.{LeavesInside, VisitsOnce, WakesReplaced, WorksOn, answer_of, arm_fault_in};
 ghost use Rattle.aio_sources.specs.Sources.{Adds, HandsBack, outside, refusal_of};
 
 use crate::inside::Inside;
@@ -71,13 +71,8 @@ impl<R: Wait, N: Notify, A: Arm, W: EventWait> Inside<R, N, A, W> {
         requires outside { s.old.inside ≡ false }
         ensures works { WorksOn N.call_count N.notify_step A.rest V.visits
             visit s.old s.new self.old self.new result }
-        ensures arm { IfSome (arm_fault_in result) (IsUnsureArm A.all_sure s.old.key) }
-        ensures notifier { NotifierTells (N.is_sure self.old.member.notifier)
-            (N.fault_count self.old.member.notifier) (N.fault_count self.new.member.notifier)
-            (notify_fault_in result) }
-        ensures kept { self.new
-            ≡ with_seat self.old self.new.member.pass self.new.member.notifier }
-        ensures later { IsLaterInside N.fault_count N.is_sure self.old self.new }
+        ensures leaves { LeavesInside N.fault_count N.is_sure A.all_sure s.old.key
+            self.old self.new result }
     {
         let tried = self.enter_and_leave(s, visit);
         let woken = self.wake_replaced(tried.replaced);
@@ -98,13 +93,8 @@ impl<R: Wait, N: Notify, A: Arm, W: EventWait> Inside<R, N, A, W> {
             (PollsCell A.arm_step A.interests A.rest A.fault_count A.is_sure)
             (record { dir = dir; waker = w }) s.old s.new self.old self.new result }
         ensures token { s.new ≡ s.old }
-        ensures arm { IfSome (arm_fault_in result) (IsUnsureArm A.all_sure s.old.key) }
-        ensures notifier { NotifierTells (N.is_sure self.old.member.notifier)
-            (N.fault_count self.old.member.notifier) (N.fault_count self.new.member.notifier)
-            (notify_fault_in result) }
-        ensures kept { self.new
-            ≡ with_seat self.old self.new.member.pass self.new.member.notifier }
-        ensures later { IsLaterInside N.fault_count N.is_sure self.old self.new }
+        ensures leaves { LeavesInside N.fault_count N.is_sure A.all_sure s.old.key
+            self.old self.new result }
     {
         self.visit_source(s, PollDir { dir, waker: w })
     }
@@ -126,13 +116,8 @@ impl<R: Wait, N: Notify, A: Arm, W: EventWait> Inside<R, N, A, W> {
             (record { attempt = attempt; poll = record { dir = dir; waker = w } })
             s.old s.new self.old self.new result }
         ensures token { s.new ≡ record s.old { rest = s.new.rest } }
-        ensures arm { IfSome (arm_fault_in result) (IsUnsureArm A.all_sure s.old.key) }
-        ensures notifier { NotifierTells (N.is_sure self.old.member.notifier)
-            (N.fault_count self.old.member.notifier) (N.fault_count self.new.member.notifier)
-            (notify_fault_in result) }
-        ensures kept { self.new
-            ≡ with_seat self.old self.new.member.pass self.new.member.notifier }
-        ensures later { IsLaterInside N.fault_count N.is_sure self.old self.new }
+        ensures leaves { LeavesInside N.fault_count N.is_sure A.all_sure s.old.key
+            self.old self.new result }
     {
         let poll = PollDir { dir, waker: w };
         self.visit_source(s, TryDir { attempt, poll })
