@@ -1,14 +1,10 @@
 -- Tries of a seat to push an operation, one after the other, and what they leave of it.
-use Rattle.std.proofs.Common.{◌≡◌, ℕ, zero, suc, ◌+◌, Bool, true, false, Result, Ok, Err, OnOk, OnErr, inr, [], ◌∷◌, length, refl, sym, ap, ◌∙◌, subst, append-nil, le_refl, le_trans, arith}
+use Rattle.std.proofs.Common.{◌≡◌, ℕ, zero, suc, Bool, true, false, Result, Ok, Err, OnOk, OnErr, inr, [], ◌∷◌, length, refl, sym, ap, ◌∙◌, subst, append-nil, le_refl, le_trans, arith}
 use Rattle.aio_base.specs.declared.outcomes.OutOfMemory.{OutOfMemory}
 use Rattle.aio_ops.specs.Passes.{PassView, FindsFull, next_entry, pushed, Drained}
 use Rattle.aio_timers.specs.declared.op.TimerOp.{TimerOp}
-use Rattle.aio_shared.proofs.Draining.{drained_pushed_nothing, pushed_nothing_further}
 use Rattle.aio_shared.specs.Later.{extends_itself, extends_further}
-use Rattle.aio_shared.specs.TimerCalls.{CarriesOut, FoundFull, IsLaterPass, PushedNothing, Tries, TriesAgain, TriesInVain}
-
-pub tries_once_more : (n : ℕ) (a b c : PassView) → TriesAgain n a b → TriesInVain b c → TriesAgain (n + 1) a c
-tries_once_more n a b c many once = let next : suc n ≡ n + 1 = omega arith in subst (λ k. TriesAgain k a c) next (b, many, once)
+use Rattle.aio_shared.specs.TimerCalls.{CarriesOut, FoundFull, IsLaterPass, Tries, TriesAgain, TriesInVain}
 
 later_itself : (p : PassView) → IsLaterPass p p
 later_itself p = record {
@@ -84,30 +80,3 @@ kept_out op n p q r (Err refused) is full drained = tt
 pub last_later : (n : ℕ) (p q r : PassView) (answer : Result (Unit {0}) OutOfMemory) → FoundFull n p q → OnOk answer (Drained q r) → OnErr answer (r ≡ q) → IsLaterPass p r
 last_later n p q r (Ok done) full drained same = later_further p q r (found_full_later n p q full) (drained_later q r drained)
 last_later n p q r (Err refused) full drained same = subst (λ s. IsLaterPass p s) (sym same) (found_full_later n p q full)
-
-found_none_but_full : (p q : PassView) → FindsFull p q → PushedNothing p q
-found_none_but_full p q f = record {
-  entries = [];
-  pass = f.pass ∙ (let empties : q.empties ≡ p.empties = ap (λ (r : PassView). r.empties) f.pass in λ i. record p { pulled = sym (append-nil p.pulled) i; fulls = q.fulls; empties = sym empties i });
-  fulls = f.counted.0;
-  empties = (let same : q.empties ≡ p.empties = ap (λ (r : PassView). r.empties) f.pass in omega arith);
-}
-
-pub found_full_once : (p q : PassView) → FindsFull p q → FoundFull 0 p q
-found_full_once p q f = record {
-  first = q;
-  full = f;
-  again = refl;
-  nothing = found_none_but_full p q f;
-  fulls = f.counted;
-}
-
-pub found_full_further : (n : ℕ) (p q r : PassView) → FoundFull n p q → TriesInVain q r → FoundFull (n + 1) p r
-found_full_further n p q r f t =
-    let room_fulls : t.room.fulls ≡ q.fulls = ap (λ (v : PassView). v.fulls) t.drained.pass in record {
-      first = f.first;
-      full = f.full;
-      again = tries_once_more n f.first q r f.again t;
-      nothing = pushed_nothing_further p q r f.nothing (pushed_nothing_further q t.room r (drained_pushed_nothing q t.room t.drained) (found_none_but_full t.room r t.full));
-      fulls = (omega (arith, f.fulls.0, t.full.counted.0, room_fulls), omega (arith, f.fulls.0, f.fulls.1, t.full.counted.0, t.full.counted.1, room_fulls));
-    }
