@@ -203,7 +203,7 @@ module _ {N W : Type 0} where
       → Takes m.claim holding.claim taken → holding ≡ record m { claim = holding.claim } → later ≡ record done { claim = record done.claim { holds = false } }
       → IfOk r (λ events. DrivesRounds faults parkers all_sure start rounds taken left holding done events) → IfOk r (Drives W faults parkers all_sure start rounds m later)
   drives_where faults parkers all_sure start rounds m holding done later taken left (Ok events) takes rest gave made =
-      record { taken = taken; left = left; holding = holding; done = done; takes = takes; rest = rest; rounds_are = made; gave = gave }
+      record { taken = taken; left = left; holding = holding; done = done; takes = takes; rest = rest; did = made; gave = gave }
   drives_where faults parkers all_sure start rounds m holding done later taken left (Err fault) takes rest gave made = tt
 
   -- a turn swapped its mask, and then did what it did by what that found
@@ -295,4 +295,4 @@ module _ {N W : Type 0} where
         → IfErr r (FailsWithin faults parkers all_sure start rounds taken left holding done) → IfErr r (DrivesUntilFault W faults parkers all_sure start rounds m later)
     fails_where start rounds m holding done later taken left (Ok events) takes rest gave fails = tt
     fails_where start rounds m holding done later taken left (Err fault) takes rest gave fails =
-        record { taken = taken; left = left; holding = holding; done = done; takes = takes; rest = rest; fails = fails; gave = gave }
+        record { taken = taken; left = left; holding = holding; done = done; takes = takes; rest = rest; did = fails; gave = gave }

@@ -5,11 +5,18 @@ use Rattle.aio_shared.specs.declared.reacting.ReactedIn.{ReactedIn}
 use Rattle.aio_shared.specs.declared.reacting.ReactFault.{ReactFault}
 use Rattle.aio_shared.specs.Cells.{CellValue, WaitTells}
 use Rattle.aio_shared.specs.Members.{MemberValue, SharedValue}
+use Rattle.aio_shared.specs.OneCell.{ClaimValue}
 use Rattle.aio_shared.specs.Reacting.{Start, until, start_of}
-use Rattle.aio_park.specs.Driving.{Passes, ReactsAtOnce, ReactsBlocked, SwapsFirst, TakesTurns, TriesRound, TriesUntil, TriesWithoutLimit, TurnsInVain, TurnsOver, Waits}
+use Rattle.aio_park.specs.Driving.{Holds, Passes, ReactsAtOnce, ReactsBlocked, SwapsFirst, TakesTurns, TriesRound, TriesUntil, TriesWithoutLimit, TurnsInVain, TurnsOver, Waits}
 use Rattle.aio_park.specs.Driving.Passes.{FindsNoCell, TriesOneRound}
 use Rattle.aio_park.specs.Driving.Waits.{WaitsInRounds, WaitsParked}
 use Rattle.aio_park.proofs.Holding.{try_of}
+
+-- what a member did with the cell that it held, said so
+held_as : {N W : Type 0} (Taken : ClaimValue → ClaimValue → CellValue W → Type 0) (Did Also : CellValue W → CellValue W → MemberValue N → MemberValue N → Type 0) (m later : MemberValue N)
+    → ((taken left : CellValue W) (holding done : MemberValue N) → Did taken left holding done → Also taken left holding done) → Holds Taken Did m later → Holds Taken Also m later
+held_as Taken Did Also m later also x =
+    record { taken = x.taken; left = x.left; holding = x.holding; done = x.done; takes = x.takes; rest = x.rest; did = also x.taken x.left x.holding x.done x.did; gave = x.gave }
 
 module _ {N W : Type 0} (faults : N → ℕ) (parkers : ℕ) (all_sure : Bool) (start : Start W) (bounds : ClockBounds) (earliest latest : ℕ)
     (same : bounds ≡ start.bounds) (before : start.earliest ≤ earliest) (on : latest ≤ start.latest) where
@@ -36,30 +43,11 @@ module _ {N W : Type 0} (faults : N → ℕ) (parkers : ℕ) (all_sure : Bool) (
 
   at_once_wider : (m later : MemberValue N) (r : Result (Option ReactedIn) ReactFault)
       → ReactsAtOnce W faults parkers all_sure within m later r → ReactsAtOnce W faults parkers all_sure start m later r
-  at_once_wider m later r x = record {
-    taken = x.taken;
-    left = x.left;
-    holding = x.holding;
-    done = x.done;
-    takes = x.takes;
-    rest = x.rest;
-    tries = try_wider (Some 0) x.taken x.left x.holding x.done r x.tries;
-    gave = x.gave;
-  }
+  at_once_wider m later r x = held_as _ _ _ m later (λ taken left holding done. try_wider (Some 0) taken left holding done r) x
 
   blocked_wider : (parker : ℕ) (m later : MemberValue N) (r : Result (Unit {0}) ReactFault)
       → ReactsBlocked W faults parkers all_sure within parker m later r → ReactsBlocked W faults parkers all_sure start parker m later r
-  blocked_wider parker m later r x = record {
-    taken = x.taken;
-    left = x.left;
-    holding = x.holding;
-    done = x.done;
-    takes = x.takes;
-    rest = x.rest;
-    blocks = x.blocks;
-    tries = all_wider r x.taken x.left x.holding x.done x.tries;
-    gave = x.gave;
-  }
+  blocked_wider parker m later r x = held_as _ _ _ m later (λ taken left holding done x. (x.0, all_wider r taken left holding done x.1)) x
 
   passes_wider : (m later : MemberValue N) → Passes W faults parkers all_sure within m later → Passes W faults parkers all_sure start m later
   passes_wider m later (FindsNoCell none kept) = FindsNoCell none kept

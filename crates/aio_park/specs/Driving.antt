@@ -10,7 +10,7 @@ use Rattle.aio_shared.specs.declared.reacting.ReactFault.{ReactFault}
 use Rattle.aio_shared.specs.declared.reacting.ReactFault.TheVariants as react_fault
 use Rattle.aio_shared.specs.Cells.{CellValue, WaitTells}
 use Rattle.aio_shared.specs.Members.{Extends, MemberValue, SharedValue}
-use Rattle.aio_shared.specs.OneCell.{FindsNone, Takes, TakesCell}
+use Rattle.aio_shared.specs.OneCell.{ClaimValue, FindsNone, Takes, TakesCell}
 use Rattle.aio_shared.specs.Reacting.{BeginsNone, NotifierCounts, Reacts, Start}
 use Rattle.aio_park.specs.Blocking.{Clocked, Gains}
 use Rattle.aio_park.specs.Looks.{BlocksWhile}
@@ -107,6 +107,17 @@ module _ {N W : Type 0} where
     TriesUntil (Err fault) old new m later = (tries : ℕ) × (last from : CellValue W) × (by : MemberValue N)
         × TriesWithoutLimit tries old last m by × TriesRound None last from by later (Err fault) × (new ≡ record from { seat = new.seat })
 
+-- A member took a cell so, did this with it, and gave it back.
+pub record Holds {N W : Type 0} (Taken : ClaimValue → ClaimValue → CellValue W → Type 0) (Did : CellValue W → CellValue W → MemberValue N → MemberValue N → Type 0) (m later : MemberValue N) : Type 0 where
+  pub taken : CellValue W
+  pub left : CellValue W
+  pub holding : MemberValue N
+  pub done : MemberValue N
+  pub takes : Taken m.claim holding.claim taken
+  pub rest : holding ≡ record m { claim = holding.claim }
+  pub did : Did taken left holding done
+  pub gave : later ≡ record done { claim = record done.claim { holds = false } }
+
 -- A member parked for this parker, and did nothing else: only the last swap of the park found woken slots, these.
 pub record ParksFor {N : Type 0} (parker mask : ℕ) (m later : MemberValue N) : Type 0 where
   pub parks : Parks parker mask m.pass.view later.pass.view
@@ -115,37 +126,16 @@ pub record ParksFor {N : Type 0} (parker mask : ℕ) (m later : MemberValue N) :
 -- the kinds of cell are those of one half that waits
 module _ {N : Type 0} (W : Type 0) (faults : N → ℕ) where
   -- A member took the cell, made so many rounds without a limit, which handled so many events together, and gave the cell back.
-  pub record Drives (parkers : ℕ) (all_sure : Bool) (start : Start W) (rounds : ℕ) (m later : MemberValue N) (events : ℕ) : Type 0 where
-    pub taken : CellValue W
-    pub left : CellValue W
-    pub holding : MemberValue N
-    pub done : MemberValue N
-    pub takes : Takes m.claim holding.claim taken
-    pub rest : holding ≡ record m { claim = holding.claim }
-    pub rounds_are : DrivesRounds faults parkers all_sure start rounds taken left holding done events
-    pub gave : later ≡ record done { claim = record done.claim { holds = false } }
+  abbrev pub Drives : ℕ → Bool → Start W → ℕ → MemberValue N → MemberValue N → ℕ → Type 0
+  Drives parkers all_sure start rounds m later events = Holds Takes (λ taken left holding done. DrivesRounds faults parkers all_sure start rounds taken left holding done events) m later
 
   -- A member took the cell, made fewer rounds without a limit than this, then one that failed by this fault, and gave the cell back.
-  pub record DrivesUntilFault (parkers : ℕ) (all_sure : Bool) (start : Start W) (rounds : ℕ) (m later : MemberValue N) (fault : ReactFault) : Type 0 where
-    pub taken : CellValue W
-    pub left : CellValue W
-    pub holding : MemberValue N
-    pub done : MemberValue N
-    pub takes : Takes m.claim holding.claim taken
-    pub rest : holding ≡ record m { claim = holding.claim }
-    pub fails : FailsWithin faults parkers all_sure start rounds taken left holding done fault
-    pub gave : later ≡ record done { claim = record done.claim { holds = false } }
+  abbrev pub DrivesUntilFault : ℕ → Bool → Start W → ℕ → MemberValue N → MemberValue N → ReactFault → Type 0
+  DrivesUntilFault parkers all_sure start rounds m later fault = Holds Takes (λ taken left holding done. FailsWithin faults parkers all_sure start rounds taken left holding done fault) m later
 
   -- A member took the cell by one try, tried a round with the limit 0, which came to this, and gave the cell back.
-  pub record ReactsAtOnce (parkers : ℕ) (all_sure : Bool) (start : Start W) (m later : MemberValue N) (answer : Result (Option ReactedIn) ReactFault) : Type 0 where
-    pub taken : CellValue W
-    pub left : CellValue W
-    pub holding : MemberValue N
-    pub done : MemberValue N
-    pub takes : TakesCell m.claim holding.claim taken
-    pub rest : holding ≡ record m { claim = holding.claim }
-    pub tries : TriesRound faults parkers all_sure start (Some 0) taken left holding done answer
-    pub gave : later ≡ record done { claim = record done.claim { holds = false } }
+  abbrev pub ReactsAtOnce : ℕ → Bool → Start W → MemberValue N → MemberValue N → Result (Option ReactedIn) ReactFault → Type 0
+  ReactsAtOnce parkers all_sure start m later answer = Holds TakesCell (λ taken left holding done. TriesRound faults parkers all_sure start (Some 0) taken left holding done answer) m later
 
   -- What a member does for the reactor where its task may be polled at once.
   pub data Passes (parkers : ℕ) (all_sure : Bool) (start : Start W) (m later : MemberValue N) : Type 0 where
@@ -155,16 +145,9 @@ module _ {N : Type 0} (W : Type 0) (faults : N → ℕ) where
     TriesOneRound : (reacted : Option ReactedIn) → ReactsAtOnce parkers all_sure start m later (Ok reacted) → Passes parkers all_sure start m later
 
   -- A member took the cell by one try, tried rounds without a limit while the cell's seat blocked this parker, and gave the cell back.
-  pub record ReactsBlocked (parkers : ℕ) (all_sure : Bool) (start : Start W) (parker : ℕ) (m later : MemberValue N) (answer : Result (Unit {0}) ReactFault) : Type 0 where
-    pub taken : CellValue W
-    pub left : CellValue W
-    pub holding : MemberValue N
-    pub done : MemberValue N
-    pub takes : TakesCell m.claim holding.claim taken
-    pub rest : holding ≡ record m { claim = holding.claim }
-    pub blocks : BlocksWhile parker taken.seat.view left.seat.view answer
-    pub tries : TriesUntil faults parkers all_sure start answer taken left holding done
-    pub gave : later ≡ record done { claim = record done.claim { holds = false } }
+  abbrev pub ReactsBlocked : ℕ → Bool → Start W → ℕ → MemberValue N → MemberValue N → Result (Unit {0}) ReactFault → Type 0
+  ReactsBlocked parkers all_sure start parker m later answer =
+      Holds TakesCell (λ taken left holding done. BlocksWhile parker taken.seat.view left.seat.view answer × TriesUntil faults parkers all_sure start answer taken left holding done) m later
 
   -- How a member waits for woken slots of this parker, and what its last swap of the mask then finds.
   pub data Waits (parkers : ℕ) (all_sure : Bool) (start : Start W) (parker mask : ℕ) (m later : MemberValue N) : Type 0 where

@@ -29,7 +29,7 @@ returns-in-Ok-clause-passes g c = TriesOneRound c.in-Ok.field-0 (record {
   done = c.react_once-reacted.new.m;
   takes = c.in-Some.ensures.some;
   rest = c.in-Some.ensures.kept;
-  tries = try_of g.N.Faults.fault_count c.args.shared.now.words.parkers c.args.shared.now.sure_of_arms (until (g.C.Clock.latest c.react_once-reacted.new.clock) (start_of g.C.Clock.bounds g.C.Clock.latest g.W.EventWait.wait_step c.args.clock.now)) (Some 0) (g.C.Clock.bounds c.args.clock.now)
+  did = try_of g.N.Faults.fault_count c.args.shared.now.words.parkers c.args.shared.now.sure_of_arms (until (g.C.Clock.latest c.react_once-reacted.new.clock) (start_of g.C.Clock.bounds g.C.Clock.latest g.W.EventWait.wait_step c.args.clock.now)) (Some 0) (g.C.Clock.bounds c.args.clock.now)
       (g.C.Clock.latest c.args.clock.now) (g.C.Clock.latest c.react_once-reacted.new.clock) c.in-Some.cell c.react_once-reacted.new.cell c.try_round.new.m c.react_once-reacted.new.m (Ok c.in-Ok.field-0)
       refl (le_refl _) (le_refl _) c.in-Ok.ensures.tries;
   gave = c.give_round.ensures.gave;
@@ -43,7 +43,7 @@ returns-in-Err-clause-fails g c = record {
   done = c.react_once-reacted.new.m;
   takes = c.in-Some.ensures.some;
   rest = c.in-Some.ensures.kept;
-  tries = try_of g.N.Faults.fault_count c.args.shared.now.words.parkers c.args.shared.now.sure_of_arms (until (g.C.Clock.latest c.react_once-reacted.new.clock) (start_of g.C.Clock.bounds g.C.Clock.latest g.W.EventWait.wait_step c.args.clock.now)) (Some 0) (g.C.Clock.bounds c.args.clock.now)
+  did = try_of g.N.Faults.fault_count c.args.shared.now.words.parkers c.args.shared.now.sure_of_arms (until (g.C.Clock.latest c.react_once-reacted.new.clock) (start_of g.C.Clock.bounds g.C.Clock.latest g.W.EventWait.wait_step c.args.clock.now)) (Some 0) (g.C.Clock.bounds c.args.clock.now)
       (g.C.Clock.latest c.args.clock.now) (g.C.Clock.latest c.react_once-reacted.new.clock) c.in-Some.cell c.react_once-reacted.new.cell c.try_round.new.m c.react_once-reacted.new.m (Err c.in-Err.fault)
       refl (le_refl _) (le_refl _) c.in-Err.ensures.tries;
   gave = c.give_round.ensures.gave;

@@ -44,8 +44,7 @@ returns-in-Ok-clause-waits g c = WaitsInRounds c.give_round.new.m (record {
   done = c.react_blocking-reacted.new.m;
   takes = c.in-Some.ensures.some;
   rest = c.in-Some.ensures.kept;
-  blocks = c.in-Ok.ensures.blocks;
-  tries = c.in-Ok.ensures.tries;
+  did = (c.in-Ok.ensures.blocks, c.in-Ok.ensures.tries);
   gave = c.give_round.ensures.gave;
 }) c.take.ensures.swapped
 
@@ -57,7 +56,6 @@ returns-in-Err-clause-fails g c = record {
   done = c.react_blocking-reacted.new.m;
   takes = c.in-Some.ensures.some;
   rest = c.in-Some.ensures.kept;
-  blocks = c.in-Err.ensures.blocks;
-  tries = c.in-Err.ensures.tries;
+  did = (c.in-Err.ensures.blocks, c.in-Err.ensures.tries);
   gave = c.give_round.ensures.gave;
 }
