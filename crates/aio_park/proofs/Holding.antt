@@ -17,7 +17,7 @@ use Rattle.aio_shared.specs.Members.{Extends, IsLaterMember, MemberValue}
 use Rattle.aio_shared.specs.OneCell.{Takes, ClaimValue, with_empties}
 use Rattle.aio_shared.specs.Reacting.{BeginsNone, NotifierCounts, Reacts, Start, until}
 use Rattle.aio_park.specs.Blocking.{gained}
-use Rattle.aio_park.specs.Driving.{ComesToNothing, Drives, DrivesRound, DrivesRounds, DrivesUntilFault, FailsRound, FailsWithin, Passes, ReactsAtOnce, ReactsBlocked, SwapsFirst, Tries, TriesRound, TriesUntil, TriesWithoutLimit, Waits, member_did}
+use Rattle.aio_park.specs.Driving.{ComesToNothing, Drives, DrivesRound, DrivesRounds, DrivesUntilFault, FailsRound, FailsWithin, Holds, Passes, ReactsAtOnce, ReactsBlocked, SwapsFirst, Tries, TriesRound, TriesUntil, TriesWithoutLimit, Waits, member_did}
 use Rattle.aio_park.proofs.Gaining.{Follows, gained_is, member_itself}
 
 le_same : (a b : ℕ) → b ≡ a → a ≤ b
@@ -198,12 +198,17 @@ module _ {N W : Type 0} where
     events_are = x.events_are;
   }
 
+  -- a member took a cell so, did this with it, and gave it back
+  pub held : (Taken : ClaimValue → ClaimValue → CellValue W → Type 0) (Did : CellValue W → CellValue W → MemberValue N → MemberValue N → Type 0) (taken left : CellValue W) (m holding done later : MemberValue N)
+      → Taken m.claim holding.claim taken → holding ≡ record m { claim = holding.claim } → Did taken left holding done → later ≡ record done { claim = record done.claim { holds = false } } → Holds Taken Did m later
+  held Taken Did taken left m holding done later takes rest did gave = record { taken = taken; left = left; holding = holding; done = done; takes = takes; rest = rest; did = did; gave = gave }
+
   -- the rounds of a member that took the cell and gave it back
   pub drives_where : (faults : N → ℕ) (parkers : ℕ) (all_sure : Bool) (start : Start W) (rounds : ℕ) (m holding done later : MemberValue N) (taken left : CellValue W) (r : Result ℕ ReactFault)
       → Takes m.claim holding.claim taken → holding ≡ record m { claim = holding.claim } → later ≡ record done { claim = record done.claim { holds = false } }
       → IfOk r (λ events. DrivesRounds faults parkers all_sure start rounds taken left holding done events) → IfOk r (Drives W faults parkers all_sure start rounds m later)
   drives_where faults parkers all_sure start rounds m holding done later taken left (Ok events) takes rest gave made =
-      record { taken = taken; left = left; holding = holding; done = done; takes = takes; rest = rest; did = made; gave = gave }
+      held _ _ taken left m holding done later takes rest made gave
   drives_where faults parkers all_sure start rounds m holding done later taken left (Err fault) takes rest gave made = tt
 
   -- a turn swapped its mask, and then did what it did by what that found
@@ -295,4 +300,4 @@ module _ {N W : Type 0} where
         → IfErr r (FailsWithin faults parkers all_sure start rounds taken left holding done) → IfErr r (DrivesUntilFault W faults parkers all_sure start rounds m later)
     fails_where start rounds m holding done later taken left (Ok events) takes rest gave fails = tt
     fails_where start rounds m holding done later taken left (Err fault) takes rest gave fails =
-        record { taken = taken; left = left; holding = holding; done = done; takes = takes; rest = rest; did = fails; gave = gave }
+        held _ _ taken left m holding done later takes rest fails gave

@@ -10,13 +10,12 @@ use Rattle.aio_shared.specs.Reacting.{Start, until, start_of}
 use Rattle.aio_park.specs.Driving.{Holds, Passes, ReactsAtOnce, ReactsBlocked, SwapsFirst, TakesTurns, TriesRound, TriesUntil, TriesWithoutLimit, TurnsInVain, TurnsOver, Waits}
 use Rattle.aio_park.specs.Driving.Passes.{FindsNoCell, TriesOneRound}
 use Rattle.aio_park.specs.Driving.Waits.{WaitsInRounds, WaitsParked}
-use Rattle.aio_park.proofs.Holding.{try_of}
+use Rattle.aio_park.proofs.Holding.{held, try_of}
 
 -- what a member did with the cell that it held, said so
 held_as : {N W : Type 0} (Taken : ClaimValue → ClaimValue → CellValue W → Type 0) (Did Also : CellValue W → CellValue W → MemberValue N → MemberValue N → Type 0) (m later : MemberValue N)
     → ((taken left : CellValue W) (holding done : MemberValue N) → Did taken left holding done → Also taken left holding done) → Holds Taken Did m later → Holds Taken Also m later
-held_as Taken Did Also m later also x =
-    record { taken = x.taken; left = x.left; holding = x.holding; done = x.done; takes = x.takes; rest = x.rest; did = also x.taken x.left x.holding x.done x.did; gave = x.gave }
+held_as Taken Did Also m later also x = held Taken Also x.taken x.left m x.holding x.done later x.takes x.rest (also x.taken x.left x.holding x.done x.did) x.gave
 
 module _ {N W : Type 0} (faults : N → ℕ) (parkers : ℕ) (all_sure : Bool) (start : Start W) (bounds : ClockBounds) (earliest latest : ℕ)
     (same : bounds ≡ start.bounds) (before : start.earliest ≤ earliest) (on : latest ≤ start.latest) where

@@ -2,7 +2,7 @@ use Rattle.std.proofs.Common.{refl}
 use Rattle.aio_park.specs.Blocking.{mask_list}
 use Rattle.aio_park.specs.Driving.Waits.{WaitsInRounds, WaitsParked}
 use Rattle.aio_park.proofs.Gaining.{gains_after, gains_locked}
-use Rattle.aio_park.proofs.Holding.{later_waited}
+use Rattle.aio_park.proofs.Holding.{held, later_waited}
 use Rattle.aio_park.proofs.Keeping.{called_park, called_swap, called_turn, keeps_as, keeps_locked, keeps_member, keeps_then}
 use Rattle.aio_park.proofs.blocking.wait_for_slots.Goals as goal
 
@@ -37,25 +37,13 @@ pub returns-in-None-clause-waits : goal.returns-in-None-clause-waits
 returns-in-None-clause-waits g c = WaitsParked c.try_round.new.m (c.in-None.ensures.none refl) c.in-None.ensures.kept c.park.ensures.parks
 
 pub returns-in-Ok-clause-waits : goal.returns-in-Ok-clause-waits
-returns-in-Ok-clause-waits g c = WaitsInRounds c.give_round.new.m (record {
-  taken = c.in-Some.cell;
-  left = c.react_blocking-reacted.new.cell;
-  holding = c.try_round.new.m;
-  done = c.react_blocking-reacted.new.m;
-  takes = c.in-Some.ensures.some;
-  rest = c.in-Some.ensures.kept;
-  did = (c.in-Ok.ensures.blocks, c.in-Ok.ensures.tries);
-  gave = c.give_round.ensures.gave;
-}) c.take.ensures.swapped
+returns-in-Ok-clause-waits g c =
+    WaitsInRounds c.give_round.new.m
+    (held _ _ c.in-Some.cell c.react_blocking-reacted.new.cell c.args.m.now c.try_round.new.m c.react_blocking-reacted.new.m c.give_round.new.m c.in-Some.ensures.some c.in-Some.ensures.kept
+    (c.in-Ok.ensures.blocks, c.in-Ok.ensures.tries) c.give_round.ensures.gave)
+    c.take.ensures.swapped
 
 pub returns-in-Err-clause-fails : goal.returns-in-Err-clause-fails
-returns-in-Err-clause-fails g c = record {
-  taken = c.in-Some.cell;
-  left = c.react_blocking-reacted.new.cell;
-  holding = c.try_round.new.m;
-  done = c.react_blocking-reacted.new.m;
-  takes = c.in-Some.ensures.some;
-  rest = c.in-Some.ensures.kept;
-  did = (c.in-Err.ensures.blocks, c.in-Err.ensures.tries);
-  gave = c.give_round.ensures.gave;
-}
+returns-in-Err-clause-fails g c =
+    held _ _ c.in-Some.cell c.react_blocking-reacted.new.cell c.args.m.now c.try_round.new.m c.react_blocking-reacted.new.m c.give_round.new.m c.in-Some.ensures.some c.in-Some.ensures.kept
+    (c.in-Err.ensures.blocks, c.in-Err.ensures.tries) c.give_round.ensures.gave
