@@ -36,10 +36,7 @@ module _ {N W : Type 0} where
   -- A call of `react_in` told this fault. Where the fault is that no round can begin, the member looked at the ticker afterwards.
   abbrev pub Fails : ℕ → Bool → Start W → CellValue W → CellValue W → MemberValue N → MemberValue N → NotifierCounts → ReactFault → Type 0
   Fails parkers all_sure start old new m later notifier react_fault.RoundsSpent = BeginsNone old new × (later ≡ record m { pass = later.pass })
-  Fails parkers all_sure start old new m later notifier (react_fault.Wait fault) = Reacts parkers all_sure start old new m later notifier (Err (react_fault.Wait fault))
-  Fails parkers all_sure start old new m later notifier (react_fault.Arm fault) = Reacts parkers all_sure start old new m later notifier (Err (react_fault.Arm fault))
-  Fails parkers all_sure start old new m later notifier (react_fault.Notify fault) = Reacts parkers all_sure start old new m later notifier (Err (react_fault.Notify fault))
-  Fails parkers all_sure start old new m later notifier react_fault.OutOfMemory = Reacts parkers all_sure start old new m later notifier (Err react_fault.OutOfMemory)
+  Fails parkers all_sure start old new m later notifier fault = Reacts parkers all_sure start old new m later notifier (Err fault)
 
   -- a call of `react_in`, and a look at the ticker where that answered that no round can begin
   abbrev pub Tries : ℕ → Bool → Start W → CellValue W → CellValue W → MemberValue N → MemberValue N → NotifierCounts → Result (Option ReactedIn) ReactFault → Type 0
