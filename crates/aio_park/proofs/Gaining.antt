@@ -9,7 +9,6 @@ use Rattle.aio_base.specs.declared.names.Waker.{Waker}
 use Rattle.aio_rules.specs.declared.seats.SeatView.{SeatView}
 use Rattle.aio_rules.specs.declared.seats.WordStep.{WordStep}
 use Rattle.aio_rules.specs.declared.seats.WordStep.TheVariants as word_step
-use Rattle.aio_rules.specs.SharedWords.{after}
 use Rattle.aio_rules.specs.WordCalls.{Found, all_wake_steps, is_look_at_end, park_steps, slot_steps, taken_masks, wake_steps}
 use Rattle.aio_rules.proofs.WordCounts.{taken-append, taken-park}
 use Rattle.aio_words.specs.Calls.{Parks}
@@ -108,15 +107,6 @@ gains_further parker a b c xs ys x y = record {
 -- a seat that is the same has gained nothing
 pub gains_same : (p q : SeatValue) → q ≡ p → GainsNone p.view q.view
 gains_same p q same = subst (λ (s : SeatValue). GainsNone p.view s.view) (sym same) (gains_itself p.view)
-
--- one look at the ticker
-pub gains_look : (found : ℕ) (v w : SeatView) → w ≡ after (word_step.LoadTicker found) v → GainsNone v w
-gains_look found v w looked = gains_none (word_step.LoadTicker found ∷ []) v w (ap (λ (x : SeatView). x.did) looked) (ap (λ (x : SeatView). x.splits) looked) refl
-
--- one swap of the parker's mask
-pub gains_swap : (parker found : ℕ) (v w : SeatView) → w ≡ after (word_step.SwapMask parker found) v → Gains parker v w (mask_list found)
-gains_swap parker found v w swapped =
-    record { steps = word_step.SwapMask parker found ∷ []; did = ap (λ (x : SeatView). x.did) swapped; splits = ap (λ (x : SeatView). x.splits) swapped; taken = refl; own = own_swap parker found }
 
 -- a swap that found nothing took nothing, and any other took what it found
 pub mask_none : (mask : ℕ) → mask ≡ 0 → mask_list mask ≡ []
