@@ -1,6 +1,6 @@
 //! A thread that does nothing but make rounds of a shared reactor.
 
-ghost use Rattle.std.specs.Prelude.{◌≡◌, ◌≤◌, ℕ, true, [], IfOk, IfErr};
+ghost use Rattle.std.specs.Prelude.{◌≡◌, ◌≤◌, ℕ, true, IfOk, IfErr};
 ghost use Rattle.aio_rules.specs.SharedWords.{blocking};
 ghost use Rattle.aio_shared.specs.Notifying.{NotifiesAsWon};
 ghost use Rattle.aio_shared.specs.Cells.{IsIdle};

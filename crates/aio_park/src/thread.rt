@@ -2,12 +2,11 @@
 
 ghost use Rattle.std.specs.Prelude.{◌≡◌, ◌↔◌, ℕ, ◌+◌, ◌<◌, ◌≤◌, length, Err, IfOk, IfErr, OnOk, OnErr};
 ghost use Rattle.aio_ops.specs.Passes.{pass_limit};
-ghost use Rattle.aio_shared.specs.Notifying.{NotifiesAsWon};
 ghost use Rattle.aio_shared.specs.HandOver.{all_slots, first_slots_but};
 ghost use Rattle.aio_shared.specs.Inside.{IsLaterInside};
 ghost use Rattle.aio_shared.specs.Members.{IsNewMember, with_one_more_made};
-ghost use Rattle.aio_shared.specs.Reacting.{IsFaultWithin, Wakes};
 ghost use Rattle.aio_shared.specs.Starting.{IsFirstMember, IsNewReactor};
+ghost use Rattle.aio_shared.specs.Waking.{MemberWakes};
 ghost use Rattle.aio_park.specs.Blocking.{HasFaultCause, IsPast, PolledUntil, gained, taken_of};
 ghost use Rattle.aio_park.specs.Driving.{TurnsOver};
 
@@ -160,12 +159,9 @@ impl<R: Wait + Copy, N: Notify, A: Arm, W: EventWait, C: Clock> Thread<R, N, A, 
     ///
     /// The first fault of the notifier, between two counts of its faults in this call.
     pub fn hand_over(&mut self) -> Result<(), CountFault>
-        ensures woke { Wakes self.old.host.shared.words.parkers (first_slots_but self.old.parker)
-            self.old.host.member.pass self.new.host.member.pass }
-        ensures calls { NotifiesAsWon self.old.host.member.pass.view self.new.host.member.pass.view
-            (N.call_count self.old.host.member.notifier) (N.call_count self.new.host.member.notifier) }
-        ensures cause { IfErr result (IsFaultWithin
-            (N.fault_count self.old.host.member.notifier) (N.fault_count self.new.host.member.notifier)) }
+        ensures wakes { MemberWakes N.call_count N.fault_count N.is_sure N.notify_step
+            self.old.host.shared.words.parkers (first_slots_but self.old.parker)
+            self.old.host.member self.new.host.member result }
         ensures later { IsLaterInside N.fault_count N.is_sure self.old.host self.new.host }
         ensures kept { (self.new.parker ≡ self.old.parker) × (self.new.clock ≡ self.old.clock) }
     {
@@ -181,12 +177,9 @@ impl<R: Wait + Copy, N: Notify, A: Arm, W: EventWait, C: Clock> Thread<R, N, A, 
     ///
     /// The first fault of the notifier, between two counts of its faults in this call.
     pub fn wake_all(&mut self) -> Result<(), CountFault>
-        ensures woke { Wakes self.old.host.shared.words.parkers all_slots
-            self.old.host.member.pass self.new.host.member.pass }
-        ensures calls { NotifiesAsWon self.old.host.member.pass.view self.new.host.member.pass.view
-            (N.call_count self.old.host.member.notifier) (N.call_count self.new.host.member.notifier) }
-        ensures cause { IfErr result (IsFaultWithin
-            (N.fault_count self.old.host.member.notifier) (N.fault_count self.new.host.member.notifier)) }
+        ensures wakes { MemberWakes N.call_count N.fault_count N.is_sure N.notify_step
+            self.old.host.shared.words.parkers all_slots
+            self.old.host.member self.new.host.member result }
         ensures later { IsLaterInside N.fault_count N.is_sure self.old.host self.new.host }
         ensures kept { (self.new.parker ≡ self.old.parker) × (self.new.clock ≡ self.old.clock) }
     {

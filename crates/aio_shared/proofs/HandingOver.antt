@@ -1,44 +1,15 @@
--- The wakes of a hand-over, one more behind those so far.
-use Rattle.std.proofs.Common.{◌≡◌, ℕ, ◌+◌, ◌*◌, ◌≤◌, Bool, cond, not, eqb, List, [], ◌∷◌, ◌++◌, length, length-append, append_assoc, append-nil, sym, ap, ◌∙◌, subst, le_refl, arith}
+-- The slots of a hand-over, one more behind those so far, and the member that woke them.
+use Rattle.std.proofs.Common.{◌≡◌, ℕ, ◌+◌, ◌*◌, ◌≤◌, Bool, cond, not, eqb, List, [], ◌∷◌, ◌++◌, append-nil, sym, ap, ◌∙◌, subst, le_refl, arith}
 use Rattle.std.proofs.lemmas.Bool.{eq-eqb, ne_eqb}
 use Rattle.std.proofs.lemmas.List.FromFn.{map-range_with_len_more, filter_of_map_range_with_len_more}
 use Rattle.aio_base.specs.declared.names.Waker.{Waker}
-use Rattle.aio_rules.specs.declared.seats.WordStep.{WordStep}
-use Rattle.aio_rules.specs.declared.seats.SeatView.{SeatView}
 use Rattle.aio_base.specs.Devices.{TellsFaults}
-use Rattle.aio_rules.specs.WordCalls.{and_did, Found, wake_steps, all_wake_steps}
+use Rattle.aio_rules.specs.WordCalls.{all_wake_steps}
 use Rattle.aio_words.specs.Seats.{SeatValue}
 use Rattle.aio_shared.specs.HandOver.{first_slot, first_slots_of, slots_below}
 use Rattle.aio_shared.specs.Members.{IsLaterMember, MemberValue}
 use Rattle.aio_shared.specs.OneCell.{ClaimValue, with_empties}
 use Rattle.aio_shared.specs.Reacting.{Wakes}
-
-one_behind : (wakers : List Waker) (parkers : ℕ) (founds : List Found) (found : Found) (w : Waker) → length founds ≡ length wakers
-    → all_wake_steps (wakers ++ w ∷ []) parkers (founds ++ found ∷ []) ≡ all_wake_steps wakers parkers founds ++ wake_steps w.0 parkers found
-one_behind [] parkers [] found w n = append-nil (wake_steps w.0 parkers found)
-one_behind [] parkers (f ∷ fs) found w n = absurd (omega arith)
-one_behind (x ∷ xs) parkers [] found w n = absurd (omega arith)
-one_behind (x ∷ xs) parkers (f ∷ fs) found w n =
-    ap (λ l. wake_steps x.0 parkers f ++ l) (one_behind xs parkers fs found w (omega arith)) ∙ sym (append_assoc (wake_steps x.0 parkers f) (all_wake_steps xs parkers fs) (wake_steps w.0 parkers found))
-
-did_twice : (a b : List WordStep) (v : SeatView) → and_did b (and_did a v) ≡ and_did (a ++ b) v
-did_twice a b v = λ i. record v { did = append_assoc v.did a b i }
-
--- one waker more, behind those woken so far
-pub wakes_behind : (wakers : List Waker) (parkers : ℕ) (w : Waker) (p q r : SeatValue) (found : Found)
-    → Wakes parkers wakers p q → r.words ≡ q.words → r.view ≡ and_did (wake_steps w.0 parkers found) q.view → Wakes parkers (wakers ++ w ∷ []) p r
-wakes_behind wakers parkers w p q r found x words view = record {
-  founds = x.founds ++ found ∷ [];
-  each = (let a : length (x.founds ++ found ∷ []) ≡ length x.founds + 1 = length-append x.founds (found ∷ []) in
-      let b : length (wakers ++ w ∷ []) ≡ length wakers + 1 = length-append wakers (w ∷ []) in let c = x.each in omega arith);
-  seat = (let steps = all_wake_steps wakers parkers x.founds in
-      let last = wake_steps w.0 parkers found in
-      let v : r.view ≡ and_did (all_wake_steps (wakers ++ w ∷ []) parkers (x.founds ++ found ∷ [])) p.view =
-      view ∙ ap (λ (s : SeatValue). and_did last s.view) x.seat ∙ did_twice steps last p.view
-      ∙ ap (λ l. and_did l p.view) (sym (one_behind wakers parkers x.founds found w x.each)) in
-      let ws : r.words ≡ p.words = words ∙ ap (λ (s : SeatValue). s.words) x.seat in
-      λ k. record { words = ws k; view = v k });
-}
 
 pub slots_more : (n : ℕ) → slots_below (n + 1) ≡ slots_below n ++ record { 0 = n } ∷ []
 slots_more n = map-range_with_len_more (λ w. record { 0 = w }) 0 n n (omega arith)

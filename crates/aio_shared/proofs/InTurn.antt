@@ -1,5 +1,5 @@
 -- One waker more is woken behind those that were woken in turn.
-use Rattle.std.proofs.Common.{◌≡◌, ℕ, List, [], ◌∷◌, ◌++◌, refl, sym, ap, ◌∙◌, subst, Option, Some, None, Result, Ok, Err}
+use Rattle.std.proofs.Common.{◌≡◌, ℕ, List, [], ◌∷◌, ◌++◌, refl, ap, ◌∙◌, subst, Option, None, Result, Ok, Err}
 use Rattle.aio_base.specs.declared.names.Waker.{Waker}
 use Rattle.aio_base.specs.declared.outcomes.CountFault.{CountFault}
 use Rattle.aio_base.specs.declared.outcomes.Failed.{Failed}
@@ -36,10 +36,3 @@ module _ {N : Type 0} (calls faults : N → ℕ) (step : N → Result (Unit {0})
     woke = in_turn_behind wakers so_far.answers waker answer view next last old mid new so_far.woke one;
     first = ap (λ t. first_fault t answer) so_far.first ∙ among_behind so_far.answers answer;
   }
-
--- the same of equal numbers, views, notifiers and faults
-pub tells_as : {N : Type 0} (calls faults : N → ℕ) (step : N → Result (Unit {0}) Failed → N → Type 0) (wakers : List Waker) (parkers of_these : ℕ) (view same_view last : SeatView) (old same new : N)
-    (told answer : Option CountFault) → parkers ≡ of_these → view ≡ same_view → old ≡ same → told ≡ answer → TellsFirst calls faults step parkers wakers view last old new told
-    → TellsFirst calls faults step of_these wakers same_view last same new answer
-tells_as {N} calls faults step wakers parkers of_these view same_view last old same new told answer a b c d tells =
-    subst (λ (x : ℕ × SeatView × N × Option CountFault). TellsFirst calls faults step x.0 wakers x.1 last x.2 new x.3) (λ i. (a i, b i, c i, d i)) tells

@@ -1,11 +1,17 @@
 -- Wakers that are woken one after the other, and the first fault of their wakes.
-use Rattle.std.specs.Prelude.{◌≡◌, ℕ, ⊤, List, [], ◌∷◌, Option, None, Some, Result, Ok, Err, IfErr}
+use Rattle.std.specs.Prelude.{◌≡◌, ℕ, ⊤, Bool, List, [], ◌∷◌, Option, None, Some, IsSome, IfSome, Result, Ok, Err, IfErr}
 use Rattle.aio_base.specs.declared.names.Waker.{Waker}
 use Rattle.aio_base.specs.declared.outcomes.CountFault.{CountFault}
 use Rattle.aio_base.specs.declared.outcomes.Failed.{Failed}
 use Rattle.aio_rules.specs.declared.seats.SeatView.{SeatView}
 use Rattle.aio_rules.specs.WordCalls.{wake_steps}
+use Rattle.aio_base.specs.Devices.{TellsFaults}
 use Rattle.aio_words.specs.Calls.{Offers, TellsCounts}
+use Rattle.aio_words.specs.Seats.{SeatValue}
+use Rattle.aio_react.specs.Hosts.{wake_fault}
+use Rattle.aio_shared.specs.Members.{MemberValue}
+use Rattle.aio_shared.specs.Notifying.{NotifiesAsWon}
+use Rattle.aio_shared.specs.Reacting.{IsFaultWithin, Wakes}
 use Rattle.aio_shared.specs.declared.reacting.ReactedIn.{ReactedIn}
 use Rattle.aio_shared.specs.declared.reacting.ReactFault.{ReactFault}
 use Rattle.aio_shared.specs.declared.reacting.ReactFault.TheVariants as react_fault
@@ -44,3 +50,19 @@ module _ {N : Type 0} (calls faults : N → ℕ) (step : N → Result (Unit {0})
   TellsFirstWake wakers view last old new (Err (react_fault.Arm fault)) = (told : Option CountFault) × TellsFirst wakers view last old new told
   TellsFirstWake wakers view last old new (Err react_fault.RoundsSpent) = ⊤
   TellsFirstWake wakers view last old new (Err react_fault.OutOfMemory) = ⊤
+
+-- A seat woke these wakers in order, and no others, also past one whose wake failed: its notifier was called exactly where a step won `notified`, and this is
+-- the first fault of the wakes, where there was one, whose two counts stand between those of the notifier before and after.
+pub record WakesThese {N : Type 0} (calls_of faults_of : N → ℕ) (is_sure : N → Bool) (step : N → Result (Unit {0}) Failed → N → Type 0) (parkers : ℕ) (wakers : List Waker)
+    (old new : SeatValue) (notifier left : N) (told : Option CountFault) : Type 0 where
+  pub woke : Wakes parkers wakers old new
+  pub calls : NotifiesAsWon old.view new.view (calls_of notifier) (calls_of left)
+  pub faults : TellsFaults faults_of is_sure notifier left (IsSome told)
+  pub cause : IfSome told (IsFaultWithin (faults_of notifier) (faults_of left))
+  pub first : TellsFirst calls_of faults_of step parkers wakers old.view new.view notifier left told
+
+-- a member woke these wakers so, and answered the first fault
+abbrev pub MemberWakes : {N : Type 0} → (N → ℕ) → (N → ℕ) → (N → Bool) → (N → Result (Unit {0}) Failed → N → Type 0) → ℕ → List Waker → MemberValue N → MemberValue N
+    → Result (Unit {0}) CountFault → Type 0
+MemberWakes calls_of faults_of is_sure step parkers wakers m later answer =
+    WakesThese calls_of faults_of is_sure step parkers wakers m.pass later.pass m.notifier later.notifier (wake_fault answer)

@@ -1,14 +1,10 @@
 //! The wakes by which a thread hands over: of the other parkers, and of every task.
 
-ghost use Rattle.std.specs.Prelude.{◌≡◌, IfErr, IfSome, IsErr, IsSome};
-ghost use Rattle.aio_base.specs.Devices.{TellsFaults};
+ghost use Rattle.std.specs.Prelude.{◌≡◌};
 ghost use Rattle.aio_words.specs.Seats.{Belongs};
-ghost use Rattle.aio_shared.specs.Notifying.{NotifiesAsWon};
 ghost use Rattle.aio_shared.specs.HandOver.{all_slots, first_slots_but};
 ghost use Rattle.aio_shared.specs.Members.{IsLaterMember, IsMemberOf};
-ghost use Rattle.aio_react.specs.Hosts.{wake_fault};
-ghost use Rattle.aio_shared.specs.Reacting.{IsFaultWithin, Wakes};
-ghost use Rattle.aio_shared.specs.Waking.{TellsFirst};
+ghost use Rattle.aio_shared.specs.Waking.{MemberWakes, WakesThese};
 
 use crate::members::Member;
 use crate::shared::Shared;
@@ -32,18 +28,9 @@ impl<A: Arm, W: EventWait> Shared<A, W> {
         parker: u32,
     ) -> Result<(), CountFault>
         requires belongs { IsMemberOf self.now m.old }
-        ensures woke { Wakes self.now.words.parkers (first_slots_but parker)
-            m.old.pass m.new.pass }
-        ensures calls { NotifiesAsWon m.old.pass.view m.new.pass.view
-            (N.call_count m.old.notifier) (N.call_count m.new.notifier) }
-        ensures first { TellsFirst N.call_count N.fault_count N.notify_step self.now.words.parkers
-            (first_slots_but parker) m.old.pass.view m.new.pass.view m.old.notifier m.new.notifier
-            (wake_fault result) }
+        ensures wakes { MemberWakes N.call_count N.fault_count N.is_sure N.notify_step
+            self.now.words.parkers (first_slots_but parker) m.old m.new result }
         ensures kept { m.new ≡ record m.old { pass = m.new.pass; notifier = m.new.notifier } }
-        ensures faults { TellsFaults N.fault_count N.is_sure m.old.notifier m.new.notifier
-            (IsErr result) }
-        ensures cause { IfErr result
-            (IsFaultWithin (N.fault_count m.old.notifier) (N.fault_count m.new.notifier)) }
         ensures belongs { IsMemberOf self.now m.new }
         ensures later { IsLaterMember N.fault_count N.is_sure m.old m.new }
     {
@@ -63,17 +50,9 @@ impl<A: Arm, W: EventWait> Shared<A, W> {
     /// others were woken all the same.
     pub fn wake_all_slots<N: Notify>(&self, m: &mut Member<N, W>) -> Result<(), CountFault>
         requires belongs { IsMemberOf self.now m.old }
-        ensures woke { Wakes self.now.words.parkers all_slots m.old.pass m.new.pass }
-        ensures calls { NotifiesAsWon m.old.pass.view m.new.pass.view
-            (N.call_count m.old.notifier) (N.call_count m.new.notifier) }
-        ensures first { TellsFirst N.call_count N.fault_count N.notify_step self.now.words.parkers
-            all_slots m.old.pass.view m.new.pass.view m.old.notifier m.new.notifier
-            (wake_fault result) }
+        ensures wakes { MemberWakes N.call_count N.fault_count N.is_sure N.notify_step
+            self.now.words.parkers all_slots m.old m.new result }
         ensures kept { m.new ≡ record m.old { pass = m.new.pass; notifier = m.new.notifier } }
-        ensures faults { TellsFaults N.fault_count N.is_sure m.old.notifier m.new.notifier
-            (IsErr result) }
-        ensures cause { IfErr result
-            (IsFaultWithin (N.fault_count m.old.notifier) (N.fault_count m.new.notifier)) }
         ensures belongs { IsMemberOf self.now m.new }
         ensures later { IsLaterMember N.fault_count N.is_sure m.old m.new }
     {
@@ -93,12 +72,8 @@ fn wake_first_slots<N: Notify>(
     n: &mut N,
 ) -> Option<CountFault>
     requires { Belongs words.now p.old }
-    ensures woke { Wakes words.now.parkers (first_slots_but parker) p.old p.new }
-    ensures calls { NotifiesAsWon p.old.view p.new.view (N.call_count n.old) (N.call_count n.new) }
-    ensures faults { TellsFaults N.fault_count N.is_sure n.old n.new (IsSome result) }
-    ensures counts { IfSome result (IsFaultWithin (N.fault_count n.old) (N.fault_count n.new)) }
-    ensures first { TellsFirst N.call_count N.fault_count N.notify_step words.now.parkers
-        (first_slots_but parker) p.old.view p.new.view n.old n.new result }
+    ensures wakes { WakesThese N.call_count N.fault_count N.is_sure N.notify_step words.now.parkers
+        (first_slots_but parker) p.old p.new n.old n.new result }
 {
     let mut first = None;
     for other in 0..16u32 {
@@ -114,12 +89,8 @@ fn wake_first_slots<N: Notify>(
 /// Wakes every slot, in order, also past one that failed. The first fault, where there was one.
 fn wake_slots<N: Notify>(words: &Words, p: &mut Pass, n: &mut N) -> Option<CountFault>
     requires { Belongs words.now p.old }
-    ensures woke { Wakes words.now.parkers all_slots p.old p.new }
-    ensures calls { NotifiesAsWon p.old.view p.new.view (N.call_count n.old) (N.call_count n.new) }
-    ensures faults { TellsFaults N.fault_count N.is_sure n.old n.new (IsSome result) }
-    ensures counts { IfSome result (IsFaultWithin (N.fault_count n.old) (N.fault_count n.new)) }
-    ensures first { TellsFirst N.call_count N.fault_count N.notify_step words.now.parkers
-        all_slots p.old.view p.new.view n.old n.new result }
+    ensures wakes { WakesThese N.call_count N.fault_count N.is_sure N.notify_step words.now.parkers
+        all_slots p.old p.new n.old n.new result }
 {
     let mut first = None;
     for slot in 0..1024u32 {

@@ -1,11 +1,9 @@
 //! The wakes of a list of wakers.
 
-ghost use Rattle.std.specs.Prelude.{◌≡◌, IfSome, IsSome};
-ghost use Rattle.aio_base.specs.Devices.{TellsFaults};
+ghost use Rattle.std.specs.Prelude.{◌≡◌};
 ghost use Rattle.aio_words.specs.Seats.{Belongs};
-ghost use Rattle.aio_shared.specs.Notifying.{NotifiesAsWon};
-ghost use Rattle.aio_shared.specs.Reacting.{IsFaultWithin, Wakes, first_fault};
-ghost use Rattle.aio_shared.specs.Waking.{TellsFirst};
+ghost use Rattle.aio_shared.specs.Reacting.{first_fault};
+ghost use Rattle.aio_shared.specs.Waking.{WakesThese};
 
 use aio_base::{CountFault, Notify, Waker};
 use aio_words::{Pass, Words};
@@ -19,12 +17,8 @@ pub(crate) fn wake_each<N: Notify>(
     n: &mut N,
 ) -> Option<CountFault>
     requires { Belongs words.now p.old }
-    ensures woke { Wakes words.now.parkers wakers.now p.old p.new }
-    ensures calls { NotifiesAsWon p.old.view p.new.view (N.call_count n.old) (N.call_count n.new) }
-    ensures faults { TellsFaults N.fault_count N.is_sure n.old n.new (IsSome result) }
-    ensures counts { IfSome result (IsFaultWithin (N.fault_count n.old) (N.fault_count n.new)) }
-    ensures first { TellsFirst N.call_count N.fault_count N.notify_step words.now.parkers
-        wakers.now p.old.view p.new.view n.old n.new result }
+    ensures wakes { WakesThese N.call_count N.fault_count N.is_sure N.notify_step words.now.parkers
+        wakers.now p.old p.new n.old n.new result }
 {
     let mut first = None;
     for waker in wakers {

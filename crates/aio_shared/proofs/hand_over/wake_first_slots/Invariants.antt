@@ -1,16 +1,6 @@
-use Rattle.std.proofs.Common.{IfSome, IsSome}
-use Rattle.aio_base.specs.Devices.{TellsFaults}
-use Rattle.aio_shared.specs.Notifying.{NotifiesAsWon}
 use Rattle.aio_shared.specs.HandOver.{first_slots_of}
-use Rattle.aio_shared.specs.Reacting.{IsFaultWithin, Wakes}
-use Rattle.aio_shared.specs.Waking.{TellsFirst}
+use Rattle.aio_shared.specs.Waking.{WakesThese}
 use Rattle.aio_shared.proofs.hand_over.wake_first_slots.Given as goal
 
 abbrev pub invariant-loop-other : goal.invariant-loop-other
-invariant-loop-other g l = record {
-  woke : Wakes l.words.parkers (first_slots_of l.other l.parker) l.initial.p l.p;
-  faults : TellsFaults g.N.Faults.fault_count g.N.Faults.is_sure l.initial.n l.n (IsSome l.first);
-  counts : IfSome l.first (IsFaultWithin (g.N.Faults.fault_count l.initial.n) (g.N.Faults.fault_count l.n));
-  told : NotifiesAsWon l.initial.p.view l.p.view (g.N.Notify.call_count l.initial.n) (g.N.Notify.call_count l.n);
-  first : TellsFirst g.N.Notify.call_count g.N.Faults.fault_count g.N.Notify.notify_step l.words.parkers (first_slots_of l.other l.parker) l.initial.p.view l.p.view l.initial.n l.n l.first;
-}
+invariant-loop-other g l = WakesThese g.N.Notify.call_count g.N.Faults.fault_count g.N.Faults.is_sure g.N.Notify.notify_step l.words.parkers (first_slots_of l.other l.parker) l.initial.p l.p l.initial.n l.n l.first
