@@ -2,13 +2,12 @@
 
 ghost use Rattle.std.specs.Prelude.{◌≡◌, ◌≤◌, ℕ, true, IfOk, IfErr};
 ghost use Rattle.aio_rules.specs.SharedWords.{blocking};
-ghost use Rattle.aio_shared.specs.Notifying.{NotifiesAsWon};
 ghost use Rattle.aio_shared.specs.Cells.{IsIdle};
-ghost use Rattle.aio_shared.specs.Members.{IsLaterMember, IsMemberOf, moved_on};
+ghost use Rattle.aio_shared.specs.Members.{IsMemberOf, moved_on};
 ghost use Rattle.aio_shared.specs.OneCell.{IsCellOf};
 ghost use Rattle.aio_shared.specs.Reacting.{until, start_of};
 ghost use Rattle.aio_words.specs.Seats.{IsIdleOrWaits};
-ghost use Rattle.aio_park.specs.Blocking.{HasFaultCause, KeepsThread};
+ghost use Rattle.aio_park.specs.Blocking.{KeepsThread};
 ghost use Rattle.aio_park.specs.Driving.{Drives, DrivesRound, DrivesRounds, DrivesUntilFault, FailsRound, FailsWithin, GainsNone, Tries};
 ghost use Rattle.aio_park.specs.Looks.{WaitsAfterLooks};
 
@@ -55,8 +54,8 @@ pub fn drive<R: Wait, N: Notify, C: Clock, A: Arm, W: EventWait>(
         shared.now.sure_of_arms
         (until (C.latest clock.new) (start_of C.bounds C.latest W.wait_step clock.old))
         rounds m.old m.new) }
-    ensures cause { IfErr result (HasFaultCause N.fault_count N.is_sure m.old m.new) }
-    ensures belongs { IsMemberOf shared.now m.new }
+    ensures keeps { KeepsThread N.fault_count N.is_sure N.call_count C.bounds C.latest
+        shared.now m.old m.new clock.old clock.new result }
     ensures kept { m.new ≡ record m.old {
       claim = m.new.claim;
       pass = m.new.pass;
@@ -64,11 +63,6 @@ pub fn drive<R: Wait, N: Notify, C: Clock, A: Arm, W: EventWait>(
       notifier = m.new.notifier;
     } }
     ensures cell { m.new.claim.holds ≡ m.old.claim.holds }
-    ensures later { IsLaterMember N.fault_count N.is_sure m.old m.new }
-    ensures calls { NotifiesAsWon m.old.pass.view m.new.pass.view
-        (N.call_count m.old.notifier) (N.call_count m.new.notifier) }
-    ensures bounds { C.bounds clock.new ≡ C.bounds clock.old }
-    ensures latest { C.latest clock.old ≤ C.latest clock.new }
 {
     let mut cell = shared.take_round(rt, m);
     let driven = drive_rounds(rt, shared, m, &mut cell, clock, rounds);

@@ -17,35 +17,12 @@ returns-clause-cell g c =
     let free : c.args.m.now.claim.holds ≡ false = sym (ap (λ (t : ClaimValue). t.holds) c.take_round-cell.ensures.takes.waited) ∙ c.take_round-cell.ensures.takes.takes.before in
     ap (λ (x : MemberValue g.row.N.Denot). x.claim.holds) c.give_round.ensures.gave ∙ sym free
 
-pub returns-clause-cause : goal.returns-clause-cause
-returns-clause-cause g c =
+pub returns-clause-keeps : goal.returns-clause-keeps
+returns-clause-keeps g c =
     let free : c.args.m.now.claim.holds ≡ false = sym (ap (λ (t : ClaimValue). t.holds) c.take_round-cell.ensures.takes.waited) ∙ c.take_round-cell.ensures.takes.takes.before in
-    let keeps = keeps_locked {a = c.args.m.now} c.take_round-cell.ensures.takes.last.empties free c.take_round-cell.ensures.kept
+    keeps_locked {a = c.args.m.now} c.take_round-cell.ensures.takes.last.empties free c.take_round-cell.ensures.kept
     (c.take_round-cell.ensures.takes.takes.claim ∙ ap (λ (t : ClaimValue). record t { holds = true }) c.take_round-cell.ensures.takes.waited)
-    c.drive_rounds-driven.ensures.keeps c.give_round.ensures.gave c.give_round.ensures.belongs in
-    keeps.cause
-
-pub returns-clause-later : goal.returns-clause-later
-returns-clause-later g c =
-    let free : c.args.m.now.claim.holds ≡ false = sym (ap (λ (t : ClaimValue). t.holds) c.take_round-cell.ensures.takes.waited) ∙ c.take_round-cell.ensures.takes.takes.before in
-    let keeps = keeps_locked {a = c.args.m.now} c.take_round-cell.ensures.takes.last.empties free c.take_round-cell.ensures.kept
-    (c.take_round-cell.ensures.takes.takes.claim ∙ ap (λ (t : ClaimValue). record t { holds = true }) c.take_round-cell.ensures.takes.waited)
-    c.drive_rounds-driven.ensures.keeps c.give_round.ensures.gave c.give_round.ensures.belongs in
-    keeps.later
-
-pub returns-clause-calls : goal.returns-clause-calls
-returns-clause-calls g c =
-    let free : c.args.m.now.claim.holds ≡ false = sym (ap (λ (t : ClaimValue). t.holds) c.take_round-cell.ensures.takes.waited) ∙ c.take_round-cell.ensures.takes.takes.before in
-    let keeps = keeps_locked {a = c.args.m.now} c.take_round-cell.ensures.takes.last.empties free c.take_round-cell.ensures.kept
-    (c.take_round-cell.ensures.takes.takes.claim ∙ ap (λ (t : ClaimValue). record t { holds = true }) c.take_round-cell.ensures.takes.waited)
-    c.drive_rounds-driven.ensures.keeps c.give_round.ensures.gave c.give_round.ensures.belongs in
-    keeps.calls
-
-pub returns-clause-bounds : goal.returns-clause-bounds
-returns-clause-bounds g c = c.drive_rounds-driven.ensures.keeps.bounds
-
-pub returns-clause-latest : goal.returns-clause-latest
-returns-clause-latest g c = c.drive_rounds-driven.ensures.keeps.latest
+    c.drive_rounds-driven.ensures.keeps c.give_round.ensures.gave c.give_round.ensures.belongs
 
 pub returns-clause-fails : goal.returns-clause-fails
 returns-clause-fails g c =
