@@ -1,8 +1,6 @@
-use Rattle.std.proofs.Common.{rules, ◌≡◌, false, None, IfSome, ℕ, ◌≤◌, Bool, true, refl}
-use Rattle.aio_shared.specs.Polling.{VisitsOnce}
+use Rattle.std.proofs.Common.{rules}
 use Rattle.aio_shared.proofs.inside.Inside.enter_and_leave.Goals as goal
 
--- src/polling.rt:69:5
 pub returns-clause-visits : goal.returns-clause-visits
 returns-clause-visits g c = record {
   ticker = c.ticker-ticker.result;
