@@ -1,15 +1,14 @@
 -- Registrations put in order are the same ones, and none stands behind one that it fires before.
 use Rattle.std.proofs.Common.{◌≡◌, ◌⊎◌, ◌↔◌, ℕ, ◌<◌, Bool, true, false, cond, List, [], ◌∷◌, map, refl, arith}
-use Rattle.std.specs.Prelude.{nat_le, ⊤}
-use Rattle.std.specs.List.{All, AllPairs, filter}
+use Rattle.std.specs.Prelude.{nat_le}
+use Rattle.std.specs.List.{AllPairs, filter}
 use Rattle.std.specs.List.Sorted.{IsPermutation}
 use Rattle.std.proofs.lemmas.Bool.Decides.{nat_tests}
-use Rattle.std.proofs.lemmas.List.Elements.{All-nil, All-cons, All-weaker}
 use Rattle.std.proofs.lemmas.List.Kept.{AllPairs-cons}
 use Rattle.std.proofs.lemmas.List.Sorted.{IsPermutation-refl, IsPermutation-trans, IsPermutation-cons, IsPermutation-append_comm, IsPermutation-append_left}
 use Rattle.aio_base.specs.World.{Registration}
 use Rattle.aio_base.specs.Timers.{fires_before, placed, in_order, IsFiringOrder, due_wakers}
-use Rattle.aio_base.proofs.BookLemmas.{before_asym, All-placed}
+use Rattle.aio_base.proofs.BookChanges.{IsSorted, in_order_sorted}
 
 -- ## The order
 
@@ -22,35 +21,9 @@ fires_where a b where_ = grind (arith, nat_tests)
 pub fires_by_deadline : (a b : Registration) → (fires_before a b ≡ true) ↔ ((a.deadline < b.deadline) ⊎ ((a.deadline ≡ b.deadline) × (a.id < b.id)))
 fires_by_deadline a b = (fires_from a b, fires_where a b)
 
--- what does not fire before one that does not fire before another does not fire before that either
-after_trans : (a b c : Registration) → fires_before c b ≡ false → fires_before b a ≡ false → fires_before c a ≡ false
-after_trans a b c first second = grind (arith, nat_tests)
-
 -- ## Sorted
 
--- a registration does not fire before this one
-abbrev IsAfter : Registration → Registration → Type 0
-IsAfter first later = fires_before later first ≡ false
-
-abbrev Sorted : List Registration → Type 0
-Sorted [] = ⊤
-Sorted (r ∷ rs) = All (λ (later : Registration). fires_before later r ≡ false) rs × Sorted rs
-
-sorted_step : (test : Bool) (r x : Registration) (xs : List Registration) → fires_before x r ≡ test → Sorted (x ∷ xs) → Sorted (placed r xs)
-    → Sorted (cond test (x ∷ placed r xs) (r ∷ x ∷ xs))
-sorted_step true r x xs before sorted rest = (All-placed (IsAfter x) r xs (before_asym x r before) sorted.0, rest)
-sorted_step false r x xs after sorted rest =
-    (All-cons (IsAfter r) x xs after (All-weaker (IsAfter x) (IsAfter r) (λ later behind. after_trans r x later behind after) xs sorted.0), sorted)
-
-placed_sorted : (r : Registration) (xs : List Registration) → Sorted xs → Sorted (placed r xs)
-placed_sorted r [] sorted = (All-nil (IsAfter r), tt)
-placed_sorted r (x ∷ xs) sorted = sorted_step (fires_before x r) r x xs refl sorted (placed_sorted r xs sorted.1)
-
-ordered_sorted : (xs : List Registration) → Sorted (in_order xs)
-ordered_sorted [] = tt
-ordered_sorted (r ∷ xs) = placed_sorted r (in_order xs) (ordered_sorted xs)
-
-sorted_pairs : (xs : List Registration) → Sorted xs → AllPairs (λ (first later : Registration). fires_before later first ≡ false) xs
+sorted_pairs : (xs : List Registration) → IsSorted xs → AllPairs (λ (first later : Registration). fires_before later first ≡ false) xs
 sorted_pairs [] sorted = λ i j d before within. absurd (omega arith)
 sorted_pairs (x ∷ xs) sorted = AllPairs-cons (λ (first later : Registration). fires_before later first ≡ false) x xs sorted.0 (sorted_pairs xs sorted.1)
 
@@ -76,7 +49,7 @@ ordered_same (r ∷ xs) =
 -- ## The laws
 
 pub ordered_fires : (registrations : List Registration) → IsFiringOrder registrations (in_order registrations)
-ordered_fires registrations = record { same = ordered_same registrations; sorted = sorted_pairs (in_order registrations) (ordered_sorted registrations) }
+ordered_fires registrations = record { same = ordered_same registrations; sorted = sorted_pairs (in_order registrations) (in_order_sorted registrations) }
 
 pub pass_fires : (moment : ℕ) (registrations : List Registration) → (fired : List Registration)
     × IsFiringOrder (filter (λ (r : Registration). nat_le r.deadline moment) registrations) fired
