@@ -68,26 +68,7 @@ unfolding step_result
 polled_arms w (step.Poll key dir waker) answers serial at =
     subst (λ o. Arms serial (poll_source w key.0 dir waker o answers)) (sym at) (poll_arms w key.0 dir waker serial answers)
 polled_arms w (step.StepEar number waker) answers serial at = step_arms w waker (find (is_listener number) w.listeners) answers serial at
-polled_arms w step.Add answers serial at = absurd cc
-polled_arms w (step.Del key) answers serial at = absurd cc
-polled_arms w (step.New key dir) answers serial at = absurd cc
-polled_arms w (step.DropEar number) answers serial at = absurd cc
-polled_arms w (step.TimerAt deadline) answers serial at = absurd cc
-polled_arms w (step.TimerEvery deadline period) answers serial at = absurd cc
-polled_arms w step.TimerNever answers serial at = absurd cc
-polled_arms w (step.Tick number waker) answers serial at = absurd cc
-polled_arms w (step.SetAt number deadline) answers serial at = absurd cc
-polled_arms w (step.SetEvery number deadline period) answers serial at = absurd cc
-polled_arms w (step.End number) answers serial at = absurd cc
-polled_arms w (step.Now moment) answers serial at = absurd cc
-polled_arms w (step.Note event) answers serial at = absurd cc
-polled_arms w (step.Fault kind) answers serial at = absurd cc
-polled_arms w step.Interrupt answers serial at = absurd cc
-polled_arms w (step.Begin limit) answers serial at = absurd cc
-polled_arms w step.Wait answers serial at = absurd cc
-polled_arms w step.Handle answers serial at = absurd cc
-polled_arms w step.Finish answers serial at = absurd cc
-polled_arms w step.React answers serial at = absurd cc
+polled_arms w _ answers serial at = absurd cc
 
 -- ## Cover of a source that is not broken
 

@@ -60,22 +60,17 @@ case_stands w told (step.Poll key dir waker) answers x = poll_stands w told key.
 case_stands w told (step.New key dir) answers x = new_stands w told key.0 dir (serial_of w key.0) answers refl x
 case_stands w told (step.StepEar number waker) answers x = step_stands w told number waker (find (is_listener number) w.listeners) answers refl x
 case_stands w told (step.DropEar number) answers x = drop_stands w told number (find (is_listener number) w.listeners) answers x
-case_stands w told (step.TimerAt deadline) answers x = same_stands w _ told _ answers refl x
-case_stands w told (step.TimerEvery deadline period) answers x = same_stands w _ told _ answers refl x
-case_stands w told step.TimerNever answers x = same_stands w _ told _ answers refl x
 case_stands w told (step.Tick number waker) answers x = tick_stands w told waker (find (is_timer number) w.timers) answers x
 case_stands w told (step.SetAt number deadline) answers x = set_stands w told deadline None (find (is_timer number) w.timers) answers x
 case_stands w told (step.SetEvery number deadline period) answers x = set_stands w told deadline (Some period) (find (is_timer number) w.timers) answers x
 case_stands w told (step.End number) answers x = end_stands w told (find (is_timer number) w.timers) answers x
 case_stands w told (step.Now moment) answers x = clock_stands w told moment answers x
-case_stands w told (step.Note event) answers x = same_stands w _ told _ answers refl x
-case_stands w told (step.Fault kind) answers x = same_stands w _ told _ answers refl x
-case_stands w told step.Interrupt answers x = same_stands w _ told _ answers refl x
 case_stands w told (step.Begin limit) answers x = begin_stands w told limit answers x
 case_stands w told step.Wait answers x = wait_stands w told answers x
 case_stands w told step.Handle answers x = handle_stands w told answers x
 case_stands w told step.Finish answers x = finish_stands w told answers x
 case_stands w told step.React answers x = react_stands w told None answers x
+case_stands w told _ answers x = same_stands w _ told _ answers refl x
 
 -- ## A step takes its position
 

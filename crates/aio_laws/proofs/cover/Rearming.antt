@@ -298,26 +298,7 @@ handled_rearms : (w : World) (s : Step) (answers : List PollerAnswer) (event : E
 unfolding step_result
 handled_rearms w step.Handle answers event serial among told lives = handle_rearms w w.round answers event serial among told lives
 handled_rearms w step.React answers event serial among told lives = react_rearms w answers event serial among lives told
-handled_rearms w step.Add answers event serial among told lives = none_is_in event among
-handled_rearms w (step.Del key) answers event serial among told lives = none_is_in event among
-handled_rearms w (step.Poll key dir waker) answers event serial among told lives = none_is_in event among
-handled_rearms w (step.New key dir) answers event serial among told lives = none_is_in event among
-handled_rearms w (step.StepEar number waker) answers event serial among told lives = none_is_in event among
-handled_rearms w (step.DropEar number) answers event serial among told lives = none_is_in event among
-handled_rearms w (step.TimerAt deadline) answers event serial among told lives = none_is_in event among
-handled_rearms w (step.TimerEvery deadline period) answers event serial among told lives = none_is_in event among
-handled_rearms w step.TimerNever answers event serial among told lives = none_is_in event among
-handled_rearms w (step.Tick number waker) answers event serial among told lives = none_is_in event among
-handled_rearms w (step.SetAt number deadline) answers event serial among told lives = none_is_in event among
-handled_rearms w (step.SetEvery number deadline period) answers event serial among told lives = none_is_in event among
-handled_rearms w (step.End number) answers event serial among told lives = none_is_in event among
-handled_rearms w (step.Now moment) answers event serial among told lives = none_is_in event among
-handled_rearms w (step.Note noted) answers event serial among told lives = none_is_in event among
-handled_rearms w (step.Fault kind) answers event serial among told lives = none_is_in event among
-handled_rearms w step.Interrupt answers event serial among told lives = none_is_in event among
-handled_rearms w (step.Begin limit) answers event serial among told lives = none_is_in event among
-handled_rearms w step.Wait answers event serial among told lives = none_is_in event among
-handled_rearms w step.Finish answers event serial among told lives = none_is_in event among
+handled_rearms w _ answers event serial among told lives = none_is_in event among
 
 pub step_leaves_unbroken : (w : World) (s : Step) (answers : List PollerAnswer)
     → UnbrokenAsTold w s answers (step_result w s answers).answer (step_result w s answers).world

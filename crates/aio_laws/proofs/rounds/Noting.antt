@@ -154,9 +154,6 @@ case_past w (step.New key dir) answers = quiet w.handled _ (ap (λ (f : Frame). 
 case_past w (step.StepEar number waker) answers =
     quiet w.handled _ (ap (λ (f : Frame). f.handled) (step_keeps w waker (find (is_listener number) w.listeners) answers))
 case_past w (step.DropEar number) answers = quiet w.handled _ (ap (λ (f : Frame). f.handled) (drop_keeps w number (find (is_listener number) w.listeners) answers))
-case_past w (step.TimerAt deadline) answers = quiet w.handled _ refl
-case_past w (step.TimerEvery deadline period) answers = quiet w.handled _ refl
-case_past w step.TimerNever answers = quiet w.handled _ refl
 case_past w (step.Tick number waker) answers = quiet w.handled _ (ap (λ (f : Frame). f.handled) (tick_keeps w waker (find (is_timer number) w.timers) answers))
 case_past w (step.SetAt number deadline) answers =
     quiet w.handled _ (ap (λ (f : Frame). f.handled) (set_keeps w deadline None (find (is_timer number) w.timers) answers))
@@ -165,15 +162,13 @@ case_past w (step.SetEvery number deadline period) answers =
 case_past w (step.End number) answers = quiet w.handled _ (ap (λ (f : Frame). f.handled) (end_keeps w (find (is_timer number) w.timers) answers))
 case_past w (step.Now moment) answers =
     quiet w.handled _ (cond_both (nat_lt moment w.now) _ _ (λ (o : Outcome). o.world.handled ≡ w.handled) (λ back. refl) (λ on. refl))
-case_past w (step.Note event) answers = quiet w.handled _ refl
-case_past w (step.Fault kind) answers = quiet w.handled _ refl
-case_past w step.Interrupt answers = quiet w.handled _ refl
 case_past w (step.Begin limit) answers =
     quiet w.handled _ (cond_both (is_some w.round) _ _ (λ (o : Outcome). o.world.handled ≡ w.handled) (λ runs. refl) (λ none. refl))
 case_past w step.Wait answers = quiet w.handled _ (ap (λ (f : Frame). f.handled) (wait_keeps w w.round answers refl))
 case_past w step.Handle answers = handle_past w w.round w.pos answers
 case_past w step.Finish answers = quiet w.handled _ (ap (λ (f : Frame). f.handled) (finish_keeps w w.round answers))
 case_past w step.React answers = react_step w answers (is_some w.round) _ _ refl (λ none. reacted w answers none)
+case_past w _ answers = quiet w.handled _ refl
 
 -- ## What is noted is fresh
 

@@ -217,25 +217,9 @@ react_told w answers None is =
 react_told w answers (Some round) is = ap (λ (o : Outcome). o.answer) (cond-true (is_some w.round) _ _ (ap is_some is))
 
 pub rounds_told : (w : World) (s : Step) (answers : List PollerAnswer) → RoundsTold w s answers (case_of w s answers).answer
-rounds_told w step.Add answers = tt
-rounds_told w (step.Del key) answers = tt
-rounds_told w (step.Poll key dir waker) answers = tt
-rounds_told w (step.New key dir) answers = tt
-rounds_told w (step.StepEar number waker) answers = tt
-rounds_told w (step.DropEar number) answers = tt
-rounds_told w (step.TimerAt deadline) answers = tt
-rounds_told w (step.TimerEvery deadline period) answers = tt
-rounds_told w step.TimerNever answers = tt
-rounds_told w (step.Tick number waker) answers = tt
-rounds_told w (step.SetAt number deadline) answers = tt
-rounds_told w (step.SetEvery number deadline period) answers = tt
-rounds_told w (step.End number) answers = tt
-rounds_told w (step.Now moment) answers = tt
-rounds_told w (step.Note event) answers = tt
-rounds_told w (step.Fault kind) answers = tt
-rounds_told w step.Interrupt answers = tt
 rounds_told w (step.Begin given) answers = begin_told w given answers w.round refl
 rounds_told w step.Wait answers = wait_told w w.round answers
 rounds_told w step.Handle answers = handle_told w w.round answers
 rounds_told w step.Finish answers = finish_told w w.round answers
 rounds_told w step.React answers = react_told w answers w.round refl
+rounds_told w _ answers = tt

@@ -174,25 +174,5 @@ react_ends w answers =
     ))
 
 pub case_ends : (w : World) (s : Step) (answers : List PollerAnswer) → EndFits s answers (case_of w s answers).answer (case_of w s answers).calls
-case_ends w step.Add answers = tt
-case_ends w (step.Del key) answers = tt
-case_ends w (step.Poll key dir waker) answers = tt
-case_ends w (step.New key dir) answers = tt
-case_ends w (step.StepEar number waker) answers = tt
-case_ends w (step.DropEar number) answers = tt
-case_ends w (step.TimerAt deadline) answers = tt
-case_ends w (step.TimerEvery deadline period) answers = tt
-case_ends w step.TimerNever answers = tt
-case_ends w (step.Tick number waker) answers = tt
-case_ends w (step.SetAt number deadline) answers = tt
-case_ends w (step.SetEvery number deadline period) answers = tt
-case_ends w (step.End number) answers = tt
-case_ends w (step.Now moment) answers = tt
-case_ends w (step.Note event) answers = tt
-case_ends w (step.Fault kind) answers = tt
-case_ends w step.Interrupt answers = tt
-case_ends w (step.Begin limit) answers = tt
-case_ends w step.Wait answers = tt
-case_ends w step.Handle answers = tt
-case_ends w step.Finish answers = tt
 case_ends w step.React answers = react_ends w answers
+case_ends w _ answers = tt

@@ -197,9 +197,6 @@ hand_moves w (step.StepEar number waker) answers =
     let same = listen_runs w waker (find (is_listener number) w.listeners) answers in record { hand = ap hand_of same; waited = ap last_wait_of same; fault = ap fault_of_round same }
 hand_moves w (step.DropEar number) answers =
     let same = drop_runs w number (find (is_listener number) w.listeners) answers in record { hand = ap hand_of same; waited = ap last_wait_of same; fault = ap fault_of_round same }
-hand_moves w (step.TimerAt deadline) answers = record { hand = refl; waited = refl; fault = refl }
-hand_moves w (step.TimerEvery deadline period) answers = record { hand = refl; waited = refl; fault = refl }
-hand_moves w step.TimerNever answers = record { hand = refl; waited = refl; fault = refl }
 hand_moves w (step.Tick number waker) answers =
     let same = tick_runs w waker (find (is_timer number) w.timers) answers in record { hand = ap hand_of same; waited = ap last_wait_of same; fault = ap fault_of_round same }
 hand_moves w (step.SetAt number deadline) answers =
@@ -210,15 +207,13 @@ hand_moves w (step.End number) answers =
     let same = end_runs w (find (is_timer number) w.timers) answers in record { hand = ap hand_of same; waited = ap last_wait_of same; fault = ap fault_of_round same }
 hand_moves w (step.Now moment) answers =
     let same = clock_runs w moment answers in record { hand = ap hand_of same; waited = ap last_wait_of same; fault = ap fault_of_round same }
-hand_moves w (step.Note event) answers = record { hand = refl; waited = refl; fault = refl }
-hand_moves w (step.Fault kind) answers = record { hand = refl; waited = refl; fault = refl }
-hand_moves w step.Interrupt answers = record { hand = refl; waited = refl; fault = refl }
 hand_moves w (step.Begin given) answers = begin_follows w given answers
 hand_moves w step.Wait answers = wait_follows w w.round answers refl
 hand_moves w step.Handle answers = handle_follows w w.round answers refl
 hand_moves w step.Finish answers = finish_follows w w.round answers refl
 hand_moves w step.React answers =
     let same = react_runs w answers in record { hand = ap hand_of same; waited = ap last_wait_of same; fault = ap fault_of_round same }
+hand_moves w _ answers = record { hand = refl; waited = refl; fault = refl }
 
 pub hand_follows : (w : World) (s : Step) (answers : List PollerAnswer)
     → HandFollows w s answers (step_result w s answers).answer (step_result w s answers).world

@@ -142,9 +142,6 @@ step_counts w (step.StepEar number waker) answers =
     record { count = ap count (step_keeps w waker (find (is_listener number) w.listeners) answers); moment = tt }
 step_counts w (step.DropEar number) answers =
     record { count = ap count (drop_keeps w number (find (is_listener number) w.listeners) answers); moment = tt }
-step_counts w (step.TimerAt deadline) answers = record { count = refl; moment = tt }
-step_counts w (step.TimerEvery deadline period) answers = record { count = refl; moment = tt }
-step_counts w step.TimerNever answers = record { count = refl; moment = tt }
 step_counts w (step.Tick number waker) answers =
     record { count = ap count (tick_keeps w waker (find (is_timer number) w.timers) answers); moment = tt }
 step_counts w (step.SetAt number deadline) answers =
@@ -153,14 +150,12 @@ step_counts w (step.SetEvery number deadline period) answers =
     record { count = ap count (set_keeps w deadline (Some period) (find (is_timer number) w.timers) answers); moment = tt }
 step_counts w (step.End number) answers = record { count = ap count (end_keeps w (find (is_timer number) w.timers) answers); moment = tt }
 step_counts w (step.Now moment) answers = clock_counts w moment answers
-step_counts w (step.Note event) answers = record { count = refl; moment = tt }
-step_counts w (step.Fault kind) answers = record { count = refl; moment = tt }
-step_counts w step.Interrupt answers = record { count = refl; moment = tt }
 step_counts w (step.Begin limit) answers = begin_counts w limit answers
 step_counts w step.Wait answers = record { count = ap count (wait_keeps w w.round answers refl); moment = tt }
 step_counts w step.Handle answers = record { count = ap count (handle_keeps w w.round answers refl); moment = tt }
 step_counts w step.Finish answers = record { count = finish_counts w w.round answers refl; moment = tt }
 step_counts w step.React answers = react_counts w answers
+step_counts w _ answers = record { count = refl; moment = tt }
 
 pub rounds_follow : (w : World) (s : Step) (answers : List PollerAnswer)
     → RoundsFollow w s answers (step_result w s answers).answer (step_result w s answers).world

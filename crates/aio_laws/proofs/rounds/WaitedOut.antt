@@ -70,49 +70,13 @@ waited_out_ends r out =
     true_both (is_empty_list r.in_hand) (makes_second_pass r.last_wait r.limit) (ap is_empty_list passes.0) passes.1
 
 pub pass_is_made : (w : World) (s : Step) → MakesPass w s → makes_pass w s ≡ true
-pass_is_made w step.Add passes = absurd passes
-pass_is_made w (step.Del key) passes = absurd passes
-pass_is_made w (step.Poll key dir waker) passes = absurd passes
-pass_is_made w (step.New key dir) passes = absurd passes
-pass_is_made w (step.StepEar number waker) passes = absurd passes
-pass_is_made w (step.DropEar number) passes = absurd passes
-pass_is_made w (step.TimerAt deadline) passes = absurd passes
-pass_is_made w (step.TimerEvery deadline period) passes = absurd passes
-pass_is_made w step.TimerNever passes = absurd passes
-pass_is_made w (step.Tick number waker) passes = absurd passes
-pass_is_made w (step.SetAt number deadline) passes = absurd passes
-pass_is_made w (step.SetEvery number deadline period) passes = absurd passes
-pass_is_made w (step.End number) passes = absurd passes
-pass_is_made w (step.Now moment) passes = absurd passes
-pass_is_made w (step.Note event) passes = absurd passes
-pass_is_made w (step.Fault kind) passes = absurd passes
-pass_is_made w step.Interrupt passes = absurd passes
 pass_is_made w (step.Begin given) passes = ap (λ r. not (is_some r)) passes
-pass_is_made w step.Wait passes = absurd passes
-pass_is_made w step.Handle passes = absurd passes
 pass_is_made w step.Finish passes = ap ends_with_pass passes.1 ∙ waited_out_ends passes.0 passes.2
 pass_is_made w step.React passes = ap (λ r. not (is_some r)) passes
+pass_is_made w _ passes = absurd passes
 
 pub made_pass_is : (w : World) (s : Step) → makes_pass w s ≡ true → MakesPass w s
-made_pass_is w step.Add passes = absurd cc
-made_pass_is w (step.Del key) passes = absurd cc
-made_pass_is w (step.Poll key dir waker) passes = absurd cc
-made_pass_is w (step.New key dir) passes = absurd cc
-made_pass_is w (step.StepEar number waker) passes = absurd cc
-made_pass_is w (step.DropEar number) passes = absurd cc
-made_pass_is w (step.TimerAt deadline) passes = absurd cc
-made_pass_is w (step.TimerEvery deadline period) passes = absurd cc
-made_pass_is w step.TimerNever passes = absurd cc
-made_pass_is w (step.Tick number waker) passes = absurd cc
-made_pass_is w (step.SetAt number deadline) passes = absurd cc
-made_pass_is w (step.SetEvery number deadline period) passes = absurd cc
-made_pass_is w (step.End number) passes = absurd cc
-made_pass_is w (step.Now moment) passes = absurd cc
-made_pass_is w (step.Note event) passes = absurd cc
-made_pass_is w (step.Fault kind) passes = absurd cc
-made_pass_is w step.Interrupt passes = absurd cc
 made_pass_is w (step.Begin given) passes = none_runs w.round passes
-made_pass_is w step.Wait passes = absurd cc
-made_pass_is w step.Handle passes = absurd cc
 made_pass_is w step.Finish passes = ends_waited_out w.round passes
 made_pass_is w step.React passes = none_runs w.round passes
+made_pass_is w _ passes = absurd cc

@@ -43,28 +43,11 @@ one_more w (first ∷ before) last = one_more (outcome_of w first).world before 
 
 -- a step that makes a pass is not of a timer
 pass_is_other : (w : World) (s : Step) → makes_pass w s ≡ true → is_of_timer s ≡ false
-pass_is_other w step.Add passes = refl
-pass_is_other w (step.Del key) passes = refl
-pass_is_other w (step.Poll key dir waker) passes = refl
-pass_is_other w (step.New key dir) passes = refl
-pass_is_other w (step.StepEar number waker) passes = refl
-pass_is_other w (step.DropEar number) passes = refl
-pass_is_other w (step.TimerAt deadline) passes = refl
-pass_is_other w (step.TimerEvery deadline period) passes = refl
-pass_is_other w step.TimerNever passes = refl
 pass_is_other w (step.Tick number waker) passes = absurd cc
 pass_is_other w (step.SetAt number deadline) passes = absurd cc
 pass_is_other w (step.SetEvery number deadline period) passes = absurd cc
 pass_is_other w (step.End number) passes = absurd cc
-pass_is_other w (step.Now moment) passes = refl
-pass_is_other w (step.Note event) passes = refl
-pass_is_other w (step.Fault kind) passes = refl
-pass_is_other w step.Interrupt passes = refl
-pass_is_other w (step.Begin limit) passes = refl
-pass_is_other w step.Wait passes = refl
-pass_is_other w step.Handle passes = refl
-pass_is_other w step.Finish passes = refl
-pass_is_other w step.React passes = refl
+pass_is_other w _ passes = refl
 
 passes_above : (w : World) (s : PolledStep) → MakesPass w s.step → AllAbove w.now (outcome_of w s).world.registrations
 passes_above w s passes =

@@ -323,22 +323,17 @@ case_leaves w (step.Poll key dir waker) answers apart x r = poll_leaves w key.0 
 case_leaves w (step.New key dir) answers apart x r = new_leaves w dir (serial_of w key.0) answers r
 case_leaves w (step.StepEar number waker) answers apart x r = step_leaves w number waker (find (is_listener number) w.listeners) answers refl apart x
 case_leaves w (step.DropEar number) answers apart x r = drop_leaves w number (find (is_listener number) w.listeners) answers r
-case_leaves w (step.TimerAt deadline) answers apart x r = record { stands = r }
-case_leaves w (step.TimerEvery deadline period) answers apart x r = record { stands = r }
-case_leaves w step.TimerNever answers apart x r = record { stands = r }
 case_leaves w (step.Tick number waker) answers apart x r = tick_leaves w waker (find (is_timer number) w.timers) answers r
 case_leaves w (step.SetAt number deadline) answers apart x r = set_leaves w deadline None (find (is_timer number) w.timers) answers r
 case_leaves w (step.SetEvery number deadline period) answers apart x r = set_leaves w deadline (Some period) (find (is_timer number) w.timers) answers r
 case_leaves w (step.End number) answers apart x r = end_leaves w (find (is_timer number) w.timers) answers r
 case_leaves w (step.Now moment) answers apart x r = clock_leaves w moment answers r
-case_leaves w (step.Note event) answers apart x r = record { stands = r }
-case_leaves w (step.Fault kind) answers apart x r = record { stands = r }
-case_leaves w step.Interrupt answers apart x r = record { stands = r }
 case_leaves w (step.Begin limit) answers apart x r = begin_leaves w limit answers r
 case_leaves w step.Wait answers apart x r = wait_leaves w w.round answers r
 case_leaves w step.Handle answers apart x r = handle_leaves w w.round answers r
 case_leaves w step.Finish answers apart x r = finish_leaves w w.round answers r
 case_leaves w step.React answers apart x r = react_leaves w None answers r
+case_leaves w _ answers apart x r = record { stands = r }
 
 step_ranked : (w : World) (s : PolledStep) → Apart (λ (l : ListenerEntry). l.number) w.listeners → Ranked w.listeners w.pos
     → Ranked (outcome_of w s).world.listeners (outcome_of w s).world.pos

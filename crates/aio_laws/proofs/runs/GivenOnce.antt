@@ -78,25 +78,11 @@ no_wait : (s : Step) → waits s ≡ false → (told : Answer) (calls : List Whi
 no_wait step.Add quiet told calls fit = add_no told calls fit
 no_wait (step.Del key) quiet told calls fit = del_no key told calls fit
 no_wait (step.Poll key dir waker) quiet told calls fit = poll_no key dir waker told calls fit
-no_wait (step.New key dir) quiet told calls fit = silent calls fit
 no_wait (step.StepEar number waker) quiet told calls fit = listen_no number waker told calls fit
-no_wait (step.DropEar number) quiet told calls fit = silent calls fit
-no_wait (step.TimerAt deadline) quiet told calls fit = silent calls fit
-no_wait (step.TimerEvery deadline period) quiet told calls fit = silent calls fit
-no_wait step.TimerNever quiet told calls fit = silent calls fit
-no_wait (step.Tick number waker) quiet told calls fit = silent calls fit
-no_wait (step.SetAt number deadline) quiet told calls fit = silent calls fit
-no_wait (step.SetEvery number deadline period) quiet told calls fit = silent calls fit
-no_wait (step.End number) quiet told calls fit = silent calls fit
-no_wait (step.Now moment) quiet told calls fit = silent calls fit
-no_wait (step.Note event) quiet told calls fit = silent calls fit
-no_wait (step.Fault kind) quiet told calls fit = silent calls fit
-no_wait step.Interrupt quiet told calls fit = silent calls fit
-no_wait (step.Begin limit) quiet told calls fit = silent calls fit
 no_wait step.Wait quiet told calls fit = absurd cc
 no_wait step.Handle quiet told calls fit = handle_no told calls fit
-no_wait step.Finish quiet told calls fit = silent calls fit
 no_wait step.React quiet told calls fit = absurd cc
+no_wait _ quiet told calls fit = silent calls fit
 
 -- ## What calls use up of what is noted
 

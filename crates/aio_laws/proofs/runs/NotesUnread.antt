@@ -286,23 +286,18 @@ case_alike n d w (step.Poll key dir waker) answers = alike n d _ _ (poll_noted n
 case_alike n d w (step.New key dir) answers = alike n d _ _ (new_noted n d w dir (serial_of w key.0) answers)
 case_alike n d w (step.StepEar number waker) answers = alike n d _ _ (step_noted n d w waker (find (is_listener number) w.listeners) answers)
 case_alike n d w (step.DropEar number) answers = alike n d _ _ (drop_noted n d w number (find (is_listener number) w.listeners) answers)
-case_alike n d w (step.TimerAt deadline) answers = refl
-case_alike n d w (step.TimerEvery deadline period) answers = refl
-case_alike n d w step.TimerNever answers = refl
 case_alike n d w (step.Tick number waker) answers = alike n d _ _ (tick_noted n d w waker (find (is_timer number) w.timers) answers)
 case_alike n d w (step.SetAt number deadline) answers = alike n d _ _ (set_noted n d w deadline None (find (is_timer number) w.timers) answers)
 case_alike n d w (step.SetEvery number deadline period) answers =
     alike n d _ _ (set_noted n d w deadline (Some period) (find (is_timer number) w.timers) answers)
 case_alike n d w (step.End number) answers = alike n d _ _ (end_noted n d w (find (is_timer number) w.timers) answers)
 case_alike n d w (step.Now moment) answers = alike n d _ _ (clock_noted n d w moment answers)
-case_alike n d w (step.Note event) answers = refl
-case_alike n d w (step.Fault kind) answers = refl
-case_alike n d w step.Interrupt answers = refl
 case_alike n d w (step.Begin limit) answers = alike n d _ _ (begin_noted n d w limit answers)
 case_alike n d w step.Wait answers = alike n d _ _ (wait_noted n d w w.round answers)
 case_alike n d w step.Handle answers = alike n d _ _ (handle_noted n d w w.round answers)
 case_alike n d w step.Finish answers = alike n d _ _ (finish_noted n d w w.round answers)
 case_alike n d w step.React answers = alike n d _ _ (react_noted n d w None answers)
+case_alike n d w _ answers = refl
 
 step_alike : (w : World) (s : Step) (answers : List PollerAnswer)
     → outcome_without_notes (step_result (without_notes w) s answers) ≡ outcome_without_notes (step_result w s answers)

@@ -525,14 +525,12 @@ case_leaves w (step.SetAt number deadline) answers x = set_leaves w number deadl
 case_leaves w (step.SetEvery number deadline period) answers x = set_leaves w number deadline (Some period) (find (is_timer number) w.timers) answers refl x
 case_leaves w (step.End number) answers x = end_leaves w number (find (is_timer number) w.timers) answers refl x
 case_leaves w (step.Now moment) answers x = clock_leaves w moment answers x
-case_leaves w (step.Note event) answers x = record { stands = x }
-case_leaves w (step.Fault kind) answers x = record { stands = x }
-case_leaves w step.Interrupt answers x = record { stands = x }
 case_leaves w (step.Begin limit) answers x = begin_leaves w limit answers x
 case_leaves w step.Wait answers x = wait_leaves w w.round answers x
 case_leaves w step.Handle answers x = handle_leaves w w.round answers x
 case_leaves w step.Finish answers x = finish_leaves w w.round answers x
 case_leaves w step.React answers x = react_leaves w None answers x
+case_leaves w _ answers x = record { stands = x }
 
 step_singles : (w : World) (s : PolledStep) → Singles (lists_of w) → Singles (lists_of (outcome_of w s).world)
 unfolding step_result

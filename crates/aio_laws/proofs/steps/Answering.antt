@@ -127,22 +127,14 @@ case_fits w (step.Poll key dir waker) answers = poll_fits w key.0 dir waker _ an
 case_fits w (step.New key dir) answers = new_fits w key.0 dir _ answers refl
 case_fits w (step.StepEar number waker) answers = listen_fits w (find (is_listener number) w.listeners) waker _ answers refl
 case_fits w (step.DropEar number) answers = drop_fits w number (find (is_listener number) w.listeners) _ answers refl
-case_fits w (step.TimerAt deadline) answers = tt
-case_fits w (step.TimerEvery deadline period) answers = tt
-case_fits w step.TimerNever answers = tt
 case_fits w (step.Tick number waker) answers = tick_fits w (find (is_timer number) w.timers) waker _ answers refl
 case_fits w (step.SetAt number deadline) answers = set_fits w (find (is_timer number) w.timers) deadline None _ answers refl
 case_fits w (step.SetEvery number deadline period) answers = set_fits w (find (is_timer number) w.timers) deadline (Some period) _ answers refl
 case_fits w (step.End number) answers = end_fits w (find (is_timer number) w.timers) _ answers refl
-case_fits w (step.Now moment) answers = tt
 case_fits w (step.Note event) answers = refl
 case_fits w (step.Fault kind) answers = refl
 case_fits w step.Interrupt answers = refl
-case_fits w (step.Begin limit) answers = tt
-case_fits w step.Wait answers = tt
-case_fits w step.Handle answers = tt
-case_fits w step.Finish answers = tt
-case_fits w step.React answers = tt
+case_fits w _ answers = tt
 
 pub answer_fits : (w : World) (s : Step) (answers : List PollerAnswer) → FitsTheStep w s (step_result w s answers).answer
 unfolding step_result

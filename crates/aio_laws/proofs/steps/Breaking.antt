@@ -194,20 +194,15 @@ broken_stand w (step.StepEar number waker) answers =
     step_others (of_others (option_to_list serial ++ [])) w waker found answers
     (λ entry is. found_drops serial entry.serial (ap (option_map (λ (l : ListenerEntry). l.serial)) is))
 broken_stand w (step.DropEar number) answers = ap every (drop_leaves w number (find (is_listener number) w.listeners) answers)
-broken_stand w (step.TimerAt deadline) answers = refl
-broken_stand w (step.TimerEvery deadline period) answers = refl
-broken_stand w step.TimerNever answers = refl
 broken_stand w (step.Tick number waker) answers = ap every (tick_leaves w waker (find (is_timer number) w.timers) answers)
 broken_stand w (step.SetAt number deadline) answers = ap every (set_leaves w deadline None (find (is_timer number) w.timers) answers)
 broken_stand w (step.SetEvery number deadline period) answers = ap every (set_leaves w deadline (Some period) (find (is_timer number) w.timers) answers)
 broken_stand w (step.End number) answers = ap every (end_leaves w (find (is_timer number) w.timers) answers)
 broken_stand w (step.Now moment) answers = either (λ o. every (aside o.world) ≡ every (aside w)) (nat_lt moment w.now) _ _ refl refl
-broken_stand w (step.Note event) answers = refl
-broken_stand w (step.Fault kind) answers = refl
-broken_stand w step.Interrupt answers = refl
 broken_stand w (step.Begin limit) answers = ap every (begin_leaves w limit answers)
 broken_stand w step.Wait answers = ap every (wait_leaves w w.round answers)
 broken_stand w step.Handle answers =
     handle_others (of_others (serials_in w (take 1 (hand_of w.round)))) w w.round answers (events_drop w (take 1 (hand_of w.round)))
 broken_stand w step.Finish answers = ap every (finish_leaves w w.round answers)
 broken_stand w step.React answers = react_others w answers
+broken_stand w _ answers = refl

@@ -249,24 +249,19 @@ case_calls w (step.Poll key dir waker) answers = poll_calls w key dir waker _ an
 case_calls w (step.New key dir) answers = new_calls w key dir _ answers
 case_calls w (step.StepEar number waker) answers = listen_calls w number waker _ answers
 case_calls w (step.DropEar number) answers = drop_calls w number _ answers
-case_calls w (step.TimerAt deadline) answers = record { fit = refl; silent = λ none. refl }
-case_calls w (step.TimerEvery deadline period) answers = record { fit = refl; silent = λ none. refl }
-case_calls w step.TimerNever answers = record { fit = refl; silent = λ none. refl }
 case_calls w (step.Tick number waker) answers = tick_calls w number waker _ answers
 case_calls w (step.SetAt number deadline) answers = set_calls w (step.SetAt number deadline) deadline None _ answers refl refl
 case_calls w (step.SetEvery number deadline period) answers = set_calls w (step.SetEvery number deadline period) deadline (Some period) _ answers refl refl
 case_calls w (step.End number) answers = end_calls w number _ answers
 case_calls w (step.Now moment) answers =
     either w (step.Now moment) (nat_lt moment w.now) _ _ (record { fit = refl; silent = λ none. refl }) (record { fit = refl; silent = λ none. refl })
-case_calls w (step.Note event) answers = record { fit = refl; silent = λ none. refl }
-case_calls w (step.Fault kind) answers = record { fit = refl; silent = λ none. refl }
-case_calls w step.Interrupt answers = record { fit = refl; silent = λ none. refl }
 case_calls w (step.Begin limit) answers =
     either w (step.Begin limit) (is_some w.round) _ _ (record { fit = refl; silent = λ none. refl }) (record { fit = refl; silent = λ none. refl })
 case_calls w step.Wait answers = wait_calls w w.round answers
 case_calls w step.Handle answers = (handle_calls w w.round answers).calls
 case_calls w step.Finish answers = finish_calls w w.round answers
 case_calls w step.React answers = react_calls w answers
+case_calls w _ answers = record { fit = refl; silent = λ none. refl }
 
 -- ## What a wait clears
 
@@ -320,28 +315,8 @@ wait_clears w (Some round) answers =
     either_cleared answers (is_empty_list round.in_hand) _ _ (answered_clears w round (next_answer answers) (later_answers answers) answers refl) tt
 
 case_clears : (w : World) (s : Step) (answers : List PollerAnswer) → IsCleared s answers (case_of w s answers).answer (case_of w s answers).world.armed
-case_clears w step.Add answers = tt
-case_clears w (step.Del key) answers = tt
-case_clears w (step.Poll key dir waker) answers = tt
-case_clears w (step.New key dir) answers = tt
-case_clears w (step.StepEar number waker) answers = tt
-case_clears w (step.DropEar number) answers = tt
-case_clears w (step.TimerAt deadline) answers = tt
-case_clears w (step.TimerEvery deadline period) answers = tt
-case_clears w step.TimerNever answers = tt
-case_clears w (step.Tick number waker) answers = tt
-case_clears w (step.SetAt number deadline) answers = tt
-case_clears w (step.SetEvery number deadline period) answers = tt
-case_clears w (step.End number) answers = tt
-case_clears w (step.Now moment) answers = tt
-case_clears w (step.Note event) answers = tt
-case_clears w (step.Fault kind) answers = tt
-case_clears w step.Interrupt answers = tt
-case_clears w (step.Begin limit) answers = tt
 case_clears w step.Wait answers = wait_clears w w.round answers
-case_clears w step.Handle answers = tt
-case_clears w step.Finish answers = tt
-case_clears w step.React answers = tt
+case_clears w _ answers = tt
 
 -- ## A whole round that makes no arm
 
@@ -407,28 +382,8 @@ react_unarmed w answers =
 
 case_unarmed : (w : World) (s : Step) (answers : List PollerAnswer)
     → OnlyCleared s answers (case_of w s answers).answer (case_of w s answers).calls w.armed (case_of w s answers).world.armed
-case_unarmed w step.Add answers = tt
-case_unarmed w (step.Del key) answers = tt
-case_unarmed w (step.Poll key dir waker) answers = tt
-case_unarmed w (step.New key dir) answers = tt
-case_unarmed w (step.StepEar number waker) answers = tt
-case_unarmed w (step.DropEar number) answers = tt
-case_unarmed w (step.TimerAt deadline) answers = tt
-case_unarmed w (step.TimerEvery deadline period) answers = tt
-case_unarmed w step.TimerNever answers = tt
-case_unarmed w (step.Tick number waker) answers = tt
-case_unarmed w (step.SetAt number deadline) answers = tt
-case_unarmed w (step.SetEvery number deadline period) answers = tt
-case_unarmed w (step.End number) answers = tt
-case_unarmed w (step.Now moment) answers = tt
-case_unarmed w (step.Note event) answers = tt
-case_unarmed w (step.Fault kind) answers = tt
-case_unarmed w step.Interrupt answers = tt
-case_unarmed w (step.Begin limit) answers = tt
-case_unarmed w step.Wait answers = tt
-case_unarmed w step.Handle answers = tt
-case_unarmed w step.Finish answers = tt
 case_unarmed w step.React answers = react_unarmed w answers
+case_unarmed w _ answers = tt
 
 -- ## What is armed
 

@@ -416,14 +416,12 @@ case_rises w (step.SetAt number deadline) answers = set_rises w deadline None (f
 case_rises w (step.SetEvery number deadline period) answers = set_rises w deadline (Some period) (find (is_timer number) w.timers) answers
 case_rises w (step.End number) answers = end_rises w (find (is_timer number) w.timers) answers
 case_rises w (step.Now moment) answers = clock_rises w moment answers
-case_rises w (step.Note event) answers = same (counted w)
-case_rises w (step.Fault kind) answers = same (counted w)
-case_rises w step.Interrupt answers = same (counted w)
 case_rises w (step.Begin limit) answers = begin_rises w limit answers
 case_rises w step.Wait answers = wait_rises w w.round answers
 case_rises w step.Handle answers = handle_rises w w.round answers
 case_rises w step.Finish answers = finish_rises w w.round answers
 case_rises w step.React answers = react_rises w None answers
+case_rises w _ answers = same (counted w)
 
 none_again : {X : Type 0} (number : X → ℕ) (given later : ℕ) (before after : List X) → Follow number given before later after
     → NoneAgain number given before after

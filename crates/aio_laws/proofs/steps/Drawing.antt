@@ -210,9 +210,6 @@ case_draws w (step.New key dir) answers = new_draws w key dir (serial_of w key.0
 case_draws w (step.StepEar number waker) answers =
     rests_follow w (step.StepEar number waker) _ (listen_rests w waker (find (is_listener number) w.listeners) answers) refl refl
 case_draws w (step.DropEar number) answers = rests_follow w (step.DropEar number) _ (drop_rests w number (find (is_listener number) w.listeners) answers) refl refl
-case_draws w (step.TimerAt deadline) answers = refl
-case_draws w (step.TimerEvery deadline period) answers = refl
-case_draws w step.TimerNever answers = refl
 case_draws w (step.Tick number waker) answers = rests_follow w (step.Tick number waker) _ (tick_rests w waker (find (is_timer number) w.timers) answers) refl refl
 case_draws w (step.SetAt number deadline) answers =
     rests_follow w (step.SetAt number deadline) _ (set_rests w deadline None (find (is_timer number) w.timers) answers) refl refl
@@ -221,14 +218,13 @@ case_draws w (step.SetEvery number deadline period) answers =
 case_draws w (step.End number) answers = rests_follow w (step.End number) _ (end_rests w (find (is_timer number) w.timers) answers) refl refl
 case_draws w (step.Now moment) answers =
     rests_follow w (step.Now moment) _ (by w (nat_lt moment w.now) _ _ (rest w _ refl (λ n. refl) (λ n. refl)) (rest w _ refl (λ n. refl) (λ n. refl))) refl refl
-case_draws w (step.Note event) answers = refl
 case_draws w (step.Fault kind) answers = fault_draws w kind answers
-case_draws w step.Interrupt answers = refl
 case_draws w (step.Begin limit) answers = rests_follow w (step.Begin limit) _ (begin_rests w limit answers) refl refl
 case_draws w step.Wait answers = rests_follow w step.Wait _ (wait_rests w w.round answers) refl refl
 case_draws w step.Handle answers = rests_follow w step.Handle _ (handle_rests w w.round answers) refl refl
 case_draws w step.Finish answers = rests_follow w step.Finish _ (finish_rests w w.round answers) refl refl
 case_draws w step.React answers = rests_follow w step.React _ (react_rests w answers) refl refl
+case_draws w _ answers = refl
 
 pub draws_follow : (w : World) (s : Step) (answers : List PollerAnswer) → DrawsFollow w s (step_result w s answers).answer (step_result w s answers).world
 unfolding step_result

@@ -61,50 +61,12 @@ end_goes w number (Some entry) answers there =
     }
 
 own_goes : (w : World) (s : Step) (answers : List PollerAnswer) → OwnGoes w s (case_of w s answers).answer (case_of w s answers).world
-own_goes w step.Add answers = tt
-own_goes w (step.Del key) answers = tt
-own_goes w (step.Poll key dir waker) answers = tt
-own_goes w (step.New key dir) answers = tt
-own_goes w (step.StepEar number waker) answers = tt
 own_goes w (step.DropEar number) answers = drop_goes w number (find (is_listener number) w.listeners) answers refl
-own_goes w (step.TimerAt deadline) answers = tt
-own_goes w (step.TimerEvery deadline period) answers = tt
-own_goes w step.TimerNever answers = tt
-own_goes w (step.Tick number waker) answers = tt
-own_goes w (step.SetAt number deadline) answers = tt
-own_goes w (step.SetEvery number deadline period) answers = tt
 own_goes w (step.End number) answers = end_goes w number (find (is_timer number) w.timers) answers refl
-own_goes w (step.Now moment) answers = tt
-own_goes w (step.Note event) answers = tt
-own_goes w (step.Fault kind) answers = tt
-own_goes w step.Interrupt answers = tt
-own_goes w (step.Begin limit) answers = tt
-own_goes w step.Wait answers = tt
-own_goes w step.Handle answers = tt
-own_goes w step.Finish answers = tt
-own_goes w step.React answers = tt
+own_goes w _ answers = tt
 
 pub what_is_given_up_goes : (w : World) (s : Step) (answers : List PollerAnswer) → OwnGoes w s (step_result w s answers).answer (step_result w s answers).world
 unfolding step_result
 what_is_given_up_goes w (step.DropEar number) answers = own_goes w (step.DropEar number) answers
 what_is_given_up_goes w (step.End number) answers = own_goes w (step.End number) answers
-what_is_given_up_goes w step.Add answers = tt
-what_is_given_up_goes w (step.Del key) answers = tt
-what_is_given_up_goes w (step.Poll key dir waker) answers = tt
-what_is_given_up_goes w (step.New key dir) answers = tt
-what_is_given_up_goes w (step.StepEar number waker) answers = tt
-what_is_given_up_goes w (step.TimerAt deadline) answers = tt
-what_is_given_up_goes w (step.TimerEvery deadline period) answers = tt
-what_is_given_up_goes w step.TimerNever answers = tt
-what_is_given_up_goes w (step.Tick number waker) answers = tt
-what_is_given_up_goes w (step.SetAt number deadline) answers = tt
-what_is_given_up_goes w (step.SetEvery number deadline period) answers = tt
-what_is_given_up_goes w (step.Now moment) answers = tt
-what_is_given_up_goes w (step.Note event) answers = tt
-what_is_given_up_goes w (step.Fault kind) answers = tt
-what_is_given_up_goes w step.Interrupt answers = tt
-what_is_given_up_goes w (step.Begin limit) answers = tt
-what_is_given_up_goes w step.Wait answers = tt
-what_is_given_up_goes w step.Handle answers = tt
-what_is_given_up_goes w step.Finish answers = tt
-what_is_given_up_goes w step.React answers = tt
+what_is_given_up_goes w _ answers = tt

@@ -179,24 +179,19 @@ case_hears w (step.Poll key dir waker) answers other = poll_hears w key.0 dir wa
 case_hears w (step.New key dir) answers other = new_hears w dir _ answers
 case_hears w (step.StepEar number waker) answers other = listen_hears w waker _ answers
 case_hears w (step.DropEar number) answers other = drop_hears w number _ answers
-case_hears w (step.TimerAt deadline) answers other = record { heard = refl; stays = λ fault. no_fault fault }
-case_hears w (step.TimerEvery deadline period) answers other = record { heard = refl; stays = λ fault. no_fault fault }
-case_hears w step.TimerNever answers other = record { heard = refl; stays = λ fault. no_fault fault }
 case_hears w (step.Tick number waker) answers other = tick_hears w waker _ answers
 case_hears w (step.SetAt number deadline) answers other = set_hears w deadline None _ answers
 case_hears w (step.SetEvery number deadline period) answers other = set_hears w deadline (Some period) _ answers
 case_hears w (step.End number) answers other = end_hears w _ answers
 case_hears w (step.Now moment) answers other =
     either w answers (nat_lt moment w.now) _ _ (record { heard = refl; stays = λ fault. no_fault fault }) (record { heard = refl; stays = λ fault. no_fault fault })
-case_hears w (step.Note event) answers other = record { heard = refl; stays = λ fault. no_fault fault }
-case_hears w (step.Fault kind) answers other = record { heard = refl; stays = λ fault. no_fault fault }
-case_hears w step.Interrupt answers other = record { heard = refl; stays = λ fault. no_fault fault }
 case_hears w (step.Begin limit) answers other =
     either w answers (is_some w.round) _ _ (record { heard = refl; stays = λ fault. no_fault fault }) (record { heard = refl; stays = λ fault. no_fault fault })
 case_hears w step.Wait answers other = wait_hears w w.round answers
 case_hears w step.Handle answers other = handle_hears w w.round answers
 case_hears w step.Finish answers other = finish_hears w w.round answers
 case_hears w step.React answers other = absurd (other refl)
+case_hears w _ answers other = record { heard = refl; stays = λ fault. no_fault fault }
 
 pub case_heard : (w : World) (s : Step) (answers : List PollerAnswer) → s ≢ step.React
     → tells_failure (case_of w s answers).answer ≡ has_failed (case_of w s answers).calls answers

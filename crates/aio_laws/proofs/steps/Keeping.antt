@@ -281,9 +281,6 @@ case_kept w (step.Now moment) answers =
     cond_both (nat_lt moment w.now) _ _ (λ (o : Outcome). Kept w (step.Now moment) o.answer o.world)
     (λ back. quietly w (step.Now moment) (quiet (answer.Back w.now) w answers) refl (λ n old next. refl))
     (λ on. quietly w (step.Now moment) (quiet (answer.At moment) (record w { now = moment }) answers) refl (λ n old next. refl))
-case_kept w (step.Note event) answers = quietly w (step.Note event) (case_of w (step.Note event) answers) refl (λ n old next. refl)
-case_kept w (step.Fault kind) answers = quietly w (step.Fault kind) (case_of w (step.Fault kind) answers) refl (λ n old next. refl)
-case_kept w step.Interrupt answers = quietly w step.Interrupt (case_of w step.Interrupt answers) refl (λ n old next. refl)
 case_kept w (step.Begin limit) answers =
     quietly w (step.Begin limit) (case_of w (step.Begin limit) answers) (ap (λ (f : Frame). f.timers) (begin_keeps w limit answers)) (λ n old next. refl)
 case_kept w step.Wait answers =
@@ -293,6 +290,7 @@ case_kept w step.Handle answers =
 case_kept w step.Finish answers =
     quietly w step.Finish (case_of w step.Finish answers) (ap (λ (f : Frame). f.timers) (finish_keeps w w.round answers)) (λ n old next. refl)
 case_kept w step.React answers = quietly w step.React (case_of w step.React answers) (ap (λ (f : Frame). f.timers) (react_keeps w answers)) (λ n old next. refl)
+case_kept w s answers = quietly w s (case_of w s answers) refl (λ n old next. refl)
 
 pub timers_keep : (w : World) (s : Step) (answers : List PollerAnswer) → Kept w s (step_result w s answers).answer (step_result w s answers).world
 unfolding step_result

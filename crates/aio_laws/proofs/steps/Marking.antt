@@ -67,23 +67,18 @@ marks_stand w (step.Poll key dir waker) answers = poll_others w key.0 dir waker 
 marks_stand w (step.New key dir) answers = ap every (new_leaves w dir (serial_of w key.0) answers)
 marks_stand w (step.StepEar number waker) answers = ap every (step_leaves w waker (find (is_listener number) w.listeners) answers)
 marks_stand w (step.DropEar number) answers = ap every (drop_leaves w number (find (is_listener number) w.listeners) answers)
-marks_stand w (step.TimerAt deadline) answers = refl
-marks_stand w (step.TimerEvery deadline period) answers = refl
-marks_stand w step.TimerNever answers = refl
 marks_stand w (step.Tick number waker) answers = ap every (tick_leaves w waker (find (is_timer number) w.timers) answers)
 marks_stand w (step.SetAt number deadline) answers = ap every (set_leaves w deadline None (find (is_timer number) w.timers) answers)
 marks_stand w (step.SetEvery number deadline period) answers = ap every (set_leaves w deadline (Some period) (find (is_timer number) w.timers) answers)
 marks_stand w (step.End number) answers = ap every (end_leaves w (find (is_timer number) w.timers) answers)
 marks_stand w (step.Now moment) answers =
     either (λ o. every (aside o.world) ≡ every (aside w)) (nat_lt moment w.now) _ _ refl refl
-marks_stand w (step.Note event) answers = refl
-marks_stand w (step.Fault kind) answers = refl
-marks_stand w step.Interrupt answers = refl
 marks_stand w (step.Begin limit) answers = ap every (begin_leaves w limit answers)
 marks_stand w step.Wait answers = ap every (wait_leaves w w.round answers)
 marks_stand w step.Handle answers = ap every (handle_leaves w w.round answers)
 marks_stand w step.Finish answers = ap every (finish_leaves w w.round answers)
 marks_stand w step.React answers = ap every (react_leaves w answers)
+marks_stand w _ answers = refl
 
 -- ## A step's own marks
 
@@ -158,22 +153,17 @@ own_follow w (step.Poll key dir waker) answers = poll_own w key dir waker (seria
 own_follow w (step.New key dir) answers = ap no_own (new_leaves w dir (serial_of w key.0) answers)
 own_follow w (step.StepEar number waker) answers = ap no_own (step_leaves w waker (find (is_listener number) w.listeners) answers)
 own_follow w (step.DropEar number) answers = ap no_own (drop_leaves w number (find (is_listener number) w.listeners) answers)
-own_follow w (step.TimerAt deadline) answers = refl
-own_follow w (step.TimerEvery deadline period) answers = refl
-own_follow w step.TimerNever answers = refl
 own_follow w (step.Tick number waker) answers = ap no_own (tick_leaves w waker (find (is_timer number) w.timers) answers)
 own_follow w (step.SetAt number deadline) answers = ap no_own (set_leaves w deadline None (find (is_timer number) w.timers) answers)
 own_follow w (step.SetEvery number deadline period) answers = ap no_own (set_leaves w deadline (Some period) (find (is_timer number) w.timers) answers)
 own_follow w (step.End number) answers = ap no_own (end_leaves w (find (is_timer number) w.timers) answers)
 own_follow w (step.Now moment) answers = either (λ o. no_own (aside o.world) ≡ no_own (aside w)) (nat_lt moment w.now) _ _ refl refl
-own_follow w (step.Note event) answers = refl
-own_follow w (step.Fault kind) answers = refl
-own_follow w step.Interrupt answers = refl
 own_follow w (step.Begin limit) answers = ap no_own (begin_leaves w limit answers)
 own_follow w step.Wait answers = ap no_own (wait_leaves w w.round answers)
 own_follow w step.Handle answers = ap no_own (handle_leaves w w.round answers)
 own_follow w step.Finish answers = ap no_own (finish_leaves w w.round answers)
 own_follow w step.React answers = ap no_own (react_leaves w answers)
+own_follow w _ answers = refl
 
 pub marks_follow : (w : World) (s : Step) (answers : List PollerAnswer) → MarksFollow w s (step_result w s answers).answer (step_result w s answers).world
 unfolding step_result

@@ -154,52 +154,16 @@ is_one step.React = false
 is_one _ = true
 
 case_leaves : (w : World) (s : Step) (answers : List PollerAnswer) → is_one s ≡ true → Follows w s answers
-case_leaves w step.Add answers one = nothing w (case_of w step.Add answers)
 case_leaves w (step.Del key) answers one = del_leaves w key.0 (serial_of w key.0) answers
 case_leaves w (step.Poll key dir waker) answers one = poll_leaves w key.0 dir waker (serial_of w key.0) answers
-case_leaves w (step.New key dir) answers one = nothing w (case_of w (step.New key dir) answers)
 case_leaves w (step.StepEar number waker) answers one = listen_leaves w waker (find (is_listener number) w.listeners) answers
-case_leaves w (step.DropEar number) answers one = nothing w (case_of w (step.DropEar number) answers)
-case_leaves w (step.TimerAt deadline) answers one = nothing w (case_of w (step.TimerAt deadline) answers)
-case_leaves w (step.TimerEvery deadline period) answers one = nothing w (case_of w (step.TimerEvery deadline period) answers)
-case_leaves w step.TimerNever answers one = nothing w (case_of w step.TimerNever answers)
-case_leaves w (step.Tick number waker) answers one = nothing w (case_of w (step.Tick number waker) answers)
-case_leaves w (step.SetAt number deadline) answers one = nothing w (case_of w (step.SetAt number deadline) answers)
-case_leaves w (step.SetEvery number deadline period) answers one = nothing w (case_of w (step.SetEvery number deadline period) answers)
-case_leaves w (step.End number) answers one = nothing w (case_of w (step.End number) answers)
-case_leaves w (step.Now moment) answers one = nothing w (case_of w (step.Now moment) answers)
-case_leaves w (step.Note event) answers one = nothing w (case_of w (step.Note event) answers)
-case_leaves w (step.Fault kind) answers one = nothing w (case_of w (step.Fault kind) answers)
-case_leaves w step.Interrupt answers one = nothing w (case_of w step.Interrupt answers)
-case_leaves w (step.Begin limit) answers one = nothing w (case_of w (step.Begin limit) answers)
-case_leaves w step.Wait answers one = nothing w (case_of w step.Wait answers)
 case_leaves w step.Handle answers one = handle_leaves w w.round answers
-case_leaves w step.Finish answers one = nothing w (case_of w step.Finish answers)
 case_leaves w step.React answers one = absurd cc
+case_leaves w s answers one = nothing w (case_of w s answers)
 
 no_round : (s : Step) → (s ≡ step.React → ⊥) → is_one s ≡ true
-no_round step.Add other = refl
-no_round (step.Del key) other = refl
-no_round (step.Poll key dir waker) other = refl
-no_round (step.New key dir) other = refl
-no_round (step.StepEar number waker) other = refl
-no_round (step.DropEar number) other = refl
-no_round (step.TimerAt deadline) other = refl
-no_round (step.TimerEvery deadline period) other = refl
-no_round step.TimerNever other = refl
-no_round (step.Tick number waker) other = refl
-no_round (step.SetAt number deadline) other = refl
-no_round (step.SetEvery number deadline period) other = refl
-no_round (step.End number) other = refl
-no_round (step.Now moment) other = refl
-no_round (step.Note event) other = refl
-no_round (step.Fault kind) other = refl
-no_round step.Interrupt other = refl
-no_round (step.Begin limit) other = refl
-no_round step.Wait other = refl
-no_round step.Handle other = refl
-no_round step.Finish other = refl
 no_round step.React other = absurd (other refl)
+no_round _ other = refl
 
 pub broken_follows : (w : World) (s : Step) (answers : List PollerAnswer)
     → BrokenFollows w s answers (step_result w s answers).answer (step_result w s answers).calls (step_result w s answers).world

@@ -438,9 +438,6 @@ case_owns w (step.Now moment) answers =
     cond_both (nat_lt moment w.now) _ _ (λ (o : Outcome). Owned w (step.Now moment) o)
     (λ back. unowned w (step.Now moment) (quiet (answer.Back w.now) w answers) refl refl (λ n. refl) (λ d p none. absurd none))
     (λ on. unowned w (step.Now moment) (quiet (answer.At moment) (record w { now = moment }) answers) refl refl (λ n. refl) (λ d p none. absurd none))
-case_owns w (step.Note event) answers = unowned w (step.Note event) (case_of w (step.Note event) answers) refl refl (λ n. refl) (λ d p none. absurd none)
-case_owns w (step.Fault kind) answers = unowned w (step.Fault kind) (case_of w (step.Fault kind) answers) refl refl (λ n. refl) (λ d p none. absurd none)
-case_owns w step.Interrupt answers = unowned w step.Interrupt (case_of w step.Interrupt answers) refl refl (λ n. refl) (λ d p none. absurd none)
 case_owns w (step.Begin limit) answers =
     let same = begin_keeps w limit answers in
     unowned w (step.Begin limit) (case_of w (step.Begin limit) answers) (ap entries same) (ap (λ (f : Frame). f.timers) same) (λ n. refl) (λ d p none. absurd none)
@@ -456,6 +453,7 @@ case_owns w step.Finish answers =
 case_owns w step.React answers =
     let same = react_keeps w answers in
     unowned w step.React (case_of w step.React answers) (ap entries same) (ap (λ (f : Frame). f.timers) same) (λ n. refl) (λ d p none. absurd none)
+case_owns w s answers = unowned w s (case_of w s answers) refl refl (λ n. refl) (λ d p none. absurd none)
 
 pub keeps_its_own : (w : World) (s : Step) (answers : List PollerAnswer) → KeepsItsOwn w s (step_result w s answers).answer (step_result w s answers).world
 unfolding step_result

@@ -274,9 +274,6 @@ case_told w (step.StepEar number waker) answers =
     }
 case_told w (step.DropEar number) answers =
     let e : IsPlain (case_of w (step.DropEar number) answers) = drop_plain w number (find (is_listener number) w.listeners) answers in record { ready = never (case_of w (step.DropEar number) answers) e; ready_at = never_at (case_of w (step.DropEar number) answers) (not_at (case_of w (step.DropEar number) answers) e) }
-case_told w (step.TimerAt deadline) answers = let e : IsPlain (case_of w (step.TimerAt deadline) answers) = is_plain (case_of w (step.TimerAt deadline) answers) refl in record { ready = never (case_of w (step.TimerAt deadline) answers) e; ready_at = never_at (case_of w (step.TimerAt deadline) answers) (not_at (case_of w (step.TimerAt deadline) answers) e) }
-case_told w (step.TimerEvery deadline period) answers = let e : IsPlain (case_of w (step.TimerEvery deadline period) answers) = is_plain (case_of w (step.TimerEvery deadline period) answers) refl in record { ready = never (case_of w (step.TimerEvery deadline period) answers) e; ready_at = never_at (case_of w (step.TimerEvery deadline period) answers) (not_at (case_of w (step.TimerEvery deadline period) answers) e) }
-case_told w step.TimerNever answers = let e : IsPlain (case_of w step.TimerNever answers) = is_plain (case_of w step.TimerNever answers) refl in record { ready = never (case_of w step.TimerNever answers) e; ready_at = never_at (case_of w step.TimerNever answers) (not_at (case_of w step.TimerNever answers) e) }
 case_told w (step.Tick number waker) answers =
     record {
       ready = (λ same. tick_other w waker (find (is_timer number) w.timers) answers same, λ wrong. absurd wrong);
@@ -290,9 +287,6 @@ case_told w (step.End number) answers =
     let e : IsPlain (case_of w (step.End number) answers) = end_plain w (find (is_timer number) w.timers) answers in record { ready = never (case_of w (step.End number) answers) e; ready_at = never_at (case_of w (step.End number) answers) (not_at (case_of w (step.End number) answers) e) }
 case_told w (step.Now moment) answers =
     let e : IsPlain (case_of w (step.Now moment) answers) = plainly (nat_lt moment w.now) _ _ (is_plain _ refl) (is_plain _ refl) in record { ready = never (case_of w (step.Now moment) answers) e; ready_at = never_at (case_of w (step.Now moment) answers) (not_at (case_of w (step.Now moment) answers) e) }
-case_told w (step.Note event) answers = let e : IsPlain (case_of w (step.Note event) answers) = is_plain (case_of w (step.Note event) answers) refl in record { ready = never (case_of w (step.Note event) answers) e; ready_at = never_at (case_of w (step.Note event) answers) (not_at (case_of w (step.Note event) answers) e) }
-case_told w (step.Fault kind) answers = let e : IsPlain (case_of w (step.Fault kind) answers) = is_plain (case_of w (step.Fault kind) answers) refl in record { ready = never (case_of w (step.Fault kind) answers) e; ready_at = never_at (case_of w (step.Fault kind) answers) (not_at (case_of w (step.Fault kind) answers) e) }
-case_told w step.Interrupt answers = let e : IsPlain (case_of w step.Interrupt answers) = is_plain (case_of w step.Interrupt answers) refl in record { ready = never (case_of w step.Interrupt answers) e; ready_at = never_at (case_of w step.Interrupt answers) (not_at (case_of w step.Interrupt answers) e) }
 case_told w (step.Begin limit) answers =
     let e : IsPlain (case_of w (step.Begin limit) answers) = plainly (is_some w.round) _ _ (is_plain _ refl) (is_plain _ refl) in record { ready = never (case_of w (step.Begin limit) answers) e; ready_at = never_at (case_of w (step.Begin limit) answers) (not_at (case_of w (step.Begin limit) answers) e) }
 case_told w step.Wait answers = let e : IsPlain (case_of w step.Wait answers) = wait_plain w w.round answers in record { ready = never (case_of w step.Wait answers) e; ready_at = never_at (case_of w step.Wait answers) (not_at (case_of w step.Wait answers) e) }
@@ -300,6 +294,7 @@ case_told w step.Handle answers = let e : IsPlain (case_of w step.Handle answers
 case_told w step.Finish answers = let e : IsPlain (case_of w step.Finish answers) = finish_plain w w.round answers in record { ready = never (case_of w step.Finish answers) e; ready_at = never_at (case_of w step.Finish answers) (not_at (case_of w step.Finish answers) e) }
 case_told w step.React answers =
     let e : IsPlain (case_of w step.React answers) = plainly (is_some w.round) _ _ (is_plain _ refl) (is_plain _ refl) in record { ready = never (case_of w step.React answers) e; ready_at = never_at (case_of w step.React answers) (not_at (case_of w step.React answers) e) }
+case_told w s answers = let e : IsPlain (case_of w s answers) = is_plain (case_of w s answers) refl in record { ready = never (case_of w s answers) e; ready_at = never_at (case_of w s answers) (not_at (case_of w s answers) e) }
 
 pub ready_is_told : (w : World) (s : Step) (answers : List PollerAnswer) → ReadyIsTold w s (step_result w s answers).answer
 unfolding step_result

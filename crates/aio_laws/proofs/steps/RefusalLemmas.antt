@@ -160,22 +160,17 @@ case_refuses w (step.Poll key dir waker) answers = poll_refuses w key.0 dir wake
 case_refuses w (step.New key dir) answers = new_refuses w dir _ answers
 case_refuses w (step.StepEar number waker) answers = listen_refuses w waker _ answers
 case_refuses w (step.DropEar number) answers = drop_refuses w number _ answers
-case_refuses w (step.TimerAt deadline) answers = done w answers _ (plain _ refl)
-case_refuses w (step.TimerEvery deadline period) answers = done w answers _ (plain _ refl)
-case_refuses w step.TimerNever answers = done w answers _ (plain _ refl)
 case_refuses w (step.Tick number waker) answers = tick_refuses w waker _ answers
 case_refuses w (step.SetAt number deadline) answers = set_refuses w deadline None _ answers
 case_refuses w (step.SetEvery number deadline period) answers = set_refuses w deadline (Some period) _ answers
 case_refuses w (step.End number) answers = end_refuses w _ answers
 case_refuses w (step.Now moment) answers = clock_refuses w moment answers
-case_refuses w (step.Note event) answers = done w answers _ (plain _ refl)
-case_refuses w (step.Fault kind) answers = done w answers _ (plain _ refl)
-case_refuses w step.Interrupt answers = done w answers _ (plain _ refl)
 case_refuses w (step.Begin limit) answers = begin_refuses w limit answers
 case_refuses w step.Wait answers = wait_refuses w w.round answers
 case_refuses w step.Handle answers = handle_refuses w w.round answers
 case_refuses w step.Finish answers = finish_refuses w w.round answers
 case_refuses w step.React answers = react_refuses w None answers
+case_refuses w _ answers = done w answers _ (plain _ refl)
 
 -- a step that is refused takes its position, and does nothing else
 pub refused_only_counts : (w : World) (s : Step) (answers : List PollerAnswer) → is_refusal (step_result w s answers).answer ≡ true

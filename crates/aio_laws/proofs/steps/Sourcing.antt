@@ -91,9 +91,6 @@ case_sourced w (step.StepEar number waker) answers =
 case_sourced w (step.DropEar number) answers =
     let found = find (is_listener number) w.listeners in
     record { live = ap sources (drop_keeps w number found answers); serials = ap given (drop_leaves w number found answers); tells = tt }
-case_sourced w (step.TimerAt deadline) answers = record { live = refl; serials = refl; tells = tt }
-case_sourced w (step.TimerEvery deadline period) answers = record { live = refl; serials = refl; tells = tt }
-case_sourced w step.TimerNever answers = record { live = refl; serials = refl; tells = tt }
 case_sourced w (step.Tick number waker) answers =
     let found = find (is_timer number) w.timers in
     record { live = ap sources (tick_keeps w waker found answers); serials = ap given (tick_leaves w waker found answers); tells = tt }
@@ -109,9 +106,6 @@ case_sourced w (step.End number) answers =
 case_sourced w (step.Now moment) answers =
     cond_both (nat_lt moment w.now) _ _ (λ (o : Outcome). Sourced w (step.Now moment) o.answer o.world)
     (λ back. record { live = refl; serials = refl; tells = tt }) (λ on. record { live = refl; serials = refl; tells = tt })
-case_sourced w (step.Note event) answers = record { live = refl; serials = refl; tells = tt }
-case_sourced w (step.Fault kind) answers = record { live = refl; serials = refl; tells = tt }
-case_sourced w step.Interrupt answers = record { live = refl; serials = refl; tells = tt }
 case_sourced w (step.Begin limit) answers =
     record { live = ap sources (begin_keeps w limit answers); serials = ap given (begin_leaves w limit answers); tells = tt }
 case_sourced w step.Wait answers =
@@ -122,6 +116,7 @@ case_sourced w step.Finish answers =
     record { live = ap sources (finish_keeps w w.round answers); serials = ap given (finish_leaves w w.round answers); tells = tt }
 case_sourced w step.React answers =
     record { live = ap sources (react_keeps w answers); serials = ap given (react_leaves w answers); tells = tt }
+case_sourced w _ answers = record { live = refl; serials = refl; tells = tt }
 
 pub sources_follow : (w : World) (s : Step) (answers : List PollerAnswer) → SourcesFollow w s (step_result w s answers).answer (step_result w s answers).world
 unfolding step_result

@@ -326,9 +326,6 @@ case_stands w (step.End number) answers =
 case_stands w (step.Now moment) answers =
     cond_both (nat_lt moment w.now) _ _ (λ (o : Outcome). Standing w (step.Now moment) o.world)
     (λ back. record { sources = refl; listeners = refl; timers = refl }) (λ on. record { sources = refl; listeners = refl; timers = refl })
-case_stands w (step.Note event) answers = record { sources = refl; listeners = refl; timers = refl }
-case_stands w (step.Fault kind) answers = record { sources = refl; listeners = refl; timers = refl }
-case_stands w step.Interrupt answers = record { sources = refl; listeners = refl; timers = refl }
 case_stands w (step.Begin limit) answers =
     record {
       sources = ap all_sources (begin_keeps w limit answers);
@@ -359,6 +356,7 @@ case_stands w step.React answers =
       listeners = listeners_stand w (case_of w step.React answers).world (ap entries (react_keeps w answers));
       timers = ap all_timers (react_keeps w answers);
     }
+case_stands w _ answers = record { sources = refl; listeners = refl; timers = refl }
 
 pub others_stand : (w : World) (s : Step) (answers : List PollerAnswer) → OthersStand w s answers (step_result w s answers).world
 unfolding step_result

@@ -589,16 +589,7 @@ moves_follow w step.Finish answers l rests refused =
 moves_follow w step.React answers l rests refused =
     taking_follows w step.React answers l _ rests refl refl refl
     (subst (λ ends. Ending (taken_places w step.React answers) ends l (react_moves w answers l)) (sym (react_proceeds w answers)) (react_ends w answers l)) refused
-moves_follow w step.Add answers l rests refused = still_follows w step.Add answers l rests refl refl refl refl
-moves_follow w (step.New key dir) answers l rests refused = still_follows w (step.New key dir) answers l rests refl refl refl refl
-moves_follow w (step.TimerAt deadline) answers l rests refused = still_follows w (step.TimerAt deadline) answers l rests refl refl refl refl
-moves_follow w (step.TimerEvery deadline period) answers l rests refused = still_follows w (step.TimerEvery deadline period) answers l rests refl refl refl refl
-moves_follow w step.TimerNever answers l rests refused = still_follows w step.TimerNever answers l rests refl refl refl refl
-moves_follow w (step.Now moment) answers l rests refused = still_follows w (step.Now moment) answers l rests refl refl refl refl
-moves_follow w (step.Note event) answers l rests refused = still_follows w (step.Note event) answers l rests refl refl refl refl
-moves_follow w (step.Fault kind) answers l rests refused = still_follows w (step.Fault kind) answers l rests refl refl refl refl
-moves_follow w step.Interrupt answers l rests refused = still_follows w step.Interrupt answers l rests refl refl refl refl
-moves_follow w step.Wait answers l rests refused = still_follows w step.Wait answers l rests refl refl refl refl
+moves_follow w s answers l rests refused = still_follows w s answers l rests refl refl refl refl
 
 pub step_follows : (w : World) (s : Step) (answers : List PollerAnswer) (l : Storings) → l.waking ≡ []
     → StoringsFollow w s answers l (step_ended (step_storings w s answers l))

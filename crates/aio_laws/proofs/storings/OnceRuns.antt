@@ -47,22 +47,17 @@ case_leaves w woken l (step.Poll key dir waker) answers x = poll_leaves w woken 
 case_leaves w woken l (step.New key dir) answers x = new_leaves w woken l dir (serial_of w key.0) answers x
 case_leaves w woken l (step.StepEar number waker) answers x = step_leaves w woken l number waker (find (is_listener number) w.listeners) answers refl x
 case_leaves w woken l (step.DropEar number) answers x = drop_leaves w woken l number (find (is_listener number) w.listeners) answers refl x
-case_leaves w woken l (step.TimerAt deadline) answers x = record { stands = x }
-case_leaves w woken l (step.TimerEvery deadline period) answers x = record { stands = x }
-case_leaves w woken l step.TimerNever answers x = record { stands = x }
 case_leaves w woken l (step.Tick number waker) answers x = tick_leaves w woken l waker (find (is_timer number) w.timers) answers x
 case_leaves w woken l (step.SetAt number deadline) answers x = set_leaves w woken l deadline None (find (is_timer number) w.timers) answers x
 case_leaves w woken l (step.SetEvery number deadline period) answers x = set_leaves w woken l deadline (Some period) (find (is_timer number) w.timers) answers x
 case_leaves w woken l (step.End number) answers x = end_leaves w woken l (find (is_timer number) w.timers) answers x
 case_leaves w woken l (step.Now moment) answers x = clock_leaves w woken l moment answers x
-case_leaves w woken l (step.Note event) answers x = record { stands = x }
-case_leaves w woken l (step.Fault kind) answers x = record { stands = x }
-case_leaves w woken l step.Interrupt answers x = record { stands = x }
 case_leaves w woken l (step.Begin limit) answers x = begin_leaves w woken l limit answers x
 case_leaves w woken l step.Wait answers x = wait_leaves w woken l answers x
 case_leaves w woken l step.Handle answers x = handle_leaves w woken l answers x
 case_leaves w woken l step.Finish answers x = finish_leaves w woken l answers x
 case_leaves w woken l step.React answers x = react_leaves w woken l answers x
+case_leaves w woken l _ answers x = record { stands = x }
 
 -- ## A step ends
 

@@ -341,14 +341,12 @@ case_leaves w (step.SetAt number deadline) answers a = set_leaves w number deadl
 case_leaves w (step.SetEvery number deadline period) answers a = set_leaves w number deadline (Some period) (find (is_timer number) w.timers) answers refl a
 case_leaves w (step.End number) answers a = end_leaves w number (find (is_timer number) w.timers) answers refl a
 case_leaves w (step.Now moment) answers a = clock_leaves_at w moment (nat_lt moment w.now) _ _ refl refl refl a
-case_leaves w (step.Note event) answers a = a
-case_leaves w (step.Fault kind) answers a = a
-case_leaves w step.Interrupt answers a = a
 case_leaves w (step.Begin limit) answers a = begin_leaves w limit answers a
 case_leaves w step.Wait answers a = stays w (wait_in w w.round answers) (wait_keeps w w.round answers) a
 case_leaves w step.Handle answers a = stays w (handle_in w w.round answers) (handle_keeps w w.round answers) a
 case_leaves w step.Finish answers a = finish_leaves w w.round answers a
 case_leaves w step.React answers a = react_leaves w None answers a
+case_leaves w _ answers a = a
 
 step_awaits : (w : World) (s : PolledStep) → Awaits (timed w) → Awaits (timed (outcome_of w s).world)
 unfolding step_result

@@ -105,22 +105,17 @@ step_registers w (step.Poll key dir waker) answers other = ap (λ (t : Timed). t
 step_registers w (step.New key dir) answers other = ap (λ (t : Timed). t.registrations) (new_keeps w dir (serial_of w key.0) answers)
 step_registers w (step.StepEar number waker) answers other = ap (λ (t : Timed). t.registrations) (step_keeps w waker (find (is_listener number) w.listeners) answers)
 step_registers w (step.DropEar number) answers other = ap (λ (t : Timed). t.registrations) (drop_keeps w number (find (is_listener number) w.listeners) answers)
-step_registers w (step.TimerAt deadline) answers other = refl
-step_registers w (step.TimerEvery deadline period) answers other = refl
-step_registers w step.TimerNever answers other = refl
 step_registers w (step.Tick number waker) answers other = absurd cc
 step_registers w (step.SetAt number deadline) answers other = absurd cc
 step_registers w (step.SetEvery number deadline period) answers other = absurd cc
 step_registers w (step.End number) answers other = absurd cc
 step_registers w (step.Now moment) answers other = either w.registrations (nat_lt moment w.now) _ _ refl refl
-step_registers w (step.Note event) answers other = refl
-step_registers w (step.Fault kind) answers other = refl
-step_registers w step.Interrupt answers other = refl
 step_registers w (step.Begin limit) answers other = refused_or (after_pass w.now w.registrations) w.registrations (is_some w.round) _ _ refl refl
 step_registers w step.Wait answers other = ap (λ (t : Timed). t.registrations) (wait_keeps w w.round answers)
 step_registers w step.Handle answers other = ap (λ (t : Timed). t.registrations) (handle_keeps w w.round answers)
 step_registers w step.Finish answers other = finish_has w w.round answers
 step_registers w step.React answers other = react_has w answers
+step_registers w _ answers other = refl
 
 pub step_leaves_registered : (w : World) (s : Step) (answers : List PollerAnswer) → is_of_timer s ≡ false → RegistrationsFollow w s (step_result w s answers).world
 step_leaves_registered w s answers other =
