@@ -14,16 +14,13 @@ use Rattle.aio_laws.specs.Arming.{polled_source, IsArmedOrInHand}
 use Rattle.aio_laws.specs.Covered.{Cover, IsArmed, InHand, FaultIsTold, Covered}
 use Rattle.aio_base.proofs.Membership.{none_passes}
 use Rattle.aio_base.proofs.BrokenSources.{without_unbroken}
+use Rattle.aio_laws.proofs.steps.Frames.{either}
 
 -- ## Polls
 
 -- an outcome that is told pending leaves this source unbroken
 abbrev Arms : ℕ → Outcome → Type 0
 Arms serial o = o.answer ≡ answer.Pending → is_broken o.world serial ≡ false
-
-either : (serial : ℕ) (test : Bool) (x y : Outcome) → Arms serial x → Arms serial y → Arms serial (cond test x y)
-either serial true x y first second = first
-either serial false x y first second = second
 
 -- of a failed arm nobody is told pending
 told_pending : (failed : Bool) (x y : World) (serial : ℕ) → is_broken y serial ≡ false → cond failed answer.FaultArm answer.Pending ≡ answer.Pending
@@ -41,15 +38,15 @@ poll_arms : (w : World) (key : ℕ) (dir : Dir) (waker : Waker) (serial : ℕ) (
     → Arms serial (poll_source w key dir waker (Some serial) answers)
 poll_arms w key dir waker serial answers =
     let waiter = poll_waiter w.poll_waiters serial dir in
-    either serial (is_fresh_since w serial dir (mark_of w.marks serial dir)) _ _ (λ ready. absurd cc)
-    (either serial (is_waker waker waiter) _ _ (pending_arms (is_broken w serial) w key serial [] answers (λ whole. whole))
+    either (Arms serial) (is_fresh_since w serial dir (mark_of w.marks serial dir)) _ _ (λ ready. absurd cc)
+    (either (Arms serial) (is_waker waker waiter) _ _ (pending_arms (is_broken w serial) w key serial [] answers (λ whole. whole))
     (pending_arms (is_idle w serial dir || is_broken w serial) (with_waiter w serial dir waker) key serial (option_to_list waiter) answers
     (λ calm. (or_parts (is_idle w serial dir) (is_broken w serial) calm).1)))
 
 listener_arms : (w : World) (waker : Waker) (entry : ListenerEntry) (answers : List PollerAnswer)
     → Arms entry.serial (step_listener w waker (Some entry) answers)
 listener_arms w waker entry answers =
-    either entry.serial (is_fresh_since w entry.serial entry.dir entry.position) _ _ (λ ready. absurd cc)
+    either (Arms entry.serial) (is_fresh_since w entry.serial entry.dir entry.position) _ _ (λ ready. absurd cc)
     (pending_arms (is_idle w entry.serial entry.dir || is_broken w entry.serial) (record w { listeners = with_listening w entry waker })
     (unwrap_or (key_of w entry.serial) 0) entry.serial [] answers
     (λ calm. (or_parts (is_idle w entry.serial entry.dir) (is_broken w entry.serial) calm).1))

@@ -11,13 +11,13 @@ use Rattle.aio_base.specs.declared.names.Dir.{Dir}
 use Rattle.aio_base.specs.declared.names.Event.{Event}
 use Rattle.aio_base.specs.declared.steps.Step.{Step}
 use Rattle.aio_base.specs.declared.steps.Step.TheVariants as step
-use Rattle.aio_base.specs.World.{PollerAnswer, Succeeds, Gives, IsInterrupted, Fails, ListenerEntry, TimerEntry, RoundState, World, opening, directions_of, is_of, serial_of, key_of, poll_waiter, mark_of, is_empty_list, is_idle, wanted, is_broken}
-use Rattle.aio_base.specs.Machine.{Outcome, fails, next_answer, later_answers, after_arm, pending, source_limit, add, del_source, is_fresh_since, is_waker, with_waiter, poll_source, new_listener, is_listener, without_listener, with_listening, step_listener, drop_listener, is_timer, unregistered, tick_timer, set_timer, end_timer, set_clock, begin_round, wait_answered, wait_in, wait_round, without_waiters, world_taken, rearmed, handle_source, handle_first, handle_in, handle_round, finish_in, handle_each, hand_of, react, case_of, step_result}
-use Rattle.aio_base.proofs.TimerCases.{tick_any, set_any}
+use Rattle.aio_base.specs.World.{PollerAnswer, Succeeds, Gives, IsInterrupted, Fails, ListenerEntry, RoundState, World, opening, directions_of, is_of, serial_of, key_of, poll_waiter, mark_of, is_empty_list, is_idle, wanted, is_broken}
+use Rattle.aio_base.specs.Machine.{Outcome, fails, next_answer, later_answers, after_arm, pending, source_limit, add, del_source, is_fresh_since, is_waker, with_waiter, poll_source, new_listener, is_listener, without_listener, with_listening, step_listener, drop_listener, is_timer, set_clock, begin_round, wait_answered, wait_in, without_waiters, world_taken, rearmed, handle_source, handle_first, handle_in, finish_in, react, case_of, step_result}
 use Rattle.aio_laws.specs.FirstPolls.{IsPolledBefore, InPollOrder}
 use Rattle.aio_base.specs.Runs.{PolledStep, outcome_of, world_of}
 use Rattle.aio_laws.specs.Storings.{Storings, no_storings}
 use Rattle.aio_laws.proofs.runs.Apart.{Apart, same_element}
+use Rattle.aio_laws.proofs.steps.Frames.{either, either_world, react_any, tick_timers, set_timers, end_timers}
 use Rattle.aio_base.proofs.Membership.{none_is_in, first_is_in, later_is_in, each_in, filtered_is_in, mapped_from, found_is_in}
 use Rattle.aio_laws.proofs.storings.OnceRuns.{Between, after_step, step_stands, opening_stands}
 
@@ -117,18 +117,10 @@ record Leaves (o : Outcome) : Type 0 where
 abbrev Within : World → Type 0
 Within w = Ranked w.listeners (w.pos + 1)
 
-either : (test : Bool) (x y : Outcome) → Leaves x → Leaves y → Leaves (cond test x y)
-either true x y first second = first
-either false x y first second = second
-
-either_world : (test : Bool) (u v : World) → Within u → Within v → Within (cond test u v)
-either_world true u v first second = first
-either_world false u v first second = second
-
 -- ## Sources
 
 arm_within : (w : World) (key serial : ℕ) (told : PollerAnswer) → Within w → Within (after_arm w key serial told)
-arm_within w key serial told r = either_world (fails told) _ _ r r
+arm_within w key serial told r = either_world Within (fails told) _ _ r r
 
 pending_leaves : (arms : Bool) (w : World) (key serial : ℕ) (wakes : List Waker) (answers : List PollerAnswer) → Within w
     → Leaves (pending arms w key serial wakes answers)
@@ -137,20 +129,20 @@ pending_leaves true w key serial wakes answers r = record { stands = arm_within 
 
 add_leaves : (w : World) (answers : List PollerAnswer) → Within w → Leaves (add w answers)
 add_leaves w answers r =
-    either (nat_le source_limit (length w.live)) _ _ (record { stands = r }) (record { stands = either_world (fails (next_answer answers)) w _ r r })
+    either Leaves (nat_le source_limit (length w.live)) _ _ (record { stands = r }) (record { stands = either_world Within (fails (next_answer answers)) w _ r r })
 
 del_leaves : (w : World) (key : ℕ) (serial : Option ℕ) (answers : List PollerAnswer) → Within w → Leaves (del_source w key serial answers)
 del_leaves w key None answers r = record { stands = r }
 del_leaves w key (Some serial) answers r =
-    either (list_any (λ (l : ListenerEntry). l.serial == serial) w.listeners) _ _ (record { stands = r }) (record { stands = r })
+    either Leaves (list_any (λ (l : ListenerEntry). l.serial == serial) w.listeners) _ _ (record { stands = r }) (record { stands = r })
 
 poll_leaves : (w : World) (key : ℕ) (dir : Dir) (waker : Waker) (serial : Option ℕ) (answers : List PollerAnswer) → Within w
     → Leaves (poll_source w key dir waker serial answers)
 poll_leaves w key dir waker None answers r = record { stands = r }
 poll_leaves w key dir waker (Some serial) answers r =
     let waiter = poll_waiter w.poll_waiters serial dir in
-    either (is_fresh_since w serial dir (mark_of w.marks serial dir)) _ _ (record { stands = r })
-    (either (is_waker waker waiter) _ _ (pending_leaves (is_broken w serial) w key serial [] answers r)
+    either Leaves (is_fresh_since w serial dir (mark_of w.marks serial dir)) _ _ (record { stands = r })
+    (either Leaves (is_waker waker waiter) _ _ (pending_leaves (is_broken w serial) w key serial [] answers r)
     (pending_leaves (is_idle w serial dir || is_broken w serial) (with_waiter w serial dir waker) key serial (option_to_list waiter) answers r))
 
 -- ## Listeners
@@ -205,7 +197,7 @@ step_leaves : (w : World) (number : ℕ) (waker : Waker) (entry : Option Listene
     → Leaves (step_listener w waker entry answers)
 step_leaves w number waker None answers found apart r = record { stands = later_ranked w.listeners w.pos r }
 step_leaves w number waker (Some entry) answers found apart r =
-    either (is_fresh_since w entry.serial entry.dir entry.position) _ _ (record { stands = later_ranked w.listeners w.pos r })
+    either Leaves (is_fresh_since w entry.serial entry.dir entry.position) _ _ (record { stands = later_ranked w.listeners w.pos r })
     (pending_leaves (is_idle w entry.serial entry.dir || is_broken w entry.serial) (record w { listeners = with_listening w entry waker })
     (unwrap_or (key_of w entry.serial) 0) entry.serial [] answers
     (listening_ranked w entry waker apart (found_is_in (is_listener number) w.listeners entry found).0 r))
@@ -216,33 +208,15 @@ drop_leaves w number None answers r = record { stands = r }
 drop_leaves w number (Some entry) answers r =
     record { stands = filtered_ranked (λ l. not (is_listener number l)) w.listeners (w.pos + 1) r }
 
--- ## Timers and the clock
-
-unregistered_within : (w : World) (id : Option ℕ) → Within w → Within (unregistered w id)
-unregistered_within w None r = r
-unregistered_within w (Some id) r = r
-
-tick_leaves : (w : World) (waker : Waker) (entry : Option TimerEntry) (answers : List PollerAnswer) → Within w → Leaves (tick_timer w waker entry answers)
-tick_leaves w waker None answers r = record { stands = r }
-tick_leaves w waker (Some entry) answers r =
-    tick_any Leaves w waker entry answers (λ timers registrations ids. record { stands = r }) (λ deadline timers registrations ids. record { stands = r })
-
-set_leaves : (w : World) (deadline : ℕ) (period : Option ℕ) (entry : Option TimerEntry) (answers : List PollerAnswer) → Within w
-    → Leaves (set_timer w deadline period entry answers)
-set_leaves w deadline period None answers r = record { stands = r }
-set_leaves w deadline period (Some entry) answers r = set_any Leaves w deadline period entry answers (λ timers registrations ids. record { stands = r })
-
-end_leaves : (w : World) (entry : Option TimerEntry) (answers : List PollerAnswer) → Within w → Leaves (end_timer w entry answers)
-end_leaves w None answers r = record { stands = r }
-end_leaves w (Some entry) answers r = record { stands = unregistered_within w entry.id r }
+-- ## The clock
 
 clock_leaves : (w : World) (moment : ℕ) (answers : List PollerAnswer) → Within w → Leaves (set_clock w moment answers)
-clock_leaves w moment answers r = either (nat_lt moment w.now) _ _ (record { stands = r }) (record { stands = r })
+clock_leaves w moment answers r = either Leaves (nat_lt moment w.now) _ _ (record { stands = r }) (record { stands = r })
 
 -- ## Rounds
 
 begin_leaves : (w : World) (given : Option ℕ) (answers : List PollerAnswer) → Within w → Leaves (begin_round w given answers)
-begin_leaves w given answers r = either (is_some w.round) _ _ (record { stands = r }) (record { stands = r })
+begin_leaves w given answers r = either Leaves (is_some w.round) _ _ (record { stands = r }) (record { stands = r })
 
 answered_leaves : (w : World) (round : RoundState) (told : PollerAnswer) (rest : List PollerAnswer) → Within w → Leaves (wait_answered w round told rest)
 answered_leaves w round Succeeds rest r = record { stands = r }
@@ -253,7 +227,7 @@ answered_leaves w round Fails rest r = record { stands = r }
 wait_leaves : (w : World) (round : Option RoundState) (answers : List PollerAnswer) → Within w → Leaves (wait_in w round answers)
 wait_leaves w None answers r = record { stands = r }
 wait_leaves w (Some round) answers r =
-    either (is_empty_list round.in_hand) _ _ (answered_leaves w round (next_answer answers) (later_answers answers) r) (record { stands = r })
+    either Leaves (is_empty_list round.in_hand) _ _ (answered_leaves w round (next_answer answers) (later_answers answers) r) (record { stands = r })
 
 emptied_position : (l : ListenerEntry) (here : Bool) → (let m : ListenerEntry = cond here (record l { waker = None }) l in m.position) ≡ l.position
 emptied_position l true = refl
@@ -274,8 +248,8 @@ rearmed_leaves : (w : World) (round : RoundState) (key : Key) (serial : ℕ) (an
     → Leaves (rearmed w round key serial answers)
 rearmed_leaves w round key serial answers r =
     let arm = arm_within w key.0 serial (next_answer answers) r in
-    either (is_empty_list (wanted w serial)) _ _ (record { stands = r })
-    (record { stands = either_world (fails (next_answer answers)) _ (after_arm w key.0 serial (next_answer answers)) arm arm })
+    either Leaves (is_empty_list (wanted w serial)) _ _ (record { stands = r })
+    (record { stands = either_world Within (fails (next_answer answers)) _ (after_arm w key.0 serial (next_answer answers)) arm arm })
 
 source_leaves : (w : World) (round : RoundState) (event : Event) (serial : Option ℕ) (answers : List PollerAnswer) → Within w
     → Leaves (handle_source w round event serial answers)
@@ -294,24 +268,13 @@ handle_leaves w (Some round) answers r = first_leaves w round round.in_hand answ
 
 finish_leaves : (w : World) (round : Option RoundState) (answers : List PollerAnswer) → Within w → Leaves (finish_in w round answers)
 finish_leaves w None answers r = record { stands = r }
-finish_leaves w (Some round) answers r = either (is_empty_list round.in_hand) _ _ (record { stands = r }) (record { stands = r })
-
-each_leaves : (events : List Event) (w : World) (answers : List PollerAnswer) → Within w → Leaves (handle_each events w answers)
-each_leaves [] w answers r = record { stands = r }
-each_leaves (event ∷ events) w answers r =
-    record { stands = (each_leaves events (handle_round w answers).world (handle_round w answers).left (handle_leaves w w.round answers r).stands).stands }
+finish_leaves w (Some round) answers r = either Leaves (is_empty_list round.in_hand) _ _ (record { stands = r }) (record { stands = r })
 
 react_leaves : (w : World) (given : Option ℕ) (answers : List PollerAnswer) → Within w → Leaves (react w given answers)
-react_leaves w given answers r =
-    let begun = begin_round w given answers in
-    let waited = wait_round begun.world begun.left in
-    let hand = hand_of waited.world.round in
-    let handled = handle_each hand waited.world waited.left in
-    let begins = begin_leaves w given answers r in
-    let waits = wait_leaves begun.world begun.world.round begun.left begins.stands in
-    let handles = each_leaves hand waited.world waited.left waits.stands in
-    either (is_some w.round) _ _ (record { stands = r })
-    (record { stands = (finish_leaves handled.world handled.world.round handled.left handles.stands).stands })
+react_leaves w given answers r = record {
+  stands = react_any Within w given answers r (begin_leaves w given answers r).stands (λ v answers r. (wait_leaves v v.round answers r).stands)
+      (λ v answers r. (handle_leaves v v.round answers r).stands) (λ v answers r. (finish_leaves v v.round answers r).stands);
+}
 
 -- ## Steps and runs
 
@@ -323,10 +286,11 @@ case_leaves w (step.Poll key dir waker) answers apart x r = poll_leaves w key.0 
 case_leaves w (step.New key dir) answers apart x r = new_leaves w dir (serial_of w key.0) answers r
 case_leaves w (step.StepEar number waker) answers apart x r = step_leaves w number waker (find (is_listener number) w.listeners) answers refl apart x
 case_leaves w (step.DropEar number) answers apart x r = drop_leaves w number (find (is_listener number) w.listeners) answers r
-case_leaves w (step.Tick number waker) answers apart x r = tick_leaves w waker (find (is_timer number) w.timers) answers r
-case_leaves w (step.SetAt number deadline) answers apart x r = set_leaves w deadline None (find (is_timer number) w.timers) answers r
-case_leaves w (step.SetEvery number deadline period) answers apart x r = set_leaves w deadline (Some period) (find (is_timer number) w.timers) answers r
-case_leaves w (step.End number) answers apart x r = end_leaves w (find (is_timer number) w.timers) answers r
+case_leaves w (step.Tick number waker) answers apart x r = record { stands = tick_timers Within w waker (find (is_timer number) w.timers) answers (λ timers registrations ids. r) }
+case_leaves w (step.SetAt number deadline) answers apart x r = record { stands = set_timers Within w deadline None (find (is_timer number) w.timers) answers (λ timers registrations ids. r) }
+case_leaves w (step.SetEvery number deadline period) answers apart x r =
+    record { stands = set_timers Within w deadline (Some period) (find (is_timer number) w.timers) answers (λ timers registrations ids. r) }
+case_leaves w (step.End number) answers apart x r = record { stands = end_timers Within w (find (is_timer number) w.timers) answers (λ timers registrations ids. r) }
 case_leaves w (step.Now moment) answers apart x r = clock_leaves w moment answers r
 case_leaves w (step.Begin limit) answers apart x r = begin_leaves w limit answers r
 case_leaves w step.Wait answers apart x r = wait_leaves w w.round answers r

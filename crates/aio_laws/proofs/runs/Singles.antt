@@ -12,13 +12,14 @@ use Rattle.aio_base.specs.declared.names.Event.{Event}
 use Rattle.aio_base.specs.declared.steps.Step.{Step}
 use Rattle.aio_base.specs.declared.steps.Step.TheVariants as step
 use Rattle.aio_base.specs.World.{PollerAnswer, Succeeds, Gives, IsInterrupted, Fails, LiveSource, PollWaiter, Mark, ListenerEntry, BrokenSource, Registration, TimerEntry, RoundState, World, opening, directions_of, is_of, serial_of, key_of, poll_waiter, mark_of, is_empty_list, is_idle, wanted, is_broken}
-use Rattle.aio_base.specs.Machine.{Outcome, fails, next_answer, later_answers, broken_world, armed_world, after_arm, pending, source_limit, free_key, add, del_source, is_fresh_since, is_waker, with_waiter, poll_source, new_listener, is_listener, with_listening, step_listener, drop_listener, is_timer, new_timer, with_timer, unregistered, registered, tick_timer, set_timer, end_timer, set_clock, begin_round, wait_answered, wait_in, wait_round, without_waiters, world_taken, rearmed, handle_source, handle_first, handle_in, handle_round, finish_in, handle_each, hand_of, react, case_of, step_result, gave_none, is_zero, left_as, worked, state_of}
+use Rattle.aio_base.specs.Machine.{Outcome, fails, next_answer, later_answers, broken_world, armed_world, after_arm, pending, source_limit, free_key, add, del_source, is_fresh_since, is_waker, with_waiter, poll_source, new_listener, is_listener, with_listening, step_listener, drop_listener, is_timer, new_timer, with_timer, unregistered, registered, tick_timer, set_timer, end_timer, set_clock, begin_round, wait_answered, wait_in, without_waiters, world_taken, rearmed, handle_source, handle_first, handle_in, finish_in, react, case_of, step_result, gave_none, is_zero, left_as, worked, state_of}
 use Rattle.aio_base.specs.TimerWork.{TimerState, joining, reset_work}
 use Rattle.aio_base.specs.Timers.{after_pass}
 use Rattle.aio_laws.specs.Distinct.{waiter_direction, mark_direction, IsOfTimer, NoDoubles}
 use Rattle.aio_base.specs.Runs.{PolledStep, outcome_of, world_of}
 use Rattle.aio_laws.proofs.runs.Apart.{Apart, same_element, filtered_apart, mapped_apart, pushed_apart, replaced_apart, apart_differ}
 use Rattle.aio_laws.proofs.steps.FreeKeys.{free_key-free}
+use Rattle.aio_laws.proofs.steps.Frames.{either, either_world, react_any}
 use Rattle.aio_base.proofs.Membership.{none_is_in, each_in, filtered_is_in, filtered_passes, passing_is_kept, mapped_from, image_is_in, found_is_in, none_passes}
 use Rattle.aio_laws.proofs.storings.OnceRuns.{run_orders}
 use Rattle.aio_base.proofs.WaiterLemmas.{is_of-from}
@@ -71,16 +72,11 @@ record Singles (l : Lists) : Type 0 where
   timed : Timed l.timers l.registrations
 
 -- what a step, or a section of a round, leaves
+abbrev Within : World → Type 0
+Within w = Singles (lists_of w)
+
 record Leaves (o : Outcome) : Type 0 where
-  stands : Singles (lists_of o.world)
-
-either : (test : Bool) (x y : Outcome) → Leaves x → Leaves y → Leaves (cond test x y)
-either true x y first second = first
-either false x y first second = second
-
-either_world : (test : Bool) (u v : World) → Singles (lists_of u) → Singles (lists_of v) → Singles (lists_of (cond test u v))
-either_world true u v first second = first
-either_world false u v first second = second
+  stands : Within o.world
 
 -- ## Sources
 
@@ -93,7 +89,7 @@ direction_apart serial dir a b first second kept same =
 
 arm_singles : (w : World) (key serial : ℕ) (told : PollerAnswer) → Singles (lists_of w) → Singles (lists_of (after_arm w key serial told))
 arm_singles w key serial told s =
-    either_world (fails told) (broken_world w serial) (armed_world w key serial)
+    either_world Within (fails told) (broken_world w serial) (armed_world w key serial)
     (record {
       sources = s.sources;
       polls = s.polls;
@@ -135,9 +131,9 @@ one_more_differs live given d =
 
 add_leaves : (w : World) (answers : List PollerAnswer) → Singles (lists_of w) → Leaves (add w answers)
 add_leaves w answers s =
-    either (nat_le source_limit (length w.live)) _ _ (record { stands = s })
+    either Leaves (nat_le source_limit (length w.live)) _ _ (record { stands = s })
     (record {
-      stands = either_world (fails (next_answer answers)) w _ s
+      stands = either_world Within (fails (next_answer answers)) w _ s
           (record {
             sources = one_more_differs w.live w.serials s.sources;
             polls = s.polls;
@@ -151,7 +147,7 @@ add_leaves w answers s =
 del_leaves : (w : World) (key : ℕ) (serial : Option ℕ) (answers : List PollerAnswer) → Singles (lists_of w) → Leaves (del_source w key serial answers)
 del_leaves w key None answers s = record { stands = s }
 del_leaves w key (Some serial) answers s =
-    either (list_any (λ (l : ListenerEntry). l.serial == serial) w.listeners) _ _ (record { stands = s })
+    either Leaves (list_any (λ (l : ListenerEntry). l.serial == serial) w.listeners) _ _ (record { stands = s })
     (record {
       stands = record {
         sources = record {
@@ -184,7 +180,7 @@ poll_leaves : (w : World) (key : ℕ) (dir : Dir) (waker : Waker) (serial : Opti
 poll_leaves w key dir waker None answers s = record { stands = s }
 poll_leaves w key dir waker (Some serial) answers s =
     let waiter = poll_waiter w.poll_waiters serial dir in
-    either (is_fresh_since w serial dir (mark_of w.marks serial dir)) _ _
+    either Leaves (is_fresh_since w serial dir (mark_of w.marks serial dir)) _ _
     (record {
       stands = record {
         sources = s.sources;
@@ -195,7 +191,7 @@ poll_leaves w key dir waker (Some serial) answers s =
         timed = s.timed;
       };
     })
-    (either (is_waker waker waiter) _ _ (pending_leaves (is_broken w serial) w key serial [] answers s)
+    (either Leaves (is_waker waker waiter) _ _ (pending_leaves (is_broken w serial) w key serial [] answers s)
     (pending_leaves (is_idle w serial dir || is_broken w serial) (with_waiter w serial dir waker) key serial (option_to_list waiter) answers
     (waiter_singles w serial dir waker s)))
 
@@ -209,7 +205,7 @@ step_leaves : (w : World) (waker : Waker) (entry : Option ListenerEntry) (answer
     → Leaves (step_listener w waker entry answers)
 step_leaves w waker None answers s = record { stands = s }
 step_leaves w waker (Some entry) answers s =
-    either (is_fresh_since w entry.serial entry.dir entry.position) _ _ (record { stands = s })
+    either Leaves (is_fresh_since w entry.serial entry.dir entry.position) _ _ (record { stands = s })
     (pending_leaves (is_idle w entry.serial entry.dir || is_broken w entry.serial) (record w { listeners = with_listening w entry waker })
     (unwrap_or (key_of w entry.serial) 0) entry.serial [] answers s)
 
@@ -421,13 +417,13 @@ end_leaves w number (Some entry) answers found s =
     record { stands = ended_singles (unregistered w entry.id) entry (freed w entry entry.id refl (found_is_in (is_timer number) w.timers entry found).0 s) }
 
 clock_leaves : (w : World) (moment : ℕ) (answers : List PollerAnswer) → Singles (lists_of w) → Leaves (set_clock w moment answers)
-clock_leaves w moment answers s = either (nat_lt moment w.now) _ _ (record { stands = s }) (record { stands = s })
+clock_leaves w moment answers s = either Leaves (nat_lt moment w.now) _ _ (record { stands = s }) (record { stands = s })
 
 -- ## Rounds
 
 begin_leaves : (w : World) (given : Option ℕ) (answers : List PollerAnswer) → Singles (lists_of w) → Leaves (begin_round w given answers)
 begin_leaves w given answers s =
-    either (is_some w.round) _ _ (record { stands = s }) (record { stands = fewer_timed w (λ (r : Registration). not (nat_le r.deadline w.now)) s })
+    either Leaves (is_some w.round) _ _ (record { stands = s }) (record { stands = fewer_timed w (λ (r : Registration). not (nat_le r.deadline w.now)) s })
 
 answered_leaves : (w : World) (round : RoundState) (told : PollerAnswer) (rest : List PollerAnswer) → Singles (lists_of w)
     → Leaves (wait_answered w round told rest)
@@ -439,7 +435,7 @@ answered_leaves w round Fails rest s = record { stands = s }
 wait_leaves : (w : World) (round : Option RoundState) (answers : List PollerAnswer) → Singles (lists_of w) → Leaves (wait_in w round answers)
 wait_leaves w None answers s = record { stands = s }
 wait_leaves w (Some round) answers s =
-    either (is_empty_list round.in_hand) _ _ (answered_leaves w round (next_answer answers) (later_answers answers) s) (record { stands = s })
+    either Leaves (is_empty_list round.in_hand) _ _ (answered_leaves w round (next_answer answers) (later_answers answers) s) (record { stands = s })
 
 taken_singles : (w : World) (serial begin : ℕ) (dirs : List Dir) → Singles (lists_of w) → Singles (lists_of (world_taken w serial begin dirs))
 taken_singles w serial begin [] s = s
@@ -458,8 +454,8 @@ rearmed_leaves : (w : World) (round : RoundState) (key : Key) (serial : ℕ) (an
     → Leaves (rearmed w round key serial answers)
 rearmed_leaves w round key serial answers s =
     let arm = arm_singles w key.0 serial (next_answer answers) s in
-    either (is_empty_list (wanted w serial)) _ _ (record { stands = s })
-    (record { stands = either_world (fails (next_answer answers)) _ (after_arm w key.0 serial (next_answer answers)) arm arm })
+    either Leaves (is_empty_list (wanted w serial)) _ _ (record { stands = s })
+    (record { stands = either_world Within (fails (next_answer answers)) _ (after_arm w key.0 serial (next_answer answers)) arm arm })
 
 source_leaves : (w : World) (round : RoundState) (event : Event) (serial : Option ℕ) (answers : List PollerAnswer) → Singles (lists_of w)
     → Leaves (handle_source w round event serial answers)
@@ -484,7 +480,7 @@ finish_leaves : (w : World) (round : Option RoundState) (answers : List PollerAn
 finish_leaves w None answers s = record { stands = s }
 finish_leaves w (Some round) answers s =
     let second = gave_none round.last_wait && not (is_zero round.limit) in
-    either (is_empty_list round.in_hand) _ _
+    either Leaves (is_empty_list round.in_hand) _ _
     (record {
       stands = with_timers w w.timers w.timers_made (cond second (after_pass w.now w.registrations) w.registrations) s s.timers
           (either_timed second w.timers (after_pass w.now w.registrations) w.registrations
@@ -492,21 +488,11 @@ finish_leaves w (Some round) answers s =
     })
     (record { stands = s })
 
-each_leaves : (events : List Event) (w : World) (answers : List PollerAnswer) → Singles (lists_of w) → Leaves (handle_each events w answers)
-each_leaves [] w answers s = record { stands = s }
-each_leaves (event ∷ events) w answers s =
-    record { stands = (each_leaves events (handle_round w answers).world (handle_round w answers).left (handle_leaves w w.round answers s).stands).stands }
-
-react_leaves : (w : World) (given : Option ℕ) (answers : List PollerAnswer) → Singles (lists_of w) → Leaves (react w given answers)
-react_leaves w given answers s =
-    let begun = begin_round w given answers in
-    let waited = wait_round begun.world begun.left in
-    let hand = hand_of waited.world.round in
-    let handled = handle_each hand waited.world waited.left in
-    let begins = begin_leaves w given answers s in
-    let waits = wait_leaves begun.world begun.world.round begun.left begins.stands in
-    let handles = each_leaves hand waited.world waited.left waits.stands in
-    either (is_some w.round) _ _ (record { stands = s }) (record { stands = (finish_leaves handled.world handled.world.round handled.left handles.stands).stands })
+react_leaves : (w : World) (given : Option ℕ) (answers : List PollerAnswer) → Within w → Leaves (react w given answers)
+react_leaves w given answers s = record {
+  stands = react_any Within w given answers s (begin_leaves w given answers s).stands (λ v answers s. (wait_leaves v v.round answers s).stands)
+      (λ v answers s. (handle_leaves v v.round answers s).stands) (λ v answers s. (finish_leaves v v.round answers s).stands);
+}
 
 -- ## Steps and runs
 

@@ -6,9 +6,8 @@ use Rattle.aio_base.specs.declared.names.Waker.{Waker}
 use Rattle.aio_base.specs.declared.names.Dir.{Dir}
 use Rattle.aio_base.specs.declared.names.Event.{Event}
 use Rattle.aio_base.specs.World.{PollerAnswer, Succeeds, Gives, IsInterrupted, Fails, Mark, ListenerEntry, BrokenSource, TimerEntry, RoundState, World, directions_of, serial_of, key_of, poll_waiter, mark_of, is_empty_list, is_idle, is_broken, wanted}
-use Rattle.aio_base.specs.Machine.{fails, next_answer, later_answers, broken_world, armed_world, after_arm, pending, source_limit, add, is_fresh_since, is_waker, with_waiter, poll_source, new_listener, with_listening, step_listener, drop_listener, unregistered, tick_timer, set_timer, end_timer, begin_round, wait_answered, wait_in, wait_round, without_waiters, world_taken, rearmed, handle_source, handle_first, handle_in, handle_round, handle_each, hand_of, finish_in, react}
-use Rattle.aio_base.proofs.TimerCases.{tick_any, set_any}
-use Rattle.aio_laws.proofs.steps.Frames.{either, either_world}
+use Rattle.aio_base.specs.Machine.{fails, next_answer, later_answers, broken_world, armed_world, after_arm, pending, source_limit, add, is_fresh_since, is_waker, with_waiter, poll_source, new_listener, with_listening, step_listener, drop_listener, tick_timer, set_timer, end_timer, begin_round, wait_answered, wait_in, without_waiters, world_taken, rearmed, handle_source, handle_first, handle_in, finish_in, react}
+use Rattle.aio_laws.proofs.steps.Frames.{either, either_world, react_any, tick_timers, set_timers, end_timers}
 
 pub record Aside : Type 0 where
   pub serials : ℕ
@@ -35,24 +34,15 @@ pub drop_leaves : (w : World) (number : ℕ) (entry : Option ListenerEntry) (ans
 drop_leaves w number None answers = refl
 drop_leaves w number (Some entry) answers = refl
 
-gone_leaves : (w : World) (id : Option ℕ) → aside (unregistered w id) ≡ aside w
-gone_leaves w None = refl
-gone_leaves w (Some id) = refl
-
 pub tick_leaves : (w : World) (waker : Waker) (entry : Option TimerEntry) (answers : List PollerAnswer) → aside (tick_timer w waker entry answers).world ≡ aside w
-tick_leaves w waker None answers = refl
-tick_leaves w waker (Some entry) answers =
-    tick_any (λ o. aside o.world ≡ aside w) w waker entry answers (λ timers registrations ids. refl) (λ deadline timers registrations ids. refl)
+tick_leaves w waker entry answers = tick_timers (λ v. aside v ≡ aside w) w waker entry answers (λ timers registrations ids. refl)
 
 pub set_leaves : (w : World) (deadline : ℕ) (period : Option ℕ) (entry : Option TimerEntry) (answers : List PollerAnswer)
     → aside (set_timer w deadline period entry answers).world ≡ aside w
-set_leaves w deadline period None answers = refl
-set_leaves w deadline period (Some entry) answers =
-    set_any (λ o. aside o.world ≡ aside w) w deadline period entry answers (λ timers registrations ids. refl)
+set_leaves w deadline period entry answers = set_timers (λ v. aside v ≡ aside w) w deadline period entry answers (λ timers registrations ids. refl)
 
 pub end_leaves : (w : World) (entry : Option TimerEntry) (answers : List PollerAnswer) → aside (end_timer w entry answers).world ≡ aside w
-end_leaves w None answers = refl
-end_leaves w (Some entry) answers = gone_leaves w entry.id
+end_leaves w entry answers = end_timers (λ v. aside v ≡ aside w) w entry answers (λ timers registrations ids. refl)
 
 pub begin_leaves : (w : World) (given : Option ℕ) (answers : List PollerAnswer) → aside (begin_round w given answers).world ≡ aside w
 begin_leaves w given answers = either (λ o. aside o.world ≡ aside w) (is_some w.round) _ _ refl refl
@@ -139,17 +129,8 @@ pub handle_leaves : (w : World) (round : Option RoundState) (answers : List Poll
 handle_leaves w None answers = refl
 handle_leaves w (Some round) answers = first_leaves w round round.in_hand answers
 
-pub each_leaves : (events : List Event) (w : World) (answers : List PollerAnswer) → but_broken (aside (handle_each events w answers).world) ≡ but_broken (aside w)
-each_leaves [] w answers = refl
-each_leaves (event ∷ events) w answers =
-    each_leaves events (handle_round w answers).world (handle_round w answers).left ∙ handle_leaves w w.round answers
-
 pub react_leaves : (w : World) (answers : List PollerAnswer) → but_broken (aside (react w None answers).world) ≡ but_broken (aside w)
 react_leaves w answers =
-    let begun = begin_round w None answers in
-    let waited = wait_round begun.world begun.left in
-    let hand = hand_of waited.world.round in
-    let handled = handle_each hand waited.world waited.left in
-    either (λ o. but_broken (aside o.world) ≡ but_broken (aside w)) (is_some w.round) _ _ refl
-    (ap but_broken (finish_leaves handled.world handled.world.round handled.left) ∙ each_leaves hand waited.world waited.left
-    ∙ ap but_broken (wait_leaves begun.world begun.world.round begun.left) ∙ ap but_broken (begin_leaves w None answers))
+    react_any (λ v. but_broken (aside v) ≡ but_broken (aside w)) w None answers refl (ap but_broken (begin_leaves w None answers))
+    (λ v answers same. ap but_broken (wait_leaves v v.round answers) ∙ same) (λ v answers same. handle_leaves v v.round answers ∙ same)
+    (λ v answers same. ap but_broken (finish_leaves v v.round answers) ∙ same)

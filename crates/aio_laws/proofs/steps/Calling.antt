@@ -27,15 +27,12 @@ use Rattle.aio_laws.proofs.steps.Interesting.{Sets, Rearms, taken_arms, add_sets
 use Rattle.aio_laws.proofs.steps.Hearing.{case_heard, case_stays}
 use Rattle.aio_laws.proofs.steps.Needing.{case_needs}
 use Rattle.aio_laws.proofs.rounds.RoundEnds.{case_ends, round_waits}
+use Rattle.aio_laws.proofs.steps.Frames.{either}
 
 -- what an outcome calls fits a step, and leaves what is armed where it calls nothing
 record Calls (w : World) (s : Step) (o : Outcome) : Type 0 where
   fit : CallsFit s o.answer o.calls
   silent : o.calls ≡ [] → o.world.armed ≡ w.armed
-
-either : (w : World) (s : Step) (test : Bool) (x y : Outcome) → Calls w s x → Calls w s y → Calls w s (cond test x y)
-either w s true x y first second = first
-either w s false x y first second = second
 
 -- the calls of steps whose answer tells whether the poller failed
 told : (failed : Bool) (key : Key) → CallsFit step.Add (cond failed answer.FaultAdd (answer.KeyIs key)) (which.Add ∷ [])
@@ -64,13 +61,13 @@ handled key false = inr refl
 
 add_calls : (w : World) (answers : List PollerAnswer) → Calls w step.Add (add w answers)
 add_calls w answers =
-    either w step.Add (nat_le source_limit (length w.live)) _ _ (record { fit = refl; silent = λ none. refl })
+    either (Calls w step.Add) (nat_le source_limit (length w.live)) _ _ (record { fit = refl; silent = λ none. refl })
     (record { fit = told (fails (next_answer answers)) (record { 0 = free_key w.live }); silent = λ none. absurd cc })
 
 del_calls : (w : World) (key : Key) (found : Option ℕ) (answers : List PollerAnswer) → Calls w (step.Del key) (del_source w key.0 found answers)
 del_calls w key None answers = record { fit = refl; silent = λ none. refl }
 del_calls w key (Some serial) answers =
-    either w (step.Del key) (list_any (λ (l : ListenerEntry). l.serial == serial) w.listeners) _ _ (record { fit = refl; silent = λ none. refl })
+    either (Calls w (step.Del key)) (list_any (λ (l : ListenerEntry). l.serial == serial) w.listeners) _ _ (record { fit = refl; silent = λ none. refl })
     (record { fit = gone key (fails (next_answer answers)); silent = λ none. absurd cc })
 
 poll_pending : (w v : World) (key : Key) (dir : Dir) (waker : Waker) (arms : Bool) (serial : ℕ) (wakes : List Waker) (answers : List PollerAnswer) → v.armed ≡ w.armed
@@ -84,8 +81,8 @@ poll_calls : (w : World) (key : Key) (dir : Dir) (waker : Waker) (found : Option
 poll_calls w key dir waker None answers = record { fit = refl; silent = λ none. refl }
 poll_calls w key dir waker (Some serial) answers =
     let waiter = poll_waiter w.poll_waiters serial dir in
-    either w (step.Poll key dir waker) (is_fresh_since w serial dir (mark_of w.marks serial dir)) _ _ (record { fit = refl; silent = λ none. refl })
-    (either w (step.Poll key dir waker) (is_waker waker waiter) _ _ (poll_pending w w key dir waker (is_broken w serial) serial [] answers refl)
+    either (Calls w (step.Poll key dir waker)) (is_fresh_since w serial dir (mark_of w.marks serial dir)) _ _ (record { fit = refl; silent = λ none. refl })
+    (either (Calls w (step.Poll key dir waker)) (is_waker waker waiter) _ _ (poll_pending w w key dir waker (is_broken w serial) serial [] answers refl)
     (poll_pending w (with_waiter w serial dir waker) key dir waker (is_idle w serial dir || is_broken w serial) serial (option_to_list waiter) answers refl))
 
 new_calls : (w : World) (key : Key) (dir : Dir) (found : Option ℕ) (answers : List PollerAnswer) → Calls w (step.New key dir) (new_listener w dir found answers)
@@ -102,7 +99,7 @@ listen_calls : (w : World) (number : ℕ) (waker : Waker) (found : Option Listen
     → Calls w (step.StepEar number waker) (step_listener w waker found answers)
 listen_calls w number waker None answers = record { fit = refl; silent = λ none. refl }
 listen_calls w number waker (Some entry) answers =
-    either w (step.StepEar number waker) (is_fresh_since w entry.serial entry.dir entry.position) _ _ (record { fit = refl; silent = λ none. refl })
+    either (Calls w (step.StepEar number waker)) (is_fresh_since w entry.serial entry.dir entry.position) _ _ (record { fit = refl; silent = λ none. refl })
     (listen_pending w (record w { listeners = with_listening w entry waker }) number waker (is_idle w entry.serial entry.dir || is_broken w entry.serial)
     (unwrap_or (key_of w entry.serial) 0) entry.serial [] answers refl)
 
@@ -150,7 +147,7 @@ answered w round Fails rest = record { fit = refl; silent = λ none. absurd cc }
 wait_calls : (w : World) (round : Option RoundState) (answers : List PollerAnswer) → Calls w step.Wait (wait_in w round answers)
 wait_calls w None answers = record { fit = refl; silent = λ none. refl }
 wait_calls w (Some round) answers =
-    either w step.Wait (is_empty_list round.in_hand) _ _ (answered w round (next_answer answers) (later_answers answers))
+    either (Calls w step.Wait) (is_empty_list round.in_hand) _ _ (answered w round (next_answer answers) (later_answers answers))
     (record { fit = refl; silent = λ none. refl })
 
 none_arms : OnlyArms []
@@ -164,14 +161,10 @@ record Handles (w : World) (o : Outcome) : Type 0 where
   calls : Calls w step.Handle o
   arms : OnlyArms o.calls
 
-handles_either : (w : World) (test : Bool) (x y : Outcome) → Handles w x → Handles w y → Handles w (cond test x y)
-handles_either w true x y first second = first
-handles_either w false x y first second = second
-
 rearmed_calls : (w v : World) (round : RoundState) (key : Key) (serial : ℕ) (answers : List PollerAnswer) → v.armed ≡ w.armed
     → Handles w (rearmed v round key serial answers)
 rearmed_calls w v round key serial answers same =
-    handles_either w (is_empty_list (wanted v serial)) _ _
+    either (Handles w) (is_empty_list (wanted v serial)) _ _
     (record { calls = record { fit = inl refl; silent = λ none. same }; arms = none_arms })
     (record { calls = record { fit = handled key (fails (next_answer answers)); silent = λ none. absurd cc }; arms = one_arms })
 
@@ -206,7 +199,7 @@ each_calls (event ∷ events) w answers =
 finish_calls : (w : World) (round : Option RoundState) (answers : List PollerAnswer) → Calls w step.Finish (finish_in w round answers)
 finish_calls w None answers = record { fit = refl; silent = λ none. refl }
 finish_calls w (Some round) answers =
-    either w step.Finish (is_empty_list round.in_hand) _ _ (record { fit = refl; silent = λ none. refl }) (record { fit = refl; silent = λ none. refl })
+    either (Calls w step.Finish) (is_empty_list round.in_hand) _ _ (record { fit = refl; silent = λ none. refl }) (record { fit = refl; silent = λ none. refl })
 
 some_is : (m n : List Event) → Some m ≡ Some n → m ≡ n
 some_is m n same = cc
@@ -254,9 +247,9 @@ case_calls w (step.SetAt number deadline) answers = set_calls w (step.SetAt numb
 case_calls w (step.SetEvery number deadline period) answers = set_calls w (step.SetEvery number deadline period) deadline (Some period) _ answers refl refl
 case_calls w (step.End number) answers = end_calls w number _ answers
 case_calls w (step.Now moment) answers =
-    either w (step.Now moment) (nat_lt moment w.now) _ _ (record { fit = refl; silent = λ none. refl }) (record { fit = refl; silent = λ none. refl })
+    either (Calls w (step.Now moment)) (nat_lt moment w.now) _ _ (record { fit = refl; silent = λ none. refl }) (record { fit = refl; silent = λ none. refl })
 case_calls w (step.Begin limit) answers =
-    either w (step.Begin limit) (is_some w.round) _ _ (record { fit = refl; silent = λ none. refl }) (record { fit = refl; silent = λ none. refl })
+    either (Calls w (step.Begin limit)) (is_some w.round) _ _ (record { fit = refl; silent = λ none. refl }) (record { fit = refl; silent = λ none. refl })
 case_calls w step.Wait answers = wait_calls w w.round answers
 case_calls w step.Handle answers = (handle_calls w w.round answers).calls
 case_calls w step.Finish answers = finish_calls w w.round answers
@@ -294,11 +287,6 @@ cleared_all events armed event dir among =
     let at = eqb-true one.0.key event.key.0 (and_parts (one.0.key == event.key.0) (same_dir one.0.dir dir) one.2).0 in
     (cleared_from events armed one.0 one.1).1 event among at)
 
-either_cleared : (answers : List PollerAnswer) (test : Bool) (x y : Outcome) → IsCleared step.Wait answers x.answer x.world.armed
-    → IsCleared step.Wait answers y.answer y.world.armed → IsCleared step.Wait answers (cond test x y).answer (cond test x y).world.armed
-either_cleared answers true x y first second = first
-either_cleared answers false x y first second = second
-
 answered_clears : (w : World) (round : RoundState) (told : PollerAnswer) (rest answers : List PollerAnswer) → next_answer answers ≡ told
     → IsCleared step.Wait answers (wait_answered w round told rest).answer (wait_answered w round told rest).world.armed
 answered_clears w round Succeeds rest answers is =
@@ -312,7 +300,7 @@ wait_clears : (w : World) (round : Option RoundState) (answers : List PollerAnsw
     → IsCleared step.Wait answers (wait_in w round answers).answer (wait_in w round answers).world.armed
 wait_clears w None answers = tt
 wait_clears w (Some round) answers =
-    either_cleared answers (is_empty_list round.in_hand) _ _ (answered_clears w round (next_answer answers) (later_answers answers) answers refl) tt
+    either (λ o. IsCleared step.Wait answers o.answer o.world.armed) (is_empty_list round.in_hand) _ _ (answered_clears w round (next_answer answers) (later_answers answers) answers refl) tt
 
 case_clears : (w : World) (s : Step) (answers : List PollerAnswer) → IsCleared s answers (case_of w s answers).answer (case_of w s answers).world.armed
 case_clears w step.Wait answers = wait_clears w w.round answers

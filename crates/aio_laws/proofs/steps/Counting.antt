@@ -17,6 +17,7 @@ use Rattle.aio_base.specs.Timers.{after_pass}
 use Rattle.aio_laws.specs.Counts.{NoneAgain, CountsRise}
 use Rattle.aio_base.proofs.Membership.{each_in, filtered_is_in, mapped_from, image_is_in, found_is_in}
 use Rattle.aio_laws.proofs.runs.Singles.{number_stays}
+use Rattle.aio_laws.proofs.steps.Frames.{either, either_world}
 
 -- ## Numbered lists
 
@@ -140,14 +141,6 @@ after a b c first second = record {
   timers = in_turn (λ (t : TimerEntry). t.number) a.made b.made c.made a.timers b.timers c.timers first.timers second.timers;
 }
 
-either : (w : World) (test : Bool) (x y : Outcome) → Rises w x.world → Rises w y.world → Rises w (cond test x y).world
-either w true x y first second = first
-either w false x y first second = second
-
-either_world : (w : World) (test : Bool) (u v : World) → Rises w u → Rises w v → Rises w (cond test u v)
-either_world w true u v first second = first
-either_world w false u v first second = second
-
 -- with other listeners, registrations or timers
 listeners_rise : (a : Counted) (drawn : ℕ) (listeners : List ListenerEntry) → Follow (λ (l : ListenerEntry). l.number) a.drawn a.listeners drawn listeners
     → Rise a (record a { drawn = drawn; listeners = listeners })
@@ -172,7 +165,7 @@ live_rise a serials live follow =
 -- ## Sources and listeners
 
 arm_rises : (w : World) (key serial : ℕ) (told : PollerAnswer) → Rises w (after_arm w key serial told)
-arm_rises w key serial told = either_world w (fails told) (broken_world w serial) (armed_world w key serial) (same (counted w)) (same (counted w))
+arm_rises w key serial told = either_world (Rises w) (fails told) (broken_world w serial) (armed_world w key serial) (same (counted w)) (same (counted w))
 
 pending_rises : (arms : Bool) (w : World) (key serial : ℕ) (wakes : List Waker) (answers : List PollerAnswer)
     → Rises w (pending arms w key serial wakes answers).world
@@ -182,15 +175,15 @@ pending_rises true w key serial wakes answers = arm_rises w key serial (next_ans
 add_rises : (w : World) (answers : List PollerAnswer) → Rises w (add w answers).world
 add_rises w answers =
     let source : LiveSource = record { key = free_key w.live; serial = w.serials + 1 } in
-    either w (nat_le source_limit (length w.live)) _ _ (same (counted w))
-    (either_world w (fails (next_answer answers)) w _ (same (counted w))
+    either (λ o. Rises w o.world) (nat_le source_limit (length w.live)) _ _ (same (counted w))
+    (either_world (Rises w) (fails (next_answer answers)) w _ (same (counted w))
     (live_rise (counted w) (w.serials + 1) (w.live ++ source ∷ []) (one_more (λ (s : LiveSource). s.serial) w.serials w.live source refl)))
 
 del_rises : (w : World) (key : ℕ) (serial : Option ℕ) (answers : List PollerAnswer) → Rises w (del_source w key serial answers).world
 del_rises w key None answers = same (counted w)
 del_rises w key (Some serial) answers =
     let p : LiveSource → Bool = λ s. not (s.serial == serial) in
-    either w (list_any (λ (l : ListenerEntry). l.serial == serial) w.listeners) _ _ (same (counted w))
+    either (λ o. Rises w o.world) (list_any (λ (l : ListenerEntry). l.serial == serial) w.listeners) _ _ (same (counted w))
     (live_rise (counted w) w.serials (filter p w.live) (fewer (λ (s : LiveSource). s.serial) p w.serials w.live))
 
 poll_rises : (w : World) (key : ℕ) (dir : Dir) (waker : Waker) (serial : Option ℕ) (answers : List PollerAnswer)
@@ -198,8 +191,8 @@ poll_rises : (w : World) (key : ℕ) (dir : Dir) (waker : Waker) (serial : Optio
 poll_rises w key dir waker None answers = same (counted w)
 poll_rises w key dir waker (Some serial) answers =
     let waiter = poll_waiter w.poll_waiters serial dir in
-    either w (is_fresh_since w serial dir (mark_of w.marks serial dir)) _ _ (same (counted w))
-    (either w (is_waker waker waiter) _ _ (pending_rises (is_broken w serial) w key serial [] answers)
+    either (λ o. Rises w o.world) (is_fresh_since w serial dir (mark_of w.marks serial dir)) _ _ (same (counted w))
+    (either (λ o. Rises w o.world) (is_waker waker waiter) _ _ (pending_rises (is_broken w serial) w key serial [] answers)
     (pending_rises (is_idle w serial dir || is_broken w serial) (with_waiter w serial dir waker) key serial (option_to_list waiter) answers))
 
 new_rises : (w : World) (dir : Dir) (serial : Option ℕ) (answers : List PollerAnswer) → Rises w (new_listener w dir serial answers).world
@@ -235,7 +228,7 @@ step_rises : (w : World) (number : ℕ) (waker : Waker) (entry : Option Listener
 step_rises w number waker None answers found = same (counted w)
 step_rises w number waker (Some entry) answers found =
     let listening : World = record w { listeners = with_listening w entry waker } in
-    either w (is_fresh_since w entry.serial entry.dir entry.position) _ _ (same (counted w))
+    either (λ o. Rises w o.world) (is_fresh_since w entry.serial entry.dir entry.position) _ _ (same (counted w))
     (after (counted w) (counted listening) _ (listening_rises w entry waker (found_is_in (is_listener number) w.listeners entry found).0)
     (pending_rises (is_idle w entry.serial entry.dir || is_broken w entry.serial) listening (unwrap_or (key_of w entry.serial) 0) entry.serial [] answers))
 
@@ -324,7 +317,7 @@ clock_rises w moment answers = clock_rises_at w moment (nat_lt moment w.now) _ _
 begin_rises : (w : World) (given : Option ℕ) (answers : List PollerAnswer) → Rises w (begin_round w given answers).world
 begin_rises w given answers =
     let f = fewer_rise w (λ (r : Registration). not (nat_le r.deadline w.now)) in
-    either w (is_some w.round) _ _ (same (counted w))
+    either (λ o. Rises w o.world) (is_some w.round) _ _ (same (counted w))
     (record { pos = refl; now = f.now; rounds = omega arith; live = f.live; listeners = f.listeners; registrations = f.registrations; timers = f.timers })
 
 answered_rises : (w : World) (round : RoundState) (told : PollerAnswer) (rest : List PollerAnswer) → Rises w (wait_answered w round told rest).world
@@ -336,7 +329,7 @@ answered_rises w round Fails rest = same (counted w)
 wait_rises : (w : World) (round : Option RoundState) (answers : List PollerAnswer) → Rises w (wait_in w round answers).world
 wait_rises w None answers = same (counted w)
 wait_rises w (Some round) answers =
-    either w (is_empty_list round.in_hand) _ _ (answered_rises w round (next_answer answers) (later_answers answers)) (same (counted w))
+    either (λ o. Rises w o.world) (is_empty_list round.in_hand) _ _ (answered_rises w round (next_answer answers) (later_answers answers)) (same (counted w))
 
 taken_rises : (w : World) (serial begin : ℕ) (dirs : List Dir) → Rises w (world_taken w serial begin dirs)
 taken_rises w serial begin [] = same (counted w)
@@ -351,7 +344,7 @@ taken_rises w serial begin (dir ∷ dirs) =
 rearmed_rises : (w : World) (round : RoundState) (key : Key) (serial : ℕ) (answers : List PollerAnswer) → Rises w (rearmed w round key serial answers).world
 rearmed_rises w round key serial answers =
     let arm = arm_rises w key.0 serial (next_answer answers) in
-    either w (is_empty_list (wanted w serial)) _ _ (same (counted w)) (either_world w (fails (next_answer answers)) _ _ arm arm)
+    either (λ o. Rises w o.world) (is_empty_list (wanted w serial)) _ _ (same (counted w)) (either_world (Rises w) (fails (next_answer answers)) _ _ arm arm)
 
 source_rises : (w : World) (round : RoundState) (event : Event) (serial : Option ℕ) (answers : List PollerAnswer)
     → Rises w (handle_source w round event serial answers).world
@@ -377,7 +370,7 @@ finish_rises : (w : World) (round : Option RoundState) (answers : List PollerAns
 finish_rises w None answers = same (counted w)
 finish_rises w (Some round) answers =
     let second = gave_none round.last_wait && not (is_zero round.limit) in
-    either w (is_empty_list round.in_hand) _ _
+    either (λ o. Rises w o.world) (is_empty_list round.in_hand) _ _
     (timers_rise (counted w) w.ids_drawn w.timers_made (cond second (after_pass w.now w.registrations) w.registrations) w.timers
     (either_pass w second) (stay (λ (t : TimerEntry). t.number) w.timers_made w.timers))
     (same (counted w))
@@ -396,7 +389,7 @@ react_rises w given answers =
     let handled = handle_each hand waited.world waited.left in
     let waits = after (counted w) (counted begun.world) (counted waited.world) (begin_rises w given answers) (wait_rises begun.world begun.world.round begun.left) in
     let handles = after (counted w) (counted waited.world) (counted handled.world) waits (each_rises hand waited.world waited.left) in
-    either w (is_some w.round) _ _ (same (counted w))
+    either (λ o. Rises w o.world) (is_some w.round) _ _ (same (counted w))
     (after (counted w) (counted handled.world) _ handles (finish_rises handled.world handled.world.round handled.left))
 
 -- ## A step

@@ -1,14 +1,14 @@
 -- What the steps of the machine leave alone: the clock, the rounds, the sources, the listeners but for their wakers, the timers and the past.
-use Rattle.std.proofs.Common.{◌≡◌, ℕ, Bool, true, false, cond, ◌||◌, ◌==◌, List, [], ◌∷◌, length, map, Option, None, Some, is_some, refl, ap, ◌∙◌, sym}
+use Rattle.std.proofs.Common.{◌≡◌, ℕ, Bool, true, false, not, cond, ◌||◌, ◌==◌, List, [], ◌∷◌, length, map, Option, None, Some, is_some, refl, ap, ◌∙◌, sym}
 use Rattle.std.specs.Prelude.{nat_le, option_to_list, unwrap_or}
-use Rattle.std.specs.List.{list_any}
+use Rattle.std.specs.List.{filter, list_any}
 use Rattle.aio_base.specs.declared.names.Key.{Key}
 use Rattle.aio_base.specs.declared.names.Waker.{Waker}
 use Rattle.aio_base.specs.declared.names.Dir.{Dir}
 use Rattle.aio_base.specs.declared.names.Event.{Event}
-use Rattle.aio_base.specs.World.{PollerAnswer, Succeeds, Gives, IsInterrupted, Fails, LiveSource, ListenerEntry, TimerEntry, RoundState, HandledDirection, World, directions_of, is_of, serial_of, key_of, poll_waiter, mark_of, is_empty_list, is_idle, is_broken, wanted}
-use Rattle.aio_base.specs.Machine.{Outcome, fails, next_answer, later_answers, broken_world, armed_world, after_arm, pending, source_limit, add, del_source, is_fresh_since, is_waker, with_waiter, poll_source, new_listener, with_listening, step_listener, drop_listener, unregistered, tick_timer, set_timer, end_timer, begin_round, wait_answered, wait_in, without_waiters, world_taken, rearmed, handle_source, handle_first, handle_in, handle_round, finish_in, handle_each}
-use Rattle.aio_base.proofs.TimerCases.{tick_any, set_any}
+use Rattle.aio_base.specs.World.{PollerAnswer, Succeeds, Gives, IsInterrupted, Fails, LiveSource, ListenerEntry, Registration, TimerEntry, RoundState, HandledDirection, World, directions_of, is_of, serial_of, key_of, poll_waiter, mark_of, is_empty_list, is_idle, is_broken, wanted}
+use Rattle.aio_base.specs.Machine.{Outcome, fails, next_answer, later_answers, broken_world, armed_world, after_arm, pending, source_limit, add, del_source, is_fresh_since, is_waker, with_waiter, poll_source, new_listener, with_listening, step_listener, drop_listener, is_timer, unregistered, tick_timer, set_timer, end_timer, begin_round, wait_answered, wait_in, wait_round, without_waiters, world_taken, rearmed, handle_source, handle_first, handle_in, handle_round, finish_in, handle_each, hand_of, react}
+use Rattle.aio_base.proofs.TimerCases.{with_timers, tick_any, set_any}
 use Rattle.aio_laws.specs.RoundCounts.{RoundName, name_of}
 
 -- a listener but for its waker
@@ -64,6 +64,52 @@ either P false x y first second = second
 pub either_world : (P : World → Type 0) (test : Bool) (x y : World) → P x → P y → P (cond test x y)
 either_world P true x y first second = first
 either_world P false x y first second = second
+
+-- ## Whatever is kept
+
+-- what each handling of an event keeps, all of them keep
+pub each_any : (Inv : World → Type 0) → ((w : World) (answers : List PollerAnswer) → Inv w → Inv (handle_round w answers).world)
+    → (events : List Event) (w : World) (answers : List PollerAnswer) → Inv w → Inv (handle_each events w answers).world
+each_any Inv handles [] w answers i = i
+each_any Inv handles (event ∷ events) w answers i =
+    each_any Inv handles events (handle_round w answers).world (handle_round w answers).left (handles w answers i)
+
+-- what holds once a round began, and is kept by its other sections, holds after a whole round
+pub react_any : (Inv : World → Type 0) (w : World) (given : Option ℕ) (answers : List PollerAnswer) → Inv w → Inv (begin_round w given answers).world
+    → ((v : World) (answers : List PollerAnswer) → Inv v → Inv (wait_in v v.round answers).world)
+    → ((v : World) (answers : List PollerAnswer) → Inv v → Inv (handle_in v v.round answers).world)
+    → ((v : World) (answers : List PollerAnswer) → Inv v → Inv (finish_in v v.round answers).world) → Inv (react w given answers).world
+react_any Inv w given answers stays begins waits handles finishes =
+    let begun = begin_round w given answers in
+    let waited = wait_round begun.world begun.left in
+    let hand = hand_of waited.world.round in
+    let handled = handle_each hand waited.world waited.left in
+    either (λ o. Inv o.world) (is_some w.round) _ _ stays
+    (finishes handled.world handled.left (each_any Inv handles hand waited.world waited.left (waits begun.world begun.left begins)))
+
+-- what holds of a world whatever its timers, its registrations and its count of ids holds after a call on a timer
+abbrev pub AnyTimers : (World → Type 0) → World → Type 0
+AnyTimers Inv w = (timers : List TimerEntry) (registrations : List Registration) (ids : ℕ) → Inv (with_timers w timers registrations ids)
+
+pub tick_timers : (Inv : World → Type 0) (w : World) (waker : Waker) (entry : Option TimerEntry) (answers : List PollerAnswer) → AnyTimers Inv w
+    → Inv (tick_timer w waker entry answers).world
+tick_timers Inv w waker None answers given = given w.timers w.registrations w.ids_drawn
+tick_timers Inv w waker (Some entry) answers given = tick_any (λ o. Inv o.world) w waker entry answers given (λ deadline. given)
+
+pub set_timers : (Inv : World → Type 0) (w : World) (deadline : ℕ) (period : Option ℕ) (entry : Option TimerEntry) (answers : List PollerAnswer) → AnyTimers Inv w
+    → Inv (set_timer w deadline period entry answers).world
+set_timers Inv w deadline period None answers given = given w.timers w.registrations w.ids_drawn
+set_timers Inv w deadline period (Some entry) answers given = set_any (λ o. Inv o.world) w deadline period entry answers given
+
+without_timers : (Inv : World → Type 0) (w : World) (id : Option ℕ) (test : TimerEntry → Bool) → AnyTimers Inv w
+    → Inv (let gone = unregistered w id in record gone { timers = filter test gone.timers })
+without_timers Inv w None test given = given _ _ _
+without_timers Inv w (Some id) test given = given _ _ _
+
+pub end_timers : (Inv : World → Type 0) (w : World) (entry : Option TimerEntry) (answers : List PollerAnswer) → AnyTimers Inv w
+    → Inv (end_timer w entry answers).world
+end_timers Inv w None answers given = given w.timers w.registrations w.ids_drawn
+end_timers Inv w (Some entry) answers given = without_timers Inv w entry.id (λ t. not (is_timer entry.number t)) given
 
 -- ## Sources and listeners
 
@@ -122,20 +168,15 @@ gone_keeps w (Some id) = refl
 
 pub tick_keeps : (w : World) (waker : Waker) (entry : Option TimerEntry) (answers : List PollerAnswer)
     → but_timers (frame (tick_timer w waker entry answers).world) ≡ but_timers (frame w)
-tick_keeps w waker None answers = refl
-tick_keeps w waker (Some entry) answers =
-    tick_any (λ o. but_timers (frame o.world) ≡ but_timers (frame w)) w waker entry answers (λ timers registrations ids. refl)
-    (λ deadline timers registrations ids. refl)
+tick_keeps w waker entry answers = tick_timers (λ v. but_timers (frame v) ≡ but_timers (frame w)) w waker entry answers (λ timers registrations ids. refl)
 
 pub set_keeps : (w : World) (deadline : ℕ) (period : Option ℕ) (entry : Option TimerEntry) (answers : List PollerAnswer)
     → but_timers (frame (set_timer w deadline period entry answers).world) ≡ but_timers (frame w)
-set_keeps w deadline period None answers = refl
-set_keeps w deadline period (Some entry) answers =
-    set_any (λ o. but_timers (frame o.world) ≡ but_timers (frame w)) w deadline period entry answers (λ timers registrations ids. refl)
+set_keeps w deadline period entry answers =
+    set_timers (λ v. but_timers (frame v) ≡ but_timers (frame w)) w deadline period entry answers (λ timers registrations ids. refl)
 
 pub end_keeps : (w : World) (entry : Option TimerEntry) (answers : List PollerAnswer) → but_timers (frame (end_timer w entry answers).world) ≡ but_timers (frame w)
-end_keeps w None answers = refl
-end_keeps w (Some entry) answers = ap but_timers (gone_keeps w entry.id)
+end_keeps w entry answers = end_timers (λ v. but_timers (frame v) ≡ but_timers (frame w)) w entry answers (λ timers registrations ids. refl)
 
 -- ## Rounds
 
@@ -203,9 +244,8 @@ handle_keeps w None answers is = refl
 handle_keeps w (Some round) answers is = first_keeps w round round.in_hand answers is
 
 pub each_keeps : (events : List Event) (w : World) (answers : List PollerAnswer) → but_handled (frame (handle_each events w answers).world) ≡ but_handled (frame w)
-each_keeps [] w answers = refl
-each_keeps (event ∷ events) w answers =
-    each_keeps events (handle_round w answers).world (handle_round w answers).left ∙ handle_keeps w w.round answers refl
+each_keeps events w answers =
+    each_any (λ v. but_handled (frame v) ≡ but_handled (frame w)) (λ v answers same. handle_keeps v v.round answers refl ∙ same) events w answers refl
 
 pub finish_keeps : (w : World) (round : Option RoundState) (answers : List PollerAnswer) → but_name (frame (finish_in w round answers).world) ≡ but_name (frame w)
 finish_keeps w None answers = refl

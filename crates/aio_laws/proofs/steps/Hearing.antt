@@ -14,6 +14,7 @@ use Rattle.aio_base.specs.World.{PollerAnswer, Succeeds, Gives, IsInterrupted, F
 use Rattle.aio_base.specs.Machine.{Outcome, fails, next_answer, later_answers, armed_world, broken_world, pending, source_limit, free_key, add, del_source, is_fresh_since, is_waker, with_waiter, poll_source, new_listener, with_listening, step_listener, drop_listener, tick_timer, set_timer, end_timer, wait_answered, wait_in, without_waiters, world_taken, wakers_taken, rearmed, handle_source, handle_first, handle_in, finish_in, case_of}
 use Rattle.aio_base.proofs.TimerCases.{tick_any}
 use Rattle.aio_laws.specs.Calls.{tells_failure, has_failed}
+use Rattle.aio_laws.proofs.steps.Frames.{either}
 
 -- an outcome tells a failure exactly where its call failed, and leaves what is armed where it does
 record Hears (w : World) (answers : List PollerAnswer) (o : Outcome) : Type 0 where
@@ -22,10 +23,6 @@ record Hears (w : World) (answers : List PollerAnswer) (o : Outcome) : Type 0 wh
 
 no_fault : {A : Type 0} → false ≡ true → A
 no_fault wrong = absurd cc
-
-either : (w : World) (answers : List PollerAnswer) (test : Bool) (x y : Outcome) → Hears w answers x → Hears w answers y → Hears w answers (cond test x y)
-either w answers true x y first second = first
-either w answers false x y first second = second
 
 -- an answer that is a fault where the poller failed, and none else
 told_so : (failed : Bool) (fault success : Answer) → tells_failure fault ≡ true → tells_failure success ≡ false → tells_failure (cond failed fault success) ≡ failed
@@ -44,7 +41,7 @@ add_hears : (w : World) (answers : List PollerAnswer) → Hears w answers (add w
 add_hears w answers =
     let failed = fails (next_answer answers) in
     let told = answer.KeyIs (record { 0 = free_key w.live }) in
-    either w answers (nat_le source_limit (length w.live)) _ _ (record { heard = refl; stays = λ fault. no_fault fault })
+    either (Hears w answers) (nat_le source_limit (length w.live)) _ _ (record { heard = refl; stays = λ fault. no_fault fault })
     (record {
       heard = told_so failed answer.FaultAdd told refl refl;
       stays = stays_so failed answer.FaultAdd told
@@ -59,7 +56,7 @@ del_hears : (w : World) (key : ℕ) (found : Option ℕ) (answers : List PollerA
 del_hears w key None answers = record { heard = refl; stays = λ fault. no_fault fault }
 del_hears w key (Some serial) answers =
     let failed = fails (next_answer answers) in
-    either w answers (list_any (λ (l : ListenerEntry). l.serial == serial) w.listeners) _ _ (record { heard = refl; stays = λ fault. no_fault fault })
+    either (Hears w answers) (list_any (λ (l : ListenerEntry). l.serial == serial) w.listeners) _ _ (record { heard = refl; stays = λ fault. no_fault fault })
     (record {
       heard = told_so failed answer.FaultRemove answer.Gone refl refl;
       stays = stays_so failed answer.FaultRemove answer.Gone (λ b. cond b w.armed (set_armed w.armed key [])) w.armed refl refl;
@@ -80,8 +77,8 @@ poll_hears : (w : World) (key : ℕ) (dir : Dir) (waker : Waker) (found : Option
 poll_hears w key dir waker None answers = record { heard = refl; stays = λ fault. no_fault fault }
 poll_hears w key dir waker (Some serial) answers =
     let waiter = poll_waiter w.poll_waiters serial dir in
-    either w answers (is_fresh_since w serial dir (mark_of w.marks serial dir)) _ _ (record { heard = refl; stays = λ fault. no_fault fault })
-    (either w answers (is_waker waker waiter) _ _ (pending_hears w w (is_broken w serial) key serial [] answers refl)
+    either (Hears w answers) (is_fresh_since w serial dir (mark_of w.marks serial dir)) _ _ (record { heard = refl; stays = λ fault. no_fault fault })
+    (either (Hears w answers) (is_waker waker waiter) _ _ (pending_hears w w (is_broken w serial) key serial [] answers refl)
     (pending_hears w (with_waiter w serial dir waker) (is_idle w serial dir || is_broken w serial) key serial (option_to_list waiter) answers refl))
 
 new_hears : (w : World) (dir : Dir) (found : Option ℕ) (answers : List PollerAnswer) → Hears w answers (new_listener w dir found answers)
@@ -91,7 +88,7 @@ new_hears w dir (Some serial) answers = record { heard = refl; stays = λ fault.
 listen_hears : (w : World) (waker : Waker) (found : Option ListenerEntry) (answers : List PollerAnswer) → Hears w answers (step_listener w waker found answers)
 listen_hears w waker None answers = record { heard = refl; stays = λ fault. no_fault fault }
 listen_hears w waker (Some entry) answers =
-    either w answers (is_fresh_since w entry.serial entry.dir entry.position) _ _ (record { heard = refl; stays = λ fault. no_fault fault })
+    either (Hears w answers) (is_fresh_since w entry.serial entry.dir entry.position) _ _ (record { heard = refl; stays = λ fault. no_fault fault })
     (pending_hears w (record w { listeners = with_listening w entry waker }) (is_idle w entry.serial entry.dir || is_broken w entry.serial)
     (unwrap_or (key_of w entry.serial) 0) entry.serial [] answers refl)
 
@@ -128,7 +125,7 @@ answered_hears w round Fails rest answers is = record { heard = ap fails (sym is
 wait_hears : (w : World) (round : Option RoundState) (answers : List PollerAnswer) → Hears w answers (wait_in w round answers)
 wait_hears w None answers = record { heard = refl; stays = λ fault. no_fault fault }
 wait_hears w (Some round) answers =
-    either w answers (is_empty_list round.in_hand) _ _ (answered_hears w round (next_answer answers) (later_answers answers) answers refl)
+    either (Hears w answers) (is_empty_list round.in_hand) _ _ (answered_hears w round (next_answer answers) (later_answers answers) answers refl)
     (record { heard = refl; stays = λ fault. no_fault fault })
 
 -- taking waiters arms nothing
@@ -146,7 +143,7 @@ fault_stays v round key serial false armed same told = no_fault told
 rearmed_hears : (w v : World) (round : RoundState) (key : Key) (serial : ℕ) (answers : List PollerAnswer) → v.armed ≡ w.armed
     → Hears w answers (rearmed v round key serial answers)
 rearmed_hears w v round key serial answers same =
-    either w answers (is_empty_list (wanted v serial)) _ _ (record { heard = refl; stays = λ fault. no_fault fault })
+    either (Hears w answers) (is_empty_list (wanted v serial)) _ _ (record { heard = refl; stays = λ fault. no_fault fault })
     (record { heard = refl; stays = fault_stays v _ key.0 serial (fails (next_answer answers)) w.armed same })
 
 source_hears : (w : World) (round : RoundState) (event : Event) (found : Option ℕ) (answers : List PollerAnswer)
@@ -168,7 +165,7 @@ handle_hears w (Some round) answers = first_hears w round round.in_hand answers
 finish_hears : (w : World) (round : Option RoundState) (answers : List PollerAnswer) → Hears w answers (finish_in w round answers)
 finish_hears w None answers = record { heard = refl; stays = λ fault. no_fault fault }
 finish_hears w (Some round) answers =
-    either w answers (is_empty_list round.in_hand) _ _ (record { heard = refl; stays = λ fault. no_fault fault }) (record { heard = refl; stays = λ fault. no_fault fault })
+    either (Hears w answers) (is_empty_list round.in_hand) _ _ (record { heard = refl; stays = λ fault. no_fault fault }) (record { heard = refl; stays = λ fault. no_fault fault })
 
 -- ## A step
 
@@ -184,9 +181,9 @@ case_hears w (step.SetAt number deadline) answers other = set_hears w deadline N
 case_hears w (step.SetEvery number deadline period) answers other = set_hears w deadline (Some period) _ answers
 case_hears w (step.End number) answers other = end_hears w _ answers
 case_hears w (step.Now moment) answers other =
-    either w answers (nat_lt moment w.now) _ _ (record { heard = refl; stays = λ fault. no_fault fault }) (record { heard = refl; stays = λ fault. no_fault fault })
+    either (Hears w answers) (nat_lt moment w.now) _ _ (record { heard = refl; stays = λ fault. no_fault fault }) (record { heard = refl; stays = λ fault. no_fault fault })
 case_hears w (step.Begin limit) answers other =
-    either w answers (is_some w.round) _ _ (record { heard = refl; stays = λ fault. no_fault fault }) (record { heard = refl; stays = λ fault. no_fault fault })
+    either (Hears w answers) (is_some w.round) _ _ (record { heard = refl; stays = λ fault. no_fault fault }) (record { heard = refl; stays = λ fault. no_fault fault })
 case_hears w step.Wait answers other = wait_hears w w.round answers
 case_hears w step.Handle answers other = handle_hears w w.round answers
 case_hears w step.Finish answers other = finish_hears w w.round answers

@@ -13,6 +13,7 @@ use Rattle.aio_base.specs.World.{PollerAnswer, Succeeds, Gives, IsInterrupted, F
 use Rattle.aio_base.specs.Machine.{Outcome, quiet, next_answer, later_answers, fails, world_taken, wakers_taken, pending, source_limit, is_fresh_since, is_waker, add, del_source, poll_source, new_listener, step_listener, drop_listener, tick_timer, set_timer, end_timer, set_clock, begin_round, wait_answered, wait_in, rearmed, handle_source, handle_first, handle_in, finish_in, react, case_of, moved_on, step_result}
 use Rattle.aio_base.proofs.TimerCases.{tick_any}
 use Rattle.aio_base.specs.Refusals.{is_refusal, only_counted, RefusalLeaves}
+use Rattle.aio_laws.proofs.steps.Frames.{either}
 
 -- an answer that is no refusal
 record IsDone (a : Answer) : Type 0 where
@@ -37,20 +38,16 @@ refused : (w : World) (answers : List PollerAnswer) (a : Answer) → Refuses w a
 refused w answers a = record { unchanged = λ e. refl }
 
 -- one of two outcomes
-either : (w : World) (answers : List PollerAnswer) (test : Bool) (x y : Outcome) → Refuses w answers x → Refuses w answers y → Refuses w answers (cond test x y)
-either w answers true x y first second = first
-either w answers false x y first second = second
-
 -- ## Sources and listeners
 
 add_refuses : (w : World) (answers : List PollerAnswer) → Refuses w answers (add w answers)
 add_refuses w answers =
-    either w answers (nat_le source_limit (length w.live)) _ _ (refused w answers _) (done w answers _ (chosen (fails (next_answer answers)) _ _ (plain _ refl) (plain _ refl)))
+    either (Refuses w answers) (nat_le source_limit (length w.live)) _ _ (refused w answers _) (done w answers _ (chosen (fails (next_answer answers)) _ _ (plain _ refl) (plain _ refl)))
 
 del_refuses : (w : World) (key : ℕ) (serial : Option ℕ) (answers : List PollerAnswer) → Refuses w answers (del_source w key serial answers)
 del_refuses w key None answers = refused w answers _
 del_refuses w key (Some serial) answers =
-    either w answers (list_any (λ (l : ListenerEntry). l.serial == serial) w.listeners) _ _ (refused w answers _) (done w answers _ (chosen (fails (next_answer answers)) _ _ (plain _ refl) (plain _ refl)))
+    either (Refuses w answers) (list_any (λ (l : ListenerEntry). l.serial == serial) w.listeners) _ _ (refused w answers _) (done w answers _ (chosen (fails (next_answer answers)) _ _ (plain _ refl) (plain _ refl)))
 
 pending_is_done : (test : Bool) (w : World) (key serial : ℕ) (wakes : List Waker) (answers : List PollerAnswer)
     → IsDone (pending test w key serial wakes answers).answer
@@ -61,8 +58,8 @@ poll_refuses : (w : World) (key : ℕ) (dir : Dir) (waker : Waker) (serial : Opt
     → Refuses w answers (poll_source w key dir waker serial answers)
 poll_refuses w key dir waker None answers = refused w answers _
 poll_refuses w key dir waker (Some serial) answers =
-    either w answers (is_fresh_since w serial dir (mark_of w.marks serial dir)) _ _ (done w answers _ (plain _ refl))
-    (either w answers (is_waker waker (poll_waiter w.poll_waiters serial dir)) _ _
+    either (Refuses w answers) (is_fresh_since w serial dir (mark_of w.marks serial dir)) _ _ (done w answers _ (plain _ refl))
+    (either (Refuses w answers) (is_waker waker (poll_waiter w.poll_waiters serial dir)) _ _
     (done w answers _ (pending_is_done _ _ _ _ _ _)) (done w answers _ (pending_is_done _ _ _ _ _ _)))
 
 new_refuses : (w : World) (dir : Dir) (serial : Option ℕ) (answers : List PollerAnswer) → Refuses w answers (new_listener w dir serial answers)
@@ -73,7 +70,7 @@ listen_refuses : (w : World) (waker : Waker) (entry : Option ListenerEntry) (ans
     → Refuses w answers (step_listener w waker entry answers)
 listen_refuses w waker None answers = refused w answers _
 listen_refuses w waker (Some entry) answers =
-    either w answers (is_fresh_since w entry.serial entry.dir entry.position) _ _ (done w answers _ (plain _ refl))
+    either (Refuses w answers) (is_fresh_since w entry.serial entry.dir entry.position) _ _ (done w answers _ (plain _ refl))
     (done w answers _ (pending_is_done _ _ _ _ _ _))
 
 drop_refuses : (w : World) (number : ℕ) (entry : Option ListenerEntry) (answers : List PollerAnswer)
@@ -99,12 +96,12 @@ end_refuses w None answers = refused w answers _
 end_refuses w (Some entry) answers = done w answers _ (plain _ refl)
 
 clock_refuses : (w : World) (moment : ℕ) (answers : List PollerAnswer) → Refuses w answers (set_clock w moment answers)
-clock_refuses w moment answers = either w answers (nat_lt moment w.now) _ _ (refused w answers _) (done w answers _ (plain _ refl))
+clock_refuses w moment answers = either (Refuses w answers) (nat_lt moment w.now) _ _ (refused w answers _) (done w answers _ (plain _ refl))
 
 -- ## Rounds
 
 begin_refuses : (w : World) (given : Option ℕ) (answers : List PollerAnswer) → Refuses w answers (begin_round w given answers)
-begin_refuses w given answers = either w answers (is_some w.round) _ _ (refused w answers _) (done w answers _ (plain _ refl))
+begin_refuses w given answers = either (Refuses w answers) (is_some w.round) _ _ (refused w answers _) (done w answers _ (plain _ refl))
 
 wait_is_done : (w : World) (round : RoundState) (told : PollerAnswer) (rest : List PollerAnswer)
     → IsDone (wait_answered w round told rest).answer
@@ -116,15 +113,11 @@ wait_is_done w round Fails rest = plain _ refl
 wait_refuses : (w : World) (round : Option RoundState) (answers : List PollerAnswer) → Refuses w answers (wait_in w round answers)
 wait_refuses w None answers = refused w answers _
 wait_refuses w (Some round) answers =
-    either w answers (is_empty_list round.in_hand) _ _ (done w answers _ (wait_is_done w round (next_answer answers) (later_answers answers))) (refused w answers _)
-
-either_is_done : (test : Bool) (x y : Outcome) → IsDone x.answer → IsDone y.answer → IsDone (cond test x y).answer
-either_is_done true x y first second = first
-either_is_done false x y first second = second
+    either (Refuses w answers) (is_empty_list round.in_hand) _ _ (done w answers _ (wait_is_done w round (next_answer answers) (later_answers answers))) (refused w answers _)
 
 rearmed_is_done : (w : World) (round : RoundState) (key : Key) (serial : ℕ) (answers : List PollerAnswer)
     → IsDone (rearmed w round key serial answers).answer
-rearmed_is_done w round key serial answers = either_is_done (is_empty_list (wanted w serial)) _ _ (plain _ refl) (plain _ refl)
+rearmed_is_done w round key serial answers = either (λ o. IsDone o.answer) (is_empty_list (wanted w serial)) _ _ (plain _ refl) (plain _ refl)
 
 handled_is_done : (w : World) (round : RoundState) (event : Event) (serial : Option ℕ) (answers : List PollerAnswer)
     → IsDone (handle_source w round event serial answers).answer
@@ -146,10 +139,10 @@ handle_refuses w (Some round) answers = handle_refuses_of w round round.in_hand 
 
 finish_refuses : (w : World) (round : Option RoundState) (answers : List PollerAnswer) → Refuses w answers (finish_in w round answers)
 finish_refuses w None answers = refused w answers _
-finish_refuses w (Some round) answers = either w answers (is_empty_list round.in_hand) _ _ (done w answers _ (plain _ refl)) (refused w answers _)
+finish_refuses w (Some round) answers = either (Refuses w answers) (is_empty_list round.in_hand) _ _ (done w answers _ (plain _ refl)) (refused w answers _)
 
 react_refuses : (w : World) (given : Option ℕ) (answers : List PollerAnswer) → Refuses w answers (react w given answers)
-react_refuses w given answers = either w answers (is_some w.round) _ _ (refused w answers _) (done w answers _ (plain _ refl))
+react_refuses w given answers = either (Refuses w answers) (is_some w.round) _ _ (refused w answers _) (done w answers _ (plain _ refl))
 
 -- ## A step
 

@@ -9,7 +9,7 @@ use Rattle.aio_base.specs.declared.names.Dir.{Dir}
 use Rattle.aio_base.specs.declared.steps.Step.{Step}
 use Rattle.aio_base.specs.declared.steps.Step.TheVariants as step
 use Rattle.aio_base.specs.World.{PollerAnswer, LiveSource, ListenerEntry, TimerEntry, World, serial_of, key_of, is_idle, is_broken}
-use Rattle.aio_base.specs.Machine.{Outcome, fails, next_answer, source_limit, free_key, add, del_source, is_fresh_since, pending, is_listener, with_listening, step_listener, drop_listener, new_listener, is_timer, with_timer, unregistered, registered, tick_timer, set_timer, end_timer, hand_of, begin_round, wait_round, handle_each, react, case_of, step_result, left_as, worked, state_of}
+use Rattle.aio_base.specs.Machine.{Outcome, fails, next_answer, source_limit, free_key, add, del_source, is_fresh_since, pending, is_listener, with_listening, step_listener, drop_listener, new_listener, is_timer, with_timer, unregistered, registered, tick_timer, set_timer, end_timer, react, case_of, step_result, left_as, worked, state_of}
 use Rattle.aio_base.specs.TimerWork.{TimerState, joining, reset_work}
 use Rattle.aio_laws.specs.Others.{is_own_source, but_waker, other_sources, other_listeners, other_timers, OthersStand}
 use Rattle.aio_laws.proofs.steps.Breaking.{broken_stand}
@@ -17,7 +17,7 @@ use Rattle.aio_laws.proofs.steps.Marking.{marks_stand}
 use Rattle.aio_base.proofs.Membership.{found_is_in}
 use Rattle.aio_base.proofs.Searching.{refiltered, unseen_push}
 use Rattle.aio_laws.proofs.rounds.RoundLemmas.{unseen_change}
-use Rattle.aio_laws.proofs.steps.Frames.{Frame, frame, either, either_world, add_keeps, del_keeps, poll_keeps, new_keeps, step_keeps, drop_keeps, tick_keeps, set_keeps, end_keeps, begin_keeps, wait_keeps, handle_keeps, each_keeps, finish_keeps, gone_keeps}
+use Rattle.aio_laws.proofs.steps.Frames.{Frame, frame, either, either_world, react_any, add_keeps, del_keeps, poll_keeps, new_keeps, step_keeps, drop_keeps, tick_keeps, set_keeps, end_keeps, begin_keeps, wait_keeps, handle_keeps, finish_keeps, gone_keeps}
 
 -- ## Filtered lists
 
@@ -216,13 +216,9 @@ core f = record f { rounds = 0; begun = []; name = None; handled = [] }
 
 pub react_keeps : (w : World) (answers : List PollerAnswer) → core (frame (react w None answers).world) ≡ core (frame w)
 react_keeps w answers =
-    let begun = begin_round w None answers in
-    let waited = wait_round begun.world begun.left in
-    let hand = hand_of waited.world.round in
-    let handled = handle_each hand waited.world waited.left in
-    either (λ o. core (frame o.world) ≡ core (frame w)) (is_some w.round) _ _ refl
-    (ap core (finish_keeps handled.world handled.world.round handled.left) ∙ ap core (each_keeps hand waited.world waited.left)
-    ∙ ap core (wait_keeps begun.world begun.world.round begun.left refl) ∙ ap core (begin_keeps w None answers))
+    react_any (λ v. core (frame v) ≡ core (frame w)) w None answers refl (ap core (begin_keeps w None answers))
+    (λ v answers same. ap core (wait_keeps v v.round answers refl) ∙ same) (λ v answers same. ap core (handle_keeps v v.round answers refl) ∙ same)
+    (λ v answers same. ap core (finish_keeps v v.round answers) ∙ same)
 
 -- a step of no source, of no listener, of no timer
 abbrev all_sources : Frame → List LiveSource

@@ -8,15 +8,16 @@ use Rattle.aio_base.specs.declared.names.Waker.{Waker}
 use Rattle.aio_base.specs.declared.steps.Step.{Step}
 use Rattle.aio_base.specs.declared.steps.Step.TheVariants as step
 use Rattle.aio_base.specs.World.{PollerAnswer, Registration, TimerEntry, RoundState, World, opening, serial_of, is_empty_list}
-use Rattle.aio_base.specs.Machine.{Outcome, add, del_source, poll_source, new_listener, step_listener, drop_listener, is_timer, is_listener, is_waker, new_timer, with_timer, unregistered, registered, next_deadline, tick_timer, set_timer, end_timer, begin_round, wait_in, wait_round, handle_in, handle_each, hand_of, finish_in, makes_second_pass, react, case_of, step_result}
+use Rattle.aio_base.specs.Machine.{Outcome, add, del_source, poll_source, new_listener, step_listener, drop_listener, is_timer, is_listener, is_waker, new_timer, with_timer, unregistered, registered, next_deadline, tick_timer, set_timer, end_timer, begin_round, wait_in, handle_in, finish_in, makes_second_pass, react, case_of, step_result}
 use Rattle.aio_base.proofs.TimerCases.{fired, tick_deadline, tick_by_deadline, set_deadline, set_by_kept}
 use Rattle.aio_laws.specs.Registered.{IsRegistered, TimersAreRegistered}
 use Rattle.aio_base.specs.Runs.{PolledStep, outcome_of, world_of}
 use Rattle.aio_base.specs.Timers.{after_pass}
 use Rattle.aio_base.proofs.Membership.{none_is_in, each_in, filtered_is_in, filtered_passes, passing_is_kept, mapped_from, found_is_in}
-use Rattle.aio_laws.proofs.timers.PassLemmas.{Timed, timed, Keeps, wait_keeps, handle_keeps, handle_each_keeps}
+use Rattle.aio_laws.proofs.timers.PassLemmas.{Timed, timed, Keeps, wait_keeps, handle_keeps}
 use Rattle.aio_laws.proofs.timers.Registering.{add_keeps, del_keeps, poll_keeps, new_keeps, step_keeps, drop_keeps}
 use Rattle.aio_laws.proofs.runs.Singles.{none_is_some, same_id}
+use Rattle.aio_laws.proofs.steps.Frames.{either, either_world, react_any}
 
 -- the timers wait for these registrations
 record Awaits (t : Timed) : Type 0 where
@@ -28,14 +29,6 @@ record Awaits (t : Timed) : Type 0 where
 -- what a step, or a section of a round, leaves
 abbrev Leaves : Outcome → Type 0
 Leaves o = Awaits (timed o.world)
-
-either : (test : Bool) (x y : Outcome) → Leaves x → Leaves y → Leaves (cond test x y)
-either true x y first second = first
-either false x y first second = second
-
-either_world : (test : Bool) (u v : World) → Awaits (timed u) → Awaits (timed v) → Awaits (timed (cond test u v))
-either_world true u v first second = first
-either_world false u v first second = second
 
 stays : (w : World) (o : Outcome) → Keeps (timed w) o → Awaits (timed w) → Leaves o
 stays w o keeps a = subst Awaits (sym keeps) a
@@ -252,8 +245,8 @@ tick_leaves_at : (w : World) (entry : TimerEntry) (waker : Waker) (deadline : Op
 tick_leaves_at w entry waker None answers here a = a
 tick_leaves_at w entry waker (Some deadline) answers here a =
     let gone = released w entry entry.id refl here a in
-    either (nat_le deadline w.now) _ _ (fired_awaits (unregistered w entry.id) entry waker (next_deadline deadline entry.period) gone)
-    (either_world (is_some entry.id && is_waker waker entry.kept) w _ a (registered_awaits (unregistered w entry.id) entry entry deadline waker gone refl))
+    either Leaves (nat_le deadline w.now) _ _ (fired_awaits (unregistered w entry.id) entry waker (next_deadline deadline entry.period) gone)
+    (either_world (λ v. Awaits (timed v)) (is_some entry.id && is_waker waker entry.kept) w _ a (registered_awaits (unregistered w entry.id) entry entry deadline waker gone refl))
 
 tick_leaves : (w : World) (number : ℕ) (waker : Waker) (entry : Option TimerEntry) (answers : List PollerAnswer)
     → find (is_timer number) w.timers ≡ entry → Awaits (timed w) → Leaves (tick_timer w waker entry answers)
@@ -302,7 +295,7 @@ clock_leaves_at w moment false x y test first second a = subst Awaits (sym secon
 -- ## Rounds
 
 begin_leaves : (w : World) (given : Option ℕ) (answers : List PollerAnswer) → Awaits (timed w) → Leaves (begin_round w given answers)
-begin_leaves w given answers a = either (is_some w.round) _ _ a (passed_awaits (timed w) a)
+begin_leaves w given answers a = either Leaves (is_some w.round) _ _ a (passed_awaits (timed w) a)
 
 finish_with : (w : World) (second : Bool) → Awaits (timed w)
     → Awaits (record (timed w) { registrations = cond second (after_pass w.now w.registrations) w.registrations })
@@ -312,17 +305,13 @@ finish_with w false a = a
 finish_leaves : (w : World) (round : Option RoundState) (answers : List PollerAnswer) → Awaits (timed w) → Leaves (finish_in w round answers)
 finish_leaves w None answers a = a
 finish_leaves w (Some round) answers a =
-    either (is_empty_list round.in_hand) _ _ (finish_with w (makes_second_pass round.last_wait round.limit) a) a
+    either Leaves (is_empty_list round.in_hand) _ _ (finish_with w (makes_second_pass round.last_wait round.limit) a) a
 
 react_leaves : (w : World) (given : Option ℕ) (answers : List PollerAnswer) → Awaits (timed w) → Leaves (react w given answers)
 react_leaves w given answers a =
-    let begun = begin_round w given answers in
-    let waited = wait_round begun.world begun.left in
-    let hand = hand_of waited.world.round in
-    let handled = handle_each hand waited.world waited.left in
-    let waits = stays begun.world waited (wait_keeps begun.world begun.world.round begun.left) (begin_leaves w given answers a) in
-    let handles = stays waited.world handled (handle_each_keeps hand waited.world waited.left) waits in
-    either (is_some w.round) _ _ a (finish_leaves handled.world handled.world.round handled.left handles)
+    react_any (λ v. Awaits (timed v)) w given answers a (begin_leaves w given answers a)
+    (λ v answers a. stays v (wait_in v v.round answers) (wait_keeps v v.round answers) a)
+    (λ v answers a. stays v (handle_in v v.round answers) (handle_keeps v v.round answers) a) (λ v answers a. finish_leaves v v.round answers a)
 
 -- ## Steps and runs
 

@@ -11,7 +11,8 @@ use Rattle.aio_base.specs.declared.names.Dir.{Dir}
 use Rattle.aio_base.specs.declared.names.Event.{Event}
 use Rattle.aio_base.specs.World.{PollerAnswer, Succeeds, Gives, IsInterrupted, Fails, Registration, TimerEntry, RoundState, World, serial_of, directions_of, is_empty_list}
 use Rattle.aio_base.specs.Timers.{fires_before, placed, in_order, due_wakers, after_pass, AllAbove}
-use Rattle.aio_base.specs.Machine.{Outcome, fails, next_answer, broken_world, armed_world, after_arm, begin_round, wait_answered, wait_in, wait_round, world_taken, without_waiters, rearmed, handle_source, handle_first, handle_in, handle_round, gave_none, is_zero, finish_in, finish_round, hand_of, handle_each, react}
+use Rattle.aio_base.specs.Machine.{Outcome, fails, next_answer, broken_world, armed_world, after_arm, begin_round, wait_answered, wait_in, wait_round, world_taken, without_waiters, rearmed, handle_source, handle_first, handle_in, gave_none, is_zero, finish_in, finish_round, hand_of, handle_each, react}
+use Rattle.aio_laws.proofs.steps.Frames.{each_any}
 
 -- ## What a pass leaves and takes
 
@@ -153,9 +154,8 @@ handle_keeps w None answers = refl
 handle_keeps w (Some round) answers = handle_first_keeps w round round.in_hand answers
 
 pub handle_each_keeps : (events : List Event) (w : World) (answers : List PollerAnswer) → Keeps (timed w) (handle_each events w answers)
-handle_each_keeps [] w answers = refl
-handle_each_keeps (event ∷ events) w answers =
-    handle_each_keeps events (handle_round w answers).world (handle_round w answers).left ∙ handle_keeps w w.round answers
+handle_each_keeps events w answers =
+    each_any (λ v. timed v ≡ timed w) (λ v answers same. handle_keeps v v.round answers ∙ same) events w answers refl
 
 -- ## What stays registered
 

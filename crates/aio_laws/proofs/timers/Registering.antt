@@ -13,14 +13,11 @@ use Rattle.aio_base.specs.Timers.{after_pass}
 use Rattle.aio_laws.specs.Between.{is_of_timer, RegistrationsFollow}
 use Rattle.aio_laws.proofs.rounds.WaitedOut.{makes_pass, pass_is_made, made_pass_is}
 use Rattle.aio_laws.proofs.timers.PassLemmas.{Timed, timed, Keeps, either_keeps, either_world, arm_keeps, wait_keeps, handle_keeps, react_passes}
+use Rattle.aio_laws.proofs.steps.Frames.{either}
 
 -- the outcome has these registrations
 abbrev Has : List Registration → Outcome → Type 0
 Has rs o = o.world.registrations ≡ rs
-
-either : (rs : List Registration) (test : Bool) (x y : Outcome) → Has rs x → Has rs y → Has rs (cond test x y)
-either rs true x y first second = first
-either rs false x y first second = second
 
 -- where the first outcome is that of a refusal
 refused_or : (fewer rs : List Registration) (test : Bool) (x y : Outcome) → Has rs x → Has fewer y → Has (cond (not test) fewer rs) (cond test x y)
@@ -109,7 +106,7 @@ step_registers w (step.Tick number waker) answers other = absurd cc
 step_registers w (step.SetAt number deadline) answers other = absurd cc
 step_registers w (step.SetEvery number deadline period) answers other = absurd cc
 step_registers w (step.End number) answers other = absurd cc
-step_registers w (step.Now moment) answers other = either w.registrations (nat_lt moment w.now) _ _ refl refl
+step_registers w (step.Now moment) answers other = either (Has w.registrations) (nat_lt moment w.now) _ _ refl refl
 step_registers w (step.Begin limit) answers other = refused_or (after_pass w.now w.registrations) w.registrations (is_some w.round) _ _ refl refl
 step_registers w step.Wait answers other = ap (λ (t : Timed). t.registrations) (wait_keeps w w.round answers)
 step_registers w step.Handle answers other = ap (λ (t : Timed). t.registrations) (handle_keeps w w.round answers)
