@@ -11,13 +11,13 @@ use Rattle.aio_base.specs.declared.names.Event.{Event}
 use Rattle.aio_base.specs.declared.steps.Step.{Step}
 use Rattle.aio_base.specs.declared.steps.Step.TheVariants as step
 use Rattle.aio_base.specs.World.{PollerAnswer, Succeeds, Gives, IsInterrupted, Fails, LiveSource, ListenerEntry, Registration, TimerEntry, RoundState, World, directions_of, is_of, serial_of, key_of, poll_waiter, mark_of, is_empty_list, is_idle, is_broken, wanted}
-use Rattle.aio_base.specs.Machine.{Outcome, fails, next_answer, later_answers, broken_world, armed_world, after_arm, pending, source_limit, free_key, add, del_source, is_fresh_since, is_waker, with_waiter, poll_source, new_listener, is_listener, with_listening, step_listener, drop_listener, is_timer, new_timer, with_timer, unregistered, registered, tick_timer, set_timer, end_timer, set_clock, begin_round, wait_answered, wait_in, wait_round, without_waiters, world_taken, rearmed, handle_source, handle_first, handle_in, handle_round, finish_in, handle_each, hand_of, react, case_of, step_result, gave_none, is_zero, left_as, worked, state_of}
+use Rattle.aio_base.specs.Machine.{Outcome, fails, next_answer, later_answers, broken_world, armed_world, after_arm, pending, source_limit, free_key, add, del_source, is_fresh_since, is_waker, with_waiter, poll_source, new_listener, is_listener, with_listening, step_listener, drop_listener, is_timer, new_timer, with_timer, unregistered, registered, tick_timer, set_timer, end_timer, set_clock, begin_round, wait_answered, wait_in, without_waiters, world_taken, rearmed, handle_source, handle_first, handle_in, finish_in, react, case_of, step_result, gave_none, is_zero, left_as, worked, state_of}
 use Rattle.aio_base.specs.TimerWork.{TimerState, joining, reset_work}
 use Rattle.aio_base.specs.Timers.{after_pass}
 use Rattle.aio_laws.specs.Counts.{NoneAgain, CountsRise}
 use Rattle.aio_base.proofs.Membership.{each_in, filtered_is_in, mapped_from, image_is_in, found_is_in}
 use Rattle.aio_laws.proofs.runs.Singles.{number_stays}
-use Rattle.aio_laws.proofs.steps.Frames.{either, either_world}
+use Rattle.aio_laws.proofs.steps.Frames.{either, either_world, react_any}
 
 -- ## Numbered lists
 
@@ -375,22 +375,12 @@ finish_rises w (Some round) answers =
     (either_pass w second) (stay (λ (t : TimerEntry). t.number) w.timers_made w.timers))
     (same (counted w))
 
-each_rises : (events : List Event) (w : World) (answers : List PollerAnswer) → Rises w (handle_each events w answers).world
-each_rises [] w answers = same (counted w)
-each_rises (event ∷ events) w answers =
-    let first = handle_round w answers in
-    after (counted w) (counted first.world) _ (handle_rises w w.round answers) (each_rises events first.world first.left)
-
 react_rises : (w : World) (given : Option ℕ) (answers : List PollerAnswer) → Rises w (react w given answers).world
 react_rises w given answers =
-    let begun = begin_round w given answers in
-    let waited = wait_round begun.world begun.left in
-    let hand = hand_of waited.world.round in
-    let handled = handle_each hand waited.world waited.left in
-    let waits = after (counted w) (counted begun.world) (counted waited.world) (begin_rises w given answers) (wait_rises begun.world begun.world.round begun.left) in
-    let handles = after (counted w) (counted waited.world) (counted handled.world) waits (each_rises hand waited.world waited.left) in
-    either (λ o. Rises w o.world) (is_some w.round) _ _ (same (counted w))
-    (after (counted w) (counted handled.world) _ handles (finish_rises handled.world handled.world.round handled.left))
+    react_any (Rises w) w given answers (same (counted w)) (begin_rises w given answers)
+    (λ v answers so. after (counted w) (counted v) _ so (wait_rises v v.round answers))
+    (λ v answers so. after (counted w) (counted v) _ so (handle_rises v v.round answers))
+    (λ v answers so. after (counted w) (counted v) _ so (finish_rises v v.round answers))
 
 -- ## A step
 

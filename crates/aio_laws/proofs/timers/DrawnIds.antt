@@ -6,11 +6,11 @@ use Rattle.aio_base.specs.declared.names.Waker.{Waker}
 use Rattle.aio_base.specs.declared.steps.Step.{Step}
 use Rattle.aio_base.specs.declared.steps.Step.TheVariants as step
 use Rattle.aio_base.specs.World.{PollerAnswer, Registration, TimerEntry, RoundState, World, serial_of, is_empty_list}
-use Rattle.aio_base.specs.Machine.{Outcome, is_listener, is_timer, unregistered, registered, tick_timer, set_timer, end_timer, begin_round, wait_round, handle_each, hand_of, finish_in, case_of, left_as, worked, state_of}
+use Rattle.aio_base.specs.Machine.{Outcome, is_listener, is_timer, unregistered, registered, tick_timer, set_timer, end_timer, begin_round, wait_in, handle_in, finish_in, case_of, left_as, worked, state_of}
 use Rattle.aio_base.specs.TimerWork.{TimerState, joining, reset_work}
 use Rattle.aio_laws.specs.Drawn.{IdsFollow}
-use Rattle.aio_laws.proofs.steps.Frames.{either}
-use Rattle.aio_laws.proofs.timers.PassLemmas.{Timed, timed, Keeps, wait_keeps, handle_keeps, handle_each_keeps}
+use Rattle.aio_laws.proofs.steps.Frames.{either, react_any}
+use Rattle.aio_laws.proofs.timers.PassLemmas.{Timed, timed, Keeps, wait_keeps, handle_keeps}
 use Rattle.aio_laws.proofs.timers.Registering.{add_keeps, del_keeps, poll_keeps, new_keeps, step_keeps, drop_keeps}
 
 -- an outcome draws an id as a step may
@@ -75,13 +75,10 @@ finish_draws w (Some round) answers = either (DrawsNone w) (is_empty_list round.
 
 react_draws : (w : World) (answers : List PollerAnswer) → DrawsNone w (case_of w step.React answers)
 react_draws w answers =
-    let begun = begin_round w None answers in
-    let waited = wait_round begun.world begun.left in
-    let hand = hand_of waited.world.round in
-    let handled = handle_each hand waited.world waited.left in
-    either (DrawsNone w) (is_some w.round) _ _ refl
-    (finish_draws handled.world handled.world.round handled.left ∙ ids_kept waited.world handled (handle_each_keeps hand waited.world waited.left)
-    ∙ ids_kept begun.world waited (wait_keeps begun.world begun.world.round begun.left) ∙ begin_draws w None answers)
+    react_any (λ v. v.ids_drawn ≡ w.ids_drawn) w None answers refl (begin_draws w None answers)
+    (λ v answers same. ids_kept v (wait_in v v.round answers) (wait_keeps v v.round answers) ∙ same)
+    (λ v answers same. ids_kept v (handle_in v v.round answers) (handle_keeps v v.round answers) ∙ same)
+    (λ v answers same. finish_draws v v.round answers ∙ same)
 
 -- ## A step
 
