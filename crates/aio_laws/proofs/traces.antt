@@ -3,3 +3,4 @@ mod Rows
 mod RunRows
 pub mod Shapes
 mod TimerRows
+pub mod Words

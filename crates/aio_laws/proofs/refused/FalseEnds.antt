@@ -1,7 +1,6 @@
 -- A round that was stopped and goes on, computed, and ends of rounds that go on wrongly, each refused by the law of stopped rounds.
-use Rattle.std.proofs.Common.{◌≡◌, ℕ, true, false, List, [], ◌∷◌, ◌++◌, map, None, Some, option_map, refl, ap, sym, ◌∙◌}
+use Rattle.std.proofs.Common.{◌≡◌, true, false, List, [], ◌∷◌, ◌++◌, map, None, Some, option_map, refl, ap, sym, ◌∙◌}
 use Rattle.std.proofs.lemmas.List.Elements.{All-nil, All-cons, All-head, All-tail}
-use Rattle.aio_base.specs.declared.names.Waker.{Waker}
 use Rattle.aio_base.specs.declared.names.Event.{Event}
 use Rattle.aio_base.specs.declared.names.Dir.TheVariants.{Read, Write}
 use Rattle.aio_base.specs.declared.outcomes.EndWord.TheVariants.{Clean, FaultArm}
@@ -11,11 +10,9 @@ use Rattle.aio_base.specs.World.{PollerAnswer, Gives, Fails, PollWaiter, Handled
 use Rattle.aio_base.specs.Machine.{Outcome, react, step_result}
 use Rattle.aio_base.specs.Runs.{PolledStep, outcome_of, outcomes_of, world_of}
 use Rattle.aio_laws.specs.Resuming.{begin_and_wait, finish, IsHandling, EndsAsWhole, GoesOn}
+use Rattle.aio_laws.proofs.traces.Words.{waker}
 
 -- ## A round, stopped after its first event
-
-abbrev waker : ℕ → Waker
-waker number = record { 0 = number }
 
 abbrev reads : Event
 reads = record { key = record { 0 = 0 }; on = record { read = true; write = false } }

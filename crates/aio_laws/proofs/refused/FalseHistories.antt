@@ -7,10 +7,7 @@ use Rattle.std.specs.List.{Contains, list_any}
 use Rattle.std.proofs.lemmas.Bool.{and_parts, and_from, eqb-true, eq-eqb, cases_Bool, cond-true, cond-false, cond_both}
 use Rattle.std.proofs.lemmas.List.{append_cancel_left}
 use Rattle.std.proofs.lemmas.List.Elements.{Contains-append_cases, Contains-append_left, Contains-append_right}
-use Rattle.aio_base.specs.declared.names.Key.{Key}
-use Rattle.aio_base.specs.declared.names.Waker.{Waker}
 use Rattle.aio_base.specs.declared.names.Dir.TheVariants.{Read, Write}
-use Rattle.aio_base.specs.declared.names.Interest.{Interest}
 use Rattle.aio_base.specs.declared.names.Event.{Event}
 use Rattle.aio_base.specs.declared.outcomes.EndWord.TheVariants.{Clean}
 use Rattle.aio_base.specs.declared.steps.Step.{Step}
@@ -23,6 +20,7 @@ use Rattle.aio_laws.specs.Succession.{stored_as, stores, own_storing, replaced_p
 use Rattle.aio_laws.proofs.storings.Leaving.{stood_in}
 use Rattle.aio_base.proofs.Membership.{none_is_in, first_is_in, any_gives, none_passes}
 use Rattle.aio_laws.proofs.storings.Places.{same_place-eq, same_place-refl}
+use Rattle.aio_laws.proofs.traces.Words.{key, waker, reads}
 
 -- the law refuses these storings after a step, with those before it
 abbrev Refused : World → Step → List PollerAnswer → Storings → Storings → Type 0
@@ -243,15 +241,6 @@ moved_by_refused w s answers before after x refusal there gone f =
     unknown after.standing x gone (subst (λ (l : Storings). Contains l.standing x) (sym (f.refused refusal)) (known before.standing x there))
 
 -- ## Words for histories
-
-abbrev key : ℕ → Key
-key number = record { 0 = number }
-
-abbrev waker : ℕ → Waker
-waker number = record { 0 = number }
-
-abbrev reads : Interest
-reads = record { read = true; write = false }
 
 -- the event that the source with key 0 is readable
 abbrev readable : Event

@@ -1,10 +1,6 @@
 -- Worked traces, computed: what the machine writes for each list of steps, and what an input of bytes says.
-use Rattle.std.proofs.Common.{◌≡◌, ℕ, List, [], ◌∷◌, ◌++◌, true, false, None, Some, codes, refl}
-use Rattle.std.specs.Prelude.{flat_map}
+use Rattle.std.proofs.Common.{◌≡◌, ℕ, [], ◌∷◌, ◌++◌, true, false, None, Some, codes, refl}
 use Rattle.std.specs.Fmt.{digits}
-use Rattle.aio_base.specs.declared.names.Key.{Key}
-use Rattle.aio_base.specs.declared.names.Waker.{Waker}
-use Rattle.aio_base.specs.declared.names.Dir.{Dir}
 use Rattle.aio_base.specs.declared.names.Dir.TheVariants.{Read, Write}
 use Rattle.aio_base.specs.declared.names.Interest.{Interest}
 use Rattle.aio_base.specs.declared.outcomes.Which.TheVariants as which
@@ -14,23 +10,12 @@ use Rattle.aio_base.specs.declared.steps.Step.TheVariants as step
 use Rattle.aio_base.specs.declared.steps.Reason.TheVariants as reason
 use Rattle.aio_base.specs.Machine.{step_result}
 use Rattle.aio_base.specs.Script.{script_step, reply_text, output}
-use Rattle.aio_base.specs.Text.{answer_line, ended_line}
+use Rattle.aio_base.specs.Text.{answer_line}
 use Rattle.aio_base.specs.Lines.{fault_of, step_read}
 use Rattle.aio_base.specs.Trace.{trace_from, trace_of}
+use Rattle.aio_laws.proofs.traces.Words.{key, reads, writes, poll, new, listen, tick, event, lines}
 
 -- ## Words for steps
-
-abbrev key : ℕ → Key
-key number = record { 0 = number }
-
-abbrev waker : ℕ → Waker
-waker number = record { 0 = number }
-
-abbrev reads : Interest
-reads = record { read = true; write = false }
-
-abbrev writes : Interest
-writes = record { read = false; write = true }
 
 abbrev both : Interest
 both = record { read = true; write = true }
@@ -44,27 +29,8 @@ add = step.Add
 abbrev del : ℕ → Step
 del number = step.Del (key number)
 
-abbrev poll : ℕ → Dir → ℕ → Step
-poll number dir task = step.Poll (key number) dir (waker task)
-
-abbrev new : ℕ → Dir → Step
-new number dir = step.New (key number) dir
-
--- a poll of a listener
-abbrev listen : ℕ → ℕ → Step
-listen number task = step.StepEar number (waker task)
-
 abbrev forget : ℕ → Step
 forget number = step.DropEar number
-
-abbrev tick : ℕ → ℕ → Step
-tick number task = step.Tick number (waker task)
-
-abbrev event : ℕ → Interest → Step
-event number on = step.Note (record { key = key number; on = on })
-
-abbrev lines : List (List ℕ) → List ℕ
-lines texts = flat_map ended_line texts
 
 -- ## What the machine writes
 

@@ -1,11 +1,7 @@
 -- Worked traces, computed: the numbers of the storings that each step woke, those that were given up, and those that stand at the end; and which
 -- answers tell that an arm failed, with the source that stays broken.
 use Rattle.std.proofs.Common.{◌≡◌, ℕ, Bool, List, [], ◌∷◌, map, true, false, None, refl}
-use Rattle.aio_base.specs.declared.names.Key.{Key}
-use Rattle.aio_base.specs.declared.names.Waker.{Waker}
-use Rattle.aio_base.specs.declared.names.Dir.{Dir}
 use Rattle.aio_base.specs.declared.names.Dir.TheVariants.{Read, Write}
-use Rattle.aio_base.specs.declared.names.Interest.{Interest}
 use Rattle.aio_base.specs.declared.outcomes.Which.TheVariants as which
 use Rattle.aio_base.specs.declared.steps.Step.{Step}
 use Rattle.aio_base.specs.declared.steps.Step.TheVariants as step
@@ -15,36 +11,9 @@ use Rattle.aio_base.specs.Script.{script_step}
 use Rattle.aio_laws.specs.Covered.{tells_arm_fault}
 use Rattle.aio_base.specs.Runs.{answers_of, scripted, world_of}
 use Rattle.aio_laws.specs.Storings.{Stored, Storings, storings_of}
+use Rattle.aio_laws.proofs.traces.Words.{key, reads, writes, poll, new, listen, tick, event}
 
 -- ## Words for steps and storings
-
-abbrev key : ℕ → Key
-key number = record { 0 = number }
-
-abbrev waker : ℕ → Waker
-waker number = record { 0 = number }
-
-abbrev reads : Interest
-reads = record { read = true; write = false }
-
-abbrev writes : Interest
-writes = record { read = false; write = true }
-
-abbrev poll : ℕ → Dir → ℕ → Step
-poll number dir task = step.Poll (key number) dir (waker task)
-
-abbrev new : ℕ → Dir → Step
-new number dir = step.New (key number) dir
-
--- a poll of a listener
-abbrev listen : ℕ → ℕ → Step
-listen number task = step.StepEar number (waker task)
-
-abbrev tick : ℕ → ℕ → Step
-tick number task = step.Tick number (waker task)
-
-abbrev event : ℕ → Interest → Step
-event number on = step.Note (record { key = key number; on = on })
 
 -- storings by their numbers
 record Numbers : Type 0 where

@@ -1,27 +1,15 @@
 -- Worked rows of timers, computed: what an input with their lines says, what each of these lines spells, and the book of registered timers.
 use Rattle.std.proofs.Common.{◌≡◌, ℕ, List, [], ◌∷◌, None, Some, codes, refl}
-use Rattle.std.specs.Prelude.{flat_map}
 use Rattle.std.specs.Fmt.{digits}
-use Rattle.aio_base.specs.declared.names.Waker.{Waker}
 use Rattle.aio_base.specs.declared.steps.LineFault.TheVariants as fault
-use Rattle.aio_base.specs.declared.steps.Step.{Step}
 use Rattle.aio_base.specs.declared.steps.Step.TheVariants as step
 use Rattle.aio_base.specs.World.{Registration}
 use Rattle.aio_base.specs.Timers.{due_wakers, BookChange, Registers, Unregisters, fold_changes}
-use Rattle.aio_base.specs.Text.{ended_line}
 use Rattle.aio_base.specs.Lines.{fault_of, step_read}
 use Rattle.aio_base.specs.Trace.{trace_of}
+use Rattle.aio_laws.proofs.traces.Words.{waker, tick, lines}
 
 -- ## Words for steps and registrations
-
-abbrev waker : ℕ → Waker
-waker number = record { 0 = number }
-
-abbrev tick : ℕ → ℕ → Step
-tick number task = step.Tick number (waker task)
-
-abbrev lines : List (List ℕ) → List ℕ
-lines texts = flat_map ended_line texts
 
 abbrev registration : ℕ → ℕ → ℕ → Registration
 registration deadline id task = record { id = id; deadline = deadline; waker = waker task }
