@@ -15,7 +15,7 @@ use Rattle.aio_base.specs.Machine.{Outcome, fails, next_answer, later_answers, a
 use Rattle.aio_laws.specs.Covered.{tells_arm_fault}
 use Rattle.aio_base.proofs.Membership.{none_is_in, first_is_in, later_is_in, among_cases, filtered_is_in, mapped_from}
 use Rattle.aio_base.proofs.WaiterLemmas.{Wants, source, serial_of-live, none_live, none_wants}
-use Rattle.aio_laws.proofs.cover.Standing.{Parts, parts_with, parts_of, Ordered, Holds, Armed, Handed, Broken, Standing, StandingBut, weaker, other_key, armed_stays, holds_in, arm_stands}
+use Rattle.aio_laws.proofs.cover.Standing.{Parts, parts_with, parts_of, Holds, Armed, Handed, Broken, Standing, StandingBut, weaker, other_key, armed_stays, holds_in, arm_stands}
 use Rattle.aio_laws.proofs.cover.Rewaiting.{Comes, stays_listening, Rewaits, rewaits_all_but}
 use Rattle.aio_laws.proofs.cover.CoverSources.{Stands, either, at_rest, quiet_stands}
 
@@ -87,22 +87,10 @@ holds_given w events k n dir (Armed among) =
 holds_given w events k n dir (Handed e among same) = none_is_in e among
 holds_given w events k n dir (Broken b among same) = Broken b among same
 
-same_sources : (w : World) (hand events : List Event) (armed : List ArmedDirection) → Ordered (parts_with w hand)
-    → Ordered (record (parts_with w events) { armed = armed })
-same_sources w hand events armed o = record {
-  keys_differ = o.keys_differ;
-  serials_differ = o.serials_differ;
-  serials_given = o.serials_given;
-  polls_live = o.polls_live;
-  listeners_live = o.listeners_live;
-  numbers_drawn = o.numbers_drawn;
-  numbers_differ = o.numbers_differ;
-}
-
 given_stands : (w : World) (told : List Answer) (F : Type 0) (events : List Event) → Standing (parts_with w []) told F → Standing (given_parts w events) told F
 given_stands w told F events s = record {
   counted = s.counted;
-  ordered = same_sources w [] events (clear_armed w.armed events) s.ordered;
+  ordered = s.ordered;
   broken_told = s.broken_told;
   covers = λ k n dir lives wants. holds_given w events k n dir (s.covers k n dir lives wants);
 }
@@ -187,7 +175,7 @@ later_but : (w : World) (told : List Answer) (F : Type 0) (event : Event) (event
     → Standing (parts_with w (event ∷ events)) told F → StandingBut (parts_with w events) told F event.key.0 serial
 later_but w told F event events serial here s = record {
   counted = s.counted;
-  ordered = same_sources w (event ∷ events) events w.armed s.ordered;
+  ordered = s.ordered;
   broken_told = s.broken_told;
   is_live = here;
   others = λ k n dir lives wants apart.
@@ -200,7 +188,7 @@ later_stands : (w : World) (told : List Answer) (F : Type 0) (event : Event) (ev
     → Standing (parts_with w (event ∷ events)) told F → Standing (parts_with w events) told F
 later_stands w told F event events none s = record {
   counted = s.counted;
-  ordered = same_sources w (event ∷ events) events w.armed s.ordered;
+  ordered = s.ordered;
   broken_told = s.broken_told;
   covers = λ k n dir lives wants.
       holds_later w event events k n dir

@@ -11,7 +11,7 @@ use Rattle.aio_base.specs.World.{PollerAnswer, TimerEntry, World, serial_of}
 use Rattle.aio_base.specs.Machine.{quiet, is_listener, is_timer, unregistered, tick_timer, set_timer, end_timer, set_clock, case_of, step_result}
 use Rattle.aio_base.proofs.TimerCases.{tick_any, set_any}
 use Rattle.aio_laws.specs.Covered.{tells_arm_fault, tells_at}
-use Rattle.aio_laws.proofs.cover.Standing.{Parts, parts_of, Ordered, Standing, holds_in}
+use Rattle.aio_laws.proofs.cover.Standing.{Parts, parts_of, Standing, holds_in}
 use Rattle.aio_laws.proofs.cover.CoverSources.{Stands, either, quiet_stands, add_stands, del_stands}
 use Rattle.aio_laws.proofs.cover.CoverWaiters.{poll_stands, new_stands, step_stands, drop_stands}
 use Rattle.aio_laws.proofs.cover.CoverRounds.{begin_stands, wait_stands}
@@ -91,22 +91,11 @@ tells_last told a position at tells = ap tells_arm_fault (get_or_at told a [] an
 abbrev moved : Parts → Parts
 moved p = record p { pos = p.pos + 1 }
 
-moved_order : (p : Parts) → Ordered p → Ordered (moved p)
-moved_order p o = record {
-  keys_differ = o.keys_differ;
-  serials_differ = o.serials_differ;
-  serials_given = o.serials_given;
-  polls_live = o.polls_live;
-  listeners_live = o.listeners_live;
-  numbers_drawn = o.numbers_drawn;
-  numbers_differ = o.numbers_differ;
-}
-
 -- with its answer told, a step in which an arm failed is one of those that told it
 moved_stands : (p : Parts) (told : List Answer) (a : Answer) → Standing p told (tells_arm_fault a ≡ true) → Standing (moved p) (told ++ a ∷ []) ⊥
 moved_stands p told a s = record {
   counted = let before = s.counted in let both = length-append told (a ∷ []) in omega arith;
-  ordered = moved_order p s.ordered;
+  ordered = s.ordered;
   broken_told = λ b among.
       inl (⊎_elim
       (λ (earlier : tells_at told b.position ≡ true). tells_more told (a ∷ []) b.position earlier)

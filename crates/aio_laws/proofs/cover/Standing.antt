@@ -43,15 +43,18 @@ parts_of w = parts_with w (hand_of w.round)
 
 -- The sources, the poll waiters and the listeners agree: keys and serials of live sources differ, whoever waits waits for a live source, and
 -- listeners of one number are of one direction.
-pub record Ordered (p : Parts) : Type 0 where
-  pub keys_differ : (a b : LiveSource) → Contains p.live a → Contains p.live b → a.key ≡ b.key → a.serial ≡ b.serial
-  pub serials_differ : (a b : LiveSource) → Contains p.live a → Contains p.live b → a.serial ≡ b.serial → a.key ≡ b.key
-  pub serials_given : (a : LiveSource) → Contains p.live a → a.serial ≤ p.serials
-  pub polls_live : (q : PollWaiter) → Contains p.polls q → HasSource p.live q.serial
-  pub listeners_live : (l : ListenerEntry) → Contains p.listeners l → HasSource p.live l.serial
-  pub numbers_drawn : (l : ListenerEntry) → Contains p.listeners l → l.number ≤ p.drawn
-  pub numbers_differ : (a b : ListenerEntry) → Contains p.listeners a → Contains p.listeners b → a.number ≡ b.number
+pub record InOrder (live : List LiveSource) (serials : ℕ) (polls : List PollWaiter) (listeners : List ListenerEntry) (drawn : ℕ) : Type 0 where
+  pub keys_differ : (a b : LiveSource) → Contains live a → Contains live b → a.key ≡ b.key → a.serial ≡ b.serial
+  pub serials_differ : (a b : LiveSource) → Contains live a → Contains live b → a.serial ≡ b.serial → a.key ≡ b.key
+  pub serials_given : (a : LiveSource) → Contains live a → a.serial ≤ serials
+  pub polls_live : (q : PollWaiter) → Contains polls q → HasSource live q.serial
+  pub listeners_live : (l : ListenerEntry) → Contains listeners l → HasSource live l.serial
+  pub numbers_drawn : (l : ListenerEntry) → Contains listeners l → l.number ≤ drawn
+  pub numbers_differ : (a b : ListenerEntry) → Contains listeners a → Contains listeners b → a.number ≡ b.number
       → (a.serial ≡ b.serial) × (a.dir ≡ b.dir)
+
+abbrev pub Ordered : Parts → Type 0
+Ordered p = InOrder p.live p.serials p.polls p.listeners p.drawn
 
 -- how a direction is covered; what a broken source has told is kept apart
 pub data Holds (p : Parts) (key serial : ℕ) (dir : Dir) : Type 0 where
@@ -178,25 +181,13 @@ holds_broken p serial others k n dir lives wants =
     (others k n dir lives wants apart))
     (cases_eq n serial)
 
--- what changes neither sources nor waiters leaves them in order
-same_order : (p : Parts) (armed : List ArmedDirection) (broken : List BrokenSource) → Ordered p → Ordered (record p { armed = armed; broken = broken })
-same_order p armed broken o = record {
-  keys_differ = o.keys_differ;
-  serials_differ = o.serials_differ;
-  serials_given = o.serials_given;
-  polls_live = o.polls_live;
-  listeners_live = o.listeners_live;
-  numbers_drawn = o.numbers_drawn;
-  numbers_differ = o.numbers_differ;
-}
-
 -- where the poller armed the source
 pub armed_stands : (p : Parts) (told : List Answer) (F G : Type 0) (key serial : ℕ) (dirs : List Dir) → (F → G)
     → ((dir : Dir) → Wants p.polls p.listeners serial dir → Contains dirs dir) → StandingBut p told F key serial
     → Standing (record p { armed = set_armed p.armed key dirs; broken = without_broken p.broken serial }) told G
 armed_stands p told F G key serial dirs more all s = record {
   counted = s.counted;
-  ordered = same_order p _ _ s.ordered;
+  ordered = s.ordered;
   broken_told = λ b among. told_by p told F G more (λ c here. s.broken_told c here) b (filtered_is_in (λ (b : BrokenSource). not (b.serial == serial)) p.broken b among);
   covers = holds_armed p key serial dirs s.ordered s.is_live s.others all;
 }
@@ -206,7 +197,7 @@ pub broken_stands : (p : Parts) (told : List Answer) (F G : Type 0) (key serial 
     → Standing (record p { broken = with_broken p serial }) told G
 broken_stands p told F G key serial more failed s = record {
   counted = s.counted;
-  ordered = same_order p p.armed _ s.ordered;
+  ordered = s.ordered;
   broken_told = λ b among.
       ⊎_elim
       (λ (before : Contains (without_broken p.broken serial) b). told_by p told F G more s.broken_told b (filtered_is_in (λ (b : BrokenSource). not (b.serial == serial)) p.broken b before))
