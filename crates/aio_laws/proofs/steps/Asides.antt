@@ -1,12 +1,14 @@
 -- What the steps of the machine leave of the serials, the marks and the failed arms.
-use Rattle.std.proofs.Common.{◌≡◌, ℕ, Bool, true, false, ◌||◌, List, [], ◌∷◌, Option, None, Some, is_some, refl, ap, ◌∙◌}
-use Rattle.std.specs.Prelude.{nat_le, option_to_list, unwrap_or, length}
+use Rattle.std.proofs.Common.{◌≡◌, ℕ, Bool, true, false, ◌||◌, List, [], ◌∷◌, find, Option, None, Some, is_some, refl, ap, ◌∙◌}
+use Rattle.std.specs.Prelude.{nat_le, nat_lt, option_to_list, unwrap_or, length}
 use Rattle.aio_base.specs.declared.names.Key.{Key}
 use Rattle.aio_base.specs.declared.names.Waker.{Waker}
 use Rattle.aio_base.specs.declared.names.Dir.{Dir}
 use Rattle.aio_base.specs.declared.names.Event.{Event}
+use Rattle.aio_base.specs.declared.steps.Step.{Step}
+use Rattle.aio_base.specs.declared.steps.Step.TheVariants as step
 use Rattle.aio_base.specs.World.{PollerAnswer, Succeeds, Gives, IsInterrupted, Fails, Mark, ListenerEntry, BrokenSource, TimerEntry, RoundState, World, directions_of, serial_of, key_of, poll_waiter, mark_of, is_empty_list, is_idle, is_broken, wanted}
-use Rattle.aio_base.specs.Machine.{fails, next_answer, later_answers, broken_world, armed_world, after_arm, pending, source_limit, add, is_fresh_since, is_waker, with_waiter, poll_source, new_listener, with_listening, step_listener, drop_listener, tick_timer, set_timer, end_timer, begin_round, wait_answered, wait_in, without_waiters, world_taken, rearmed, handle_source, handle_first, handle_in, finish_in, react}
+use Rattle.aio_base.specs.Machine.{fails, next_answer, later_answers, broken_world, armed_world, after_arm, pending, source_limit, add, is_fresh_since, is_waker, with_waiter, poll_source, new_listener, with_listening, step_listener, drop_listener, tick_timer, set_timer, end_timer, begin_round, wait_answered, wait_in, without_waiters, world_taken, rearmed, handle_source, handle_first, handle_in, finish_in, react, is_listener, is_timer, case_of}
 use Rattle.aio_laws.proofs.steps.Frames.{either, either_world, react_any, tick_timers, set_timers, end_timers}
 
 pub record Aside : Type 0 where
@@ -134,3 +136,31 @@ react_leaves w answers =
     react_any (λ v. but_broken (aside v) ≡ but_broken (aside w)) w None answers refl (ap but_broken (begin_leaves w None answers))
     (λ v answers same. ap but_broken (wait_leaves v v.round answers) ∙ same) (λ v answers same. handle_leaves v v.round answers ∙ same)
     (λ v answers same. ap but_broken (finish_leaves v v.round answers) ∙ same)
+
+-- ## A step
+
+-- of what is told here, what a step has no part in
+abbrev pub unchanged : Step → Aside → Aside
+unchanged (step.Del key) a = record { serials = 0; marks = []; broken = [] }
+unchanged (step.Poll key dir waker) a = record { serials = 0; marks = []; broken = [] }
+unchanged (step.StepEar number waker) a = but_serials (but_broken a)
+unchanged step.Handle a = but_serials (but_broken a)
+unchanged step.React a = but_serials (but_broken a)
+unchanged _ a = but_serials a
+
+pub leaves_aside : (w : World) (s : Step) (answers : List PollerAnswer) → unchanged s (aside (case_of w s answers).world) ≡ unchanged s (aside w)
+leaves_aside w step.Add answers = add_leaves w answers
+leaves_aside w (step.New key dir) answers = ap but_serials (new_leaves w dir (serial_of w key.0) answers)
+leaves_aside w (step.StepEar number waker) answers = ap but_serials (step_leaves w waker (find (is_listener number) w.listeners) answers)
+leaves_aside w (step.DropEar number) answers = ap but_serials (drop_leaves w number (find (is_listener number) w.listeners) answers)
+leaves_aside w (step.Tick number waker) answers = ap but_serials (tick_leaves w waker (find (is_timer number) w.timers) answers)
+leaves_aside w (step.SetAt number deadline) answers = ap but_serials (set_leaves w deadline None (find (is_timer number) w.timers) answers)
+leaves_aside w (step.SetEvery number deadline period) answers = ap but_serials (set_leaves w deadline (Some period) (find (is_timer number) w.timers) answers)
+leaves_aside w (step.End number) answers = ap but_serials (end_leaves w (find (is_timer number) w.timers) answers)
+leaves_aside w (step.Now moment) answers = either (λ o. but_serials (aside o.world) ≡ but_serials (aside w)) (nat_lt moment w.now) _ _ refl refl
+leaves_aside w (step.Begin limit) answers = ap but_serials (begin_leaves w limit answers)
+leaves_aside w step.Wait answers = ap but_serials (wait_leaves w w.round answers)
+leaves_aside w step.Handle answers = ap but_serials (handle_leaves w w.round answers)
+leaves_aside w step.Finish answers = ap but_serials (finish_leaves w w.round answers)
+leaves_aside w step.React answers = ap but_serials (react_leaves w answers)
+leaves_aside w _ answers = refl

@@ -1,6 +1,6 @@
 -- A step leaves the failed arms of others alone.
 use Rattle.std.proofs.Common.{◌≡◌, ℕ, Bool, true, false, not, cond, ◌||◌, ◌==◌, List, [], ◌∷◌, ◌++◌, find, Option, None, Some, is_some, option_map, option_to_list, refl, ap, ◌∙◌, sym, subst}
-use Rattle.std.specs.Prelude.{nat_lt, flat_map, take, unwrap_or}
+use Rattle.std.specs.Prelude.{flat_map, take, unwrap_or}
 use Rattle.std.specs.List.{Contains, filter, list_any}
 use Rattle.std.proofs.lemmas.Bool.{eq-eqb}
 use Rattle.std.proofs.lemmas.List.Elements.{Contains-append_left}
@@ -11,7 +11,7 @@ use Rattle.aio_base.specs.declared.names.Event.{Event}
 use Rattle.aio_base.specs.declared.steps.Step.{Step}
 use Rattle.aio_base.specs.declared.steps.Step.TheVariants as step
 use Rattle.aio_base.specs.World.{PollerAnswer, LiveSource, ListenerEntry, BrokenSource, RoundState, World, directions_of, serial_of, key_of, poll_waiter, mark_of, is_empty_list, is_idle, is_broken, without_broken, wanted}
-use Rattle.aio_base.specs.Machine.{Outcome, fails, next_answer, broken_world, armed_world, after_arm, pending, del_source, is_fresh_since, is_waker, with_waiter, poll_source, with_listening, step_listener, is_listener, is_timer, begin_round, wait_round, without_waiters, world_taken, rearmed, handle_source, handle_first, handle_in, handle_round, handle_each, hand_of, finish_round, react, case_of}
+use Rattle.aio_base.specs.Machine.{Outcome, fails, next_answer, broken_world, armed_world, after_arm, pending, del_source, is_fresh_since, is_waker, with_waiter, poll_source, with_listening, step_listener, is_listener, begin_round, wait_round, without_waiters, world_taken, rearmed, handle_source, handle_first, handle_in, handle_round, handle_each, hand_of, finish_round, react, case_of}
 use Rattle.aio_laws.specs.Succession.{events_given}
 use Rattle.aio_laws.specs.Arming.{handled_events}
 use Rattle.aio_laws.specs.Others.{other_broken}
@@ -19,7 +19,7 @@ use Rattle.aio_base.proofs.Membership.{first_is_in, later_is_in, any_from, piece
 use Rattle.aio_base.proofs.Searching.{of_not, refiltered, unseen_push}
 use Rattle.aio_laws.proofs.rounds.RoundLemmas.{in_hand_of, event_handled, round_begun, round_waited, hand_is}
 use Rattle.aio_laws.proofs.steps.Frames.{Frame, either, either_world, wait_keeps, handle_keeps}
-use Rattle.aio_laws.proofs.steps.Asides.{Aside, aside, add_leaves, new_leaves, drop_leaves, tick_leaves, set_leaves, end_leaves, begin_leaves, wait_leaves, finish_leaves}
+use Rattle.aio_laws.proofs.steps.Asides.{Aside, begin_leaves, wait_leaves, finish_leaves, leaves_aside}
 
 -- a test that no failed arm of this source passes
 abbrev Drops : (BrokenSource → Bool) → ℕ → Type 0
@@ -181,28 +181,17 @@ abbrev every : Aside → List BrokenSource
 every a = filter (of_others []) a.broken
 
 pub broken_stand : (w : World) (s : Step) (answers : List PollerAnswer) → other_broken w s answers (case_of w s answers).world ≡ other_broken w s answers w
-broken_stand w step.Add answers = ap every (add_leaves w answers)
 broken_stand w (step.Del key) answers =
     del_others (of_others (option_to_list (serial_of w key.0))) w key.0 (serial_of w key.0) answers
     (λ serial is. own_drops (option_to_list (serial_of w key.0)) serial (subst (λ (f : Option ℕ). Contains (option_to_list f) serial) (sym is) (first_is_in serial [])))
 broken_stand w (step.Poll key dir waker) answers =
     poll_others (of_others (option_to_list (serial_of w key.0) ++ [])) w key.0 dir waker (serial_of w key.0) answers (λ serial is. found_drops (serial_of w key.0) serial is)
-broken_stand w (step.New key dir) answers = ap every (new_leaves w dir (serial_of w key.0) answers)
 broken_stand w (step.StepEar number waker) answers =
     let found = find (is_listener number) w.listeners in
     let serial = option_map (λ (l : ListenerEntry). l.serial) found in
     step_others (of_others (option_to_list serial ++ [])) w waker found answers
     (λ entry is. found_drops serial entry.serial (ap (option_map (λ (l : ListenerEntry). l.serial)) is))
-broken_stand w (step.DropEar number) answers = ap every (drop_leaves w number (find (is_listener number) w.listeners) answers)
-broken_stand w (step.Tick number waker) answers = ap every (tick_leaves w waker (find (is_timer number) w.timers) answers)
-broken_stand w (step.SetAt number deadline) answers = ap every (set_leaves w deadline None (find (is_timer number) w.timers) answers)
-broken_stand w (step.SetEvery number deadline period) answers = ap every (set_leaves w deadline (Some period) (find (is_timer number) w.timers) answers)
-broken_stand w (step.End number) answers = ap every (end_leaves w (find (is_timer number) w.timers) answers)
-broken_stand w (step.Now moment) answers = either (λ o. every (aside o.world) ≡ every (aside w)) (nat_lt moment w.now) _ _ refl refl
-broken_stand w (step.Begin limit) answers = ap every (begin_leaves w limit answers)
-broken_stand w step.Wait answers = ap every (wait_leaves w w.round answers)
 broken_stand w step.Handle answers =
     handle_others (of_others (serials_in w (take 1 (hand_of w.round)))) w w.round answers (events_drop w (take 1 (hand_of w.round)))
-broken_stand w step.Finish answers = ap every (finish_leaves w w.round answers)
 broken_stand w step.React answers = react_others w answers
-broken_stand w _ answers = refl
+broken_stand w s answers = ap every (leaves_aside w s answers)

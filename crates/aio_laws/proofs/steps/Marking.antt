@@ -1,6 +1,6 @@
 -- What a step does with marks: those of others stand, and its own follow its answer.
-use Rattle.std.proofs.Common.{◌≡◌, ℕ, Bool, true, false, not, cond, ◌||◌, ◌==◌, List, [], ◌∷◌, find, Option, None, Some, option_to_list, refl, ap, ◌∙◌, sym, append-nil}
-use Rattle.std.specs.Prelude.{nat_lt, flat_map}
+use Rattle.std.proofs.Common.{◌≡◌, ℕ, Bool, true, false, not, cond, ◌||◌, ◌==◌, List, [], ◌∷◌, Option, None, Some, option_to_list, refl, ap, ◌∙◌, sym, append-nil}
+use Rattle.std.specs.Prelude.{flat_map}
 use Rattle.std.specs.List.{filter, list_any}
 use Rattle.std.specs.Option.{option_map_or}
 use Rattle.std.proofs.lemmas.Bool.{cond-true, cond-false, cond_both, not-true}
@@ -12,13 +12,13 @@ use Rattle.aio_base.specs.declared.steps.Step.TheVariants as step
 use Rattle.aio_base.specs.declared.steps.Answer.{Answer}
 use Rattle.aio_base.specs.declared.steps.Answer.TheVariants as answer
 use Rattle.aio_base.specs.World.{PollerAnswer, Mark, ListenerEntry, World, is_of, serial_of, poll_waiter, mark_of, without_mark, is_idle, is_broken}
-use Rattle.aio_base.specs.Machine.{Outcome, fails, next_answer, pending, del_source, is_fresh_since, is_waker, with_waiter, poll_source, is_listener, is_timer, case_of, step_result}
+use Rattle.aio_base.specs.Machine.{Outcome, fails, next_answer, pending, del_source, is_fresh_since, is_waker, with_waiter, poll_source, case_of, step_result}
 use Rattle.aio_laws.specs.Others.{is_own_mark, other_marks}
 use Rattle.aio_laws.specs.Marks.{own_marks, waiting_mark, own_marks_after, MarksFollow}
 use Rattle.aio_base.proofs.Searching.{refiltered, unseen_push, filtered_empty, kept_push, none_kept}
 use Rattle.aio_base.proofs.WaiterLemmas.{is_of-from}
 use Rattle.aio_laws.proofs.steps.Frames.{either}
-use Rattle.aio_laws.proofs.steps.Asides.{Aside, aside, add_leaves, new_leaves, pending_leaves, step_leaves, drop_leaves, tick_leaves, set_leaves, end_leaves, begin_leaves, wait_leaves, handle_leaves, finish_leaves, react_leaves}
+use Rattle.aio_laws.proofs.steps.Asides.{Aside, pending_leaves, leaves_aside}
 
 -- the marks of a direction, and those of a source, where there is one
 abbrev of_direction : Option ℕ → Dir → Mark → Bool
@@ -61,24 +61,9 @@ abbrev every : Aside → List Mark
 every a = filter (λ (m : Mark). not false) a.marks
 
 pub marks_stand : (w : World) (s : Step) (answers : List PollerAnswer) → other_marks w s (case_of w s answers).world ≡ other_marks w s w
-marks_stand w step.Add answers = ap every (add_leaves w answers)
 marks_stand w (step.Del key) answers = del_others w key.0 (serial_of w key.0) answers
 marks_stand w (step.Poll key dir waker) answers = poll_others w key.0 dir waker (serial_of w key.0) answers
-marks_stand w (step.New key dir) answers = ap every (new_leaves w dir (serial_of w key.0) answers)
-marks_stand w (step.StepEar number waker) answers = ap every (step_leaves w waker (find (is_listener number) w.listeners) answers)
-marks_stand w (step.DropEar number) answers = ap every (drop_leaves w number (find (is_listener number) w.listeners) answers)
-marks_stand w (step.Tick number waker) answers = ap every (tick_leaves w waker (find (is_timer number) w.timers) answers)
-marks_stand w (step.SetAt number deadline) answers = ap every (set_leaves w deadline None (find (is_timer number) w.timers) answers)
-marks_stand w (step.SetEvery number deadline period) answers = ap every (set_leaves w deadline (Some period) (find (is_timer number) w.timers) answers)
-marks_stand w (step.End number) answers = ap every (end_leaves w (find (is_timer number) w.timers) answers)
-marks_stand w (step.Now moment) answers =
-    either (λ o. every (aside o.world) ≡ every (aside w)) (nat_lt moment w.now) _ _ refl refl
-marks_stand w (step.Begin limit) answers = ap every (begin_leaves w limit answers)
-marks_stand w step.Wait answers = ap every (wait_leaves w w.round answers)
-marks_stand w step.Handle answers = ap every (handle_leaves w w.round answers)
-marks_stand w step.Finish answers = ap every (finish_leaves w w.round answers)
-marks_stand w step.React answers = ap every (react_leaves w answers)
-marks_stand w _ answers = refl
+marks_stand w s answers = ap every (leaves_aside w s answers)
 
 -- ## A step's own marks
 
@@ -147,23 +132,9 @@ abbrev no_own : Aside → List Mark
 no_own a = filter (λ (m : Mark). false) a.marks
 
 own_follow : (w : World) (s : Step) (answers : List PollerAnswer) → own_marks w s (case_of w s answers).world ≡ own_marks_after w s (case_of w s answers).answer
-own_follow w step.Add answers = ap no_own (add_leaves w answers)
 own_follow w (step.Del key) answers = del_own w key (serial_of w key.0) answers refl
 own_follow w (step.Poll key dir waker) answers = poll_own w key dir waker (serial_of w key.0) answers refl
-own_follow w (step.New key dir) answers = ap no_own (new_leaves w dir (serial_of w key.0) answers)
-own_follow w (step.StepEar number waker) answers = ap no_own (step_leaves w waker (find (is_listener number) w.listeners) answers)
-own_follow w (step.DropEar number) answers = ap no_own (drop_leaves w number (find (is_listener number) w.listeners) answers)
-own_follow w (step.Tick number waker) answers = ap no_own (tick_leaves w waker (find (is_timer number) w.timers) answers)
-own_follow w (step.SetAt number deadline) answers = ap no_own (set_leaves w deadline None (find (is_timer number) w.timers) answers)
-own_follow w (step.SetEvery number deadline period) answers = ap no_own (set_leaves w deadline (Some period) (find (is_timer number) w.timers) answers)
-own_follow w (step.End number) answers = ap no_own (end_leaves w (find (is_timer number) w.timers) answers)
-own_follow w (step.Now moment) answers = either (λ o. no_own (aside o.world) ≡ no_own (aside w)) (nat_lt moment w.now) _ _ refl refl
-own_follow w (step.Begin limit) answers = ap no_own (begin_leaves w limit answers)
-own_follow w step.Wait answers = ap no_own (wait_leaves w w.round answers)
-own_follow w step.Handle answers = ap no_own (handle_leaves w w.round answers)
-own_follow w step.Finish answers = ap no_own (finish_leaves w w.round answers)
-own_follow w step.React answers = ap no_own (react_leaves w answers)
-own_follow w _ answers = refl
+own_follow w s answers = ap no_own (leaves_aside w s answers)
 
 pub marks_follow : (w : World) (s : Step) (answers : List PollerAnswer) → MarksFollow w s (step_result w s answers).answer (step_result w s answers).world
 unfolding step_result
