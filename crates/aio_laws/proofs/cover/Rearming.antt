@@ -13,7 +13,7 @@ use Rattle.aio_base.specs.declared.steps.Step.{Step}
 use Rattle.aio_base.specs.declared.steps.Step.TheVariants as step
 use Rattle.aio_base.specs.declared.steps.Answer.TheVariants as answer
 use Rattle.aio_base.specs.World.{PollerAnswer, LiveSource, BrokenSource, RoundState, World, directions, directions_of, serial_of, is_empty_list, is_idle, wanted, is_broken, without_broken}
-use Rattle.aio_base.specs.Machine.{Outcome, fails, next_answer, later_answers, broken_world, armed_world, first_fault, begin_round, wait_round, without_waiters, world_taken, wakers_taken, rearmed, handle_source, handle_first, handle_in, handle_round, finish_in, finish_round, handle_each, hand_of, fault_of_round, react, step_result}
+use Rattle.aio_base.specs.Machine.{Outcome, fails, next_answer, later_answers, broken_world, armed_world, first_fault, begin_round, wait_round, without_waiters, world_taken, wakers_taken, rearmed, handle_source, handle_first, handle_in, handle_round, finish_in, handle_each, hand_of, fault_of_round, react, step_result}
 use Rattle.aio_laws.specs.Arming.{handled_events, is_clean, tells_no_fault, UnbrokenAsTold}
 use Rattle.aio_laws.specs.Succession.{events_given}
 use Rattle.aio_base.proofs.BrokenSources.{without_unbroken}
@@ -21,7 +21,7 @@ use Rattle.aio_laws.proofs.cover.Arming.{polled_arms}
 use Rattle.aio_laws.proofs.cover.CoverRounds.{nowhere, taken_rewaits}
 use Rattle.aio_base.proofs.Membership.{none_is_in, any_gives, filtered_is_in, filtered_passes, none_passes, among_cases}
 use Rattle.aio_laws.proofs.cover.Rewaiting.{wants_before}
-use Rattle.aio_laws.proofs.rounds.RoundLemmas.{in_hand_of, event_handled, hand_is, round_begun, round_waited}
+use Rattle.aio_laws.proofs.rounds.RoundLemmas.{in_hand_of, event_handled, handled_of, ended_of, begun_in_hand}
 use Rattle.aio_base.proofs.Searching.{false_unless}
 use Rattle.aio_laws.proofs.cover.Standing.{parts_with}
 use Rattle.aio_base.proofs.WaiterLemmas.{Wants, some_of, busy_wants, none_wants}
@@ -256,23 +256,17 @@ clean_is FaultArm clean = absurd cc
 -- a whole round that is not refused
 begun_rearms : (w : World) (answers : List PollerAnswer) (event : Event) (n : ℕ) → is_some w.round ≡ false → Contains (events_given (next_answer answers)) event
     → serial_of w event.key.0 ≡ Some n
-    → (let begun = begin_round w None answers in let waited = wait_round begun.world begun.left in
-    let handled = handle_each (hand_of waited.world.round) waited.world waited.left in
-    is_clean (fault_of_round handled.world.round) ≡ true → Whole (finish_round handled.world handled.left).world n)
+    → is_clean (fault_of_round (handled_of w answers).world.round) ≡ true → Whole (ended_of w answers).world n
 begun_rearms w answers event n none among lives clean =
     let begun = begin_round w None answers in
     let waited = wait_round begun.world begun.left in
     let hand = hand_of waited.world.round in
     let handled = handle_each hand waited.world waited.left in
-    let b = round_begun w answers none in
-    let wt = round_waited begun.world begun.world.round begun.left b.hand in
-    let hand_given : hand ≡ events_given (next_answer begun.left) = hand_is waited.world.round _ wt.hand in
-    let in_hand : in_hand_of waited.world.round ≡ Some hand = wt.hand ∙ ap Some (sym hand_given) in
-    let events : hand ≡ events_given (next_answer answers) = hand_given ∙ ap (λ left. events_given (next_answer left)) b.left in
-    let all = all_handling hand waited.world waited.left in_hand in
-    let same : serial_of waited.world event.key.0 ≡ serial_of w event.key.0 = lives_by waited.world w event.key.0 (wt.same.live ∙ b.live) in
+    let h = begun_in_hand w answers none in
+    let all = all_handling hand waited.world waited.left h.held in
+    let same : serial_of waited.world event.key.0 ≡ serial_of w event.key.0 = lives_by waited.world w event.key.0 h.live in
     finish_whole handled.world handled.world.round handled.left n
-    (all.whole (clean_is _ clean) event n (subst (λ es. Contains es event) (sym events) among) (same ∙ lives))
+    (all.whole (clean_is _ clean) event n (subst (λ es. Contains es event) (sym h.events) among) (same ∙ lives))
 
 -- what a whole round tells and leaves
 abbrev Rearms : ℕ → Outcome → Type 0

@@ -11,14 +11,14 @@ use Rattle.aio_base.specs.declared.names.Event.{Event}
 use Rattle.aio_base.specs.declared.steps.Step.{Step}
 use Rattle.aio_base.specs.declared.steps.Step.TheVariants as step
 use Rattle.aio_base.specs.World.{PollerAnswer, LiveSource, RoundState, HandledDirection, World, directions, directions_of, has_dir, is_of, serial_of, is_fresh}
-use Rattle.aio_base.specs.Machine.{Outcome, is_listener, is_timer, begin_round, wait_round, without_waiters, world_taken, handle_source, handle_first, handle_in, handle_round, finish_round, handle_each, hand_of, case_of, step_result, next_answer}
+use Rattle.aio_base.specs.Machine.{Outcome, is_listener, is_timer, begin_round, wait_round, without_waiters, world_taken, handle_source, handle_first, handle_in, handle_round, handle_each, hand_of, case_of, step_result, next_answer}
 use Rattle.aio_laws.specs.RoundCounts.{RoundName, name_of}
 use Rattle.aio_laws.specs.Succession.{events_given}
 use Rattle.aio_laws.specs.Arming.{handled_events}
 use Rattle.aio_laws.specs.Handling.{begin_of, notes_of, HandledIsNoted}
 use Rattle.aio_base.proofs.Membership.{first_is_in, later_is_in, image_is_in, passing_is_kept, any_from, any_gives, piece_is_in}
 use Rattle.aio_base.proofs.WaiterLemmas.{is_of-from}
-use Rattle.aio_laws.proofs.rounds.RoundLemmas.{in_hand_of, round_begun, round_waited, event_handled, hand_is}
+use Rattle.aio_laws.proofs.rounds.RoundLemmas.{in_hand_of, event_handled, first_of, ended_of, begun_in_hand}
 use Rattle.aio_laws.proofs.steps.Frames.{Frame, add_keeps, del_keeps, poll_keeps, new_keeps, step_keeps, drop_keeps, tick_keeps, set_keeps, end_keeps, wait_keeps, rearmed_keeps, handle_keeps, finish_keeps}
 
 -- ## What an event adds
@@ -78,9 +78,6 @@ named_begin None name here is = absurd cc
 named_begin (Some round) name here is =
     ap (λ (n : RoundName). n.begin) (some_is (record { number = round.number; begin = round.begin; limit = round.limit }) name is)
 
-first_of : (round : Option RoundState) (event : Event) (events : List Event) → in_hand_of round ≡ Some (event ∷ events) → take 1 (hand_of round) ≡ event ∷ []
-first_of round event events at = ap (take 1) (hand_is round (event ∷ events) at)
-
 each_past : (events : List Event) (w : World) (name : RoundName) (answers : List PollerAnswer) → name_of w.round ≡ Some name → in_hand_of w.round ≡ Some events
     → (handle_each events w answers).world.handled ≡ w.handled ++ notes_in name.begin events w.live
 each_past [] w name answers named at = sym (append-nil w.handled)
@@ -111,31 +108,23 @@ begun_named w given answers none =
     (λ runs. absurd cc) (λ none. (_, refl, refl))
 
 reacted : (w : World) (answers : List PollerAnswer) → is_some w.round ≡ false
-    → let begun = begin_round w None answers in
-    let waited = wait_round begun.world begun.left in
-    let handled = handle_each (hand_of waited.world.round) waited.world waited.left in
-    (finish_round handled.world handled.left).world.handled ≡ w.handled ++ notes_in w.pos (events_given (next_answer answers)) w.live
+    → (ended_of w answers).world.handled ≡ w.handled ++ notes_in w.pos (events_given (next_answer answers)) w.live
 reacted w answers none =
     let begun = begin_round w None answers in
     let waited = wait_round begun.world begun.left in
     let hand = hand_of waited.world.round in
     let handled = handle_each hand waited.world waited.left in
-    let begins = round_begun w answers none in
-    let full = (round_waited begun.world begun.world.round begun.left begins.hand).hand in
-    let is : hand ≡ events_given (next_answer begun.left) = hand_is waited.world.round _ full in
-    let held : in_hand_of waited.world.round ≡ Some hand = full ∙ ap Some (sym is) in
-    let gives : hand ≡ events_given (next_answer answers) = is ∙ ap (λ (told : List PollerAnswer). events_given (next_answer told)) begins.left in
+    let h = begun_in_hand w answers none in
     let waits = wait_keeps begun.world begun.world.round begun.left refl in
     let named = begun_named w None answers none in
     let name : RoundName = record { number = w.rounds + 1; begin = w.pos; limit = named.0 } in
     let runs : name_of waited.world.round ≡ Some name = ap (λ (f : Frame). f.name) waits ∙ named.1 in
-    let live : waited.world.live ≡ w.live = ap (λ (f : Frame). f.live) waits ∙ begins.live in
     let past : waited.world.handled ≡ w.handled = ap (λ (f : Frame). f.handled) waits ∙ named.2 in
     ap (λ (f : Frame). f.handled) (finish_keeps handled.world handled.world.round handled.left)
-    ∙ each_past hand waited.world name waited.left runs held
+    ∙ each_past hand waited.world name waited.left runs h.held
     ∙ ap (λ (before : List HandledDirection). before ++ notes_in w.pos hand waited.world.live) past
-    ∙ ap (λ (sources : List LiveSource). w.handled ++ notes_in w.pos hand sources) live
-    ∙ ap (λ (events : List Event). w.handled ++ notes_in w.pos events w.live) gives
+    ∙ ap (λ (sources : List LiveSource). w.handled ++ notes_in w.pos hand sources) h.live
+    ∙ ap (λ (events : List Event). w.handled ++ notes_in w.pos events w.live) h.events
 
 react_step : (w : World) (answers : List PollerAnswer) (runs : Bool) (locked round : Outcome) → locked.world.handled ≡ w.handled
     → (runs ≡ false → round.world.handled ≡ w.handled ++ notes_in w.pos (events_given (next_answer answers)) w.live)

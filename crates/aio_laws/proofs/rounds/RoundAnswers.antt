@@ -18,7 +18,7 @@ use Rattle.aio_laws.specs.RoundAnswers.{LimitIsWithin, time_left, IsRoundLimit, 
 use Rattle.aio_base.proofs.Membership.{none_is_in, first_is_in, later_is_in, among_cases, filtered_is_in, filtered_passes, passing_is_kept, image_is_in}
 use Rattle.aio_laws.proofs.steps.Frames.{either}
 use Rattle.aio_laws.proofs.rounds.RoundFaults.{waited_ends, handled_ends, begun_clean}
-use Rattle.aio_laws.proofs.rounds.RoundLemmas.{round_begun, round_waited, hand_is}
+use Rattle.aio_laws.proofs.rounds.RoundLemmas.{hand_is, begun_in_hand}
 
 -- ## The lesser of two limits
 
@@ -205,12 +205,12 @@ react_told w answers None is =
     let waited = wait_round begun.world begun.left in
     let hand = hand_of waited.world.round in
     let handled = handle_each hand waited.world waited.left in
-    let start = round_begun w answers (ap is_some is) in
-    let ends : EndsAsWaited (next_answer begun.left) (fault_of_round waited.world.round) = waited_ends begun.world begun.world.round begun.left start.hand (begun_clean w None answers (ap is_some is)) in
-    let given = hand_is waited.world.round _ (round_waited begun.world begun.world.round begun.left start.hand).hand in
-    let counted : length hand ≡ length (events_given (next_answer answers)) = ap length given ∙ ap (λ (rest : List PollerAnswer). length (events_given (next_answer rest))) start.left in (
+    let h = begun_in_hand w answers (ap is_some is) in
+    let ends : EndsAsWaited (next_answer begun.left) (fault_of_round waited.world.round) = waited_ends begun.world begun.world.round begun.left h.start.hand (begun_clean w None answers (ap is_some is)) in
+    let given = hand_is waited.world.round _ h.full.hand in
+    let counted : length hand ≡ length (events_given (next_answer answers)) = ap length h.events in (
       fault_of_round handled.world.round,
-      subst (λ (rest : List PollerAnswer). EndsAsWaited (next_answer rest) (fault_of_round handled.world.round)) start.left
+      subst (λ (rest : List PollerAnswer). EndsAsWaited (next_answer rest) (fault_of_round handled.world.round)) h.start.left
           (handled_ends (next_answer begun.left) hand waited.world waited.left given ends),
       ap (λ (o : Outcome). o.answer) (cond-false (is_some w.round) _ _ (ap is_some is)) ∙ ap (λ (n : ℕ). answer.Round (w.rounds + 1) n (fault_of_round handled.world.round)) counted,
     )

@@ -14,7 +14,7 @@ use Rattle.aio_base.specs.declared.outcomes.Which.{Which}
 use Rattle.aio_base.specs.declared.outcomes.Which.TheVariants as which
 use Rattle.aio_base.specs.declared.steps.Step.{Step}
 use Rattle.aio_base.specs.declared.steps.Step.TheVariants as step
-use Rattle.aio_base.specs.World.{PollerAnswer, Succeeds, Gives, IsInterrupted, Fails, LiveSource, BrokenSource, ArmedDirection, RoundState, World, directions, directions_of, has_dir, serial_of, is_empty_list, is_idle, wanted, without_broken, set_armed, clear_armed}
+use Rattle.aio_base.specs.World.{PollerAnswer, Succeeds, Gives, IsInterrupted, Fails, LiveSource, BrokenSource, ArmedDirection, RoundState, World, directions, directions_of, has_dir, serial_of, is_empty_list, is_idle, wanted, without_broken, set_armed}
 use Rattle.aio_base.specs.Machine.{Outcome, fails, next_answer, later_answers, broken_world, armed_world, begin_round, wait_answered, wait_in, wait_round, first_fault, world_taken, wakers_taken, rearmed, handle_source, handle_first, handle_in, handle_round, handle_each, hand_of, finish_in, finish_round, case_of, step_result}
 use Rattle.aio_laws.specs.Succession.{events_given}
 use Rattle.aio_laws.specs.Interests.{IsArmedIn, NoneOf, SetsInterest}
@@ -22,9 +22,9 @@ use Rattle.aio_laws.specs.RoundArming.{takes, is_left, left_waiting, Arming, arm
 use Rattle.aio_base.proofs.Membership.{filtered_is_in, filtered_passes, passing_is_kept}
 use Rattle.aio_laws.proofs.rounds.RoundEnds.{round_waits}
 use Rattle.aio_laws.proofs.rounds.RoundFaults.{begun_clean}
-use Rattle.aio_laws.proofs.rounds.RoundLemmas.{in_hand_of, event_handled, hand_is, round_begun, round_waited}
+use Rattle.aio_laws.proofs.rounds.RoundLemmas.{in_hand_of, event_handled, waited_of, handled_of, ended_of, begun_in_hand}
 use Rattle.aio_laws.proofs.rounds.TakenWaiters.{idle_after_event}
-use Rattle.aio_laws.proofs.steps.Calling.{finish_arms, waits_arms, begun_arms, begin_waiters, wait_waiters, cleared_is}
+use Rattle.aio_laws.proofs.steps.Calling.{finish_arms, begin_waiters, wait_waiters, cleared_is, round_clears}
 use Rattle.aio_laws.proofs.steps.Interesting.{sets, taken_arms, taken_live}
 use Rattle.aio_laws.proofs.steps.Mending.{taken_position, taken_broken}
 
@@ -405,9 +405,7 @@ armed_same Now Was d None same = same
 armed_same Now Was d (Some tried) same = (λ here. here, λ here. here)
 
 begun_rounds : (w : World) (answers : List PollerAnswer) → is_some w.round ≡ false
-    → (let begun = begin_round w None answers in let waited = wait_round begun.world begun.left in
-    let handled = handle_each (hand_of waited.world.round) waited.world waited.left in
-    Rounds w answers (waited.calls ++ handled.calls) (finish_round handled.world handled.left).world)
+    → Rounds w answers ((waited_of w answers).calls ++ (handled_of w answers).calls) (ended_of w answers).world
 begun_rounds w answers none =
     let begun = begin_round w None answers in
     let waited = wait_round begun.world begun.left in
@@ -415,27 +413,19 @@ begun_rounds w answers none =
     let handled = handle_each hand waited.world waited.left in
     let ended = finish_round handled.world handled.left in
     let events = events_given (next_answer answers) in
-    let start = round_begun w answers none in
-    let full = round_waited begun.world begun.world.round begun.left start.hand in
-    let waits = round_waits begun.world begun.world.round begun.left start.hand (begun_clean w None answers none) in
-    let given : hand ≡ events =
-    hand_is waited.world.round _ full.hand ∙ ap (λ (a : List PollerAnswer). events_given (next_answer a)) start.left in
-    let held : in_hand_of waited.world.round ≡ Some hand = full.hand ∙ ap Some (sym (hand_is waited.world.round _ full.hand)) in
+    let h = begun_in_hand w answers none in
+    let waits = round_waits begun.world begun.world.round begun.left h.start.hand (begun_clean w None answers none) in
     let first = begin_still w answers in
     let second = wait_still begun.world begun.world.round begun.left in
     let after : After w [] waited.world = record {
-      live = full.same.live ∙ start.live;
+      live = h.live;
       pos = second.pos ∙ first.pos;
       idle = λ n d. wait_waiters begun.world begun.world.round begun.left n d ∙ begin_waiters w answers n d ∙ all_left (is_idle w n d);
     } in
-    let did : Arms w.pos waited.world.broken waited.world.armed (events_arms w [] hand) waited.left handled = all_did hand w waited.world [] waited.left after held in
-    let behind_wait : waited.left ≡ later_answers answers = waits.left ∙ ap later_answers start.left in
+    let did : Arms w.pos waited.world.broken waited.world.armed (events_arms w [] hand) waited.left handled = all_did hand w waited.world [] waited.left after h.held in
+    let behind_wait : waited.left ≡ later_answers answers = waits.left ∙ ap later_answers h.start.left in
     let tried : arms_tried (events_arms w [] hand) waited.left ≡ round_arms w answers =
-    ap (λ (es : List Event). arms_tried (events_arms w [] es) waited.left) given ∙ ap (arms_tried (events_arms w [] events)) behind_wait in
-    let clears : waited.world.armed ≡ clear_armed w.armed events =
-    waits_arms begun.world begun.world.round begun.left start.hand
-    ∙ ap (λ (armed : List ArmedDirection). clear_armed armed (events_given (next_answer begun.left))) (begun_arms w answers)
-    ∙ ap (λ (a : List PollerAnswer). clear_armed w.armed (events_given (next_answer a))) start.left in
+    ap (λ (es : List Event). arms_tried (events_arms w [] es) waited.left) h.events ∙ ap (arms_tried (events_arms w [] events)) behind_wait in
     record {
       calls = ap (λ (calls : List Which). calls ++ handled.calls) waits.calls ∙ ap (λ (calls : List Which). which.Wait ∷ calls) (did.calls ∙ ap arm_calls tried);
       breaks = λ b.
@@ -445,7 +435,7 @@ begun_rounds w answers none =
           (subst (λ broken. Contains handled.world.broken b
           ↔ BrokenBy w.pos (Contains broken b) b (last_such (is_arm_of b.serial) (arms_tried (events_arms w [] hand) waited.left))) (second.broken ∙ first.broken) (did.breaks b)));
       interests = λ k d.
-          let cleared = cleared_is events w.armed waited.world.armed clears k d in
+          let cleared = cleared_is events w.armed waited.world.armed (round_clears w answers none) k d in
           let same = armed_same (IsArmedIn waited.world.armed k d) (IsArmedIn w.armed k d × NoneOf events k) d
           (last_such (has_armed k) (arms_tried (events_arms w [] hand) waited.left)) cleared in
           subst (λ armed. IsArmedIn armed k d ↔ ArmedBy (IsArmedIn w.armed k d × NoneOf events k) d (last_such (has_armed k) (round_arms w answers)))

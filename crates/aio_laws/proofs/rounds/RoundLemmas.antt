@@ -1,6 +1,6 @@
 -- What the sections of a round leave as it was: the live sources, the clock, the listeners, and what a wait gives until it is handled.
-use Rattle.std.proofs.Common.{◌≡◌, ℕ, Bool, true, false, not, cond, List, [], ◌∷◌, ◌++◌, map, filter, find, Option, None, Some, is_some, option_map, option_to_list, refl, ap, ◌∙◌, subst}
-use Rattle.std.specs.Prelude.{◌==◌, flat_map, nat_le}
+use Rattle.std.proofs.Common.{◌≡◌, ℕ, Bool, true, false, not, cond, List, [], ◌∷◌, ◌++◌, map, filter, find, Option, None, Some, is_some, option_map, option_to_list, refl, ap, ◌∙◌, sym, subst}
+use Rattle.std.specs.Prelude.{◌==◌, flat_map, nat_le, take}
 use Rattle.std.proofs.lemmas.Bool.{cond_both, not-true}
 use Rattle.aio_base.specs.declared.names.Key.{Key}
 use Rattle.aio_base.specs.declared.names.Dir.{Dir}
@@ -9,7 +9,7 @@ use Rattle.aio_base.specs.declared.outcomes.EndWord.TheVariants.{FaultArm}
 use Rattle.aio_base.specs.declared.steps.Answer.TheVariants as answer
 use Rattle.aio_base.specs.World.{PollerAnswer, Succeeds, Gives, IsInterrupted, Fails, LiveSource, ListenerEntry, Registration, RoundState, World, directions_of, is_of, serial_of, wanted, is_empty_list}
 use Rattle.aio_base.specs.Timers.{in_order, after_pass}
-use Rattle.aio_base.specs.Machine.{Outcome, quiet, next_answer, later_answers, fails, broken_world, armed_world, first_fault, without_waiters, world_taken, wakers_taken, begin_round, wait_answered, wait_in, rearmed, handle_source, handle_first, handle_in, handle_round, handle_each, hand_of}
+use Rattle.aio_base.specs.Machine.{Outcome, quiet, next_answer, later_answers, fails, broken_world, armed_world, first_fault, without_waiters, world_taken, wakers_taken, begin_round, wait_answered, wait_in, wait_round, finish_round, rearmed, handle_source, handle_first, handle_in, handle_round, handle_each, hand_of}
 use Rattle.aio_laws.specs.Storings.{OfPoll, OfListener, OfTimer, places_of, due_places}
 use Rattle.aio_laws.specs.Succession.{event_places, events_given}
 use Rattle.aio_base.proofs.Searching.{filtered_empty}
@@ -173,6 +173,9 @@ pub hand_is : (round : Option RoundState) (events : List Event) → in_hand_of r
 hand_is None events at = absurd cc
 hand_is (Some round) events at = cc
 
+pub first_of : (round : Option RoundState) (event : Event) (events : List Event) → in_hand_of round ≡ Some (event ∷ events) → take 1 (hand_of round) ≡ event ∷ []
+first_of round event events at = ap (take 1) (hand_is round (event ∷ events) at)
+
 -- ## A round begins and waits
 
 pub record Begun (w : World) (answers : List PollerAnswer) (o : Outcome) : Type 0 where
@@ -202,6 +205,38 @@ round_waited v (Some round) answers none =
     let hand : round.in_hand ≡ [] = cc in
     cond_both (is_empty_list round.in_hand) _ _ (λ (o : Outcome). Handled v (events_given (next_answer answers)) o.world)
     (λ empty. answered v round (next_answer answers) (later_answers answers) hand) (λ some. absurd (let empty = ap is_empty_list hand in cc))
+
+-- a whole round after each of its sections
+abbrev pub waited_of : World → List PollerAnswer → Outcome
+waited_of w answers = let begun = begin_round w None answers in wait_round begun.world begun.left
+
+abbrev pub handled_of : World → List PollerAnswer → Outcome
+handled_of w answers = let waited = waited_of w answers in handle_each (hand_of waited.world.round) waited.world waited.left
+
+abbrev pub ended_of : World → List PollerAnswer → Outcome
+ended_of w answers = let handled = handled_of w answers in finish_round handled.world handled.left
+
+-- a round that has begun and waited has in hand what its wait gave
+pub record InHand (w : World) (answers : List PollerAnswer) (begun waited : Outcome) : Type 0 where
+  pub start : Begun w answers begun
+  pub full : Handled begun.world (events_given (next_answer begun.left)) waited.world
+  pub held : in_hand_of waited.world.round ≡ Some (hand_of waited.world.round)
+  pub events : hand_of waited.world.round ≡ events_given (next_answer answers)
+  pub live : waited.world.live ≡ w.live
+
+pub begun_in_hand : (w : World) (answers : List PollerAnswer) → is_some w.round ≡ false → InHand w answers (begin_round w None answers) (waited_of w answers)
+begun_in_hand w answers none =
+    let begun = begin_round w None answers in
+    let start = round_begun w answers none in
+    let full = round_waited begun.world begun.world.round begun.left start.hand in
+    let given = hand_is (waited_of w answers).world.round _ full.hand in
+    record {
+      start = start;
+      full = full;
+      held = full.hand ∙ ap Some (sym given);
+      events = given ∙ ap (λ (told : List PollerAnswer). events_given (next_answer told)) start.left;
+      live = full.same.live ∙ start.live;
+    }
 
 -- ## A pass leaves nothing due
 

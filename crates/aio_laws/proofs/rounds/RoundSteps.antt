@@ -1,5 +1,5 @@
 -- How a step counts rounds, and what it leaves of the clock.
-use Rattle.std.proofs.Common.{◌≡◌, ℕ, ◌+◌, Bool, true, false, not, cond, List, [], ◌∷◌, ◌++◌, find, Option, None, Some, is_some, refl, ap, ◌∙◌, sym}
+use Rattle.std.proofs.Common.{◌≡◌, ℕ, ◌+◌, Bool, true, false, not, cond, List, [], ◌∷◌, ◌++◌, find, Option, None, Some, is_some, refl, ap, ◌∙◌}
 use Rattle.std.specs.Prelude.{nat_lt}
 use Rattle.std.proofs.lemmas.Bool.{cond_both}
 use Rattle.aio_base.specs.declared.steps.Step.{Step}
@@ -7,11 +7,11 @@ use Rattle.aio_base.specs.declared.steps.Step.TheVariants as step
 use Rattle.aio_base.specs.declared.steps.Answer.{Answer}
 use Rattle.aio_base.specs.declared.steps.Answer.TheVariants as answer
 use Rattle.aio_base.specs.World.{PollerAnswer, RoundState, World, serial_of, is_empty_list}
-use Rattle.aio_base.specs.Machine.{Outcome, is_listener, is_timer, set_clock, begin_round, wait_round, finish_in, finish_round, handle_each, hand_of, react, case_of, step_result}
+use Rattle.aio_base.specs.Machine.{Outcome, is_listener, is_timer, set_clock, begin_round, wait_round, finish_in, handle_each, hand_of, react, case_of, step_result}
 use Rattle.aio_laws.specs.RoundCounts.{RoundName, name_of, begins_round, limit_told, running_after, RoundsFollow}
 use Rattle.aio_laws.specs.Clock.{clock_after, TellsTheMoment, ClockIsSet}
 use Rattle.aio_laws.proofs.rounds.RoundAnswers.{rounds_told}
-use Rattle.aio_laws.proofs.rounds.RoundLemmas.{in_hand_of, round_begun, round_waited, all_handled, hand_is}
+use Rattle.aio_laws.proofs.rounds.RoundLemmas.{in_hand_of, all_handled, ended_of, begun_in_hand}
 use Rattle.aio_laws.proofs.steps.Frames.{Frame, frame, either, add_keeps, del_keeps, poll_keeps, new_keeps, step_keeps, drop_keeps, tick_keeps, set_keeps, end_keeps, wait_keeps, handle_keeps, each_keeps}
 
 -- the clock's moment and the rounds of a frame
@@ -95,20 +95,14 @@ abbrev unnamed : Frame → Count
 unnamed f = record (count f) { name = None }
 
 reacted : (w : World) (answers : List PollerAnswer) → is_some w.round ≡ false
-    → let begun = begin_round w None answers in
-    let waited = wait_round begun.world begun.left in
-    let handled = handle_each (hand_of waited.world.round) waited.world waited.left in
-    count (frame (finish_round handled.world handled.left).world)
+    → count (frame (ended_of w answers).world)
     ≡ (record { now = w.now; rounds = w.rounds + 1; begun = w.begun ++ w.pos ∷ []; name = name_of w.round })
 reacted w answers none =
     let begun = begin_round w None answers in
     let waited = wait_round begun.world begun.left in
     let hand = hand_of waited.world.round in
     let handled = handle_each hand waited.world waited.left in
-    let empty = (round_begun w answers none).hand in
-    let full = (round_waited begun.world begun.world.round begun.left empty).hand in
-    let held : in_hand_of waited.world.round ≡ Some hand = full ∙ ap Some (sym (hand_is waited.world.round _ full)) in
-    let out = (all_handled hand waited.world waited.left held).hand in
+    let out = (all_handled hand waited.world waited.left (begun_in_hand w answers none).held).hand in
     ap count (ends handled.world handled.world.round handled.left out)
     ∙ ap unnamed (each_keeps hand waited.world waited.left)
     ∙ ap unnamed (wait_keeps begun.world begun.world.round begun.left refl)
@@ -117,10 +111,7 @@ reacted w answers none =
 
 -- a whole round leaves none that runs
 pub react_ends : (w : World) (answers : List PollerAnswer) → is_some w.round ≡ false
-    → let begun = begin_round w None answers in
-    let waited = wait_round begun.world begun.left in
-    let handled = handle_each (hand_of waited.world.round) waited.world waited.left in
-    name_of (finish_round handled.world handled.left).world.round ≡ name_of w.round
+    → name_of (ended_of w answers).world.round ≡ name_of w.round
 react_ends w answers none = ap (λ (n : Count). n.name) (reacted w answers none)
 
 react_counts : (w : World) (answers : List PollerAnswer) → Counts w step.React (react w None answers)

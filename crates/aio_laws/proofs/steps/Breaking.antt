@@ -11,14 +11,14 @@ use Rattle.aio_base.specs.declared.names.Event.{Event}
 use Rattle.aio_base.specs.declared.steps.Step.{Step}
 use Rattle.aio_base.specs.declared.steps.Step.TheVariants as step
 use Rattle.aio_base.specs.World.{PollerAnswer, LiveSource, ListenerEntry, BrokenSource, RoundState, World, directions_of, serial_of, key_of, poll_waiter, mark_of, is_empty_list, is_idle, is_broken, without_broken, wanted}
-use Rattle.aio_base.specs.Machine.{Outcome, fails, next_answer, broken_world, armed_world, after_arm, pending, del_source, is_fresh_since, is_waker, with_waiter, poll_source, with_listening, step_listener, is_listener, begin_round, wait_round, without_waiters, world_taken, rearmed, handle_source, handle_first, handle_in, handle_round, handle_each, hand_of, finish_round, react, case_of}
+use Rattle.aio_base.specs.Machine.{Outcome, fails, next_answer, broken_world, armed_world, after_arm, pending, del_source, is_fresh_since, is_waker, with_waiter, poll_source, with_listening, step_listener, is_listener, begin_round, wait_round, without_waiters, world_taken, rearmed, handle_source, handle_first, handle_in, handle_round, handle_each, hand_of, react, case_of}
 use Rattle.aio_laws.specs.Succession.{events_given}
 use Rattle.aio_laws.specs.Arming.{handled_events}
 use Rattle.aio_laws.specs.Others.{other_broken}
 use Rattle.aio_base.proofs.Membership.{first_is_in, later_is_in, any_from, piece_is_in}
 use Rattle.aio_base.proofs.Searching.{of_not, refiltered, unseen_push}
-use Rattle.aio_laws.proofs.rounds.RoundLemmas.{in_hand_of, event_handled, round_begun, round_waited, hand_is}
-use Rattle.aio_laws.proofs.steps.Frames.{Frame, either, either_world, wait_keeps, handle_keeps}
+use Rattle.aio_laws.proofs.rounds.RoundLemmas.{in_hand_of, event_handled, first_of, ended_of, begun_in_hand}
+use Rattle.aio_laws.proofs.steps.Frames.{Frame, either, either_world, handle_keeps}
 use Rattle.aio_laws.proofs.steps.Asides.{Aside, begin_leaves, wait_leaves, finish_leaves, leaves_aside}
 
 -- a test that no failed arm of this source passes
@@ -103,9 +103,6 @@ handle_others : (q : BrokenSource → Bool) (w : World) (round : Option RoundSta
 handle_others q w None answers drops = refl
 handle_others q w (Some round) answers drops = first_others q w round round.in_hand answers drops
 
-first_of : (round : Option RoundState) (event : Event) (events : List Event) → in_hand_of round ≡ Some (event ∷ events) → take 1 (hand_of round) ≡ event ∷ []
-first_of round event events at = ap (take 1) (hand_is round (event ∷ events) at)
-
 each_others : (q : BrokenSource → Bool) (events : List Event) (w : World) (answers : List PollerAnswer) → in_hand_of w.round ≡ Some events
     → DropsOf q w.live events → filter q (handle_each events w answers).world.broken ≡ filter q w.broken
 each_others q [] w answers at drops = refl
@@ -119,24 +116,16 @@ each_others q (event ∷ events) w answers at drops =
     (λ e among. drops e (Contains-append_left (event ∷ []) events e among)))
 
 reacted_others : (q : BrokenSource → Bool) (w : World) (answers : List PollerAnswer) → is_some w.round ≡ false → DropsOf q w.live (events_given (next_answer answers))
-    → let begun = begin_round w None answers in
-    let waited = wait_round begun.world begun.left in
-    let handled = handle_each (hand_of waited.world.round) waited.world waited.left in
-    filter q (finish_round handled.world handled.left).world.broken ≡ filter q w.broken
+    → filter q (ended_of w answers).world.broken ≡ filter q w.broken
 reacted_others q w answers none drops =
     let begun = begin_round w None answers in
     let waited = wait_round begun.world begun.left in
     let hand = hand_of waited.world.round in
     let handled = handle_each hand waited.world waited.left in
-    let begins = round_begun w answers none in
-    let full = (round_waited begun.world begun.world.round begun.left begins.hand).hand in
-    let is : hand ≡ events_given (next_answer begun.left) = hand_is waited.world.round _ full in
-    let held : in_hand_of waited.world.round ≡ Some hand = full ∙ ap Some (sym is) in
-    let gives : hand ≡ events_given (next_answer answers) = is ∙ ap (λ (told : List PollerAnswer). events_given (next_answer told)) begins.left in
-    let live : waited.world.live ≡ w.live = ap (λ (f : Frame). f.live) (wait_keeps begun.world begun.world.round begun.left refl) ∙ begins.live in
+    let h = begun_in_hand w answers none in
     ap (λ (a : Aside). filter q a.broken) (finish_leaves handled.world handled.world.round handled.left)
-    ∙ each_others q hand waited.world waited.left held
-    (subst (DropsOf q waited.world.live) (sym gives) (subst (λ sources. DropsOf q sources (events_given (next_answer answers))) (sym live) drops))
+    ∙ each_others q hand waited.world waited.left h.held
+    (subst (DropsOf q waited.world.live) (sym h.events) (subst (λ sources. DropsOf q sources (events_given (next_answer answers))) (sym h.live) drops))
     ∙ ap (λ (a : Aside). filter q a.broken) (wait_leaves begun.world begun.world.round begun.left)
     ∙ ap (λ (a : Aside). filter q a.broken) (begin_leaves w None answers)
 

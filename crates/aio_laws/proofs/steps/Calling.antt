@@ -20,7 +20,7 @@ use Rattle.aio_laws.specs.Succession.{events_given}
 use Rattle.aio_laws.specs.Interests.{IsArmedIn, Nothing, SetsInterest, NoneOf, IsWaitedFor, arms_done, arms_behind, RoundArms, InterestsFollow}
 use Rattle.aio_laws.specs.Calls.{OnlyArms, CallsFit, IsCleared, OnlyCleared, CallsFollow}
 use Rattle.aio_base.proofs.Membership.{none_is_in, first_is_in, later_is_in, among_cases, filtered_is_in, filtered_passes, any_gives}
-use Rattle.aio_laws.proofs.rounds.RoundLemmas.{in_hand_of, round_begun, round_waited}
+use Rattle.aio_laws.proofs.rounds.RoundLemmas.{in_hand_of, round_begun, waited_of, handled_of, ended_of, begun_in_hand}
 use Rattle.aio_laws.proofs.rounds.RoundFaults.{begun_clean}
 use Rattle.aio_laws.proofs.cover.Standing.{armed_stays}
 use Rattle.aio_laws.proofs.steps.Interesting.{Sets, Rearms, taken_arms, add_sets, del_sets, poll_sets, listen_sets, handle_sets, each_leaves}
@@ -327,7 +327,7 @@ answered_arms w round (Gives events) rest = refl
 answered_arms w round IsInterrupted rest = refl
 answered_arms w round Fails rest = refl
 
-pub waits_arms : (w : World) (round : Option RoundState) (answers : List PollerAnswer) → in_hand_of round ≡ Some []
+waits_arms : (w : World) (round : Option RoundState) (answers : List PollerAnswer) → in_hand_of round ≡ Some []
     → (wait_in w round answers).world.armed ≡ clear_armed w.armed (events_given (next_answer answers))
 waits_arms w None answers at = absurd cc
 waits_arms w (Some round) answers at =
@@ -335,8 +335,18 @@ waits_arms w (Some round) answers at =
     cond_both (is_empty_list round.in_hand) _ _ (λ (o : Outcome). o.world.armed ≡ clear_armed w.armed (events_given (next_answer answers)))
     (λ yes. answered_arms w round (next_answer answers) (later_answers answers)) (λ no. absurd (let wrong : true ≡ false = sym empty ∙ no in cc))
 
-pub begun_arms : (w : World) (answers : List PollerAnswer) → (begin_round w None answers).world.armed ≡ w.armed
+begun_arms : (w : World) (answers : List PollerAnswer) → (begin_round w None answers).world.armed ≡ w.armed
 begun_arms w answers = cond_both (is_some w.round) _ _ (λ (o : Outcome). o.world.armed ≡ w.armed) (λ runs. refl) (λ none. refl)
+
+-- what a round that begins and waits leaves armed
+pub round_clears : (w : World) (answers : List PollerAnswer) → is_some w.round ≡ false
+    → (waited_of w answers).world.armed ≡ clear_armed w.armed (events_given (next_answer answers))
+round_clears w answers none =
+    let begun = begin_round w None answers in
+    let start = round_begun w answers none in
+    waits_arms begun.world begun.world.round begun.left start.hand
+    ∙ ap (λ (armed : List ArmedDirection). clear_armed armed (events_given (next_answer begun.left))) (begun_arms w answers)
+    ∙ ap (λ (a : List PollerAnswer). clear_armed w.armed (events_given (next_answer a))) start.left
 
 pub finish_arms : (w : World) (round : Option RoundState) (answers : List PollerAnswer) → (finish_in w round answers).world.armed ≡ w.armed
 finish_arms w None answers = refl
@@ -364,9 +374,7 @@ react_unarmed w answers =
     let start = round_begun w answers none in
     let once = waits_once begun.world begun.world.round begun.left start.hand in
     finish_arms handled.world handled.world.round handled.left ∙ each_silent hand waited.world waited.left (no_more waited.calls handled.calls once alone)
-    ∙ waits_arms begun.world begun.world.round begun.left start.hand
-    ∙ ap (λ (armed : List ArmedDirection). clear_armed armed (events_given (next_answer begun.left))) (begun_arms w answers)
-    ∙ ap (λ (a : List PollerAnswer). clear_armed w.armed (events_given (next_answer a))) start.left)
+    ∙ round_clears w answers none)
 
 case_unarmed : (w : World) (s : Step) (answers : List PollerAnswer)
     → OnlyCleared s answers (case_of w s answers).answer (case_of w s answers).calls w.armed (case_of w s answers).world.armed
@@ -435,9 +443,7 @@ no_round : (round : Option RoundState) → round ≡ None → is_some round ≡ 
 no_round round none = ap is_some none
 
 begun_round : (w : World) (answers : List PollerAnswer) → is_some w.round ≡ false
-    → (let begun = begin_round w None answers in let waited = wait_round begun.world begun.left in
-    let handled = handle_each (hand_of waited.world.round) waited.world waited.left in
-    RoundArms w answers (waited.calls ++ handled.calls) (finish_round handled.world handled.left).world)
+    → RoundArms w answers ((waited_of w answers).calls ++ (handled_of w answers).calls) (ended_of w answers).world
 begun_round w answers none =
     let begun = begin_round w None answers in
     let waited = wait_round begun.world begun.left in
@@ -445,19 +451,14 @@ begun_round w answers none =
     let handled = handle_each hand waited.world waited.left in
     let ended = finish_round handled.world handled.left in
     let events = events_given (next_answer answers) in
-    let start = round_begun w answers none in
-    let waits = round_waits begun.world begun.world.round begun.left start.hand (begun_clean w None answers none) in
+    let h = begun_in_hand w answers none in
+    let waits = round_waits begun.world begun.world.round begun.left h.start.hand (begun_clean w None answers none) in
     let all = each_leaves hand waited.world waited.left in
-    let clears : waited.world.armed ≡ clear_armed w.armed events =
-    waits_arms begun.world begun.world.round begun.left start.hand
-    ∙ ap (λ (armed : List ArmedDirection). clear_armed armed (events_given (next_answer begun.left))) (begun_arms w answers)
-    ∙ ap (λ (a : List PollerAnswer). clear_armed w.armed (events_given (next_answer a))) start.left in
     let ends : ended.world.armed ≡ handled.world.armed = finish_arms handled.world handled.world.round handled.left in
-    let lives : waited.world.live ≡ w.live = (round_waited begun.world begun.world.round begun.left start.hand).same.live ∙ start.live in
     let count : arms_done handled.calls waited.left ≡ arms_behind (waited.calls ++ handled.calls) answers =
-    ap (arms_done handled.calls) (waits.left ∙ ap later_answers start.left)
+    ap (arms_done handled.calls) (waits.left ∙ ap later_answers h.start.left)
     ∙ ap (λ (calls : List Which). arms_behind (calls ++ handled.calls) answers) (sym waits.calls) in
-    let cleared : (k : ℕ) (dir : Dir) → IsArmedIn waited.world.armed k dir ↔ (IsArmedIn w.armed k dir × NoneOf events k) = cleared_is events w.armed waited.world.armed clears in
+    let cleared : (k : ℕ) (dir : Dir) → IsArmedIn waited.world.armed k dir ↔ (IsArmedIn w.armed k dir × NoneOf events k) = cleared_is events w.armed waited.world.armed (round_clears w answers none) in
     record {
       keys = all.keys;
       asked = subst (λ n. length all.keys ≤ n) count all.asked;
@@ -471,7 +472,7 @@ begun_round w answers none =
           (λ (anew : IsWaitedFor waited.world k dir).
           inr (
             anew.0,
-            sym (ap (λ live. option_map (λ (s : LiveSource). s.serial) (find (λ (s : LiveSource). s.key == k) live)) lives) ∙ anew.1,
+            sym (ap (λ live. option_map (λ (s : LiveSource). s.serial) (find (λ (s : LiveSource). s.key == k) live)) h.live) ∙ anew.1,
             sym (wait_waiters begun.world begun.world.round begun.left anew.0 dir ∙ begin_waiters w answers anew.0 dir) ∙ anew.2,
           )) (all.from k dir (subst (λ xs. IsArmedIn xs k dir) ends arms));
     }

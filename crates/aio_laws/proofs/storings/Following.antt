@@ -23,7 +23,7 @@ use Rattle.aio_laws.specs.Succession.{poll_places, waker_kept, id_kept, stored_a
 use Rattle.aio_laws.proofs.storings.Clearing.{Cleared, step_clears, tick_rests}
 use Rattle.aio_base.proofs.Membership.{none_is_in, first_is_in, found_is_in}
 use Rattle.aio_laws.proofs.storings.Leaving.{Leave, one_leaves, Taking, none_taken, both_taken, all_taken, GivingUp, none_given_up, one_given_up, all_given_up}
-use Rattle.aio_laws.proofs.rounds.RoundLemmas.{Same, listeners_places, same_events, in_hand_of, event_handled, all_handled, is_handled, handled_out, hand_is, round_begun, round_waited, none_due_left}
+use Rattle.aio_laws.proofs.rounds.RoundLemmas.{Same, listeners_places, same_events, in_hand_of, event_handled, all_handled, is_handled, handled_out, hand_is, none_due_left, begun_in_hand}
 use Rattle.aio_laws.proofs.storings.UnmovedLemmas.{refused_moves_nothing}
 
 -- ## What is stored
@@ -330,28 +330,24 @@ react_ends w answers l =
     let handled = handle_each hand waited.world waited.left in
     react_by (is_some w.round) (due ++ named) l _
     (λ none.
-    let b = round_begun w answers none in
-    let wt = round_waited begun.world begun.world.round begun.left b.hand in
-    let hand_given : hand ≡ events_given (next_answer begun.left) = hand_is waited.world.round _ wt.hand in
-    let in_hand : in_hand_of waited.world.round ≡ Some hand = wt.hand ∙ ap Some (sym hand_given) in
-    let events : hand ≡ events_given (next_answer answers) = hand_given ∙ ap (λ left. events_given (next_answer left)) b.left in
-    let out = all_handled hand waited.world waited.left in_hand in
+    let h = begun_in_hand w answers none in
+    let out = all_handled hand waited.world waited.left h.held in
     let same : Same w (record waited.world { registrations = w.registrations }) = record {
-      live = wt.same.live ∙ b.live;
-      now = wt.same.now ∙ b.now;
+      live = h.live;
+      now = h.full.same.now ∙ h.start.now;
       registrations = refl;
-      places = λ s d. wt.same.places s d ∙ listeners_places w begun.world s d b.listeners;
+      places = λ s d. h.full.same.places s d ∙ listeners_places w begun.world s d h.start.listeners;
     } in
     let before : Storings = begin_moves w l in
     let m : Storings = handle_each_moves hand waited.world waited.left before in
     let begins : Taking due l before = subst (λ runs. Taking (cond runs [] due) l before) none (begin_taken w l) in
     let takes : Taking named before m =
     subst (λ places. Taking places before m)
-    (same_events (record waited.world { registrations = w.registrations }) w same hand ∙ ap (flat_map (event_places w)) events)
-    (hand_taken hand waited.world waited.left before in_hand) in
+    (same_events (record waited.world { registrations = w.registrations }) w same hand ∙ ap (flat_map (event_places w)) h.events)
+    (hand_taken hand waited.world waited.left before h.held) in
     let nothing_due : due_places handled.world.now handled.world.registrations ≡ [] =
-    ap (λ moment. due_places moment handled.world.registrations) (out.same.now ∙ wt.same.now ∙ b.now)
-    ∙ ap (due_places w.now) (out.same.registrations ∙ wt.same.registrations ∙ b.registrations)
+    ap (λ moment. due_places moment handled.world.registrations) (out.same.now ∙ h.full.same.now ∙ h.start.now)
+    ∙ ap (due_places w.now) (out.same.registrations ∙ h.full.same.registrations ∙ h.start.registrations)
     ∙ none_due_left w.now w.registrations in
     let no_more : (due ++ named) ++ cond (ends_with_pass handled.world.round) (due_places handled.world.now handled.world.registrations) [] ≡ due ++ named =
     ap (λ more. (due ++ named) ++ more) (nothing_more (ends_with_pass handled.world.round) _ nothing_due) ∙ append-nil (due ++ named) in
