@@ -11,11 +11,11 @@ use Rattle.aio_base.specs.declared.names.Event.{Event}
 use Rattle.aio_base.specs.declared.steps.Step.{Step}
 use Rattle.aio_base.specs.declared.steps.Step.TheVariants as step
 use Rattle.aio_base.specs.Rounds.{AllBegun}
-use Rattle.aio_base.specs.World.{PollerAnswer, Succeeds, Gives, IsInterrupted, Fails, LiveSource, PollWaiter, Mark, BrokenSource, HandledDirection, ListenerEntry, TimerEntry, RoundState, World, opening, directions_of, is_of, serial_of, key_of, poll_waiter, without_waiter, mark_of, without_mark, is_empty_list, is_idle, wanted, is_broken, without_broken}
-use Rattle.aio_base.specs.Machine.{Outcome, fails, next_answer, later_answers, armed_world, broken_world, after_arm, pending, source_limit, add, free_key, del_source, is_fresh_since, is_waker, with_waiter, poll_source, new_listener, is_listener, without_listener, with_listening, step_listener, drop_listener, is_timer, unregistered, tick_timer, set_timer, end_timer, set_clock, begin_round, wait_answered, wait_in, wait_round, without_waiters, world_taken, wakers_taken, rearmed, handle_source, handle_first, handle_in, handle_round, finish_in, handle_each, hand_of, react, case_of, step_result}
-use Rattle.aio_base.proofs.TimerCases.{tick_any, set_any}
+use Rattle.aio_base.specs.World.{PollerAnswer, Succeeds, Gives, IsInterrupted, Fails, LiveSource, PollWaiter, Mark, BrokenSource, HandledDirection, ListenerEntry, RoundState, World, opening, directions_of, is_of, serial_of, key_of, poll_waiter, without_waiter, mark_of, without_mark, is_empty_list, is_idle, wanted, is_broken, without_broken}
+use Rattle.aio_base.specs.Machine.{Outcome, fails, next_answer, later_answers, armed_world, broken_world, after_arm, pending, source_limit, add, free_key, del_source, is_fresh_since, is_waker, with_waiter, poll_source, new_listener, is_listener, without_listener, with_listening, step_listener, drop_listener, is_timer, set_clock, begin_round, wait_answered, wait_in, without_waiters, world_taken, wakers_taken, rearmed, handle_source, handle_first, handle_in, finish_in, react, case_of, step_result}
 use Rattle.aio_base.specs.Runs.{PolledStep, outcome_of, world_of}
 use Rattle.aio_base.proofs.Membership.{none_is_in, each_in, filtered_is_in, mapped_from, found_is_in}
+use Rattle.aio_laws.proofs.steps.Frames.{either, either_world, react_any, tick_timers, set_timers, end_timers}
 use Rattle.aio_react.specs.Standing.{RunningSound}
 use Rattle.aio_react.proofs.RoundPast.{rounds_last, last_has_begun, all_begun_longer}
 use Rattle.aio_react.proofs.Taking.{begun_more}
@@ -87,14 +87,6 @@ inside w k = record {
 record Leaves (o : Outcome) : Type 0 where
   stands : Within o.world
 
-either : (test : Bool) (x y : Outcome) → Leaves x → Leaves y → Leaves (cond test x y)
-either true x y first second = first
-either false x y first second = second
-
-either_world : (P : World → Type 0) (test : Bool) (u v : World) → P u → P v → P (cond test u v)
-either_world P true u v first second = first
-either_world P false u v first second = second
-
 serial_few : (w : World) (key : ℕ) (found : Option LiveSource) → find (λ (s : LiveSource). s.key == key) w.live ≡ found → Within w → (n : ℕ)
     → option_map (λ (s : LiveSource). s.serial) found ≡ Some n → n ≤ w.serials
 serial_few w key None is k n at = absurd cc
@@ -142,7 +134,7 @@ added w key k = record {
 
 add_leaves : (w : World) (answers : List PollerAnswer) → Within w → Leaves (add w answers)
 add_leaves w answers k =
-    either (nat_le source_limit (length w.live)) _ _ (record { stands = k })
+    either Leaves (nat_le source_limit (length w.live)) _ _ (record { stands = k })
     (record { stands = either_world Within (fails (next_answer answers)) w _ k (added w (free_key w.live) k) })
 
 with_marks : (w : World) (waiters : List PollWaiter) (marks : List Mark) → AreGiven (λ (p : PollWaiter). p.serial) w.serials waiters
@@ -190,7 +182,7 @@ removed w serial k =
 del_leaves : (w : World) (key : ℕ) (serial : Option ℕ) (answers : List PollerAnswer) → Within w → Leaves (del_source w key serial answers)
 del_leaves w key None answers k = record { stands = k }
 del_leaves w key (Some serial) answers k =
-    either (list_any (λ (l : ListenerEntry). l.serial == serial) w.listeners) _ _ (record { stands = k }) (record { stands = removed w serial k })
+    either Leaves (list_any (λ (l : ListenerEntry). l.serial == serial) w.listeners) _ _ (record { stands = k }) (record { stands = removed w serial k })
 
 stored : (w : World) (serial : ℕ) (dir : Dir) (waker : Waker) → serial ≤ w.serials → Within w → Within (with_waiter w serial dir waker)
 stored w serial dir waker few k =
@@ -217,8 +209,8 @@ poll_leaves : (w : World) (key : ℕ) (dir : Dir) (waker : Waker) (serial : Opti
 poll_leaves w key dir waker None answers few k = record { stands = k }
 poll_leaves w key dir waker (Some serial) answers few k =
     let waiter = poll_waiter w.poll_waiters serial dir in
-    either (is_fresh_since w serial dir (mark_of w.marks serial dir)) _ _ (record { stands = seen_within w serial dir k })
-    (either (is_waker waker waiter) _ _ (pending_leaves (is_broken w serial) w key serial [] answers (few serial refl) k)
+    either Leaves (is_fresh_since w serial dir (mark_of w.marks serial dir)) _ _ (record { stands = seen_within w serial dir k })
+    (either Leaves (is_waker waker waiter) _ _ (pending_leaves (is_broken w serial) w key serial [] answers (few serial refl) k)
     (pending_leaves (is_idle w serial dir || is_broken w serial) (with_waiter w serial dir waker) key serial (option_to_list waiter) answers (few serial refl)
     (stored w serial dir waker (few serial refl) k)))
 
@@ -266,7 +258,7 @@ step_leaves : (w : World) (number : ℕ) (waker : Waker) (entry : Option Listene
 step_leaves w number waker None answers found k = record { stands = k }
 step_leaves w number waker (Some entry) answers found k =
     let few = k.listeners_given entry (found_is_in (is_listener number) w.listeners entry found).0 in
-    either (is_fresh_since w entry.serial entry.dir entry.position) _ _ (record { stands = k })
+    either Leaves (is_fresh_since w entry.serial entry.dir entry.position) _ _ (record { stands = k })
     (pending_leaves (is_idle w entry.serial entry.dir || is_broken w entry.serial) (record w { listeners = with_listening w entry waker })
     (unwrap_or (key_of w entry.serial) 0) entry.serial [] answers few
     (with_entries w (with_listening w entry waker) (listening_given w entry waker few k) k))
@@ -279,28 +271,10 @@ drop_leaves w number (Some entry) answers k =
           (filtered_given (λ (l : ListenerEntry). l.serial) w.serials (λ l. not (is_listener number l)) w.listeners k.listeners_given) k;
     }
 
--- ## Timers and the clock
-
-unregistered_within : (w : World) (id : Option ℕ) → Within w → Within (unregistered w id)
-unregistered_within w None k = k
-unregistered_within w (Some id) k = k
-
-tick_leaves : (w : World) (waker : Waker) (entry : Option TimerEntry) (answers : List PollerAnswer) → Within w → Leaves (tick_timer w waker entry answers)
-tick_leaves w waker None answers k = record { stands = k }
-tick_leaves w waker (Some entry) answers k =
-    tick_any Leaves w waker entry answers (λ timers registrations ids. record { stands = k }) (λ deadline timers registrations ids. record { stands = k })
-
-set_leaves : (w : World) (deadline : ℕ) (period : Option ℕ) (entry : Option TimerEntry) (answers : List PollerAnswer) → Within w
-    → Leaves (set_timer w deadline period entry answers)
-set_leaves w deadline period None answers k = record { stands = k }
-set_leaves w deadline period (Some entry) answers k = set_any Leaves w deadline period entry answers (λ timers registrations ids. record { stands = k })
-
-end_leaves : (w : World) (entry : Option TimerEntry) (answers : List PollerAnswer) → Within w → Leaves (end_timer w entry answers)
-end_leaves w None answers k = record { stands = k }
-end_leaves w (Some entry) answers k = record { stands = unregistered_within w entry.id k }
+-- ## The clock
 
 clock_leaves : (w : World) (moment : ℕ) (answers : List PollerAnswer) → Within w → Leaves (set_clock w moment answers)
-clock_leaves w moment answers k = either (nat_lt moment w.now) _ _ (record { stands = k }) (record { stands = k })
+clock_leaves w moment answers k = either Leaves (nat_lt moment w.now) _ _ (record { stands = k }) (record { stands = k })
 
 -- ## Rounds
 
@@ -348,7 +322,7 @@ begun_within w s number begin k =
     }
 
 begin_leaves : (w : World) (given : Option ℕ) (answers : List PollerAnswer) → KeptBefore w.pos w → Leaves (begin_round w given answers)
-begin_leaves w given answers k = either (is_some w.round) _ _ (record { stands = inside w k }) (record { stands = begun_within w _ refl refl k })
+begin_leaves w given answers k = either Leaves (is_some w.round) _ _ (record { stands = inside w k }) (record { stands = begun_within w _ refl refl k })
 
 answered_leaves : (w : World) (round : RoundState) (told : PollerAnswer) (rest : List PollerAnswer) → RunningSound w.begun (Some round) → Within w
     → Leaves (wait_answered w round told rest)
@@ -360,7 +334,7 @@ answered_leaves w round Fails rest runs k = record { stands = with_round w _ run
 wait_leaves : (w : World) (round : Option RoundState) (answers : List PollerAnswer) → RunningSound w.begun round → Within w → Leaves (wait_in w round answers)
 wait_leaves w None answers runs k = record { stands = k }
 wait_leaves w (Some round) answers runs k =
-    either (is_empty_list round.in_hand) _ _ (answered_leaves w round (next_answer answers) (later_answers answers) runs k) (record { stands = k })
+    either Leaves (is_empty_list round.in_hand) _ _ (answered_leaves w round (next_answer answers) (later_answers answers) runs k) (record { stands = k })
 
 -- a world from which a round takes waiters of a source
 record Takes (w : World) (serial : ℕ) (round : RoundState) : Type 0 where
@@ -401,7 +375,7 @@ rearmed_leaves w round key serial answers t =
     let told = next_answer answers in
     let arm = arm_within w key.0 serial told t.few t.stands in
     let runs = either_world (λ (v : World). RunningSound v.begun (Some round)) (fails told) (broken_world w serial) (armed_world w key.0 serial) t.runs t.runs in
-    either (is_empty_list (wanted w serial)) _ _ (record { stands = t.stands })
+    either Leaves (is_empty_list (wanted w serial)) _ _ (record { stands = t.stands })
     (record { stands = either_world Within (fails told) _ (after_arm w key.0 serial told) (with_round (after_arm w key.0 serial told) _ runs arm) arm })
 
 source_leaves : (w : World) (round : RoundState) (event : Event) (serial : Option ℕ) (answers : List PollerAnswer) → ((n : ℕ) → serial ≡ Some n → n ≤ w.serials)
@@ -426,24 +400,14 @@ handle_leaves w (Some round) answers runs k = first_leaves w round round.in_hand
 
 finish_leaves : (w : World) (round : Option RoundState) (answers : List PollerAnswer) → Within w → Leaves (finish_in w round answers)
 finish_leaves w None answers k = record { stands = k }
-finish_leaves w (Some round) answers k = either (is_empty_list round.in_hand) _ _ (record { stands = with_round w None tt k }) (record { stands = k })
-
-each_leaves : (events : List Event) (w : World) (answers : List PollerAnswer) → Within w → Leaves (handle_each events w answers)
-each_leaves [] w answers k = record { stands = k }
-each_leaves (event ∷ events) w answers k =
-    record { stands = (each_leaves events (handle_round w answers).world (handle_round w answers).left (handle_leaves w w.round answers k.past.running k).stands).stands }
+finish_leaves w (Some round) answers k = either Leaves (is_empty_list round.in_hand) _ _ (record { stands = with_round w None tt k }) (record { stands = k })
 
 react_leaves : (w : World) (given : Option ℕ) (answers : List PollerAnswer) → KeptBefore w.pos w → Leaves (react w given answers)
-react_leaves w given answers k =
-    let begun = begin_round w given answers in
-    let waited = wait_round begun.world begun.left in
-    let hand = hand_of waited.world.round in
-    let handled = handle_each hand waited.world waited.left in
-    let begins = begin_leaves w given answers k in
-    let waits = wait_leaves begun.world begun.world.round begun.left begins.stands.past.running begins.stands in
-    let handles = each_leaves hand waited.world waited.left waits.stands in
-    either (is_some w.round) _ _ (record { stands = inside w k })
-    (record { stands = (finish_leaves handled.world handled.world.round handled.left handles.stands).stands })
+react_leaves w given answers k = record {
+  stands = react_any Within w given answers (inside w k) (begin_leaves w given answers k).stands
+      (λ v answers k. (wait_leaves v v.round answers k.past.running k).stands) (λ v answers k. (handle_leaves v v.round answers k.past.running k).stands)
+      (λ v answers k. (finish_leaves v v.round answers k).stands);
+}
 
 -- ## Steps and runs
 
@@ -454,22 +418,18 @@ case_leaves w (step.Poll key dir waker) answers x k = poll_leaves w key.0 dir wa
 case_leaves w (step.New key dir) answers x k = new_leaves w dir (serial_of w key.0) answers (serial_few w key.0 _ refl k) k
 case_leaves w (step.StepEar number waker) answers x k = step_leaves w number waker (find (is_listener number) w.listeners) answers refl k
 case_leaves w (step.DropEar number) answers x k = drop_leaves w number (find (is_listener number) w.listeners) answers k
-case_leaves w (step.TimerAt deadline) answers x k = record { stands = k }
-case_leaves w (step.TimerEvery deadline period) answers x k = record { stands = k }
-case_leaves w step.TimerNever answers x k = record { stands = k }
-case_leaves w (step.Tick number waker) answers x k = tick_leaves w waker (find (is_timer number) w.timers) answers k
-case_leaves w (step.SetAt number deadline) answers x k = set_leaves w deadline None (find (is_timer number) w.timers) answers k
-case_leaves w (step.SetEvery number deadline period) answers x k = set_leaves w deadline (Some period) (find (is_timer number) w.timers) answers k
-case_leaves w (step.End number) answers x k = end_leaves w (find (is_timer number) w.timers) answers k
+case_leaves w (step.Tick number waker) answers x k = record { stands = tick_timers Within w waker (find (is_timer number) w.timers) answers (λ timers registrations ids. k) }
+case_leaves w (step.SetAt number deadline) answers x k = record { stands = set_timers Within w deadline None (find (is_timer number) w.timers) answers (λ timers registrations ids. k) }
+case_leaves w (step.SetEvery number deadline period) answers x k =
+    record { stands = set_timers Within w deadline (Some period) (find (is_timer number) w.timers) answers (λ timers registrations ids. k) }
+case_leaves w (step.End number) answers x k = record { stands = end_timers Within w (find (is_timer number) w.timers) answers (λ timers registrations ids. k) }
 case_leaves w (step.Now moment) answers x k = clock_leaves w moment answers k
-case_leaves w (step.Note event) answers x k = record { stands = k }
-case_leaves w (step.Fault kind) answers x k = record { stands = k }
-case_leaves w step.Interrupt answers x k = record { stands = k }
 case_leaves w (step.Begin limit) answers x k = begin_leaves w limit answers x
 case_leaves w step.Wait answers x k = wait_leaves w w.round answers k.past.running k
 case_leaves w step.Handle answers x k = handle_leaves w w.round answers k.past.running k
 case_leaves w step.Finish answers x k = finish_leaves w w.round answers k
 case_leaves w step.React answers x k = react_leaves w None answers x
+case_leaves w _ answers x k = record { stands = k }
 
 step_kept : (w : World) (s : PolledStep) → KeptBefore w.pos w → KeptBefore (outcome_of w s).world.pos (outcome_of w s).world
 unfolding step_result
