@@ -1,19 +1,19 @@
 -- A round of a core that want of memory stopped: its sections had just the answers of their own calls.
-use Rattle.std.proofs.Common.{◌≡◌, ℕ, ◌+◌, List, [], ◌∷◌, ◌++◌, length, map, Option, None, refl, ap, ◌∙◌, sym, subst, append-nil}
+use Rattle.std.proofs.Common.{◌≡◌, ℕ, List, [], ◌∷◌, ◌++◌, length, map, Option, None, refl, ap, ◌∙◌, sym, subst, append-nil}
 use Rattle.std.specs.List.{All}
 use Rattle.std.proofs.lemmas.List.{length-map}
 use Rattle.std.proofs.lemmas.List.Elements.{All-nil, All-cons}
-use Rattle.aio_base.specs.declared.outcomes.EndWord.TheVariants.{Clean}
 use Rattle.aio_base.specs.declared.outcomes.Which.{Which}
 use Rattle.aio_base.specs.declared.outcomes.Which.TheVariants as which
 use Rattle.aio_base.specs.declared.steps.Step.TheVariants as step
 use Rattle.aio_base.specs.Devices.{PollerMove, Interests, RunOf}
-use Rattle.aio_base.specs.Machine.{next_answer, later_answers, wait_answered, step_result}
+use Rattle.aio_base.specs.Machine.{next_answer, later_answers, step_result}
 use Rattle.aio_base.specs.Moves.{answer_of}
 use Rattle.aio_base.specs.Runs.{PolledStep, outcome_of, world_of}
-use Rattle.aio_base.specs.Timers.{due_wakers, limit_of}
-use Rattle.aio_base.specs.World.{PollerAnswer, Succeeds, Gives, IsInterrupted, Fails, RoundState, World}
+use Rattle.aio_base.specs.World.{PollerAnswer, RoundState, World}
 use Rattle.aio_laws.specs.Resuming.{AnswersEachCall, IsHandling}
+use Rattle.aio_laws.proofs.rounds.RoundLemmas.{round_state_begun}
+use Rattle.aio_laws.proofs.steps.Calling.{answered_calls}
 use Rattle.aio_react.specs.Cores.{CoreValue}
 use Rattle.aio_react.specs.Meeting.{IsAt, kind_of}
 use Rattle.aio_react.specs.Reacting.{Section, Stopped, handles_done, moment_in}
@@ -51,13 +51,6 @@ all_handle : (handled : List (List PollerAnswer)) → All IsHandling (handles_do
 all_handle [] = All-nil IsHandling
 all_handle (answers ∷ handled) = All-cons IsHandling (record { step = step.Handle; answers = answers }) (handles_done handled) refl (all_handle handled)
 
--- a wait calls the poller once
-waits_once : (w : World) (round : RoundState) (told : PollerAnswer) (rest : List PollerAnswer) → (wait_answered w round told rest).calls ≡ which.Wait ∷ []
-waits_once w round Succeeds rest = refl
-waits_once w round (Gives events) rest = refl
-waits_once w round IsInterrupted rest = refl
-waits_once w round Fails rest = refl
-
 abbrev begins : Option ℕ → PolledStep
 begins given = record { step = step.Begin given; answers = [] }
 
@@ -70,16 +63,7 @@ WaitsOnce given answers w = (outcome_of (outcome_of w (begins given)).world (wai
 begun_waits_once : (v : World) (given : Option ℕ) (answers : List PollerAnswer) → WaitsOnce given answers (record v { round = None })
 unfolding step_result
 begun_waits_once v given answers =
-    let round : RoundState = record {
-      number = v.rounds + 1;
-      begin = v.pos;
-      limit = limit_of v.now v.registrations given;
-      in_hand = [];
-      taken = due_wakers v.now v.registrations;
-      last_wait = None;
-      fault = Clean;
-    } in
-    waits_once (outcome_of (record v { round = None }) (begins given)).world round (next_answer answers) (later_answers answers)
+    answered_calls (outcome_of (record v { round = None }) (begins given)).world (round_state_begun v given) (next_answer answers) (later_answers answers)
 
 -- so it has one answer
 one_answer : (answers : List PollerAnswer) → length answers ≡ 1 → (told : PollerAnswer) × (answers ≡ told ∷ [])

@@ -8,7 +8,7 @@ use Rattle.aio_base.specs.declared.names.Waker.{Waker}
 use Rattle.aio_base.specs.declared.names.Dir.{Dir}
 use Rattle.aio_base.specs.declared.names.Event.{Event}
 use Rattle.aio_base.specs.declared.outcomes.EndWord.{EndWord}
-use Rattle.aio_base.specs.declared.outcomes.EndWord.TheVariants.{Clean, FaultArm}
+use Rattle.aio_base.specs.declared.outcomes.EndWord.TheVariants.{FaultArm}
 use Rattle.aio_base.specs.declared.outcomes.Which.{Which}
 use Rattle.aio_base.specs.declared.outcomes.Which.TheVariants as which
 use Rattle.aio_base.specs.declared.steps.Answer.{Answer}
@@ -17,10 +17,9 @@ use Rattle.aio_base.specs.declared.steps.Step.{Step}
 use Rattle.aio_base.specs.declared.steps.Step.TheVariants as step
 use Rattle.aio_base.specs.World.{PollerAnswer, Succeeds, Gives, IsInterrupted, Fails, BrokenSource, RoundState, World, directions_of, serial_of, waiters_of, is_empty_list, wanted, without_broken}
 use Rattle.aio_base.specs.Machine.{Outcome, quiet, fails, next_answer, later_answers, broken_world, armed_world, after_arm, first_fault, without_waiters, world_taken, wakers_taken, rearmed, handle_source, handle_first, handle_in, handle_round, handle_each, hand_of, fault_of_round, begin_round, wait_answered, finish_in, finish_round, react, step_result}
-use Rattle.aio_base.specs.Timers.{due_wakers, limit_of}
 use Rattle.aio_base.specs.Runs.{PolledStep, outcome_of, outcomes_of, world_of}
 use Rattle.aio_laws.proofs.steps.Frames.{either}
-use Rattle.aio_laws.proofs.rounds.RoundLemmas.{in_hand_of, hand_is, event_handled, all_handled}
+use Rattle.aio_laws.proofs.rounds.RoundLemmas.{round_state_begun, in_hand_of, hand_is, event_handled, all_handled}
 use Rattle.aio_laws.specs.Resuming.{begin_and_wait, finish, IsHandling, AnswersEachCall, answers_in, calls_in, IsSameButForPositions, end_told, EndsAsWhole, GoesOn, GoesOnAsWhole}
 
 -- ## The same but for positions
@@ -371,15 +370,7 @@ unfolding step_result
 ends_so v given told run handles each empty =
     let w : World = record v { round = None } in
     let begun = begin_round w given (told ∷ answers_in run) in
-    let round : RoundState = record {
-      number = v.rounds + 1;
-      begin = v.pos;
-      limit = limit_of v.now v.registrations given;
-      in_hand = [];
-      taken = due_wakers v.now v.registrations;
-      last_wait = None;
-      fault = Clean;
-    } in
+    let round = round_state_begun w given in
     let waited = wait_answered begun.world round told (answers_in run) in
     let first = outcome_of w (record { step = step.Begin given; answers = [] }) in
     let second = outcome_of first.world (record { step = step.Wait; answers = told ∷ [] }) in

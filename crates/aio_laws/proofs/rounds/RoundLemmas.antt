@@ -1,14 +1,14 @@
 -- What the sections of a round leave as it was: the live sources, the clock, the listeners, and what a wait gives until it is handled.
-use Rattle.std.proofs.Common.{◌≡◌, ℕ, Bool, true, false, not, cond, List, [], ◌∷◌, ◌++◌, map, filter, find, Option, None, Some, is_some, option_map, option_to_list, refl, ap, ◌∙◌, sym, subst}
+use Rattle.std.proofs.Common.{◌≡◌, ℕ, ◌+◌, Bool, true, false, not, cond, List, [], ◌∷◌, ◌++◌, map, filter, find, Option, None, Some, is_some, option_map, option_to_list, refl, ap, ◌∙◌, sym, subst}
 use Rattle.std.specs.Prelude.{◌==◌, flat_map, nat_le, take}
 use Rattle.std.proofs.lemmas.Bool.{cond_both, not-true}
 use Rattle.aio_base.specs.declared.names.Key.{Key}
 use Rattle.aio_base.specs.declared.names.Dir.{Dir}
 use Rattle.aio_base.specs.declared.names.Event.{Event}
-use Rattle.aio_base.specs.declared.outcomes.EndWord.TheVariants.{FaultArm}
+use Rattle.aio_base.specs.declared.outcomes.EndWord.TheVariants.{Clean, FaultArm}
 use Rattle.aio_base.specs.declared.steps.Answer.TheVariants as answer
 use Rattle.aio_base.specs.World.{PollerAnswer, Succeeds, Gives, IsInterrupted, Fails, LiveSource, ListenerEntry, Registration, RoundState, World, directions_of, is_of, serial_of, wanted, is_empty_list}
-use Rattle.aio_base.specs.Timers.{in_order, after_pass}
+use Rattle.aio_base.specs.Timers.{in_order, after_pass, due_wakers, limit_of}
 use Rattle.aio_base.specs.Machine.{Outcome, quiet, next_answer, later_answers, fails, broken_world, armed_world, first_fault, without_waiters, world_taken, wakers_taken, begin_round, wait_answered, wait_in, wait_round, finish_round, rearmed, handle_source, handle_first, handle_in, handle_round, handle_each, hand_of}
 use Rattle.aio_laws.specs.Storings.{OfPoll, OfListener, OfTimer, places_of, due_places}
 use Rattle.aio_laws.specs.Succession.{event_places, events_given}
@@ -205,6 +205,18 @@ round_waited v (Some round) answers none =
     let hand : round.in_hand ≡ [] = cc in
     cond_both (is_empty_list round.in_hand) _ _ (λ (o : Outcome). Handled v (events_given (next_answer answers)) o.world)
     (λ empty. answered v round (next_answer answers) (later_answers answers) hand) (λ some. absurd (let empty = ap is_empty_list hand in cc))
+
+-- the round that begins in a world, with this limit given
+abbrev pub round_state_begun : World → Option ℕ → RoundState
+round_state_begun w given = record {
+  number = w.rounds + 1;
+  begin = w.pos;
+  limit = limit_of w.now w.registrations given;
+  in_hand = [];
+  taken = due_wakers w.now w.registrations;
+  last_wait = None;
+  fault = Clean;
+}
 
 -- a whole round after each of its sections
 abbrev pub waited_of : World → List PollerAnswer → Outcome

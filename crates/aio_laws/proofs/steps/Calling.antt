@@ -132,7 +132,7 @@ end_calls w number (Some entry) answers = record { fit = refl; silent = λ none.
 
 -- ## Rounds
 
-answered_calls : (w : World) (round : RoundState) (told : PollerAnswer) (rest : List PollerAnswer) → (wait_answered w round told rest).calls ≡ which.Wait ∷ []
+pub answered_calls : (w : World) (round : RoundState) (told : PollerAnswer) (rest : List PollerAnswer) → (wait_answered w round told rest).calls ≡ which.Wait ∷ []
 answered_calls w round Succeeds rest = refl
 answered_calls w round (Gives events) rest = refl
 answered_calls w round IsInterrupted rest = refl
