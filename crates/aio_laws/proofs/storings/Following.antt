@@ -22,7 +22,7 @@ use Rattle.aio_laws.specs.Storings.{Place, OfPoll, OfListener, OfTimer, Stored, 
 use Rattle.aio_laws.specs.Succession.{poll_places, waker_kept, id_kept, stored_as, own_storing, has_to_wait, is_ahead, registers, stores, event_places, events_given, taken_places, replaced_places, standing_in, may_give_up, gives_up, ends_round, is_poll, StoringsFollow}
 use Rattle.aio_laws.proofs.storings.Clearing.{Cleared, step_clears, tick_rests}
 use Rattle.aio_base.proofs.Membership.{none_is_in, first_is_in, found_is_in}
-use Rattle.aio_laws.proofs.storings.Leaving.{Leave, one_leaves, Taking, none_taken, both_taken, all_taken, GivingUp, none_given_up, one_given_up, all_given_up}
+use Rattle.aio_laws.proofs.storings.Leaving.{Leave, one_leaves, Empties, Taking, none_taken, both_taken, all_taken, GivingUp, none_given_up, one_given_up, all_given_up}
 use Rattle.aio_laws.proofs.rounds.RoundLemmas.{Same, listeners_places, same_events, in_hand_of, event_handled, all_handled, is_handled, handled_out, hand_is, none_due_left, begun_in_hand}
 use Rattle.aio_laws.proofs.storings.UnmovedLemmas.{refused_moves_nothing}
 
@@ -259,38 +259,21 @@ begin_taken w l =
 -- ## What may end a round
 
 record Ending (places : List Place) (ends : Bool) (l m : Storings) : Type 0 where
-  pub now : List Stored
-  pub leave : Leave (Contains places) l.standing m.standing now
-  pub emptied : (x : Stored) → Contains m.standing x → Contains places x.place → ⊥
-  pub order : now ≡ standing_in places l.standing
-  pub given : m.given ≡ l.given
-  pub woken : m.woken ≡ l.woken
-  pub given_up : m.given_up ≡ l.given_up
+  pub empties : Empties places l m
+  pub open empties use *
   pub ended : ends ≡ true → (m.waking ≡ l.waking ++ (l.taken ++ now)) × (m.taken ≡ [])
   pub goes_on : ends ≡ false → (m.waking ≡ l.waking) × (m.taken ≡ l.taken ++ now)
 
 going_on : (places : List Place) (l m : Storings) → Taking places l m → Ending places false l m
 going_on places l m t = record {
-  now = t.now;
-  leave = t.leave;
-  emptied = t.emptied;
-  order = t.order;
-  given = t.given;
-  woken = t.woken;
-  given_up = t.given_up;
+  empties = t.empties;
   ended = λ ends. absurd cc;
   goes_on = λ runs. (t.waking, t.taken);
 }
 
 all_woken : (places : List Place) (l m : Storings) → Taking places l m → Ending places true l (round_woken m)
 all_woken places l m t = record {
-  now = t.now;
-  leave = t.leave;
-  emptied = t.emptied;
-  order = t.order;
-  given = t.given;
-  woken = t.woken;
-  given_up = t.given_up;
+  empties = t.empties;
   ended = λ ends. (ap (λ (front : List Stored). front ++ m.taken) t.waking ∙ ap (λ (more : List Stored). l.waking ++ more) t.taken, refl);
   goes_on = λ runs. absurd cc;
 }

@@ -1,5 +1,5 @@
 -- Storings that leave the places where they stood: which are left, and which went.
-use Rattle.std.proofs.Common.{◌≡◌, ◌⊎◌, true, false, not, List, [], ◌∷◌, ◌++◌, refl, ap, ◌∙◌, sym, subst, inl, inr, ⊎_elim, append_assoc, append-nil}
+use Rattle.std.proofs.Common.{◌≡◌, ◌⊎◌, ℕ, true, false, not, List, [], ◌∷◌, ◌++◌, refl, ap, ◌∙◌, sym, subst, inl, inr, ⊎_elim, append_assoc, append-nil}
 use Rattle.std.specs.List.{Contains}
 use Rattle.std.proofs.lemmas.Bool.{cases_Bool, not_from_false}
 use Rattle.std.proofs.lemmas.List.Elements.{Contains-append_left, Contains-append_right, Contains-append_cases}
@@ -82,52 +82,64 @@ stood_in (p ∷ ps) xs x among =
     (filtered_is_in (λ (s : Stored). not (same_place p s.place)) xs x at.0, later_is_in p ps x.place at.1))
     (Contains-append_cases (standing_at p xs) (standing_in ps (none_at p xs)) x among)
 
--- what stood at these places is taken in their order, and nothing is left there
-pub record Taking (places : List Place) (l m : Storings) : Type 0 where
+-- what stood at these places goes in their order, and nothing is left there; what was given, woken and given up stays
+pub record Emptying (places : List Place) (l : Storings) (standing : List Stored) (count : ℕ) (wakings : List (List Stored)) (let_go : List Stored) : Type 0 where
   pub now : List Stored
-  pub leave : Leave (Contains places) l.standing m.standing now
-  pub emptied : (x : Stored) → Contains m.standing x → Contains places x.place → ⊥
+  pub leave : Leave (Contains places) l.standing standing now
+  pub emptied : (x : Stored) → Contains standing x → Contains places x.place → ⊥
   pub order : now ≡ standing_in places l.standing
+  pub given : count ≡ l.given
+  pub woken : wakings ≡ l.woken
+  pub given_up : let_go ≡ l.given_up
+
+abbrev pub Empties : List Place → Storings → Storings → Type 0
+Empties places l m = Emptying places l m.standing m.given m.woken m.given_up
+
+-- and it is taken
+pub record Taking (places : List Place) (l m : Storings) : Type 0 where
+  pub empties : Empties places l m
+  pub open empties use *
   pub left : m.standing ≡ none_in places l.standing
   pub taken : m.taken ≡ l.taken ++ now
-  pub given : m.given ≡ l.given
   pub waking : m.waking ≡ l.waking
-  pub woken : m.woken ≡ l.woken
-  pub given_up : m.given_up ≡ l.given_up
 
 pub none_taken : (l : Storings) → Taking [] l l
 none_taken l = record {
-  now = [];
-  leave = none_leave (Contains []) l.standing;
-  emptied = λ x here nowhere. none_is_in x.place nowhere;
-  order = refl;
+  empties = record {
+    now = [];
+    leave = none_leave (Contains []) l.standing;
+    emptied = λ x here nowhere. none_is_in x.place nowhere;
+    order = refl;
+    given = refl;
+    woken = refl;
+    given_up = refl;
+  };
   left = refl;
   taken = sym (append-nil l.taken);
-  given = refl;
   waking = refl;
-  woken = refl;
-  given_up = refl;
 }
 
 pub both_taken : (ps qs : List Place) (l m n : Storings) → Taking ps l m → Taking qs m n → Taking (ps ++ qs) l n
 both_taken ps qs l m n first second = record {
-  now = first.now ++ second.now;
-  leave = both_leave (Contains (ps ++ qs)) l.standing m.standing n.standing first.now second.now
-      (leave_wider (Contains ps) (Contains (ps ++ qs)) (λ p among. Contains-append_left ps qs p among) l.standing m.standing first.now first.leave)
-      (leave_wider (Contains qs) (Contains (ps ++ qs)) (λ p among. Contains-append_right ps qs p among) m.standing n.standing second.now second.leave);
-  emptied = λ x here among.
-      ⊎_elim (λ (front : Contains ps x.place). first.emptied x (second.leave.stays x here) front) (λ (later : Contains qs x.place). second.emptied x here later)
-      (Contains-append_cases ps qs x.place among);
-  order =
-      ap (λ (front : List Stored). front ++ second.now) first.order
-      ∙ ap (λ (more : List Stored). standing_in ps l.standing ++ more) (second.order ∙ ap (standing_in qs) first.left)
-      ∙ standing_after ps qs l.standing;
+  empties = record {
+    now = first.now ++ second.now;
+    leave = both_leave (Contains (ps ++ qs)) l.standing m.standing n.standing first.now second.now
+        (leave_wider (Contains ps) (Contains (ps ++ qs)) (λ p among. Contains-append_left ps qs p among) l.standing m.standing first.now first.leave)
+        (leave_wider (Contains qs) (Contains (ps ++ qs)) (λ p among. Contains-append_right ps qs p among) m.standing n.standing second.now second.leave);
+    emptied = λ x here among.
+        ⊎_elim (λ (front : Contains ps x.place). first.emptied x (second.leave.stays x here) front) (λ (later : Contains qs x.place). second.emptied x here later)
+        (Contains-append_cases ps qs x.place among);
+    order =
+        ap (λ (front : List Stored). front ++ second.now) first.order
+        ∙ ap (λ (more : List Stored). standing_in ps l.standing ++ more) (second.order ∙ ap (standing_in qs) first.left)
+        ∙ standing_after ps qs l.standing;
+    given = second.given ∙ first.given;
+    woken = second.woken ∙ first.woken;
+    given_up = second.given_up ∙ first.given_up;
+  };
   left = second.left ∙ ap (none_in qs) first.left ∙ none_after ps qs l.standing;
   taken = second.taken ∙ ap (λ (front : List Stored). front ++ second.now) first.taken ∙ append_assoc l.taken first.now second.now;
-  given = second.given ∙ first.given;
   waking = second.waking ∙ first.waking;
-  woken = second.woken ∙ first.woken;
-  given_up = second.given_up ∙ first.given_up;
 }
 
 pub emptied_place : (p : Place) (xs : List Stored) (x : Stored) → Contains (none_at p xs) x → Contains (p ∷ []) x.place → ⊥
@@ -138,16 +150,18 @@ emptied_place p xs x here among =
 
 one_taken : (p : Place) (l : Storings) → Taking (p ∷ []) l (taken_at p l)
 one_taken p l = record {
-  now = standing_at p l.standing;
-  leave = one_leaves (Contains (p ∷ [])) p (first_is_in p []) l.standing;
-  emptied = emptied_place p l.standing;
-  order = sym (append-nil (standing_at p l.standing));
+  empties = record {
+    now = standing_at p l.standing;
+    leave = one_leaves (Contains (p ∷ [])) p (first_is_in p []) l.standing;
+    emptied = emptied_place p l.standing;
+    order = sym (append-nil (standing_at p l.standing));
+    given = refl;
+    woken = refl;
+    given_up = refl;
+  };
   left = refl;
   taken = refl;
-  given = refl;
   waking = refl;
-  woken = refl;
-  given_up = refl;
 }
 
 pub all_taken : (ps : List Place) (l : Storings) → Taking ps l (each_taken ps l)
