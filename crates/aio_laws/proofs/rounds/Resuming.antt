@@ -15,7 +15,7 @@ use Rattle.aio_base.specs.declared.steps.Answer.{Answer}
 use Rattle.aio_base.specs.declared.steps.Answer.TheVariants as answer
 use Rattle.aio_base.specs.declared.steps.Step.{Step}
 use Rattle.aio_base.specs.declared.steps.Step.TheVariants as step
-use Rattle.aio_base.specs.World.{PollerAnswer, Succeeds, Gives, IsInterrupted, Fails, BrokenSource, RoundState, World, directions_of, serial_of, waiters_of, is_empty_list, wanted, without_broken}
+use Rattle.aio_base.specs.World.{PollerAnswer, Succeeds, BrokenSource, RoundState, World, directions_of, serial_of, waiters_of, is_empty_list, wanted, without_broken}
 use Rattle.aio_base.specs.Machine.{Outcome, quiet, fails, next_answer, later_answers, broken_world, armed_world, after_arm, first_fault, without_waiters, world_taken, wakers_taken, rearmed, handle_source, handle_first, handle_in, handle_round, handle_each, hand_of, fault_of_round, begin_round, wait_answered, finish_in, finish_round, react, step_result}
 use Rattle.aio_base.specs.Runs.{PolledStep, outcome_of, outcomes_of, world_of}
 use Rattle.aio_laws.proofs.steps.Frames.{either}
@@ -310,9 +310,7 @@ all_comes (s ∷ run) w v (event ∷ events) holds same handles each empty =
 waited_same : (p : ℕ) (w : World) (round : RoundState) (told : PollerAnswer) (more : List PollerAnswer)
     → Same (wait_answered w round told more).world (wait_answered (at p w.broken w) round told []).world
 waited_same p w round Succeeds more = record { all = refl; broken = refl }
-waited_same p w round (Gives events) more = record { all = refl; broken = refl }
-waited_same p w round IsInterrupted more = record { all = refl; broken = refl }
-waited_same p w round Fails more = record { all = refl; broken = refl }
+waited_same p w round told more = record { all = refl; broken = refl }
 
 record WaitedOnce (w : World) (round : RoundState) (told : PollerAnswer) (more : List PollerAnswer) : Type 0 where
   left : (wait_answered w round told more).left ≡ more
@@ -321,16 +319,12 @@ record WaitedOnce (w : World) (round : RoundState) (told : PollerAnswer) (more :
 
 waited_once : (w : World) (round : RoundState) (told : PollerAnswer) (more : List PollerAnswer) → WaitedOnce w round told more
 waited_once w round Succeeds more = record { left = refl; calls = refl; silent = refl }
-waited_once w round (Gives events) more = record { left = refl; calls = refl; silent = refl }
-waited_once w round IsInterrupted more = record { left = refl; calls = refl; silent = refl }
-waited_once w round Fails more = record { left = refl; calls = refl; silent = refl }
+waited_once w round told more = record { left = refl; calls = refl; silent = refl }
 
 waited_hand : (w : World) (round : RoundState) (told : PollerAnswer) (more : List PollerAnswer)
     → let after = (wait_answered w round told more).world.round in in_hand_of after ≡ Some (hand_of after)
 waited_hand w round Succeeds more = refl
-waited_hand w round (Gives events) more = refl
-waited_hand w round IsInterrupted more = refl
-waited_hand w round Fails more = refl
+waited_hand w round told more = refl
 
 -- the ends of two rounds with nothing in hand, the first with this fault
 record Ended (fault : EndWord) (o p : Outcome) : Type 0 where

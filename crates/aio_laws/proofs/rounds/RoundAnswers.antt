@@ -10,7 +10,7 @@ use Rattle.aio_base.specs.declared.steps.Step.{Step}
 use Rattle.aio_base.specs.declared.steps.Step.TheVariants as step
 use Rattle.aio_base.specs.declared.steps.Answer.{Answer}
 use Rattle.aio_base.specs.declared.steps.Answer.TheVariants as answer
-use Rattle.aio_base.specs.World.{PollerAnswer, Succeeds, Gives, IsInterrupted, Fails, Registration, RoundState, World, serial_of, is_empty_list, wanted}
+use Rattle.aio_base.specs.World.{PollerAnswer, Succeeds, Registration, RoundState, World, serial_of, is_empty_list, wanted}
 use Rattle.aio_base.specs.Timers.{fires_before, placed, in_order, due_wakers, after_pass, lesser, first_deadline, time_to, limit_of}
 use Rattle.aio_base.specs.Machine.{Outcome, next_answer, later_answers, fails, begin_round, wait_answered, wait_in, wait_round, rearmed, handle_source, handle_first, handle_in, handle_each, hand_of, fault_of_round, finish_in, react, case_of}
 use Rattle.aio_laws.specs.Succession.{events_given}
@@ -163,9 +163,7 @@ begin_told w given answers (Some round) is = ap (λ (o : Outcome). o.answer) (co
 
 waited_told : (w : World) (round : RoundState) (given : PollerAnswer) (rest : List PollerAnswer) → (wait_answered w round given rest).answer ≡ wait_tells given
 waited_told w round Succeeds rest = refl
-waited_told w round (Gives events) rest = refl
-waited_told w round IsInterrupted rest = refl
-waited_told w round Fails rest = refl
+waited_told w round told rest = refl
 
 -- the answer of one of two outcomes
 chosen : (test : Bool) (x y : Outcome) (a b : Answer) → x.answer ≡ a → y.answer ≡ b → (cond test x y).answer ≡ cond test a b

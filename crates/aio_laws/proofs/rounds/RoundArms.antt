@@ -14,7 +14,7 @@ use Rattle.aio_base.specs.declared.outcomes.Which.{Which}
 use Rattle.aio_base.specs.declared.outcomes.Which.TheVariants as which
 use Rattle.aio_base.specs.declared.steps.Step.{Step}
 use Rattle.aio_base.specs.declared.steps.Step.TheVariants as step
-use Rattle.aio_base.specs.World.{PollerAnswer, Succeeds, Gives, IsInterrupted, Fails, LiveSource, BrokenSource, ArmedDirection, RoundState, World, directions, directions_of, has_dir, serial_of, is_empty_list, is_idle, wanted, without_broken, set_armed}
+use Rattle.aio_base.specs.World.{PollerAnswer, Succeeds, LiveSource, BrokenSource, ArmedDirection, RoundState, World, directions, directions_of, has_dir, serial_of, is_empty_list, is_idle, wanted, without_broken, set_armed}
 use Rattle.aio_base.specs.Machine.{Outcome, fails, next_answer, later_answers, broken_world, armed_world, begin_round, wait_answered, wait_in, wait_round, first_fault, world_taken, wakers_taken, rearmed, handle_source, handle_first, handle_in, handle_round, handle_each, hand_of, finish_in, finish_round, case_of, step_result}
 use Rattle.aio_laws.specs.Succession.{events_given}
 use Rattle.aio_laws.specs.Interests.{IsArmedIn, NoneOf, SetsInterest}
@@ -374,9 +374,7 @@ begin_still w answers =
 
 answered_still : (w : World) (round : RoundState) (told : PollerAnswer) (rest : List PollerAnswer) → Still w (wait_answered w round told rest).world
 answered_still w round Succeeds rest = record { pos = refl; broken = refl }
-answered_still w round (Gives events) rest = record { pos = refl; broken = refl }
-answered_still w round IsInterrupted rest = record { pos = refl; broken = refl }
-answered_still w round Fails rest = record { pos = refl; broken = refl }
+answered_still w round told rest = record { pos = refl; broken = refl }
 
 wait_still : (w : World) (round : Option RoundState) (answers : List PollerAnswer) → Still w (wait_in w round answers).world
 wait_still w None answers = record { pos = refl; broken = refl }

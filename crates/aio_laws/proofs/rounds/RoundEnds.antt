@@ -9,7 +9,7 @@ use Rattle.aio_base.specs.declared.outcomes.Which.{Which}
 use Rattle.aio_base.specs.declared.outcomes.Which.TheVariants as which
 use Rattle.aio_base.specs.declared.steps.Step.{Step}
 use Rattle.aio_base.specs.declared.steps.Step.TheVariants as step
-use Rattle.aio_base.specs.World.{PollerAnswer, Succeeds, Gives, IsInterrupted, Fails, RoundState, World, serial_of, directions_of, is_empty_list, wanted}
+use Rattle.aio_base.specs.World.{PollerAnswer, Fails, RoundState, World, serial_of, directions_of, is_empty_list, wanted}
 use Rattle.aio_base.specs.Machine.{Outcome, next_answer, later_answers, fails, broken_world, armed_world, begin_round, first_fault, wait_answered, wait_in, wait_round, world_taken, wakers_taken, rearmed, handle_source, handle_first, handle_in, handle_round, handle_each, hand_of, fault_of_round, case_of}
 use Rattle.aio_laws.specs.Calls.{arm_failed, end_of_calls, EndFits}
 use Rattle.aio_laws.proofs.steps.Frames.{either}
@@ -121,10 +121,8 @@ pub record Waits (told : PollerAnswer) (rest : List PollerAnswer) (o : Outcome) 
 
 answered_waits : (w : World) (round : RoundState) (told : PollerAnswer) (rest : List PollerAnswer) → round.fault ≡ Clean
     → Waits told rest (wait_answered w round told rest)
-answered_waits w round Succeeds rest clean = record { calls = refl; left = refl; fault = clean }
-answered_waits w round (Gives events) rest clean = record { calls = refl; left = refl; fault = clean }
-answered_waits w round IsInterrupted rest clean = record { calls = refl; left = refl; fault = clean }
 answered_waits w round Fails rest clean = record { calls = refl; left = refl; fault = ap (λ (fault : EndWord). first_fault fault FaultWait) clean }
+answered_waits w round told rest clean = record { calls = refl; left = refl; fault = clean }
 
 pub round_waits : (w : World) (round : Option RoundState) (answers : List PollerAnswer) → in_hand_of round ≡ Some [] → fault_of_round round ≡ Clean
     → Waits (next_answer answers) (later_answers answers) (wait_in w round answers)

@@ -7,7 +7,7 @@ use Rattle.aio_base.specs.declared.names.Dir.{Dir}
 use Rattle.aio_base.specs.declared.names.Event.{Event}
 use Rattle.aio_base.specs.declared.outcomes.EndWord.TheVariants.{Clean, FaultArm}
 use Rattle.aio_base.specs.declared.steps.Answer.TheVariants as answer
-use Rattle.aio_base.specs.World.{PollerAnswer, Succeeds, Gives, IsInterrupted, Fails, LiveSource, ListenerEntry, Registration, RoundState, World, directions_of, is_of, serial_of, wanted, is_empty_list}
+use Rattle.aio_base.specs.World.{PollerAnswer, Gives, LiveSource, ListenerEntry, Registration, RoundState, World, directions_of, is_of, serial_of, wanted, is_empty_list}
 use Rattle.aio_base.specs.Timers.{in_order, after_pass, due_wakers, limit_of}
 use Rattle.aio_base.specs.Machine.{Outcome, quiet, next_answer, later_answers, fails, broken_world, armed_world, first_fault, without_waiters, world_taken, wakers_taken, begin_round, wait_answered, wait_in, wait_round, finish_round, rearmed, handle_source, handle_first, handle_in, handle_round, handle_each, hand_of}
 use Rattle.aio_laws.specs.Storings.{OfPoll, OfListener, OfTimer, places_of, due_places}
@@ -193,10 +193,8 @@ round_begun w answers none =
 
 answered : (v : World) (round : RoundState) (told : PollerAnswer) (rest : List PollerAnswer) → round.in_hand ≡ []
     → Handled v (events_given told) (wait_answered v round told rest).world
-answered v round Fails rest none = unseen v v _ _ (same_itself v) refl refl refl refl (ap Some none)
-answered v round IsInterrupted rest none = unseen v v _ _ (same_itself v) refl refl refl refl (ap Some none)
-answered v round Succeeds rest none = unseen v v _ _ (same_itself v) refl refl refl refl (ap Some none)
 answered v round (Gives events) rest none = unseen v v _ _ (same_itself v) refl refl refl refl refl
+answered v round told rest none = unseen v v _ _ (same_itself v) refl refl refl refl (ap Some none)
 
 pub round_waited : (v : World) (round : Option RoundState) (answers : List PollerAnswer) → in_hand_of round ≡ Some []
     → Handled v (events_given (next_answer answers)) (wait_in v round answers).world

@@ -11,13 +11,13 @@ use Rattle.aio_base.specs.declared.names.Dir.{Dir}
 use Rattle.aio_base.specs.declared.names.Event.{Event}
 use Rattle.aio_base.specs.declared.steps.Step.{Step}
 use Rattle.aio_base.specs.declared.steps.Step.TheVariants as step
-use Rattle.aio_base.specs.World.{PollerAnswer, Succeeds, Gives, IsInterrupted, Fails, ListenerEntry, RoundState, World, opening, directions_of, is_of, serial_of, key_of, poll_waiter, mark_of, is_empty_list, is_idle, wanted, is_broken}
-use Rattle.aio_base.specs.Machine.{Outcome, fails, next_answer, later_answers, after_arm, pending, source_limit, add, del_source, is_fresh_since, is_waker, with_waiter, poll_source, new_listener, is_listener, without_listener, with_listening, step_listener, drop_listener, is_timer, set_clock, begin_round, wait_answered, wait_in, without_waiters, world_taken, rearmed, handle_source, handle_first, handle_in, finish_in, react, case_of, step_result}
+use Rattle.aio_base.specs.World.{PollerAnswer, ListenerEntry, RoundState, World, opening, directions_of, is_of, serial_of, key_of, poll_waiter, mark_of, is_empty_list, is_idle, wanted, is_broken}
+use Rattle.aio_base.specs.Machine.{Outcome, fails, next_answer, after_arm, pending, source_limit, add, del_source, is_fresh_since, is_waker, with_waiter, poll_source, new_listener, is_listener, without_listener, with_listening, step_listener, drop_listener, is_timer, set_clock, begin_round, wait_in, without_waiters, world_taken, rearmed, handle_source, handle_first, handle_in, finish_in, react, case_of, step_result}
 use Rattle.aio_laws.specs.FirstPolls.{IsPolledBefore, InPollOrder}
 use Rattle.aio_base.specs.Runs.{PolledStep, outcome_of, world_of}
 use Rattle.aio_laws.specs.Storings.{Storings, no_storings}
 use Rattle.aio_laws.proofs.runs.Apart.{Apart, same_element}
-use Rattle.aio_laws.proofs.steps.Frames.{either, either_world, react_any, tick_timers, set_timers, end_timers}
+use Rattle.aio_laws.proofs.steps.Frames.{either, either_world, react_any, tick_timers, set_timers, end_timers, wait_any}
 use Rattle.aio_base.proofs.Membership.{none_is_in, first_is_in, later_is_in, each_in, filtered_is_in, mapped_from, found_is_in}
 use Rattle.aio_laws.proofs.storings.OnceRuns.{Between, after_step, step_stands, opening_stands}
 
@@ -218,16 +218,8 @@ clock_leaves w moment answers r = either Leaves (nat_lt moment w.now) _ _ (recor
 begin_leaves : (w : World) (given : Option ℕ) (answers : List PollerAnswer) → Within w → Leaves (begin_round w given answers)
 begin_leaves w given answers r = either Leaves (is_some w.round) _ _ (record { stands = r }) (record { stands = r })
 
-answered_leaves : (w : World) (round : RoundState) (told : PollerAnswer) (rest : List PollerAnswer) → Within w → Leaves (wait_answered w round told rest)
-answered_leaves w round Succeeds rest r = record { stands = r }
-answered_leaves w round (Gives events) rest r = record { stands = r }
-answered_leaves w round IsInterrupted rest r = record { stands = r }
-answered_leaves w round Fails rest r = record { stands = r }
-
 wait_leaves : (w : World) (round : Option RoundState) (answers : List PollerAnswer) → Within w → Leaves (wait_in w round answers)
-wait_leaves w None answers r = record { stands = r }
-wait_leaves w (Some round) answers r =
-    either Leaves (is_empty_list round.in_hand) _ _ (answered_leaves w round (next_answer answers) (later_answers answers) r) (record { stands = r })
+wait_leaves w round answers r = record { stands = wait_any Within w round answers (λ after armed. r) }
 
 emptied_position : (l : ListenerEntry) (here : Bool) → (let m : ListenerEntry = cond here (record l { waker = None }) l in m.position) ≡ l.position
 emptied_position l true = refl

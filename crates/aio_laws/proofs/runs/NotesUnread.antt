@@ -12,7 +12,7 @@ use Rattle.aio_base.specs.declared.steps.Step.{Step}
 use Rattle.aio_base.specs.declared.steps.Step.TheVariants as step
 use Rattle.aio_base.specs.declared.steps.Answer.{Answer}
 use Rattle.aio_base.specs.declared.steps.Answer.TheVariants as answer
-use Rattle.aio_base.specs.World.{PollerAnswer, Succeeds, Gives, IsInterrupted, Fails, ListenerEntry, TimerEntry, DueFaults, RoundState, World, nothing_due, directions_of, serial_of, key_of, poll_waiter, mark_of, waiters_of, is_empty_list, is_idle, is_broken, wanted, set_armed}
+use Rattle.aio_base.specs.World.{PollerAnswer, Succeeds, ListenerEntry, TimerEntry, DueFaults, RoundState, World, nothing_due, directions_of, serial_of, key_of, poll_waiter, mark_of, waiters_of, is_empty_list, is_idle, is_broken, wanted, set_armed}
 use Rattle.aio_base.specs.Machine.{Outcome, quiet, source_limit, free_key, with_waiter, with_listening, is_fresh_since, fails, next_answer, later_answers, broken_world, armed_world, after_arm, pending, add, del_source, poll_source, new_listener, is_listener, step_listener, drop_listener, is_timer, is_waker, unregistered, tick_timer, set_timer, end_timer, set_clock, begin_round, wait_answered, wait_in, wait_round, without_waiters, world_taken, wakers_taken, rearmed, handle_source, handle_first, handle_in, handle_round, finish_in, finish_round, handle_each, hand_of, fault_of_round, first_fault, react, case_of, moved_on, step_result, left_as, state_of, tick_answer, worked}
 use Rattle.aio_base.specs.TimerWork.{TimerState, joining, tick_work, reset_work}
 use Rattle.aio_base.specs.Runs.{without_notes, outcome_without_notes}
@@ -163,9 +163,7 @@ begin_noted n d w given answers = either n d (is_some w.round) _ _ _ _ (record {
 answered_noted : (n : List Event) (d : DueFaults) (w : World) (round : RoundState) (told : PollerAnswer) (rest : List PollerAnswer)
     → Noted n d (wait_answered w round told rest) (wait_answered (noting n d w) round told rest)
 answered_noted n d w round Succeeds rest = record { is = refl }
-answered_noted n d w round (Gives events) rest = record { is = refl }
-answered_noted n d w round IsInterrupted rest = record { is = refl }
-answered_noted n d w round Fails rest = record { is = refl }
+answered_noted n d w round told rest = record { is = refl }
 
 wait_noted : (n : List Event) (d : DueFaults) (w : World) (round : Option RoundState) (answers : List PollerAnswer)
     → Noted n d (wait_in w round answers) (wait_in (noting n d w) round answers)

@@ -11,15 +11,15 @@ use Rattle.aio_base.specs.declared.names.Dir.{Dir}
 use Rattle.aio_base.specs.declared.names.Event.{Event}
 use Rattle.aio_base.specs.declared.steps.Step.{Step}
 use Rattle.aio_base.specs.declared.steps.Step.TheVariants as step
-use Rattle.aio_base.specs.World.{PollerAnswer, Succeeds, Gives, IsInterrupted, Fails, LiveSource, PollWaiter, Mark, ListenerEntry, BrokenSource, Registration, TimerEntry, RoundState, World, opening, directions_of, is_of, serial_of, key_of, poll_waiter, mark_of, is_empty_list, is_idle, wanted, is_broken}
-use Rattle.aio_base.specs.Machine.{Outcome, fails, next_answer, later_answers, broken_world, armed_world, after_arm, pending, source_limit, free_key, add, del_source, is_fresh_since, is_waker, with_waiter, poll_source, new_listener, is_listener, with_listening, step_listener, drop_listener, is_timer, new_timer, with_timer, unregistered, registered, tick_timer, set_timer, end_timer, set_clock, begin_round, wait_answered, wait_in, without_waiters, world_taken, rearmed, handle_source, handle_first, handle_in, finish_in, react, case_of, step_result, gave_none, is_zero, left_as, worked, state_of}
+use Rattle.aio_base.specs.World.{PollerAnswer, LiveSource, PollWaiter, Mark, ListenerEntry, BrokenSource, Registration, TimerEntry, RoundState, World, opening, directions_of, is_of, serial_of, key_of, poll_waiter, mark_of, is_empty_list, is_idle, wanted, is_broken}
+use Rattle.aio_base.specs.Machine.{Outcome, fails, next_answer, broken_world, armed_world, after_arm, pending, source_limit, free_key, add, del_source, is_fresh_since, is_waker, with_waiter, poll_source, new_listener, is_listener, with_listening, step_listener, drop_listener, is_timer, new_timer, with_timer, unregistered, registered, tick_timer, set_timer, end_timer, set_clock, begin_round, wait_in, without_waiters, world_taken, rearmed, handle_source, handle_first, handle_in, finish_in, react, case_of, step_result, gave_none, is_zero, left_as, worked, state_of}
 use Rattle.aio_base.specs.TimerWork.{TimerState, joining, reset_work}
 use Rattle.aio_base.specs.Timers.{after_pass}
 use Rattle.aio_laws.specs.Distinct.{waiter_direction, mark_direction, IsOfTimer, NoDoubles}
 use Rattle.aio_base.specs.Runs.{PolledStep, outcome_of, world_of}
 use Rattle.aio_laws.proofs.runs.Apart.{Apart, same_element, filtered_apart, mapped_apart, pushed_apart, replaced_apart, apart_differ}
 use Rattle.aio_laws.proofs.steps.FreeKeys.{free_key-free}
-use Rattle.aio_laws.proofs.steps.Frames.{either, either_world, react_any}
+use Rattle.aio_laws.proofs.steps.Frames.{either, either_world, react_any, wait_any}
 use Rattle.aio_base.proofs.Membership.{none_is_in, each_in, filtered_is_in, filtered_passes, passing_is_kept, mapped_from, image_is_in, found_is_in, none_passes}
 use Rattle.aio_laws.proofs.storings.OnceRuns.{run_orders}
 use Rattle.aio_base.proofs.WaiterLemmas.{is_of-from}
@@ -425,17 +425,8 @@ begin_leaves : (w : World) (given : Option ℕ) (answers : List PollerAnswer) �
 begin_leaves w given answers s =
     either Leaves (is_some w.round) _ _ (record { stands = s }) (record { stands = fewer_timed w (λ (r : Registration). not (nat_le r.deadline w.now)) s })
 
-answered_leaves : (w : World) (round : RoundState) (told : PollerAnswer) (rest : List PollerAnswer) → Singles (lists_of w)
-    → Leaves (wait_answered w round told rest)
-answered_leaves w round Succeeds rest s = record { stands = s }
-answered_leaves w round (Gives events) rest s = record { stands = s }
-answered_leaves w round IsInterrupted rest s = record { stands = s }
-answered_leaves w round Fails rest s = record { stands = s }
-
-wait_leaves : (w : World) (round : Option RoundState) (answers : List PollerAnswer) → Singles (lists_of w) → Leaves (wait_in w round answers)
-wait_leaves w None answers s = record { stands = s }
-wait_leaves w (Some round) answers s =
-    either Leaves (is_empty_list round.in_hand) _ _ (answered_leaves w round (next_answer answers) (later_answers answers) s) (record { stands = s })
+wait_leaves : (w : World) (round : Option RoundState) (answers : List PollerAnswer) → Within w → Leaves (wait_in w round answers)
+wait_leaves w round answers s = record { stands = wait_any Within w round answers (λ after armed. s) }
 
 taken_singles : (w : World) (serial begin : ℕ) (dirs : List Dir) → Singles (lists_of w) → Singles (lists_of (world_taken w serial begin dirs))
 taken_singles w serial begin [] s = s

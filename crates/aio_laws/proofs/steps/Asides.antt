@@ -7,9 +7,9 @@ use Rattle.aio_base.specs.declared.names.Dir.{Dir}
 use Rattle.aio_base.specs.declared.names.Event.{Event}
 use Rattle.aio_base.specs.declared.steps.Step.{Step}
 use Rattle.aio_base.specs.declared.steps.Step.TheVariants as step
-use Rattle.aio_base.specs.World.{PollerAnswer, Succeeds, Gives, IsInterrupted, Fails, Mark, ListenerEntry, BrokenSource, TimerEntry, RoundState, World, directions_of, serial_of, key_of, poll_waiter, mark_of, is_empty_list, is_idle, is_broken, wanted}
-use Rattle.aio_base.specs.Machine.{fails, next_answer, later_answers, broken_world, armed_world, after_arm, pending, source_limit, add, is_fresh_since, is_waker, with_waiter, poll_source, new_listener, with_listening, step_listener, drop_listener, tick_timer, set_timer, end_timer, begin_round, wait_answered, wait_in, without_waiters, world_taken, rearmed, handle_source, handle_first, handle_in, finish_in, react, is_listener, is_timer, case_of}
-use Rattle.aio_laws.proofs.steps.Frames.{either, either_world, react_any, tick_timers, set_timers, end_timers}
+use Rattle.aio_base.specs.World.{PollerAnswer, Mark, ListenerEntry, BrokenSource, TimerEntry, RoundState, World, directions_of, serial_of, key_of, poll_waiter, mark_of, is_empty_list, is_idle, is_broken, wanted}
+use Rattle.aio_base.specs.Machine.{fails, next_answer, broken_world, armed_world, after_arm, pending, source_limit, add, is_fresh_since, is_waker, with_waiter, poll_source, new_listener, with_listening, step_listener, drop_listener, tick_timer, set_timer, end_timer, begin_round, wait_in, without_waiters, world_taken, rearmed, handle_source, handle_first, handle_in, finish_in, react, is_listener, is_timer, case_of}
+use Rattle.aio_laws.proofs.steps.Frames.{either, either_world, react_any, tick_timers, set_timers, end_timers, wait_any}
 
 pub record Aside : Type 0 where
   pub serials : ℕ
@@ -49,16 +49,8 @@ end_leaves w entry answers = end_timers (λ v. aside v ≡ aside w) w entry answ
 pub begin_leaves : (w : World) (given : Option ℕ) (answers : List PollerAnswer) → aside (begin_round w given answers).world ≡ aside w
 begin_leaves w given answers = either (λ o. aside o.world ≡ aside w) (is_some w.round) _ _ refl refl
 
-answered_leaves : (w : World) (round : RoundState) (told : PollerAnswer) (rest : List PollerAnswer) → aside (wait_answered w round told rest).world ≡ aside w
-answered_leaves w round Succeeds rest = refl
-answered_leaves w round (Gives events) rest = refl
-answered_leaves w round IsInterrupted rest = refl
-answered_leaves w round Fails rest = refl
-
 pub wait_leaves : (w : World) (round : Option RoundState) (answers : List PollerAnswer) → aside (wait_in w round answers).world ≡ aside w
-wait_leaves w None answers = refl
-wait_leaves w (Some round) answers =
-    either (λ o. aside o.world ≡ aside w) (is_empty_list round.in_hand) _ _ (answered_leaves w round (next_answer answers) (later_answers answers)) refl
+wait_leaves w round answers = wait_any (λ v. aside v ≡ aside w) w round answers (λ after armed. refl)
 
 pub finish_leaves : (w : World) (round : Option RoundState) (answers : List PollerAnswer) → aside (finish_in w round answers).world ≡ aside w
 finish_leaves w None answers = refl

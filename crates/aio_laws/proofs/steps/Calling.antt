@@ -134,15 +134,11 @@ end_calls w number (Some entry) answers = record { fit = refl; silent = λ none.
 
 pub answered_calls : (w : World) (round : RoundState) (told : PollerAnswer) (rest : List PollerAnswer) → (wait_answered w round told rest).calls ≡ which.Wait ∷ []
 answered_calls w round Succeeds rest = refl
-answered_calls w round (Gives events) rest = refl
-answered_calls w round IsInterrupted rest = refl
-answered_calls w round Fails rest = refl
+answered_calls w round told rest = refl
 
 answered : (w : World) (round : RoundState) (told : PollerAnswer) (rest : List PollerAnswer) → Calls w step.Wait (wait_answered w round told rest)
 answered w round Succeeds rest = record { fit = refl; silent = λ none. absurd cc }
-answered w round (Gives events) rest = record { fit = refl; silent = λ none. absurd cc }
-answered w round IsInterrupted rest = record { fit = refl; silent = λ none. absurd cc }
-answered w round Fails rest = record { fit = refl; silent = λ none. absurd cc }
+answered w round told rest = record { fit = refl; silent = λ none. absurd cc }
 
 wait_calls : (w : World) (round : Option RoundState) (answers : List PollerAnswer) → Calls w step.Wait (wait_in w round answers)
 wait_calls w None answers = record { fit = refl; silent = λ none. refl }
@@ -323,9 +319,7 @@ each_silent (event ∷ events) w answers none =
 answered_arms : (w : World) (round : RoundState) (told : PollerAnswer) (rest : List PollerAnswer)
     → (wait_answered w round told rest).world.armed ≡ clear_armed w.armed (events_given told)
 answered_arms w round Succeeds rest = refl
-answered_arms w round (Gives events) rest = refl
-answered_arms w round IsInterrupted rest = refl
-answered_arms w round Fails rest = refl
+answered_arms w round told rest = refl
 
 waits_arms : (w : World) (round : Option RoundState) (answers : List PollerAnswer) → in_hand_of round ≡ Some []
     → (wait_in w round answers).world.armed ≡ clear_armed w.armed (events_given (next_answer answers))
@@ -426,9 +420,7 @@ SameWaiters w v = (n : ℕ) (dir : Dir) → is_idle v n dir ≡ is_idle w n dir
 
 answered_waiters : (w : World) (round : RoundState) (told : PollerAnswer) (rest : List PollerAnswer) → SameWaiters w (wait_answered w round told rest).world
 answered_waiters w round Succeeds rest n dir = refl
-answered_waiters w round (Gives events) rest n dir = refl
-answered_waiters w round IsInterrupted rest n dir = refl
-answered_waiters w round Fails rest n dir = refl
+answered_waiters w round told rest n dir = refl
 
 pub wait_waiters : (w : World) (round : Option RoundState) (answers : List PollerAnswer) → SameWaiters w (wait_in w round answers).world
 wait_waiters w None answers n dir = refl

@@ -10,14 +10,14 @@ use Rattle.aio_base.specs.declared.names.Dir.{Dir}
 use Rattle.aio_base.specs.declared.names.Event.{Event}
 use Rattle.aio_base.specs.declared.steps.Step.{Step}
 use Rattle.aio_base.specs.declared.steps.Step.TheVariants as step
-use Rattle.aio_base.specs.World.{PollerAnswer, Succeeds, Gives, IsInterrupted, Fails, LiveSource, ListenerEntry, Registration, TimerEntry, RoundState, World, directions_of, is_of, serial_of, key_of, poll_waiter, mark_of, is_empty_list, is_idle, is_broken, wanted}
-use Rattle.aio_base.specs.Machine.{Outcome, fails, next_answer, later_answers, broken_world, armed_world, after_arm, pending, source_limit, free_key, add, del_source, is_fresh_since, is_waker, with_waiter, poll_source, new_listener, is_listener, with_listening, step_listener, drop_listener, is_timer, new_timer, with_timer, unregistered, registered, tick_timer, set_timer, end_timer, set_clock, begin_round, wait_answered, wait_in, without_waiters, world_taken, rearmed, handle_source, handle_first, handle_in, finish_in, react, case_of, step_result, gave_none, is_zero, left_as, worked, state_of}
+use Rattle.aio_base.specs.World.{PollerAnswer, LiveSource, ListenerEntry, Registration, TimerEntry, RoundState, World, directions_of, is_of, serial_of, key_of, poll_waiter, mark_of, is_empty_list, is_idle, is_broken, wanted}
+use Rattle.aio_base.specs.Machine.{Outcome, fails, next_answer, broken_world, armed_world, after_arm, pending, source_limit, free_key, add, del_source, is_fresh_since, is_waker, with_waiter, poll_source, new_listener, is_listener, with_listening, step_listener, drop_listener, is_timer, new_timer, with_timer, unregistered, registered, tick_timer, set_timer, end_timer, set_clock, begin_round, wait_in, without_waiters, world_taken, rearmed, handle_source, handle_first, handle_in, finish_in, react, case_of, step_result, gave_none, is_zero, left_as, worked, state_of}
 use Rattle.aio_base.specs.TimerWork.{TimerState, joining, reset_work}
 use Rattle.aio_base.specs.Timers.{after_pass}
 use Rattle.aio_laws.specs.Counts.{NoneAgain, CountsRise}
 use Rattle.aio_base.proofs.Membership.{each_in, filtered_is_in, mapped_from, image_is_in, found_is_in}
 use Rattle.aio_laws.proofs.runs.Singles.{number_stays}
-use Rattle.aio_laws.proofs.steps.Frames.{either, either_world, react_any}
+use Rattle.aio_laws.proofs.steps.Frames.{either, either_world, react_any, wait_any}
 
 -- ## Numbered lists
 
@@ -320,16 +320,8 @@ begin_rises w given answers =
     either (λ o. Rises w o.world) (is_some w.round) _ _ (same (counted w))
     (record { pos = refl; now = f.now; rounds = omega arith; live = f.live; listeners = f.listeners; registrations = f.registrations; timers = f.timers })
 
-answered_rises : (w : World) (round : RoundState) (told : PollerAnswer) (rest : List PollerAnswer) → Rises w (wait_answered w round told rest).world
-answered_rises w round Succeeds rest = same (counted w)
-answered_rises w round (Gives events) rest = same (counted w)
-answered_rises w round IsInterrupted rest = same (counted w)
-answered_rises w round Fails rest = same (counted w)
-
 wait_rises : (w : World) (round : Option RoundState) (answers : List PollerAnswer) → Rises w (wait_in w round answers).world
-wait_rises w None answers = same (counted w)
-wait_rises w (Some round) answers =
-    either (λ o. Rises w o.world) (is_empty_list round.in_hand) _ _ (answered_rises w round (next_answer answers) (later_answers answers)) (same (counted w))
+wait_rises w round answers = wait_any (Rises w) w round answers (λ after armed. same (counted w))
 
 taken_rises : (w : World) (serial begin : ℕ) (dirs : List Dir) → Rises w (world_taken w serial begin dirs)
 taken_rises w serial begin [] = same (counted w)

@@ -12,7 +12,7 @@ use Rattle.aio_base.specs.declared.steps.Step.{Step}
 use Rattle.aio_base.specs.declared.steps.Step.TheVariants as step
 use Rattle.aio_base.specs.declared.steps.Answer.{Answer}
 use Rattle.aio_base.specs.declared.steps.Answer.TheVariants as answer
-use Rattle.aio_base.specs.World.{PollerAnswer, Succeeds, Gives, IsInterrupted, Fails, ListenerEntry, TimerEntry, DueFaults, RoundState, World, directions_of, serial_of, key_of, poll_waiter, mark_of, is_empty_list, is_idle, is_broken, wanted}
+use Rattle.aio_base.specs.World.{PollerAnswer, Succeeds, ListenerEntry, TimerEntry, DueFaults, RoundState, World, directions_of, serial_of, key_of, poll_waiter, mark_of, is_empty_list, is_idle, is_broken, wanted}
 use Rattle.aio_base.specs.Machine.{Outcome, fails, next_answer, later_answers, broken_world, armed_world, after_arm, pending, source_limit, add, del_source, is_fresh_since, is_waker, with_waiter, poll_source, new_listener, is_listener, with_listening, step_listener, drop_listener, is_timer, unregistered, tick_timer, set_timer, end_timer, begin_round, wait_answered, wait_in, wait_round, without_waiters, world_taken, wakers_taken, rearmed, handle_source, handle_first, handle_in, handle_round, finish_in, handle_each, hand_of, case_of, step_result}
 use Rattle.aio_base.proofs.TimerCases.{tick_any, set_any}
 use Rattle.aio_laws.specs.Drawn.{listeners_after, timers_after, noted_after, due_after, DrawsFollow}
@@ -128,9 +128,7 @@ end_rests w (Some entry) answers = rest w _ (gone_rests w entry.id) (λ n. refl)
 
 answered_rests : (w : World) (round : RoundState) (told : PollerAnswer) (left : List PollerAnswer) → Rests w (wait_answered w round told left)
 answered_rests w round Succeeds left = rest w _ refl (λ n. refl) (λ n. refl)
-answered_rests w round (Gives events) left = rest w _ refl (λ n. refl) (λ n. refl)
-answered_rests w round IsInterrupted left = rest w _ refl (λ n. refl) (λ n. refl)
-answered_rests w round Fails left = rest w _ refl (λ n. refl) (λ n. refl)
+answered_rests w round told left = rest w _ refl (λ n. refl) (λ n. refl)
 
 wait_rests : (w : World) (round : Option RoundState) (answers : List PollerAnswer) → Rests w (wait_in w round answers)
 wait_rests w None answers = rest w _ refl (λ n. refl) (λ n. refl)
@@ -198,9 +196,7 @@ rests_follow w s o r noted due =
 
 fault_draws : (w : World) (kind : Which) (answers : List PollerAnswer) → tally (case_of w (step.Fault kind) answers).world ≡ tally_after w (step.Fault kind) answer.Noted
 fault_draws w which.Add answers = refl
-fault_draws w which.Arm answers = refl
-fault_draws w which.Remove answers = refl
-fault_draws w which.Wait answers = refl
+fault_draws w kind answers = refl
 
 case_draws : (w : World) (s : Step) (answers : List PollerAnswer) → tally (case_of w s answers).world ≡ tally_after w s (case_of w s answers).answer
 case_draws w step.Add answers = rests_follow w step.Add _ (add_rests w answers) refl refl

@@ -6,7 +6,7 @@ use Rattle.aio_base.specs.declared.names.Key.{Key}
 use Rattle.aio_base.specs.declared.names.Waker.{Waker}
 use Rattle.aio_base.specs.declared.names.Dir.{Dir}
 use Rattle.aio_base.specs.declared.names.Event.{Event}
-use Rattle.aio_base.specs.World.{PollerAnswer, Succeeds, Gives, IsInterrupted, Fails, LiveSource, ListenerEntry, Registration, TimerEntry, RoundState, HandledDirection, World, directions_of, is_of, serial_of, key_of, poll_waiter, mark_of, is_empty_list, is_idle, is_broken, wanted}
+use Rattle.aio_base.specs.World.{PollerAnswer, Succeeds, Gives, LiveSource, ListenerEntry, ArmedDirection, Registration, TimerEntry, RoundState, HandledDirection, World, directions_of, is_of, serial_of, key_of, poll_waiter, mark_of, is_empty_list, is_idle, is_broken, wanted}
 use Rattle.aio_base.specs.Machine.{Outcome, fails, next_answer, later_answers, broken_world, armed_world, after_arm, pending, source_limit, add, del_source, is_fresh_since, is_waker, with_waiter, poll_source, new_listener, with_listening, step_listener, drop_listener, is_timer, unregistered, tick_timer, set_timer, end_timer, begin_round, wait_answered, wait_in, wait_round, without_waiters, world_taken, rearmed, handle_source, handle_first, handle_in, handle_round, finish_in, handle_each, hand_of, react}
 use Rattle.aio_base.proofs.TimerCases.{with_timers, tick_any, set_any}
 use Rattle.aio_laws.specs.RoundCounts.{RoundName, name_of}
@@ -86,6 +86,21 @@ react_any Inv w given answers stays begins waits handles finishes =
     let handled = handle_each hand waited.world waited.left in
     either (λ o. Inv o.world) (is_some w.round) _ _ stays
     (finishes handled.world handled.left (each_any Inv handles hand waited.world waited.left (waits begun.world begun.left begins)))
+
+-- what holds of a world whatever round runs in it and whatever is armed holds after a wait
+abbrev pub AnyRound : (World → Type 0) → World → Type 0
+AnyRound Inv w = (round : Option RoundState) (armed : List ArmedDirection) → Inv (record w { round = round; armed = armed })
+
+answered_any : (Inv : World → Type 0) (w : World) (round : RoundState) (told : PollerAnswer) (rest : List PollerAnswer) → AnyRound Inv w
+    → Inv (wait_answered w round told rest).world
+answered_any Inv w round (Gives events) rest given = given _ _
+answered_any Inv w round told rest given = given _ w.armed
+
+pub wait_any : (Inv : World → Type 0) (w : World) (round : Option RoundState) (answers : List PollerAnswer) → AnyRound Inv w → Inv (wait_in w round answers).world
+wait_any Inv w None answers given = given w.round w.armed
+wait_any Inv w (Some round) answers given =
+    either (λ o. Inv o.world) (is_empty_list round.in_hand) _ _ (answered_any Inv w round (next_answer answers) (later_answers answers) given)
+    (given w.round w.armed)
 
 -- what holds of a world whatever its timers, its registrations and its count of ids holds after a call on a timer
 abbrev pub AnyTimers : (World → Type 0) → World → Type 0
@@ -189,9 +204,7 @@ runs_in w round is = ap (while w) is
 
 answered_keeps : (w : World) (round : RoundState) (told : PollerAnswer) (rest : List PollerAnswer) → frame (wait_answered w round told rest).world ≡ while w (Some round)
 answered_keeps w round Succeeds rest = refl
-answered_keeps w round (Gives events) rest = refl
-answered_keeps w round IsInterrupted rest = refl
-answered_keeps w round Fails rest = refl
+answered_keeps w round told rest = refl
 
 pub wait_keeps : (w : World) (round : Option RoundState) (answers : List PollerAnswer) → w.round ≡ round → frame (wait_in w round answers).world ≡ frame w
 wait_keeps w None answers is = refl

@@ -10,7 +10,7 @@ use Rattle.aio_base.specs.declared.steps.Step.{Step}
 use Rattle.aio_base.specs.declared.steps.Step.TheVariants as step
 use Rattle.aio_base.specs.declared.steps.Answer.{Answer}
 use Rattle.aio_base.specs.declared.steps.Answer.TheVariants as answer
-use Rattle.aio_base.specs.World.{PollerAnswer, Succeeds, Gives, IsInterrupted, Fails, ListenerEntry, TimerEntry, ArmedDirection, RoundState, World, directions_of, serial_of, key_of, poll_waiter, mark_of, is_empty_list, is_idle, is_broken, wanted, set_armed}
+use Rattle.aio_base.specs.World.{PollerAnswer, Fails, ListenerEntry, TimerEntry, ArmedDirection, RoundState, World, directions_of, serial_of, key_of, poll_waiter, mark_of, is_empty_list, is_idle, is_broken, wanted, set_armed}
 use Rattle.aio_base.specs.Machine.{Outcome, fails, next_answer, later_answers, armed_world, broken_world, pending, source_limit, free_key, add, del_source, is_fresh_since, is_waker, with_waiter, poll_source, new_listener, with_listening, step_listener, drop_listener, tick_timer, set_timer, end_timer, wait_answered, wait_in, without_waiters, world_taken, wakers_taken, rearmed, handle_source, handle_first, handle_in, finish_in, case_of}
 use Rattle.aio_base.proofs.TimerCases.{tick_any}
 use Rattle.aio_laws.specs.Calls.{tells_failure, has_failed}
@@ -117,10 +117,8 @@ end_hears w (Some entry) answers = record { heard = refl; stays = λ fault. no_f
 
 answered_hears : (w : World) (round : RoundState) (told : PollerAnswer) (rest answers : List PollerAnswer) → next_answer answers ≡ told
     → Hears w answers (wait_answered w round told rest)
-answered_hears w round Succeeds rest answers is = record { heard = ap fails (sym is); stays = λ fault. no_fault fault }
-answered_hears w round (Gives events) rest answers is = record { heard = ap fails (sym is); stays = λ fault. no_fault fault }
-answered_hears w round IsInterrupted rest answers is = record { heard = ap fails (sym is); stays = λ fault. no_fault fault }
 answered_hears w round Fails rest answers is = record { heard = ap fails (sym is); stays = λ fault. refl }
+answered_hears w round told rest answers is = record { heard = ap fails (sym is); stays = λ fault. no_fault fault }
 
 wait_hears : (w : World) (round : Option RoundState) (answers : List PollerAnswer) → Hears w answers (wait_in w round answers)
 wait_hears w None answers = record { heard = refl; stays = λ fault. no_fault fault }

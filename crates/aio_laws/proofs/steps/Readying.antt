@@ -11,7 +11,7 @@ use Rattle.aio_base.specs.declared.steps.Step.{Step}
 use Rattle.aio_base.specs.declared.steps.Step.TheVariants as step
 use Rattle.aio_base.specs.declared.steps.Answer.{Answer}
 use Rattle.aio_base.specs.declared.steps.Answer.TheVariants as answer
-use Rattle.aio_base.specs.World.{PollerAnswer, Succeeds, Gives, IsInterrupted, Fails, ListenerEntry, TimerEntry, HandledDirection, RoundState, World, directions_of, is_of, serial_of, key_of, poll_waiter, mark_of, is_empty_list, is_idle, is_broken, wanted, is_fresh}
+use Rattle.aio_base.specs.World.{PollerAnswer, Succeeds, ListenerEntry, TimerEntry, HandledDirection, RoundState, World, directions_of, is_of, serial_of, key_of, poll_waiter, mark_of, is_empty_list, is_idle, is_broken, wanted, is_fresh}
 use Rattle.aio_base.specs.Machine.{Outcome, fails, next_answer, later_answers, pending, source_limit, free_key, add, del_source, is_fresh_since, is_waker, with_waiter, poll_source, new_listener, is_listener, with_listening, step_listener, drop_listener, is_timer, tick_timer, set_timer, end_timer, wait_answered, wait_in, world_taken, wakers_taken, rearmed, handle_source, handle_first, handle_in, finish_in, case_of, step_result}
 use Rattle.aio_base.proofs.TimerCases.{tick_deadline, tick_by_deadline, tick_any}
 use Rattle.aio_laws.specs.Readiness.{IsHandledSince, SourceIsReady, ListenerIsReady, TimerIsReady, ReadyIsTold}
@@ -224,9 +224,7 @@ end_plain w (Some entry) answers = is_plain _ refl
 
 answered_plain : (w : World) (round : RoundState) (told : PollerAnswer) (rest : List PollerAnswer) → IsPlain (wait_answered w round told rest)
 answered_plain w round Succeeds rest = is_plain _ refl
-answered_plain w round (Gives events) rest = is_plain _ refl
-answered_plain w round IsInterrupted rest = is_plain _ refl
-answered_plain w round Fails rest = is_plain _ refl
+answered_plain w round told rest = is_plain _ refl
 
 wait_plain : (w : World) (round : Option RoundState) (answers : List PollerAnswer) → IsPlain (wait_in w round answers)
 wait_plain w None answers = is_plain _ refl

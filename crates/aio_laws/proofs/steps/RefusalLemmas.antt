@@ -9,7 +9,7 @@ use Rattle.aio_base.specs.declared.names.Event.{Event}
 use Rattle.aio_base.specs.declared.steps.Step.{Step}
 use Rattle.aio_base.specs.declared.steps.Step.TheVariants as step
 use Rattle.aio_base.specs.declared.steps.Answer.{Answer}
-use Rattle.aio_base.specs.World.{PollerAnswer, Succeeds, Gives, IsInterrupted, Fails, ListenerEntry, TimerEntry, RoundState, World, serial_of, directions_of, poll_waiter, mark_of, is_empty_list, wanted}
+use Rattle.aio_base.specs.World.{PollerAnswer, Succeeds, ListenerEntry, TimerEntry, RoundState, World, serial_of, directions_of, poll_waiter, mark_of, is_empty_list, wanted}
 use Rattle.aio_base.specs.Machine.{Outcome, quiet, next_answer, later_answers, fails, world_taken, wakers_taken, pending, source_limit, is_fresh_since, is_waker, add, del_source, poll_source, new_listener, step_listener, drop_listener, tick_timer, set_timer, end_timer, set_clock, begin_round, wait_answered, wait_in, rearmed, handle_source, handle_first, handle_in, finish_in, react, case_of, moved_on, step_result}
 use Rattle.aio_base.proofs.TimerCases.{tick_any}
 use Rattle.aio_base.specs.Refusals.{is_refusal, only_counted, RefusalLeaves}
@@ -106,9 +106,7 @@ begin_refuses w given answers = either (Refuses w answers) (is_some w.round) _ _
 wait_is_done : (w : World) (round : RoundState) (told : PollerAnswer) (rest : List PollerAnswer)
     → IsDone (wait_answered w round told rest).answer
 wait_is_done w round Succeeds rest = plain _ refl
-wait_is_done w round (Gives events) rest = plain _ refl
-wait_is_done w round IsInterrupted rest = plain _ refl
-wait_is_done w round Fails rest = plain _ refl
+wait_is_done w round told rest = plain _ refl
 
 wait_refuses : (w : World) (round : Option RoundState) (answers : List PollerAnswer) → Refuses w answers (wait_in w round answers)
 wait_refuses w None answers = refused w answers _

@@ -7,7 +7,7 @@ use Rattle.aio_base.specs.declared.names.Event.{Event}
 use Rattle.aio_base.specs.declared.outcomes.EndWord.{EndWord}
 use Rattle.aio_base.specs.declared.outcomes.EndWord.TheVariants.{FaultArm}
 use Rattle.aio_base.specs.declared.steps.Answer.TheVariants as answer
-use Rattle.aio_base.specs.World.{PollerAnswer, Succeeds, Gives, IsInterrupted, Fails, RoundState, World, serial_of, directions_of, wanted, is_empty_list}
+use Rattle.aio_base.specs.World.{PollerAnswer, Fails, RoundState, World, serial_of, directions_of, wanted, is_empty_list}
 use Rattle.aio_base.specs.Timers.{due_wakers, after_pass}
 use Rattle.aio_base.specs.Machine.{Outcome, first_fault, next_answer, later_answers, fails, broken_world, armed_world, begin_round, wait_answered, wait_in, wait_round, world_taken, wakers_taken, rearmed, handle_source, handle_first, handle_in, handle_round, gave_none, is_zero, finish_in, finish_round, hand_of, handle_each, react}
 use Rattle.aio_laws.specs.Storings.{Stored, Storings, due_places, each_taken, round_woken, wakers, taken_of, begin_moves, event_moves, handle_moves_first, handle_moves, finish_moves_in, finish_moves, handle_each_moves, react_moves}
@@ -36,9 +36,7 @@ begin_leaves w woken l limit answers s =
 answered_leaves : (w : World) (woken : List (List Stored)) (l : Storings) (round : RoundState) (said : PollerAnswer) (rest : List PollerAnswer)
     → Stands (holding_with w round.taken) [] woken l → Leaves woken l (wait_answered w round said rest)
 answered_leaves w woken l round Fails rest s = record { stands = s }
-answered_leaves w woken l round IsInterrupted rest s = record { stands = s }
-answered_leaves w woken l round Succeeds rest s = record { stands = s }
-answered_leaves w woken l round (Gives events) rest s = record { stands = s }
+answered_leaves w woken l round said rest s = record { stands = s }
 
 -- the wakers that this round has taken
 with_round : (w : World) (woken : List (List Stored)) (l : Storings) (round : RoundState) → w.round ≡ Some round → Stands (holding_of w) [] woken l
@@ -148,9 +146,7 @@ begin_silent w limit answers = cond_both (is_some w.round) _ _ Silent (λ some. 
 
 answered_silent : (w : World) (round : RoundState) (said : PollerAnswer) (rest : List PollerAnswer) → Silent (wait_answered w round said rest)
 answered_silent w round Fails rest = refl
-answered_silent w round IsInterrupted rest = refl
-answered_silent w round Succeeds rest = refl
-answered_silent w round (Gives events) rest = refl
+answered_silent w round said rest = refl
 
 wait_silent : (w : World) (round : Option RoundState) (answers : List PollerAnswer) → Silent (wait_in w round answers)
 wait_silent w None answers = refl

@@ -13,12 +13,7 @@ same_place-eq (OfPoll s d) (OfPoll t e) same =
     ap (λ n. OfPoll n d) (eqb-true s t parts.0) ∙ ap (OfPoll t) (same_dir-eq d e parts.1)
 same_place-eq (OfListener m) (OfListener n) same = ap OfListener (eqb-true m n same)
 same_place-eq (OfTimer m) (OfTimer n) same = ap OfTimer (eqb-true m n same)
-same_place-eq (OfPoll s d) (OfListener n) same = absurd cc
-same_place-eq (OfPoll s d) (OfTimer n) same = absurd cc
-same_place-eq (OfListener m) (OfPoll t e) same = absurd cc
-same_place-eq (OfListener m) (OfTimer n) same = absurd cc
-same_place-eq (OfTimer m) (OfPoll t e) same = absurd cc
-same_place-eq (OfTimer m) (OfListener n) same = absurd cc
+same_place-eq p q same = absurd cc
 
 pub same_place-refl : (p : Place) → same_place p p ≡ true
 same_place-refl (OfPoll s d) = and_from (s == s) (same_dir d d) (eq-eqb s s refl) (same_dir-from d d refl)

@@ -9,10 +9,10 @@ use Rattle.aio_base.proofs.Searching.{refiltered}
 use Rattle.aio_base.specs.declared.names.Key.{Key}
 use Rattle.aio_base.specs.declared.names.Dir.{Dir}
 use Rattle.aio_base.specs.declared.names.Event.{Event}
-use Rattle.aio_base.specs.World.{PollerAnswer, Succeeds, Gives, IsInterrupted, Fails, Registration, TimerEntry, RoundState, World, serial_of, directions_of, is_empty_list}
+use Rattle.aio_base.specs.World.{PollerAnswer, Registration, TimerEntry, RoundState, World, serial_of, directions_of, is_empty_list}
 use Rattle.aio_base.specs.Timers.{fires_before, placed, in_order, due_wakers, after_pass, AllAbove}
-use Rattle.aio_base.specs.Machine.{Outcome, fails, next_answer, broken_world, armed_world, after_arm, begin_round, wait_answered, wait_in, wait_round, world_taken, without_waiters, rearmed, handle_source, handle_first, handle_in, gave_none, is_zero, finish_in, finish_round, hand_of, handle_each, react}
-use Rattle.aio_laws.proofs.steps.Frames.{each_any}
+use Rattle.aio_base.specs.Machine.{Outcome, fails, next_answer, broken_world, armed_world, after_arm, begin_round, wait_in, wait_round, world_taken, without_waiters, rearmed, handle_source, handle_first, handle_in, gave_none, is_zero, finish_in, finish_round, hand_of, handle_each, react}
+use Rattle.aio_laws.proofs.steps.Frames.{each_any, wait_any}
 
 -- ## What a pass leaves and takes
 
@@ -114,16 +114,9 @@ pub either_world : (t : Timed) (test : Bool) (x y : World) → timed x ≡ t →
 either_world t true x y first second = first
 either_world t false x y first second = second
 
-wait_answered_keeps : (w : World) (round : RoundState) (told : PollerAnswer) (rest : List PollerAnswer) → Keeps (timed w) (wait_answered w round told rest)
-wait_answered_keeps w round Succeeds rest = refl
-wait_answered_keeps w round (Gives events) rest = refl
-wait_answered_keeps w round IsInterrupted rest = refl
-wait_answered_keeps w round Fails rest = refl
-
 -- a wait changes none of them
 pub wait_keeps : (w : World) (round : Option RoundState) (answers : List PollerAnswer) → Keeps (timed w) (wait_in w round answers)
-wait_keeps w None answers = refl
-wait_keeps w (Some round) answers = either_keeps (timed w) _ _ _ (wait_answered_keeps w round _ _) refl
+wait_keeps w round answers = wait_any (λ v. timed v ≡ timed w) w round answers (λ after armed. refl)
 
 taken_keeps : (w : World) (serial begin : ℕ) (dirs : List Dir) → timed (world_taken w serial begin dirs) ≡ timed w
 taken_keeps w serial begin [] = refl
