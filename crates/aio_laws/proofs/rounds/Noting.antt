@@ -11,7 +11,7 @@ use Rattle.aio_base.specs.declared.names.Event.{Event}
 use Rattle.aio_base.specs.declared.steps.Step.{Step}
 use Rattle.aio_base.specs.declared.steps.Step.TheVariants as step
 use Rattle.aio_base.specs.World.{PollerAnswer, LiveSource, RoundState, HandledDirection, World, directions, directions_of, has_dir, is_of, serial_of, is_fresh}
-use Rattle.aio_base.specs.Machine.{Outcome, is_listener, is_timer, begin_round, wait_round, without_waiters, world_taken, handle_source, handle_first, handle_in, handle_round, handle_each, hand_of, case_of, step_result, next_answer}
+use Rattle.aio_base.specs.Machine.{Outcome, begin_round, wait_round, without_waiters, world_taken, handle_source, handle_first, handle_in, handle_round, handle_each, hand_of, case_of, step_result, next_answer}
 use Rattle.aio_laws.specs.RoundCounts.{RoundName, name_of}
 use Rattle.aio_laws.specs.Succession.{events_given}
 use Rattle.aio_laws.specs.Arming.{handled_events}
@@ -19,7 +19,7 @@ use Rattle.aio_laws.specs.Handling.{begin_of, notes_of, HandledIsNoted}
 use Rattle.aio_base.proofs.Membership.{first_is_in, later_is_in, image_is_in, passing_is_kept, any_from, any_gives, piece_is_in}
 use Rattle.aio_base.proofs.WaiterLemmas.{is_of-from}
 use Rattle.aio_laws.proofs.rounds.RoundLemmas.{in_hand_of, event_handled, first_of, ended_of, begun_in_hand}
-use Rattle.aio_laws.proofs.steps.Frames.{Frame, add_keeps, del_keeps, poll_keeps, new_keeps, step_keeps, drop_keeps, tick_keeps, set_keeps, end_keeps, wait_keeps, rearmed_keeps, handle_keeps, finish_keeps}
+use Rattle.aio_laws.proofs.steps.Frames.{Frame, wait_keeps, rearmed_keeps, handle_keeps, finish_keeps, case_keeps}
 
 -- ## What an event adds
 
@@ -136,28 +136,9 @@ react_step w answers false locked round first second = second refl
 
 case_past : (w : World) (s : Step) (answers : List PollerAnswer)
     → (case_of w s answers).world.handled ≡ w.handled ++ flat_map (notes_of w (begin_of w s)) (handled_events w s answers)
-case_past w step.Add answers = quiet w.handled _ (ap (λ (f : Frame). f.handled) (add_keeps w answers))
-case_past w (step.Del key) answers = quiet w.handled _ (ap (λ (f : Frame). f.handled) (del_keeps w key.0 (serial_of w key.0) answers))
-case_past w (step.Poll key dir waker) answers = quiet w.handled _ (ap (λ (f : Frame). f.handled) (poll_keeps w key.0 dir waker (serial_of w key.0) answers))
-case_past w (step.New key dir) answers = quiet w.handled _ (ap (λ (f : Frame). f.handled) (new_keeps w dir (serial_of w key.0) answers))
-case_past w (step.StepEar number waker) answers =
-    quiet w.handled _ (ap (λ (f : Frame). f.handled) (step_keeps w waker (find (is_listener number) w.listeners) answers))
-case_past w (step.DropEar number) answers = quiet w.handled _ (ap (λ (f : Frame). f.handled) (drop_keeps w number (find (is_listener number) w.listeners) answers))
-case_past w (step.Tick number waker) answers = quiet w.handled _ (ap (λ (f : Frame). f.handled) (tick_keeps w waker (find (is_timer number) w.timers) answers))
-case_past w (step.SetAt number deadline) answers =
-    quiet w.handled _ (ap (λ (f : Frame). f.handled) (set_keeps w deadline None (find (is_timer number) w.timers) answers))
-case_past w (step.SetEvery number deadline period) answers =
-    quiet w.handled _ (ap (λ (f : Frame). f.handled) (set_keeps w deadline (Some period) (find (is_timer number) w.timers) answers))
-case_past w (step.End number) answers = quiet w.handled _ (ap (λ (f : Frame). f.handled) (end_keeps w (find (is_timer number) w.timers) answers))
-case_past w (step.Now moment) answers =
-    quiet w.handled _ (cond_both (nat_lt moment w.now) _ _ (λ (o : Outcome). o.world.handled ≡ w.handled) (λ back. refl) (λ on. refl))
-case_past w (step.Begin limit) answers =
-    quiet w.handled _ (cond_both (is_some w.round) _ _ (λ (o : Outcome). o.world.handled ≡ w.handled) (λ runs. refl) (λ none. refl))
-case_past w step.Wait answers = quiet w.handled _ (ap (λ (f : Frame). f.handled) (wait_keeps w w.round answers refl))
 case_past w step.Handle answers = handle_past w w.round w.pos answers
-case_past w step.Finish answers = quiet w.handled _ (ap (λ (f : Frame). f.handled) (finish_keeps w w.round answers))
 case_past w step.React answers = react_step w answers (is_some w.round) _ _ refl (λ none. reacted w answers none)
-case_past w _ answers = quiet w.handled _ refl
+case_past w s answers = quiet w.handled _ (ap (λ (f : Frame). f.handled) (case_keeps w s answers))
 
 -- ## What is noted is fresh
 

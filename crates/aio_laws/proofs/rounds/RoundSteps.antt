@@ -1,18 +1,18 @@
 -- How a step counts rounds, and what it leaves of the clock.
-use Rattle.std.proofs.Common.{◌≡◌, ℕ, ◌+◌, Bool, true, false, not, cond, List, [], ◌∷◌, ◌++◌, find, Option, None, Some, is_some, refl, ap, ◌∙◌}
+use Rattle.std.proofs.Common.{◌≡◌, ℕ, ◌+◌, Bool, true, false, not, cond, List, [], ◌∷◌, ◌++◌, Option, None, Some, is_some, refl, ap, ◌∙◌}
 use Rattle.std.specs.Prelude.{nat_lt}
 use Rattle.std.proofs.lemmas.Bool.{cond_both}
 use Rattle.aio_base.specs.declared.steps.Step.{Step}
 use Rattle.aio_base.specs.declared.steps.Step.TheVariants as step
 use Rattle.aio_base.specs.declared.steps.Answer.{Answer}
 use Rattle.aio_base.specs.declared.steps.Answer.TheVariants as answer
-use Rattle.aio_base.specs.World.{PollerAnswer, RoundState, World, serial_of, is_empty_list}
-use Rattle.aio_base.specs.Machine.{Outcome, is_listener, is_timer, set_clock, begin_round, wait_round, finish_in, handle_each, hand_of, react, case_of, step_result}
+use Rattle.aio_base.specs.World.{PollerAnswer, RoundState, World, is_empty_list}
+use Rattle.aio_base.specs.Machine.{Outcome, set_clock, begin_round, wait_round, finish_in, handle_each, hand_of, react, case_of, step_result}
 use Rattle.aio_laws.specs.RoundCounts.{RoundName, name_of, begins_round, limit_told, running_after, RoundsFollow}
 use Rattle.aio_laws.specs.Clock.{clock_after, TellsTheMoment, ClockIsSet}
 use Rattle.aio_laws.proofs.rounds.RoundAnswers.{rounds_told}
 use Rattle.aio_laws.proofs.rounds.RoundLemmas.{in_hand_of, all_handled, ended_of, begun_in_hand}
-use Rattle.aio_laws.proofs.steps.Frames.{Frame, frame, either, add_keeps, del_keeps, poll_keeps, new_keeps, step_keeps, drop_keeps, tick_keeps, set_keeps, end_keeps, wait_keeps, handle_keeps, each_keeps}
+use Rattle.aio_laws.proofs.steps.Frames.{Frame, frame, either, wait_keeps, each_keeps, case_keeps}
 
 -- the clock's moment and the rounds of a frame
 record Count : Type 0 where
@@ -124,29 +124,11 @@ react_counts w answers =
 -- ## A step
 
 step_counts : (w : World) (s : Step) (answers : List PollerAnswer) → Counts w s (case_of w s answers)
-step_counts w step.Add answers = record { count = ap count (add_keeps w answers); moment = tt }
-step_counts w (step.Del key) answers = record { count = ap count (del_keeps w key.0 (serial_of w key.0) answers); moment = tt }
-step_counts w (step.Poll key dir waker) answers =
-    record { count = ap count (poll_keeps w key.0 dir waker (serial_of w key.0) answers); moment = tt }
-step_counts w (step.New key dir) answers = record { count = ap count (new_keeps w dir (serial_of w key.0) answers); moment = tt }
-step_counts w (step.StepEar number waker) answers =
-    record { count = ap count (step_keeps w waker (find (is_listener number) w.listeners) answers); moment = tt }
-step_counts w (step.DropEar number) answers =
-    record { count = ap count (drop_keeps w number (find (is_listener number) w.listeners) answers); moment = tt }
-step_counts w (step.Tick number waker) answers =
-    record { count = ap count (tick_keeps w waker (find (is_timer number) w.timers) answers); moment = tt }
-step_counts w (step.SetAt number deadline) answers =
-    record { count = ap count (set_keeps w deadline None (find (is_timer number) w.timers) answers); moment = tt }
-step_counts w (step.SetEvery number deadline period) answers =
-    record { count = ap count (set_keeps w deadline (Some period) (find (is_timer number) w.timers) answers); moment = tt }
-step_counts w (step.End number) answers = record { count = ap count (end_keeps w (find (is_timer number) w.timers) answers); moment = tt }
 step_counts w (step.Now moment) answers = clock_counts w moment answers
 step_counts w (step.Begin limit) answers = begin_counts w limit answers
-step_counts w step.Wait answers = record { count = ap count (wait_keeps w w.round answers refl); moment = tt }
-step_counts w step.Handle answers = record { count = ap count (handle_keeps w w.round answers refl); moment = tt }
 step_counts w step.Finish answers = record { count = finish_counts w w.round answers refl; moment = tt }
 step_counts w step.React answers = react_counts w answers
-step_counts w _ answers = record { count = refl; moment = tt }
+step_counts w s answers = record { count = ap count (case_keeps w s answers); moment = tt }
 
 pub rounds_follow : (w : World) (s : Step) (answers : List PollerAnswer)
     → RoundsFollow w s answers (step_result w s answers).answer (step_result w s answers).world

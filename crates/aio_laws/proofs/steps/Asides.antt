@@ -133,26 +133,29 @@ react_leaves w answers =
 
 -- of what is told here, what a step has no part in
 abbrev pub unchanged : Step → Aside → Aside
+unchanged step.Add a = but_serials a
 unchanged (step.Del key) a = record { serials = 0; marks = []; broken = [] }
-unchanged (step.Poll key dir waker) a = record { serials = 0; marks = []; broken = [] }
-unchanged (step.StepEar number waker) a = but_serials (but_broken a)
-unchanged step.Handle a = but_serials (but_broken a)
-unchanged step.React a = but_serials (but_broken a)
-unchanged _ a = but_serials a
+unchanged (step.Poll key dir waker) a = record { serials = a.serials; marks = []; broken = [] }
+unchanged (step.StepEar number waker) a = but_broken a
+unchanged step.Handle a = but_broken a
+unchanged step.React a = but_broken a
+unchanged _ a = a
 
 pub leaves_aside : (w : World) (s : Step) (answers : List PollerAnswer) → unchanged s (aside (case_of w s answers).world) ≡ unchanged s (aside w)
 leaves_aside w step.Add answers = add_leaves w answers
-leaves_aside w (step.New key dir) answers = ap but_serials (new_leaves w dir (serial_of w key.0) answers)
-leaves_aside w (step.StepEar number waker) answers = ap but_serials (step_leaves w waker (find (is_listener number) w.listeners) answers)
-leaves_aside w (step.DropEar number) answers = ap but_serials (drop_leaves w number (find (is_listener number) w.listeners) answers)
-leaves_aside w (step.Tick number waker) answers = ap but_serials (tick_leaves w waker (find (is_timer number) w.timers) answers)
-leaves_aside w (step.SetAt number deadline) answers = ap but_serials (set_leaves w deadline None (find (is_timer number) w.timers) answers)
-leaves_aside w (step.SetEvery number deadline period) answers = ap but_serials (set_leaves w deadline (Some period) (find (is_timer number) w.timers) answers)
-leaves_aside w (step.End number) answers = ap but_serials (end_leaves w (find (is_timer number) w.timers) answers)
-leaves_aside w (step.Now moment) answers = either (λ o. but_serials (aside o.world) ≡ but_serials (aside w)) (nat_lt moment w.now) _ _ refl refl
-leaves_aside w (step.Begin limit) answers = ap but_serials (begin_leaves w limit answers)
-leaves_aside w step.Wait answers = ap but_serials (wait_leaves w w.round answers)
-leaves_aside w step.Handle answers = ap but_serials (handle_leaves w w.round answers)
-leaves_aside w step.Finish answers = ap but_serials (finish_leaves w w.round answers)
-leaves_aside w step.React answers = ap but_serials (react_leaves w answers)
+leaves_aside w (step.Poll key dir waker) answers =
+    ap (λ (n : ℕ). let a : Aside = record { serials = n; marks = []; broken = [] } in a) (poll_serials w key.0 dir waker (serial_of w key.0) answers)
+leaves_aside w (step.New key dir) answers = new_leaves w dir (serial_of w key.0) answers
+leaves_aside w (step.StepEar number waker) answers = step_leaves w waker (find (is_listener number) w.listeners) answers
+leaves_aside w (step.DropEar number) answers = drop_leaves w number (find (is_listener number) w.listeners) answers
+leaves_aside w (step.Tick number waker) answers = tick_leaves w waker (find (is_timer number) w.timers) answers
+leaves_aside w (step.SetAt number deadline) answers = set_leaves w deadline None (find (is_timer number) w.timers) answers
+leaves_aside w (step.SetEvery number deadline period) answers = set_leaves w deadline (Some period) (find (is_timer number) w.timers) answers
+leaves_aside w (step.End number) answers = end_leaves w (find (is_timer number) w.timers) answers
+leaves_aside w (step.Now moment) answers = either (λ o. aside o.world ≡ aside w) (nat_lt moment w.now) _ _ refl refl
+leaves_aside w (step.Begin limit) answers = begin_leaves w limit answers
+leaves_aside w step.Wait answers = wait_leaves w w.round answers
+leaves_aside w step.Handle answers = handle_leaves w w.round answers
+leaves_aside w step.Finish answers = finish_leaves w w.round answers
+leaves_aside w step.React answers = react_leaves w answers
 leaves_aside w _ answers = refl

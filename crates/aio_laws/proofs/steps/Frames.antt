@@ -1,13 +1,15 @@
 -- What the steps of the machine leave alone: the clock, the rounds, the sources, the listeners but for their wakers, the timers and the past.
-use Rattle.std.proofs.Common.{◌≡◌, ℕ, Bool, true, false, not, cond, ◌||◌, ◌==◌, List, [], ◌∷◌, length, map, Option, None, Some, is_some, refl, ap, ◌∙◌, sym}
-use Rattle.std.specs.Prelude.{nat_le, option_to_list, unwrap_or}
+use Rattle.std.proofs.Common.{◌≡◌, ℕ, Bool, true, false, not, cond, ◌||◌, ◌==◌, List, [], ◌∷◌, length, map, find, Option, None, Some, is_some, refl, ap, ◌∙◌, sym}
+use Rattle.std.specs.Prelude.{nat_le, nat_lt, option_to_list, unwrap_or}
 use Rattle.std.specs.List.{filter, list_any}
 use Rattle.aio_base.specs.declared.names.Key.{Key}
 use Rattle.aio_base.specs.declared.names.Waker.{Waker}
 use Rattle.aio_base.specs.declared.names.Dir.{Dir}
 use Rattle.aio_base.specs.declared.names.Event.{Event}
+use Rattle.aio_base.specs.declared.steps.Step.{Step}
+use Rattle.aio_base.specs.declared.steps.Step.TheVariants as step
 use Rattle.aio_base.specs.World.{PollerAnswer, Succeeds, Gives, LiveSource, ListenerEntry, ArmedDirection, Registration, TimerEntry, RoundState, HandledDirection, World, directions_of, is_of, serial_of, key_of, poll_waiter, mark_of, is_empty_list, is_idle, is_broken, wanted}
-use Rattle.aio_base.specs.Machine.{Outcome, fails, next_answer, later_answers, broken_world, armed_world, after_arm, pending, source_limit, add, del_source, is_fresh_since, is_waker, with_waiter, poll_source, new_listener, with_listening, step_listener, drop_listener, is_timer, unregistered, tick_timer, set_timer, end_timer, begin_round, wait_answered, wait_in, wait_round, without_waiters, world_taken, rearmed, handle_source, handle_first, handle_in, handle_round, finish_in, handle_each, hand_of, react}
+use Rattle.aio_base.specs.Machine.{Outcome, fails, next_answer, later_answers, broken_world, armed_world, after_arm, pending, source_limit, add, del_source, is_fresh_since, is_waker, with_waiter, poll_source, new_listener, with_listening, step_listener, drop_listener, is_listener, is_timer, unregistered, tick_timer, set_timer, end_timer, begin_round, wait_answered, wait_in, wait_round, without_waiters, world_taken, rearmed, handle_source, handle_first, handle_in, handle_round, finish_in, handle_each, hand_of, react, case_of}
 use Rattle.aio_base.proofs.TimerCases.{with_timers, tick_any, set_any}
 use Rattle.aio_laws.specs.RoundCounts.{RoundName, name_of}
 
@@ -266,3 +268,55 @@ finish_keeps w (Some round) answers = either (λ o. but_name (frame o.world) ≡
 
 pub begin_keeps : (w : World) (given : Option ℕ) (answers : List PollerAnswer) → but_rounds (frame (begin_round w given answers).world) ≡ but_rounds (frame w)
 begin_keeps w given answers = either (λ o. but_rounds (frame o.world) ≡ but_rounds (frame w)) (is_some w.round) _ _ refl refl
+
+-- what every step of a round leaves of a frame
+abbrev pub core : Frame → Frame
+core f = record f { rounds = 0; begun = []; name = None; handled = [] }
+
+pub react_keeps : (w : World) (answers : List PollerAnswer) → core (frame (react w None answers).world) ≡ core (frame w)
+react_keeps w answers =
+    react_any (λ v. core (frame v) ≡ core (frame w)) w None answers refl (ap core (begin_keeps w None answers))
+    (λ v answers same. ap core (wait_keeps v v.round answers refl) ∙ same) (λ v answers same. ap core (handle_keeps v v.round answers refl) ∙ same)
+    (λ v answers same. ap core (finish_keeps v v.round answers) ∙ same)
+
+-- ## A step
+
+-- of a frame, what a step has no part in
+abbrev pub unmoved : Step → Frame → Frame
+unmoved step.Add f = but_live f
+unmoved (step.Del key) f = but_live f
+unmoved (step.New key dir) f = but_listeners f
+unmoved (step.StepEar number waker) f = but_listeners f
+unmoved (step.DropEar number) f = but_listeners f
+unmoved (step.TimerAt deadline) f = but_timers f
+unmoved (step.TimerEvery deadline period) f = but_timers f
+unmoved step.TimerNever f = but_timers f
+unmoved (step.Tick number waker) f = but_timers f
+unmoved (step.SetAt number deadline) f = but_timers f
+unmoved (step.SetEvery number deadline period) f = but_timers f
+unmoved (step.End number) f = but_timers f
+unmoved (step.Now moment) f = record f { now = 0 }
+unmoved (step.Begin limit) f = but_rounds f
+unmoved step.Handle f = but_handled f
+unmoved step.Finish f = but_name f
+unmoved step.React f = core f
+unmoved _ f = f
+
+pub case_keeps : (w : World) (s : Step) (answers : List PollerAnswer) → unmoved s (frame (case_of w s answers).world) ≡ unmoved s (frame w)
+case_keeps w step.Add answers = add_keeps w answers
+case_keeps w (step.Del key) answers = del_keeps w key.0 (serial_of w key.0) answers
+case_keeps w (step.Poll key dir waker) answers = poll_keeps w key.0 dir waker (serial_of w key.0) answers
+case_keeps w (step.New key dir) answers = new_keeps w dir (serial_of w key.0) answers
+case_keeps w (step.StepEar number waker) answers = step_keeps w waker (find (is_listener number) w.listeners) answers
+case_keeps w (step.DropEar number) answers = drop_keeps w number (find (is_listener number) w.listeners) answers
+case_keeps w (step.Tick number waker) answers = tick_keeps w waker (find (is_timer number) w.timers) answers
+case_keeps w (step.SetAt number deadline) answers = set_keeps w deadline None (find (is_timer number) w.timers) answers
+case_keeps w (step.SetEvery number deadline period) answers = set_keeps w deadline (Some period) (find (is_timer number) w.timers) answers
+case_keeps w (step.End number) answers = end_keeps w (find (is_timer number) w.timers) answers
+case_keeps w (step.Now moment) answers = either (λ o. unmoved (step.Now moment) (frame o.world) ≡ unmoved (step.Now moment) (frame w)) (nat_lt moment w.now) _ _ refl refl
+case_keeps w (step.Begin limit) answers = begin_keeps w limit answers
+case_keeps w step.Wait answers = wait_keeps w w.round answers refl
+case_keeps w step.Handle answers = handle_keeps w w.round answers refl
+case_keeps w step.Finish answers = finish_keeps w w.round answers
+case_keeps w step.React answers = react_keeps w answers
+case_keeps w _ answers = refl

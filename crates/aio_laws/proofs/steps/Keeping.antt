@@ -1,6 +1,6 @@
 -- What a timer keeps of its registration after a step.
 use Rattle.std.proofs.Common.{◌≡◌, ℕ, ◌+◌, Bool, true, false, not, cond, ◌&&◌, ◌||◌, ◌==◌, List, [], ◌∷◌, ◌++◌, map, find, Option, None, Some, is_some, option_map, refl, ap, ◌∙◌, sym, subst, ⊎_elim}
-use Rattle.std.specs.Prelude.{nat_lt, nat_le}
+use Rattle.std.specs.Prelude.{nat_le}
 use Rattle.std.specs.List.{filter}
 use Rattle.std.proofs.lemmas.Bool.{cases_Bool, cond_both, cond-true, cond-false, eq-eqb, eqb-true}
 use Rattle.std.proofs.lemmas.List.Folds.{find-append}
@@ -9,14 +9,13 @@ use Rattle.aio_base.specs.declared.steps.Step.{Step}
 use Rattle.aio_base.specs.declared.steps.Step.TheVariants as step
 use Rattle.aio_base.specs.declared.steps.Answer.{Answer}
 use Rattle.aio_base.specs.declared.steps.Answer.TheVariants as answer
-use Rattle.aio_base.specs.World.{PollerAnswer, TimerEntry, World, serial_of}
-use Rattle.aio_base.specs.Machine.{Outcome, quiet, is_waker, is_listener, is_timer, with_timer, unregistered, registered, next_deadline, tick_timer, set_timer, end_timer, case_of, step_result}
+use Rattle.aio_base.specs.World.{PollerAnswer, TimerEntry, World}
+use Rattle.aio_base.specs.Machine.{Outcome, is_waker, is_timer, with_timer, unregistered, registered, next_deadline, tick_timer, set_timer, end_timer, case_of, step_result}
 use Rattle.aio_base.proofs.TimerCases.{fired, waiting, tick_deadline, tick_by_deadline, set_deadline, set_by_kept}
 use Rattle.aio_laws.specs.Own.{keeping, registered_with, waits_on, keeping_after, new_timer_entry}
 use Rattle.aio_base.proofs.Membership.{found_is_in}
 use Rattle.aio_base.proofs.Searching.{mapped_found, without_found}
-use Rattle.aio_laws.proofs.steps.Frames.{Frame, add_keeps, del_keeps, poll_keeps, new_keeps, step_keeps, drop_keeps, begin_keeps, wait_keeps, handle_keeps, finish_keeps, gone_keeps}
-use Rattle.aio_laws.proofs.steps.Untouched.{react_keeps}
+use Rattle.aio_laws.proofs.steps.Frames.{Frame, gone_keeps, case_keeps}
 
 -- under each number, what the timer that is found there keeps after a step
 abbrev pub Kept : World → Step → Answer → World → Type 0
@@ -249,20 +248,6 @@ quietly : (w : World) (s : Step) (o : Outcome) → o.world.timers ≡ w.timers
 quietly w s o same none = still w o.world s o.answer (λ n old next there. none n old next) same
 
 case_kept : (w : World) (s : Step) (answers : List PollerAnswer) → Kept w s (case_of w s answers).answer (case_of w s answers).world
-case_kept w step.Add answers = quietly w step.Add (case_of w step.Add answers) (ap (λ (f : Frame). f.timers) (add_keeps w answers)) (λ n old next. refl)
-case_kept w (step.Del key) answers =
-    quietly w (step.Del key) (case_of w (step.Del key) answers) (ap (λ (f : Frame). f.timers) (del_keeps w key.0 (serial_of w key.0) answers)) (λ n old next. refl)
-case_kept w (step.Poll key dir waker) answers =
-    quietly w (step.Poll key dir waker) (case_of w (step.Poll key dir waker) answers)
-    (ap (λ (f : Frame). f.timers) (poll_keeps w key.0 dir waker (serial_of w key.0) answers)) (λ n old next. refl)
-case_kept w (step.New key dir) answers =
-    quietly w (step.New key dir) (case_of w (step.New key dir) answers) (ap (λ (f : Frame). f.timers) (new_keeps w dir (serial_of w key.0) answers)) (λ n old next. refl)
-case_kept w (step.StepEar number waker) answers =
-    quietly w (step.StepEar number waker) (case_of w (step.StepEar number waker) answers)
-    (ap (λ (f : Frame). f.timers) (step_keeps w waker (find (is_listener number) w.listeners) answers)) (λ n old next. refl)
-case_kept w (step.DropEar number) answers =
-    quietly w (step.DropEar number) (case_of w (step.DropEar number) answers)
-    (ap (λ (f : Frame). f.timers) (drop_keeps w number (find (is_listener number) w.listeners) answers)) (λ n old next. refl)
 case_kept w (step.TimerAt deadline) answers =
     made w (case_of w (step.TimerAt deadline) answers).world (step.TimerAt deadline) (answer.Timer (w.timers_made + 1)) (new_timer_entry w (Some deadline) None)
     (λ n old next. refl) refl
@@ -277,20 +262,7 @@ case_kept w (step.SetAt number deadline) answers =
 case_kept w (step.SetEvery number deadline period) answers =
     set_kept w (step.SetEvery number deadline period) number deadline (Some period) (find (is_timer number) w.timers) answers (sets_every w number deadline period) refl
 case_kept w (step.End number) answers = end_kept w number (find (is_timer number) w.timers) answers
-case_kept w (step.Now moment) answers =
-    cond_both (nat_lt moment w.now) _ _ (λ (o : Outcome). Kept w (step.Now moment) o.answer o.world)
-    (λ back. quietly w (step.Now moment) (quiet (answer.Back w.now) w answers) refl (λ n old next. refl))
-    (λ on. quietly w (step.Now moment) (quiet (answer.At moment) (record w { now = moment }) answers) refl (λ n old next. refl))
-case_kept w (step.Begin limit) answers =
-    quietly w (step.Begin limit) (case_of w (step.Begin limit) answers) (ap (λ (f : Frame). f.timers) (begin_keeps w limit answers)) (λ n old next. refl)
-case_kept w step.Wait answers =
-    quietly w step.Wait (case_of w step.Wait answers) (ap (λ (f : Frame). f.timers) (wait_keeps w w.round answers refl)) (λ n old next. refl)
-case_kept w step.Handle answers =
-    quietly w step.Handle (case_of w step.Handle answers) (ap (λ (f : Frame). f.timers) (handle_keeps w w.round answers refl)) (λ n old next. refl)
-case_kept w step.Finish answers =
-    quietly w step.Finish (case_of w step.Finish answers) (ap (λ (f : Frame). f.timers) (finish_keeps w w.round answers)) (λ n old next. refl)
-case_kept w step.React answers = quietly w step.React (case_of w step.React answers) (ap (λ (f : Frame). f.timers) (react_keeps w answers)) (λ n old next. refl)
-case_kept w s answers = quietly w s (case_of w s answers) refl (λ n old next. refl)
+case_kept w s answers = quietly w s (case_of w s answers) (ap (λ (f : Frame). f.timers) (case_keeps w s answers)) (λ n old next. refl)
 
 pub timers_keep : (w : World) (s : Step) (answers : List PollerAnswer) → Kept w s (step_result w s answers).answer (step_result w s answers).world
 unfolding step_result

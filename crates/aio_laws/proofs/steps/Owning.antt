@@ -1,8 +1,8 @@
 -- What a step leaves of its own listener and timer.
 use Rattle.std.proofs.Common.{◌≡◌, ℕ, ◌+◌, ◌≤◌, Bool, true, false, not, cond, ◌&&◌, ◌||◌, ◌==◌, List, [], ◌∷◌, ◌++◌, map, find, Option, None, Some, is_some, refl, ap, ◌∙◌, sym, subst, ⊎_elim}
-use Rattle.std.specs.Prelude.{nat_lt, nat_le, unwrap_or}
+use Rattle.std.specs.Prelude.{nat_le, unwrap_or}
 use Rattle.std.specs.List.{Contains, filter}
-use Rattle.std.proofs.lemmas.Bool.{cases_Bool, cond_both, cond-true, cond-false, eqb-true, le-leb, leb-true, lt-leb}
+use Rattle.std.proofs.lemmas.Bool.{cases_Bool, cond-true, cond-false, eqb-true, le-leb, leb-true, lt-leb}
 use Rattle.std.proofs.lemmas.List.Elements.{Contains-append_left, Contains-push, Contains-push_cases}
 use Rattle.aio_base.specs.declared.names.Key.{Key}
 use Rattle.aio_base.specs.declared.names.Waker.{Waker}
@@ -12,7 +12,7 @@ use Rattle.aio_base.specs.declared.steps.Step.TheVariants as step
 use Rattle.aio_base.specs.declared.steps.Answer.{Answer}
 use Rattle.aio_base.specs.declared.steps.Answer.TheVariants as answer
 use Rattle.aio_base.specs.World.{PollerAnswer, ListenerEntry, TimerEntry, World, serial_of, key_of, is_idle, is_broken, last_moment}
-use Rattle.aio_base.specs.Machine.{Outcome, quiet, is_fresh_since, is_waker, is_listener, with_listening, step_listener, drop_listener, new_listener, is_timer, with_timer, unregistered, next_deadline, tick_timer, set_timer, end_timer, case_of, step_result, left_as, worked, state_of}
+use Rattle.aio_base.specs.Machine.{Outcome, is_fresh_since, is_waker, is_listener, with_listening, step_listener, drop_listener, new_listener, is_timer, with_timer, unregistered, next_deadline, tick_timer, set_timer, end_timer, case_of, step_result, left_as, worked, state_of}
 use Rattle.aio_base.specs.TimerWork.{TimerState, joining, reset_work}
 use Rattle.aio_base.proofs.TimerCases.{fired, tick_deadline, tick_by_deadline, set_deadline, set_by_kept}
 use Rattle.aio_laws.specs.Others.{but_waker}
@@ -20,8 +20,8 @@ use Rattle.aio_laws.specs.Own.{new_listener_entry, new_timer_entry, ComesFrom, S
 use Rattle.aio_laws.proofs.steps.GivingUp.{what_is_given_up_goes}
 use Rattle.aio_laws.proofs.steps.Keeping.{timers_keep}
 use Rattle.aio_base.proofs.Membership.{found_is_in, filtered_is_in, passing_is_kept, mapped_from, image_is_in}
-use Rattle.aio_laws.proofs.steps.Frames.{Frame, either, add_keeps, del_keeps, poll_keeps, new_keeps, step_keeps, drop_keeps, tick_keeps, set_keeps, end_keeps, begin_keeps, wait_keeps, handle_keeps, finish_keeps, gone_keeps}
-use Rattle.aio_laws.proofs.steps.Untouched.{entries, react_keeps, pending_entries}
+use Rattle.aio_laws.proofs.steps.Frames.{Frame, either, new_keeps, step_keeps, drop_keeps, tick_keeps, set_keeps, end_keeps, gone_keeps, case_keeps}
+use Rattle.aio_laws.proofs.steps.Untouched.{entries, pending_entries}
 
 -- ## Listeners
 
@@ -345,15 +345,6 @@ unowned w s o listeners timers none made = record {
 }
 
 case_owns : (w : World) (s : Step) (answers : List PollerAnswer) → Owned w s (case_of w s answers)
-case_owns w step.Add answers =
-    let same = add_keeps w answers in
-    unowned w step.Add (case_of w step.Add answers) (ap entries same) (ap (λ (f : Frame). f.timers) same) (λ n. refl) (λ d p none. absurd none)
-case_owns w (step.Del key) answers =
-    let same = del_keeps w key.0 (serial_of w key.0) answers in
-    unowned w (step.Del key) (case_of w (step.Del key) answers) (ap entries same) (ap (λ (f : Frame). f.timers) same) (λ n. refl) (λ d p none. absurd none)
-case_owns w (step.Poll key dir waker) answers =
-    let same = poll_keeps w key.0 dir waker (serial_of w key.0) answers in
-    unowned w (step.Poll key dir waker) (case_of w (step.Poll key dir waker) answers) (ap entries same) (ap (λ (f : Frame). f.timers) same) (λ n. refl) (λ d p none. absurd none)
 case_owns w (step.New key dir) answers =
     record {
       listeners = new_comes w key dir (serial_of w key.0) answers refl;
@@ -434,26 +425,9 @@ case_owns w (step.End number) answers =
       stay = still_stay w (case_of w (step.End number) answers).world (step.End number) (ap entries (end_keeps w (find (is_timer number) w.timers) answers));
       last = end_last w number (find (is_timer number) w.timers) answers refl;
     }
-case_owns w (step.Now moment) answers =
-    cond_both (nat_lt moment w.now) _ _ (λ (o : Outcome). Owned w (step.Now moment) o)
-    (λ back. unowned w (step.Now moment) (quiet (answer.Back w.now) w answers) refl refl (λ n. refl) (λ d p none. absurd none))
-    (λ on. unowned w (step.Now moment) (quiet (answer.At moment) (record w { now = moment }) answers) refl refl (λ n. refl) (λ d p none. absurd none))
-case_owns w (step.Begin limit) answers =
-    let same = begin_keeps w limit answers in
-    unowned w (step.Begin limit) (case_of w (step.Begin limit) answers) (ap entries same) (ap (λ (f : Frame). f.timers) same) (λ n. refl) (λ d p none. absurd none)
-case_owns w step.Wait answers =
-    let same = wait_keeps w w.round answers refl in
-    unowned w step.Wait (case_of w step.Wait answers) (ap entries same) (ap (λ (f : Frame). f.timers) same) (λ n. refl) (λ d p none. absurd none)
-case_owns w step.Handle answers =
-    let same = handle_keeps w w.round answers refl in
-    unowned w step.Handle (case_of w step.Handle answers) (ap entries same) (ap (λ (f : Frame). f.timers) same) (λ n. refl) (λ d p none. absurd none)
-case_owns w step.Finish answers =
-    let same = finish_keeps w w.round answers in
-    unowned w step.Finish (case_of w step.Finish answers) (ap entries same) (ap (λ (f : Frame). f.timers) same) (λ n. refl) (λ d p none. absurd none)
-case_owns w step.React answers =
-    let same = react_keeps w answers in
-    unowned w step.React (case_of w step.React answers) (ap entries same) (ap (λ (f : Frame). f.timers) same) (λ n. refl) (λ d p none. absurd none)
-case_owns w s answers = unowned w s (case_of w s answers) refl refl (λ n. refl) (λ d p none. absurd none)
+case_owns w s answers =
+    let same = case_keeps w s answers in
+    unowned w s (case_of w s answers) (ap entries same) (ap (λ (f : Frame). f.timers) same) (λ n. refl) (λ d p none. absurd none)
 
 pub keeps_its_own : (w : World) (s : Step) (answers : List PollerAnswer) → KeepsItsOwn w s (step_result w s answers).answer (step_result w s answers).world
 unfolding step_result

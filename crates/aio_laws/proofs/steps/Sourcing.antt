@@ -1,22 +1,21 @@
 -- The sources after a step are those that its answer tells, and a new one has the least free key.
-use Rattle.std.proofs.Common.{◌≡◌, ℕ, ◌+◌, Bool, true, false, not, cond, ◌==◌, List, [], ◌∷◌, ◌++◌, length, find, Option, None, Some, is_some, refl, ap, ◌∙◌, sym, subst}
-use Rattle.std.specs.Prelude.{nat_lt, nat_le}
+use Rattle.std.proofs.Common.{◌≡◌, ℕ, ◌+◌, Bool, true, false, not, cond, ◌==◌, List, [], ◌∷◌, ◌++◌, length, Option, None, Some, is_some, refl, ap, ◌∙◌, sym, subst}
+use Rattle.std.specs.Prelude.{nat_le}
 use Rattle.std.specs.List.{Contains, filter, list_any}
 use Rattle.std.specs.Option.{option_map_or}
-use Rattle.std.proofs.lemmas.Bool.{cond_both, eq-eqb, eqb-true}
+use Rattle.std.proofs.lemmas.Bool.{eq-eqb, eqb-true}
 use Rattle.aio_base.specs.declared.names.Key.{Key}
 use Rattle.aio_base.specs.declared.steps.Step.{Step}
 use Rattle.aio_base.specs.declared.steps.Step.TheVariants as step
 use Rattle.aio_base.specs.declared.steps.Answer.{Answer}
 use Rattle.aio_base.specs.declared.steps.Answer.TheVariants as answer
 use Rattle.aio_base.specs.World.{PollerAnswer, LiveSource, ListenerEntry, World, serial_of}
-use Rattle.aio_base.specs.Machine.{Outcome, fails, next_answer, source_limit, free_key, add, del_source, is_listener, is_timer, case_of, step_result}
+use Rattle.aio_base.specs.Machine.{fails, next_answer, source_limit, free_key, add, del_source, case_of, step_result}
 use Rattle.aio_laws.specs.Sources.{sources_after, serials_after, keys_of, IsLeastFree, TellsOfSources, SourcesFollow}
 use Rattle.aio_base.proofs.Membership.{any_from, any_gives, image_is_in, mapped_from}
 use Rattle.aio_laws.proofs.steps.FreeKeys.{free_key-free, free_key-least}
-use Rattle.aio_laws.proofs.steps.Frames.{Frame, either, poll_keeps, new_keeps, step_keeps, drop_keeps, tick_keeps, set_keeps, end_keeps, begin_keeps, wait_keeps, handle_keeps, finish_keeps}
-use Rattle.aio_laws.proofs.steps.Untouched.{react_keeps}
-use Rattle.aio_laws.proofs.steps.Asides.{Aside, new_leaves, poll_serials, step_leaves, drop_leaves, tick_leaves, set_leaves, end_leaves, begin_leaves, wait_leaves, handle_leaves, finish_leaves, react_leaves}
+use Rattle.aio_laws.proofs.steps.Frames.{Frame, either, case_keeps}
+use Rattle.aio_laws.proofs.steps.Asides.{Aside, leaves_aside}
 
 -- ## The least free key
 
@@ -77,46 +76,7 @@ given a = a.serials
 case_sourced : (w : World) (s : Step) (answers : List PollerAnswer) → Sourced w s (case_of w s answers).answer (case_of w s answers).world
 case_sourced w step.Add answers = add_sourced w answers
 case_sourced w (step.Del key) answers = del_sourced w key (serial_of w key.0) answers refl
-case_sourced w (step.Poll key dir waker) answers =
-    record {
-      live = ap sources (poll_keeps w key.0 dir waker (serial_of w key.0) answers);
-      serials = poll_serials w key.0 dir waker (serial_of w key.0) answers;
-      tells = tt;
-    }
-case_sourced w (step.New key dir) answers =
-    record { live = ap sources (new_keeps w dir (serial_of w key.0) answers); serials = ap given (new_leaves w dir (serial_of w key.0) answers); tells = tt }
-case_sourced w (step.StepEar number waker) answers =
-    let found = find (is_listener number) w.listeners in
-    record { live = ap sources (step_keeps w waker found answers); serials = ap given (step_leaves w waker found answers); tells = tt }
-case_sourced w (step.DropEar number) answers =
-    let found = find (is_listener number) w.listeners in
-    record { live = ap sources (drop_keeps w number found answers); serials = ap given (drop_leaves w number found answers); tells = tt }
-case_sourced w (step.Tick number waker) answers =
-    let found = find (is_timer number) w.timers in
-    record { live = ap sources (tick_keeps w waker found answers); serials = ap given (tick_leaves w waker found answers); tells = tt }
-case_sourced w (step.SetAt number deadline) answers =
-    let found = find (is_timer number) w.timers in
-    record { live = ap sources (set_keeps w deadline None found answers); serials = ap given (set_leaves w deadline None found answers); tells = tt }
-case_sourced w (step.SetEvery number deadline period) answers =
-    let found = find (is_timer number) w.timers in
-    record { live = ap sources (set_keeps w deadline (Some period) found answers); serials = ap given (set_leaves w deadline (Some period) found answers); tells = tt }
-case_sourced w (step.End number) answers =
-    let found = find (is_timer number) w.timers in
-    record { live = ap sources (end_keeps w found answers); serials = ap given (end_leaves w found answers); tells = tt }
-case_sourced w (step.Now moment) answers =
-    cond_both (nat_lt moment w.now) _ _ (λ (o : Outcome). Sourced w (step.Now moment) o.answer o.world)
-    (λ back. record { live = refl; serials = refl; tells = tt }) (λ on. record { live = refl; serials = refl; tells = tt })
-case_sourced w (step.Begin limit) answers =
-    record { live = ap sources (begin_keeps w limit answers); serials = ap given (begin_leaves w limit answers); tells = tt }
-case_sourced w step.Wait answers =
-    record { live = ap sources (wait_keeps w w.round answers refl); serials = ap given (wait_leaves w w.round answers); tells = tt }
-case_sourced w step.Handle answers =
-    record { live = ap sources (handle_keeps w w.round answers refl); serials = ap given (handle_leaves w w.round answers); tells = tt }
-case_sourced w step.Finish answers =
-    record { live = ap sources (finish_keeps w w.round answers); serials = ap given (finish_leaves w w.round answers); tells = tt }
-case_sourced w step.React answers =
-    record { live = ap sources (react_keeps w answers); serials = ap given (react_leaves w answers); tells = tt }
-case_sourced w _ answers = record { live = refl; serials = refl; tells = tt }
+case_sourced w s answers = record { live = ap sources (case_keeps w s answers); serials = ap given (leaves_aside w s answers); tells = tt }
 
 pub sources_follow : (w : World) (s : Step) (answers : List PollerAnswer) → SourcesFollow w s (step_result w s answers).answer (step_result w s answers).world
 unfolding step_result

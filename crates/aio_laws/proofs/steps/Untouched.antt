@@ -1,15 +1,15 @@
 -- A step leaves each source, listener and timer alone but its own.
 use Rattle.std.proofs.Common.{◌≡◌, ℕ, ◌+◌, Bool, true, false, not, cond, ◌||◌, ◌==◌, List, [], ◌∷◌, ◌++◌, length, map, find, Option, None, Some, is_some, refl, ap, ◌∙◌, sym, subst}
-use Rattle.std.specs.Prelude.{nat_lt, nat_le, unwrap_or}
+use Rattle.std.specs.Prelude.{nat_le, unwrap_or}
 use Rattle.std.specs.List.{filter, list_any}
 use Rattle.std.specs.Option.{option_map_or}
-use Rattle.std.proofs.lemmas.Bool.{cond_both, eq-eqb, eqb-true}
+use Rattle.std.proofs.lemmas.Bool.{eq-eqb, eqb-true}
 use Rattle.aio_base.specs.declared.names.Waker.{Waker}
 use Rattle.aio_base.specs.declared.names.Dir.{Dir}
 use Rattle.aio_base.specs.declared.steps.Step.{Step}
 use Rattle.aio_base.specs.declared.steps.Step.TheVariants as step
 use Rattle.aio_base.specs.World.{PollerAnswer, LiveSource, ListenerEntry, TimerEntry, World, serial_of, key_of, is_idle, is_broken}
-use Rattle.aio_base.specs.Machine.{Outcome, fails, next_answer, source_limit, free_key, add, del_source, is_fresh_since, pending, is_listener, with_listening, step_listener, drop_listener, new_listener, is_timer, with_timer, unregistered, registered, tick_timer, set_timer, end_timer, react, case_of, step_result, left_as, worked, state_of}
+use Rattle.aio_base.specs.Machine.{fails, next_answer, source_limit, free_key, add, del_source, is_fresh_since, pending, is_listener, with_listening, step_listener, drop_listener, new_listener, is_timer, with_timer, unregistered, registered, tick_timer, set_timer, end_timer, case_of, step_result, left_as, worked, state_of}
 use Rattle.aio_base.specs.TimerWork.{TimerState, joining, reset_work}
 use Rattle.aio_laws.specs.Others.{is_own_source, but_waker, other_sources, other_listeners, other_timers, OthersStand}
 use Rattle.aio_laws.proofs.steps.Breaking.{broken_stand}
@@ -17,7 +17,7 @@ use Rattle.aio_laws.proofs.steps.Marking.{marks_stand}
 use Rattle.aio_base.proofs.Membership.{found_is_in}
 use Rattle.aio_base.proofs.Searching.{refiltered, unseen_push}
 use Rattle.aio_laws.proofs.rounds.RoundLemmas.{unseen_change}
-use Rattle.aio_laws.proofs.steps.Frames.{Frame, frame, either, either_world, react_any, add_keeps, del_keeps, poll_keeps, new_keeps, step_keeps, drop_keeps, tick_keeps, set_keeps, end_keeps, begin_keeps, wait_keeps, handle_keeps, finish_keeps, gone_keeps}
+use Rattle.aio_laws.proofs.steps.Frames.{Frame, either, either_world, gone_keeps, case_keeps}
 
 -- ## Filtered lists
 
@@ -210,16 +210,6 @@ made_others w deadline period =
 
 -- ## A step
 
--- what every step of a round leaves of a frame
-abbrev core : Frame → Frame
-core f = record f { rounds = 0; begun = []; name = None; handled = [] }
-
-pub react_keeps : (w : World) (answers : List PollerAnswer) → core (frame (react w None answers).world) ≡ core (frame w)
-react_keeps w answers =
-    react_any (λ v. core (frame v) ≡ core (frame w)) w None answers refl (ap core (begin_keeps w None answers))
-    (λ v answers same. ap core (wait_keeps v v.round answers refl) ∙ same) (λ v answers same. ap core (handle_keeps v v.round answers refl) ∙ same)
-    (λ v answers same. ap core (finish_keeps v v.round answers) ∙ same)
-
 -- a step of no source, of no listener, of no timer
 abbrev all_sources : Frame → List LiveSource
 all_sources f = filter (λ (x : LiveSource). not false) f.live
@@ -230,138 +220,38 @@ all_timers f = filter (λ (t : TimerEntry). not false) f.timers
 abbrev pub entries : Frame → List ListenerEntry
 entries f = f.listeners
 
-record Standing (w : World) (s : Step) (v : World) : Type 0 where
-  sources : other_sources w s v ≡ other_sources w s w
-  listeners : other_listeners w s v ≡ other_listeners w s w
-  timers : other_timers w s v ≡ other_timers w s w
+sources_stand : (w : World) (s : Step) (answers : List PollerAnswer) → other_sources w s (case_of w s answers).world ≡ other_sources w s w
+sources_stand w step.Add answers = add_sources w answers
+sources_stand w (step.Del key) answers =
+    same_filter (λ (x : LiveSource). not (is_own_source w (step.Del key) x)) (λ (x : LiveSource). not (own_serial (serial_of w key.0) x))
+    (λ x. ap not (own_is (serial_of w key.0) x)) (del_source w key.0 (serial_of w key.0) answers).world.live
+    ∙ del_sources w key.0 (serial_of w key.0) answers
+    ∙ sym (same_filter (λ (x : LiveSource). not (is_own_source w (step.Del key) x)) (λ (x : LiveSource). not (own_serial (serial_of w key.0) x))
+    (λ x. ap not (own_is (serial_of w key.0) x)) w.live)
+sources_stand w s answers = ap all_sources (case_keeps w s answers)
 
-case_stands : (w : World) (s : Step) (answers : List PollerAnswer) → Standing w s (case_of w s answers).world
-case_stands w step.Add answers =
-    record {
-      sources = add_sources w answers;
-      listeners = listeners_stand w (case_of w step.Add answers).world (ap entries (add_keeps w answers));
-      timers = ap all_timers (add_keeps w answers);
-    }
-case_stands w (step.Del key) answers =
-    record {
-      sources =
-          same_filter (λ (x : LiveSource). not (is_own_source w (step.Del key) x)) (λ (x : LiveSource). not (own_serial (serial_of w key.0) x))
-          (λ x. ap not (own_is (serial_of w key.0) x)) (del_source w key.0 (serial_of w key.0) answers).world.live
-          ∙ del_sources w key.0 (serial_of w key.0) answers
-          ∙ sym (same_filter (λ (x : LiveSource). not (is_own_source w (step.Del key) x)) (λ (x : LiveSource). not (own_serial (serial_of w key.0) x))
-          (λ x. ap not (own_is (serial_of w key.0) x)) w.live);
-      listeners = listeners_stand w (case_of w (step.Del key) answers).world (ap entries (del_keeps w key.0 (serial_of w key.0) answers));
-      timers = ap all_timers (del_keeps w key.0 (serial_of w key.0) answers);
-    }
-case_stands w (step.Poll key dir waker) answers =
-    record {
-      sources = ap all_sources (poll_keeps w key.0 dir waker (serial_of w key.0) answers);
-      listeners = listeners_stand w (case_of w (step.Poll key dir waker) answers).world (ap entries (poll_keeps w key.0 dir waker (serial_of w key.0) answers));
-      timers = ap all_timers (poll_keeps w key.0 dir waker (serial_of w key.0) answers);
-    }
-case_stands w (step.New key dir) answers =
-    record {
-      sources = ap all_sources (new_keeps w dir (serial_of w key.0) answers);
-      listeners = new_others w dir (serial_of w key.0) answers;
-      timers = ap all_timers (new_keeps w dir (serial_of w key.0) answers);
-    }
-case_stands w (step.StepEar number waker) answers =
-    record {
-      sources = ap all_sources (step_keeps w waker (find (is_listener number) w.listeners) answers);
-      listeners = step_others w number waker (find (is_listener number) w.listeners) answers refl;
-      timers = ap all_timers (step_keeps w waker (find (is_listener number) w.listeners) answers);
-    }
-case_stands w (step.DropEar number) answers =
-    record {
-      sources = ap all_sources (drop_keeps w number (find (is_listener number) w.listeners) answers);
-      listeners = drop_others w number (find (is_listener number) w.listeners) answers;
-      timers = ap all_timers (drop_keeps w number (find (is_listener number) w.listeners) answers);
-    }
-case_stands w (step.TimerAt deadline) answers =
-    record {
-      sources = refl;
-      listeners = refl;
-      timers = made_others w (Some deadline) None;
-    }
-case_stands w (step.TimerEvery deadline period) answers =
-    record {
-      sources = refl;
-      listeners = refl;
-      timers = made_others w (Some deadline) (Some period);
-    }
-case_stands w step.TimerNever answers =
-    record {
-      sources = refl;
-      listeners = refl;
-      timers = made_others w None None;
-    }
-case_stands w (step.Tick number waker) answers =
-    record {
-      sources = ap all_sources (tick_keeps w waker (find (is_timer number) w.timers) answers);
-      listeners = listeners_stand w (case_of w (step.Tick number waker) answers).world (ap entries (tick_keeps w waker (find (is_timer number) w.timers) answers));
-      timers = tick_others w number waker (find (is_timer number) w.timers) answers refl;
-    }
-case_stands w (step.SetAt number deadline) answers =
-    record {
-      sources = ap all_sources (set_keeps w deadline None (find (is_timer number) w.timers) answers);
-      listeners = listeners_stand w (case_of w (step.SetAt number deadline) answers).world (ap entries (set_keeps w deadline None (find (is_timer number) w.timers) answers));
-      timers = set_others w number deadline None (find (is_timer number) w.timers) answers refl;
-    }
-case_stands w (step.SetEvery number deadline period) answers =
-    record {
-      sources = ap all_sources (set_keeps w deadline (Some period) (find (is_timer number) w.timers) answers);
-      listeners = listeners_stand w (case_of w (step.SetEvery number deadline period) answers).world (ap entries (set_keeps w deadline (Some period) (find (is_timer number) w.timers) answers));
-      timers = set_others w number deadline (Some period) (find (is_timer number) w.timers) answers refl;
-    }
-case_stands w (step.End number) answers =
-    record {
-      sources = ap all_sources (end_keeps w (find (is_timer number) w.timers) answers);
-      listeners = listeners_stand w (case_of w (step.End number) answers).world (ap entries (end_keeps w (find (is_timer number) w.timers) answers));
-      timers = end_others w number (find (is_timer number) w.timers) answers refl;
-    }
-case_stands w (step.Now moment) answers =
-    cond_both (nat_lt moment w.now) _ _ (λ (o : Outcome). Standing w (step.Now moment) o.world)
-    (λ back. record { sources = refl; listeners = refl; timers = refl }) (λ on. record { sources = refl; listeners = refl; timers = refl })
-case_stands w (step.Begin limit) answers =
-    record {
-      sources = ap all_sources (begin_keeps w limit answers);
-      listeners = listeners_stand w (case_of w (step.Begin limit) answers).world (ap entries (begin_keeps w limit answers));
-      timers = ap all_timers (begin_keeps w limit answers);
-    }
-case_stands w step.Wait answers =
-    record {
-      sources = ap all_sources (wait_keeps w w.round answers refl);
-      listeners = listeners_stand w (case_of w step.Wait answers).world (ap entries (wait_keeps w w.round answers refl));
-      timers = ap all_timers (wait_keeps w w.round answers refl);
-    }
-case_stands w step.Handle answers =
-    record {
-      sources = ap all_sources (handle_keeps w w.round answers refl);
-      listeners = listeners_stand w (case_of w step.Handle answers).world (ap entries (handle_keeps w w.round answers refl));
-      timers = ap all_timers (handle_keeps w w.round answers refl);
-    }
-case_stands w step.Finish answers =
-    record {
-      sources = ap all_sources (finish_keeps w w.round answers);
-      listeners = listeners_stand w (case_of w step.Finish answers).world (ap entries (finish_keeps w w.round answers));
-      timers = ap all_timers (finish_keeps w w.round answers);
-    }
-case_stands w step.React answers =
-    record {
-      sources = ap all_sources (react_keeps w answers);
-      listeners = listeners_stand w (case_of w step.React answers).world (ap entries (react_keeps w answers));
-      timers = ap all_timers (react_keeps w answers);
-    }
-case_stands w _ answers = record { sources = refl; listeners = refl; timers = refl }
+entries_stand : (w : World) (s : Step) (answers : List PollerAnswer) → other_listeners w s (case_of w s answers).world ≡ other_listeners w s w
+entries_stand w (step.New key dir) answers = new_others w dir (serial_of w key.0) answers
+entries_stand w (step.StepEar number waker) answers = step_others w number waker (find (is_listener number) w.listeners) answers refl
+entries_stand w (step.DropEar number) answers = drop_others w number (find (is_listener number) w.listeners) answers
+entries_stand w s answers = listeners_stand w (case_of w s answers).world (ap entries (case_keeps w s answers))
+
+timers_stand : (w : World) (s : Step) (answers : List PollerAnswer) → other_timers w s (case_of w s answers).world ≡ other_timers w s w
+timers_stand w (step.TimerAt deadline) answers = made_others w (Some deadline) None
+timers_stand w (step.TimerEvery deadline period) answers = made_others w (Some deadline) (Some period)
+timers_stand w step.TimerNever answers = made_others w None None
+timers_stand w (step.Tick number waker) answers = tick_others w number waker (find (is_timer number) w.timers) answers refl
+timers_stand w (step.SetAt number deadline) answers = set_others w number deadline None (find (is_timer number) w.timers) answers refl
+timers_stand w (step.SetEvery number deadline period) answers = set_others w number deadline (Some period) (find (is_timer number) w.timers) answers refl
+timers_stand w (step.End number) answers = end_others w number (find (is_timer number) w.timers) answers refl
+timers_stand w s answers = ap all_timers (case_keeps w s answers)
 
 pub others_stand : (w : World) (s : Step) (answers : List PollerAnswer) → OthersStand w s answers (step_result w s answers).world
 unfolding step_result
-others_stand w s answers =
-    let c = case_stands w s answers in
-    record {
-      sources = c.sources;
-      marks = marks_stand w s answers;
-      broken = broken_stand w s answers;
-      listeners = c.listeners;
-      timers = c.timers;
-    }
+others_stand w s answers = record {
+  sources = sources_stand w s answers;
+  marks = marks_stand w s answers;
+  broken = broken_stand w s answers;
+  listeners = entries_stand w s answers;
+  timers = timers_stand w s answers;
+}
