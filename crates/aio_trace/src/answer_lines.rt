@@ -173,19 +173,11 @@ fn push_end(out: &mut Vec<u8>, end: EndWord) -> Result<(), AllocError>
         (ended_line (codes "end " ++ end_text end))) }
     ensures grown { vec_capacity out.old ≤ vec_capacity out.new }
 {
-    out.extend_from_slice(b"end ")?;
-    out.extend_from_slice(end_line(end))
-}
-
-/// How a round ended, in words, with the line feed behind them.
-fn end_line(end: EndWord) -> &'static [u8]
-    ensures { result.now ≡ ended_line (end_text end) }
-{
-    match end {
-        EndWord::Clean => b"ok\n",
-        EndWord::FaultWait => b"fault wait\n",
-        EndWord::FaultArm => b"fault arm\n",
-    }
+    out.extend_from_slice(match end {
+        EndWord::Clean => b"end ok\n".as_slice(),
+        EndWord::FaultWait => b"end fault wait\n".as_slice(),
+        EndWord::FaultArm => b"end fault arm\n".as_slice(),
+    })
 }
 
 /// Writes the line of a round that begins.

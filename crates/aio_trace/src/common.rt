@@ -2,7 +2,7 @@
 //! digits. They are read from their front in one pass, compiled in place where they are used, and
 //! the arm that read a step hands it on; every other line is left to `reading`.
 
-ghost use Rattle.std.specs.Prelude.{◌≡◌, ◌<◌, ◌≤◌, ◌+◌, ◌^◌, ℕ, [], None, Ok, Some, IfSome, MatchOption, OnSome, length};
+ghost use Rattle.std.specs.Prelude.{◌≡◌, ◌↔◌, ◌<◌, ◌≤◌, ◌+◌, ◌^◌, ℕ, true, [], None, Ok, Some, IfSome, MatchOption, OnSome, length};
 ghost use Rattle.aio_base.specs.World.{last_moment};
 ghost use Rattle.aio_base.specs.Lines.{last_number, words_in};
 ghost use Rattle.aio_base.specs.declared.steps.Step.{Step};
@@ -21,29 +21,53 @@ const MOMENT_DIGITS: usize = 18;
 
 /// Hands the step that a line in its plainest spelling reads as to a taker, in the arm that read it;
 /// `None` for any other line, and then the taker is as it was. The commonest commands are looked for
-/// first.
+/// first, by their first four letters at once.
 #[inline(always)]
 pub(crate) fn take_common<T: StepTaker>(line: &[u8], taker: &mut T) -> Option<T::Answer>
     requires ready { T.is_ready taker.old }
     ensures { MatchOption result (taker.new ≡ taker.old)
         (λ answer. HandsStep T.takes taker.old line.now answer taker.new) }
 {
-    match line {
-        [b'p', b'o', b'l', b'l', b' ', places @ ..] => Some(hand(line, poll_step(places)?, taker)),
-        [b'e', b'v', b'e', b'n', b't', b' ', places @ ..] => {
-            let step = event_step(places)?;
-            Some(hand(line, step, taker))
-        }
-        [b's', b't', b'e', b'p', b' ', places @ ..] => {
-            let (listener, waker) = number_and_waker(places)?;
-            Some(hand(line, Step::StepEar(listener, waker), taker))
-        }
-        [b't', b'i', b'c', b'k', b' ', places @ ..] => {
-            let (timer, waker) = number_and_waker(places)?;
-            Some(hand(line, Step::Tick(timer, waker), taker))
-        }
-        _ => take_rarer(line, taker),
+    let [a, b, c, d, behind @ ..] = line else {
+        return take_rarer(line, taker);
+    };
+    let front = [*a, *b, *c, *d];
+    if are_letters(front, *b"poll") {
+        let [b' ', places @ ..] = behind else {
+            return None;
+        };
+        return Some(hand(line, poll_step(places)?, taker));
     }
+    if are_letters(front, *b"even") {
+        let [b't', b' ', places @ ..] = behind else {
+            return None;
+        };
+        let step = event_step(places)?;
+        return Some(hand(line, step, taker));
+    }
+    if are_letters(front, *b"step") {
+        let [b' ', places @ ..] = behind else {
+            return None;
+        };
+        let (listener, waker) = number_and_waker(places)?;
+        return Some(hand(line, Step::StepEar(listener, waker), taker));
+    }
+    if are_letters(front, *b"tick") {
+        let [b' ', places @ ..] = behind else {
+            return None;
+        };
+        let (timer, waker) = number_and_waker(places)?;
+        return Some(hand(line, Step::Tick(timer, waker), taker));
+    }
+    take_rarer(line, taker)
+}
+
+/// Whether four bytes are these letters, by one comparison.
+#[inline(always)]
+fn are_letters(front: [u8; 4], letters: [u8; 4]) -> bool
+    ensures { (result ≡ true) ↔ (front ≡ letters) }
+{
+    u32::from_le_bytes(front) == u32::from_le_bytes(letters)
 }
 
 /// The same of the other commands.
@@ -60,13 +84,13 @@ fn take_rarer<T: StepTaker>(line: &[u8], taker: &mut T) -> Option<T::Answer>
         b"wait" => Some(hand(line, Step::Wait, taker)),
         b"finish" => Some(hand(line, Step::Finish, taker)),
         b"interrupt" => Some(hand(line, Step::Interrupt, taker)),
-        _ => take_short_command(line, taker),
+        _ => take_with_places(line, taker),
     }
 }
 
-/// The same of the commands of three or four letters that have places.
+/// The same of the other commands that have places.
 #[inline(always)]
-fn take_short_command<T: StepTaker>(line: &[u8], taker: &mut T) -> Option<T::Answer>
+fn take_with_places<T: StepTaker>(line: &[u8], taker: &mut T) -> Option<T::Answer>
     requires ready { T.is_ready taker.old }
     ensures { MatchOption result (taker.new ≡ taker.old)
         (λ answer. HandsStep T.takes taker.old line.now answer taker.new) }
@@ -89,18 +113,6 @@ fn take_short_command<T: StepTaker>(line: &[u8], taker: &mut T) -> Option<T::Ans
             let step = Step::End(whole_number(places)?);
             Some(hand(line, step, taker))
         }
-        _ => take_rarest(line, taker),
-    }
-}
-
-/// The same of the commands that set timers, begin a round or let a call fail.
-#[inline(always)]
-fn take_rarest<T: StepTaker>(line: &[u8], taker: &mut T) -> Option<T::Answer>
-    requires ready { T.is_ready taker.old }
-    ensures { MatchOption result (taker.new ≡ taker.old)
-        (λ answer. HandsStep T.takes taker.old line.now answer taker.new) }
-{
-    match line {
         [b't', b'i', b'm', b'e', b'r', b' ', choice @ ..] => take_timer(line, choice, taker),
         [b's', b'e', b't', b' ', places @ ..] => take_set(line, places, taker),
         [b'b', b'e', b'g', b'i', b'n', b' ', places @ ..] => {
