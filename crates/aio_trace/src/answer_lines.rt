@@ -1,10 +1,9 @@
 //! The lines of answers and wakes.
 
-ghost use Rattle.std.specs.Prelude.{◌≡◌, ◌≤◌, ◌++◌, [], codes, decimal, flat_map};
-ghost use Rattle.std.specs.Prelude.{OnErr, OnOk, vec_capacity};
+ghost use Rattle.std.specs.Prelude.{◌≡◌, ◌≤◌, ◌++◌, [], codes, decimal, flat_map, OnErr, OnOk};
 ghost use Rattle.aio_base.specs.Script.{reply_text};
 ghost use Rattle.aio_base.specs.Text.{answer_line, end_text, ended_line, fault_text, limit_text};
-ghost use Rattle.aio_trace.specs.Writing.{KeepsFront, LacksRoom};
+ghost use Rattle.aio_trace.specs.Writing.{Pushes};
 
 use crate::writing::{push_number, push_numbered};
 use aio_base::{Answer, EndWord, Key, Waker};
@@ -20,13 +19,9 @@ pub(crate) fn push_reply(
     wakes: &mut Vec<Waker>,
     out: &mut Vec<u8>,
 ) -> Result<(), AllocError>
-    ensures ok { OnOk result (out.new.items
-        ≡ out.old.items ++ reply_text answer wakes.old.items) }
+    ensures pushes { Pushes out.old out.new (reply_text answer wakes.old.items) result }
     ensures taken { OnOk result (wakes.new.items ≡ []) }
     ensures left { OnErr result (wakes.new.items ≡ wakes.old.items) }
-    ensures kept { OnErr result (KeepsFront out.old.items out.new.items) }
-    ensures full { OnErr result (LacksRoom (vec_capacity out.old) out.old.items
-        (reply_text answer wakes.old.items)) }
 {
     push_answer(answer, out)?;
     if wakes.is_empty() {
@@ -41,12 +36,8 @@ pub(crate) fn push_reply(
 #[inline(never)]
 #[tactic(auto, unfolding(aio_base::specs::Text::answer_line))]
 fn push_wakes(wakes: &[Waker], out: &mut Vec<u8>) -> Result<(), AllocError>
-    ensures ok { OnOk result (out.new.items ≡ out.old.items
-        ++ flat_map (λ waker. ended_line (answer_line (Answer.Wake waker))) wakes.now) }
-    ensures kept { OnErr result (KeepsFront out.old.items out.new.items) }
-    ensures full { OnErr result (LacksRoom (vec_capacity out.old) out.old.items
-        (flat_map (λ waker. ended_line (answer_line (Answer.Wake waker))) wakes.now)) }
-    ensures grown { vec_capacity out.old ≤ vec_capacity out.new }
+    ensures pushes { Pushes out.old out.new
+        (flat_map (λ waker. ended_line (answer_line (Answer.Wake waker))) wakes.now) result }
 {
     for waker in wakes {
         push_wake(out, *waker)?;
@@ -57,12 +48,7 @@ fn push_wakes(wakes: &[Waker], out: &mut Vec<u8>) -> Result<(), AllocError>
 /// Writes the line of a wake.
 #[inline]
 fn push_wake(out: &mut Vec<u8>, waker: Waker) -> Result<(), AllocError>
-    ensures ok { OnOk result (out.new.items
-        ≡ out.old.items ++ ended_line (codes "wake " ++ decimal waker.0)) }
-    ensures kept { OnErr result (KeepsFront out.old.items out.new.items) }
-    ensures full { OnErr result (LacksRoom (vec_capacity out.old) out.old.items
-        (ended_line (codes "wake " ++ decimal waker.0))) }
-    ensures grown { vec_capacity out.old ≤ vec_capacity out.new }
+    ensures pushes { Pushes out.old out.new (ended_line (codes "wake " ++ decimal waker.0)) result }
 {
     push_numbered(out, b"wake ", u64::from(waker.0))
 }
@@ -72,11 +58,7 @@ fn push_wake(out: &mut Vec<u8>, waker: Waker) -> Result<(), AllocError>
 #[inline]
 #[tactic(auto, unfolding(aio_base::specs::Text::answer_line))]
 pub(crate) fn push_answer(answer: Answer, out: &mut Vec<u8>) -> Result<(), AllocError>
-    ensures ok { OnOk result (out.new.items ≡ out.old.items ++ ended_line (answer_line answer)) }
-    ensures kept { OnErr result (KeepsFront out.old.items out.new.items) }
-    ensures full { OnErr result (LacksRoom (vec_capacity out.old) out.old.items
-        (ended_line (answer_line answer))) }
-    ensures grown { vec_capacity out.old ≤ vec_capacity out.new }
+    ensures pushes { Pushes out.old out.new (ended_line (answer_line answer)) result }
 {
     match answer {
         Answer::Ready => out.extend_from_slice(b"ready\n"),
@@ -121,13 +103,8 @@ pub(crate) fn push_answer(answer: Answer, out: &mut Vec<u8>) -> Result<(), Alloc
 
 /// Writes the line of a whole round.
 fn push_round(out: &mut Vec<u8>, number: u64, events: u32, end: EndWord) -> Result<(), AllocError>
-    ensures ok { OnOk result (out.new.items ≡ out.old.items ++ ended_line (codes "round "
-        ++ decimal number ++ codes " events " ++ decimal events ++ codes " " ++ end_text end)) }
-    ensures kept { OnErr result (KeepsFront out.old.items out.new.items) }
-    ensures full { OnErr result (LacksRoom (vec_capacity out.old) out.old.items
-        (ended_line (codes "round " ++ decimal number ++ codes " events " ++ decimal events
-        ++ codes " " ++ end_text end))) }
-    ensures grown { vec_capacity out.old ≤ vec_capacity out.new }
+    ensures pushes { Pushes out.old out.new (ended_line (codes "round " ++ decimal number
+        ++ codes " events " ++ decimal events ++ codes " " ++ end_text end)) result }
 {
     match end {
         EndWord::Clean => push_round_line(out, number, events, b" ok\n"),
@@ -145,12 +122,8 @@ fn push_round_line<const N: usize>(
     end: &[u8; N],
 ) -> Result<(), AllocError>
     requires { N ≤ 12 }
-    ensures ok { OnOk result (out.new.items ≡ out.old.items ++ (codes "round "
-        ++ decimal number ++ codes " events " ++ decimal events ++ end.now)) }
-    ensures kept { OnErr result (KeepsFront out.old.items out.new.items) }
-    ensures full { OnErr result (LacksRoom (vec_capacity out.old) out.old.items
-        (codes "round " ++ decimal number ++ codes " events " ++ decimal events ++ end.now)) }
-    ensures grown { vec_capacity out.old ≤ vec_capacity out.new }
+    ensures pushes { Pushes out.old out.new (codes "round " ++ decimal number ++ codes " events "
+        ++ decimal events ++ end.now) result }
 {
     let mut line = [0; 72];
     let end_at = 72 - N;
@@ -166,12 +139,7 @@ fn push_round_line<const N: usize>(
 
 /// Writes the line of the end of a round.
 fn push_end(out: &mut Vec<u8>, end: EndWord) -> Result<(), AllocError>
-    ensures ok { OnOk result (out.new.items
-        ≡ out.old.items ++ ended_line (codes "end " ++ end_text end)) }
-    ensures kept { OnErr result (KeepsFront out.old.items out.new.items) }
-    ensures full { OnErr result (LacksRoom (vec_capacity out.old) out.old.items
-        (ended_line (codes "end " ++ end_text end))) }
-    ensures grown { vec_capacity out.old ≤ vec_capacity out.new }
+    ensures pushes { Pushes out.old out.new (ended_line (codes "end " ++ end_text end)) result }
 {
     out.extend_from_slice(match end {
         EndWord::Clean => b"end ok\n".as_slice(),
@@ -182,12 +150,8 @@ fn push_end(out: &mut Vec<u8>, end: EndWord) -> Result<(), AllocError>
 
 /// Writes the line of a round that begins.
 fn push_begin(out: &mut Vec<u8>, number: u64, limit: Option<u64>) -> Result<(), AllocError>
-    ensures ok { OnOk result (out.new.items ≡ out.old.items ++ ended_line (codes "begin "
-        ++ decimal number ++ codes " wait " ++ limit_text limit)) }
-    ensures kept { OnErr result (KeepsFront out.old.items out.new.items) }
-    ensures full { OnErr result (LacksRoom (vec_capacity out.old) out.old.items
-        (ended_line (codes "begin " ++ decimal number ++ codes " wait " ++ limit_text limit))) }
-    ensures grown { vec_capacity out.old ≤ vec_capacity out.new }
+    ensures pushes { Pushes out.old out.new (ended_line (codes "begin " ++ decimal number
+        ++ codes " wait " ++ limit_text limit)) result }
 {
     out.extend_from_slice(b"begin ")?;
     push_number(out, number)?;
@@ -196,12 +160,8 @@ fn push_begin(out: &mut Vec<u8>, number: u64, limit: Option<u64>) -> Result<(), 
 
 /// Writes the end of that line: how long the round may wait.
 fn push_wait(out: &mut Vec<u8>, limit: Option<u64>) -> Result<(), AllocError>
-    ensures ok { OnOk result (out.new.items ≡ out.old.items ++ ended_line (codes " wait "
-        ++ limit_text limit)) }
-    ensures kept { OnErr result (KeepsFront out.old.items out.new.items) }
-    ensures full { OnErr result (LacksRoom (vec_capacity out.old) out.old.items
-        (ended_line (codes " wait " ++ limit_text limit))) }
-    ensures grown { vec_capacity out.old ≤ vec_capacity out.new }
+    ensures pushes { Pushes out.old out.new (ended_line (codes " wait "
+        ++ limit_text limit)) result }
 {
     match limit {
         None => out.extend_from_slice(b" wait none\n"),
@@ -211,12 +171,8 @@ fn push_wait(out: &mut Vec<u8>, limit: Option<u64>) -> Result<(), AllocError>
 
 /// Writes the line of an event that was handled.
 fn push_handled(out: &mut Vec<u8>, key: Key, fault: bool) -> Result<(), AllocError>
-    ensures ok { OnOk result (out.new.items ≡ out.old.items ++ ended_line (codes "handled "
-        ++ decimal key.0 ++ fault_text fault)) }
-    ensures kept { OnErr result (KeepsFront out.old.items out.new.items) }
-    ensures full { OnErr result (LacksRoom (vec_capacity out.old) out.old.items
-        (ended_line (codes "handled " ++ decimal key.0 ++ fault_text fault))) }
-    ensures grown { vec_capacity out.old ≤ vec_capacity out.new }
+    ensures pushes { Pushes out.old out.new (ended_line (codes "handled " ++ decimal key.0
+        ++ fault_text fault)) result }
 {
     if !fault {
         return push_numbered(out, b"handled ", u64::from(key.0));

@@ -1,9 +1,9 @@
 //! The lines of steps.
 
-ghost use Rattle.std.specs.Prelude.{◌≡◌, ◌≤◌, ◌++◌, codes, decimal, OnErr, OnOk, vec_capacity};
+ghost use Rattle.std.specs.Prelude.{◌++◌, codes, decimal};
 ghost use Rattle.aio_base.specs.Lines.{IsInRange, written_line};
 ghost use Rattle.aio_base.specs.Text.{dir_text, ended_line, flags_text, limit_text, which_text};
-ghost use Rattle.aio_trace.specs.Writing.{KeepsFront, LacksRoom};
+ghost use Rattle.aio_trace.specs.Writing.{Pushes};
 
 use crate::writing::{push_number, push_numbered};
 use aio_base::{Dir, Event, Key, Moment, Step, Waker, Which};
@@ -13,11 +13,7 @@ use std::alloc::AllocError;
 #[tactic(auto, unfolding(aio_base::specs::Lines::written_line))]
 pub(crate) fn push_step(step: &Step, out: &mut Vec<u8>) -> Result<(), AllocError>
     requires { IsInRange step.now }
-    ensures ok { OnOk result (out.new.items ≡ out.old.items ++ ended_line (written_line step.now)) }
-    ensures kept { OnErr result (KeepsFront out.old.items out.new.items) }
-    ensures full { OnErr result (LacksRoom (vec_capacity out.old) out.old.items
-        (ended_line (written_line step.now))) }
-    ensures grown { vec_capacity out.old ≤ vec_capacity out.new }
+    ensures pushes { Pushes out.old out.new (ended_line (written_line step.now)) result }
 {
     match *step {
         Step::Add => out.extend_from_slice(b"add\n"),
@@ -51,13 +47,8 @@ pub(crate) fn push_step(step: &Step, out: &mut Vec<u8>) -> Result<(), AllocError
 
 /// Writes the line of a poll of a source.
 fn push_poll(out: &mut Vec<u8>, key: Key, direction: Dir, waker: Waker) -> Result<(), AllocError>
-    ensures ok { OnOk result (out.new.items ≡ out.old.items ++ ended_line (codes "poll "
-        ++ decimal key.0 ++ codes " " ++ dir_text direction ++ codes " " ++ decimal waker.0)) }
-    ensures kept { OnErr result (KeepsFront out.old.items out.new.items) }
-    ensures full { OnErr result (LacksRoom (vec_capacity out.old) out.old.items
-        (ended_line (codes "poll " ++ decimal key.0 ++ codes " " ++ dir_text direction
-        ++ codes " " ++ decimal waker.0))) }
-    ensures grown { vec_capacity out.old ≤ vec_capacity out.new }
+    ensures pushes { Pushes out.old out.new (ended_line (codes "poll " ++ decimal key.0 ++ codes " "
+        ++ dir_text direction ++ codes " " ++ decimal waker.0)) result }
 {
     out.extend_from_slice(b"poll ")?;
     push_number(out, u64::from(key.0))?;
@@ -66,12 +57,8 @@ fn push_poll(out: &mut Vec<u8>, key: Key, direction: Dir, waker: Waker) -> Resul
 
 /// Writes the end of the line of a poll: its direction and its waker.
 fn push_poller(out: &mut Vec<u8>, direction: Dir, waker: Waker) -> Result<(), AllocError>
-    ensures ok { OnOk result (out.new.items ≡ out.old.items ++ ended_line (codes " "
-        ++ dir_text direction ++ codes " " ++ decimal waker.0)) }
-    ensures kept { OnErr result (KeepsFront out.old.items out.new.items) }
-    ensures full { OnErr result (LacksRoom (vec_capacity out.old) out.old.items
-        (ended_line (codes " " ++ dir_text direction ++ codes " " ++ decimal waker.0))) }
-    ensures grown { vec_capacity out.old ≤ vec_capacity out.new }
+    ensures pushes { Pushes out.old out.new (ended_line (codes " " ++ dir_text direction
+        ++ codes " " ++ decimal waker.0)) result }
 {
     match direction {
         Dir::Read => push_numbered(out, b" r ", u64::from(waker.0)),
@@ -81,12 +68,8 @@ fn push_poller(out: &mut Vec<u8>, direction: Dir, waker: Waker) -> Result<(), Al
 
 /// Writes the line of a new listener.
 fn push_new(out: &mut Vec<u8>, key: Key, direction: Dir) -> Result<(), AllocError>
-    ensures ok { OnOk result (out.new.items ≡ out.old.items ++ ended_line (codes "new "
-        ++ decimal key.0 ++ codes " " ++ dir_text direction)) }
-    ensures kept { OnErr result (KeepsFront out.old.items out.new.items) }
-    ensures full { OnErr result (LacksRoom (vec_capacity out.old) out.old.items
-        (ended_line (codes "new " ++ decimal key.0 ++ codes " " ++ dir_text direction))) }
-    ensures grown { vec_capacity out.old ≤ vec_capacity out.new }
+    ensures pushes { Pushes out.old out.new (ended_line (codes "new " ++ decimal key.0 ++ codes " "
+        ++ dir_text direction)) result }
 {
     out.extend_from_slice(b"new ")?;
     push_number(out, u64::from(key.0))?;
@@ -98,12 +81,8 @@ fn push_new(out: &mut Vec<u8>, key: Key, direction: Dir) -> Result<(), AllocErro
 
 /// Writes a line of words and two numbers.
 fn push_two(out: &mut Vec<u8>, words: &[u8], first: u64, second: u64) -> Result<(), AllocError>
-    ensures ok { OnOk result (out.new.items ≡ out.old.items ++ ended_line (words.now
-        ++ decimal first ++ codes " " ++ decimal second)) }
-    ensures kept { OnErr result (KeepsFront out.old.items out.new.items) }
-    ensures full { OnErr result (LacksRoom (vec_capacity out.old) out.old.items
-        (ended_line (words.now ++ decimal first ++ codes " " ++ decimal second))) }
-    ensures grown { vec_capacity out.old ≤ vec_capacity out.new }
+    ensures pushes { Pushes out.old out.new (ended_line (words.now ++ decimal first ++ codes " "
+        ++ decimal second)) result }
 {
     out.extend_from_slice(words)?;
     push_number(out, first)?;
@@ -112,12 +91,8 @@ fn push_two(out: &mut Vec<u8>, words: &[u8], first: u64, second: u64) -> Result<
 
 /// Writes the line that sets a timer to a deadline.
 fn push_set_at(out: &mut Vec<u8>, timer: u32, deadline: Moment) -> Result<(), AllocError>
-    ensures ok { OnOk result (out.new.items ≡ out.old.items ++ ended_line (codes "set "
-        ++ decimal timer ++ codes " at " ++ decimal deadline)) }
-    ensures kept { OnErr result (KeepsFront out.old.items out.new.items) }
-    ensures full { OnErr result (LacksRoom (vec_capacity out.old) out.old.items
-        (ended_line (codes "set " ++ decimal timer ++ codes " at " ++ decimal deadline))) }
-    ensures grown { vec_capacity out.old ≤ vec_capacity out.new }
+    ensures pushes { Pushes out.old out.new (ended_line (codes "set " ++ decimal timer
+        ++ codes " at " ++ decimal deadline)) result }
 {
     out.extend_from_slice(b"set ")?;
     push_number(out, u64::from(timer))?;
@@ -131,13 +106,8 @@ fn push_set_every(
     deadline: Moment,
     period: u64,
 ) -> Result<(), AllocError>
-    ensures ok { OnOk result (out.new.items ≡ out.old.items ++ ended_line (codes "set "
-        ++ decimal timer ++ codes " every " ++ decimal deadline ++ codes " " ++ decimal period)) }
-    ensures kept { OnErr result (KeepsFront out.old.items out.new.items) }
-    ensures full { OnErr result (LacksRoom (vec_capacity out.old) out.old.items
-        (ended_line (codes "set " ++ decimal timer ++ codes " every " ++ decimal deadline
-        ++ codes " " ++ decimal period))) }
-    ensures grown { vec_capacity out.old ≤ vec_capacity out.new }
+    ensures pushes { Pushes out.old out.new (ended_line (codes "set " ++ decimal timer
+        ++ codes " every " ++ decimal deadline ++ codes " " ++ decimal period)) result }
 {
     out.extend_from_slice(b"set ")?;
     push_number(out, u64::from(timer))?;
@@ -146,12 +116,8 @@ fn push_set_every(
 
 /// Writes the line of an event.
 fn push_event(out: &mut Vec<u8>, event: Event) -> Result<(), AllocError>
-    ensures ok { OnOk result (out.new.items ≡ out.old.items ++ ended_line (codes "event "
-        ++ decimal event.key.0 ++ codes " " ++ flags_text event.on)) }
-    ensures kept { OnErr result (KeepsFront out.old.items out.new.items) }
-    ensures full { OnErr result (LacksRoom (vec_capacity out.old) out.old.items
-        (ended_line (codes "event " ++ decimal event.key.0 ++ codes " " ++ flags_text event.on))) }
-    ensures grown { vec_capacity out.old ≤ vec_capacity out.new }
+    ensures pushes { Pushes out.old out.new (ended_line (codes "event " ++ decimal event.key.0
+        ++ codes " " ++ flags_text event.on)) result }
 {
     out.extend_from_slice(b"event ")?;
     push_number(out, u64::from(event.key.0))?;
@@ -165,12 +131,8 @@ fn push_event(out: &mut Vec<u8>, event: Event) -> Result<(), AllocError>
 
 /// Writes the line of a fault.
 fn push_fault(out: &mut Vec<u8>, kind: Which) -> Result<(), AllocError>
-    ensures ok { OnOk result (out.new.items ≡ out.old.items ++ ended_line (codes "fault "
-        ++ which_text kind)) }
-    ensures kept { OnErr result (KeepsFront out.old.items out.new.items) }
-    ensures full { OnErr result (LacksRoom (vec_capacity out.old) out.old.items
-        (ended_line (codes "fault " ++ which_text kind))) }
-    ensures grown { vec_capacity out.old ≤ vec_capacity out.new }
+    ensures pushes { Pushes out.old out.new (ended_line (codes "fault "
+        ++ which_text kind)) result }
 {
     out.extend_from_slice(match kind {
         Which::Add => b"fault add\n".as_slice(),
@@ -182,12 +144,8 @@ fn push_fault(out: &mut Vec<u8>, kind: Which) -> Result<(), AllocError>
 
 /// Writes the line that begins a round.
 fn push_begin_step(out: &mut Vec<u8>, limit: Option<u64>) -> Result<(), AllocError>
-    ensures ok { OnOk result (out.new.items ≡ out.old.items ++ ended_line (codes "begin "
-        ++ limit_text limit)) }
-    ensures kept { OnErr result (KeepsFront out.old.items out.new.items) }
-    ensures full { OnErr result (LacksRoom (vec_capacity out.old) out.old.items
-        (ended_line (codes "begin " ++ limit_text limit))) }
-    ensures grown { vec_capacity out.old ≤ vec_capacity out.new }
+    ensures pushes { Pushes out.old out.new (ended_line (codes "begin "
+        ++ limit_text limit)) result }
 {
     match limit {
         None => out.extend_from_slice(b"begin none\n"),

@@ -5,7 +5,7 @@ ghost use Rattle.std.specs.Prelude.{◌≡◌, ◌≤◌, ◌++◌, [], decimal,
 ghost use Rattle.aio_base.specs.Lines.{IsInRange, written_line};
 ghost use Rattle.aio_base.specs.Script.{reply_text};
 ghost use Rattle.aio_base.specs.Text.{answer_line, ended_line};
-ghost use Rattle.aio_trace.specs.Writing.{KeepsFront, LacksRoom};
+ghost use Rattle.aio_trace.specs.Writing.{LacksRoom, Pushes};
 
 use crate::answer_lines::{push_answer, push_reply};
 use crate::step_lines::push_step;
@@ -98,12 +98,7 @@ pub(crate) fn push_numbered<const N: usize>(
     number: u64,
 ) -> Result<(), AllocError>
     requires { N ≤ 11 }
-    ensures ok { OnOk result (out.new.items
-        ≡ out.old.items ++ ended_line (word.now ++ decimal number)) }
-    ensures kept { OnErr result (KeepsFront out.old.items out.new.items) }
-    ensures full { OnErr result (LacksRoom (vec_capacity out.old) out.old.items
-        (ended_line (word.now ++ decimal number))) }
-    ensures grown { vec_capacity out.old ≤ vec_capacity out.new }
+    ensures pushes { Pushes out.old out.new (ended_line (word.now ++ decimal number)) result }
 {
     let len = out.len();
     if out.capacity() - len < 32 {
@@ -128,12 +123,7 @@ fn push_close<const N: usize>(
     number: u64,
 ) -> Result<(), AllocError>
     requires { N ≤ 11 }
-    ensures ok { OnOk result (out.new.items
-        ≡ out.old.items ++ ended_line (word.now ++ decimal number)) }
-    ensures kept { OnErr result (KeepsFront out.old.items out.new.items) }
-    ensures full { OnErr result (LacksRoom (vec_capacity out.old) out.old.items
-        (ended_line (word.now ++ decimal number))) }
-    ensures grown { vec_capacity out.old ≤ vec_capacity out.new }
+    ensures pushes { Pushes out.old out.new (ended_line (word.now ++ decimal number)) result }
 {
     let mut line = [b'\n'; 32];
     let digits = write_digits(number, &mut line, 31);
@@ -144,10 +134,7 @@ fn push_close<const N: usize>(
 
 /// Writes a number in decimal digits.
 pub(crate) fn push_number(out: &mut Vec<u8>, number: u64) -> Result<(), AllocError>
-    ensures ok { OnOk result (out.new.items ≡ out.old.items ++ decimal number) }
-    ensures kept { OnErr result (KeepsFront out.old.items out.new.items) }
-    ensures full { OnErr result (LacksRoom (vec_capacity out.old) out.old.items (decimal number)) }
-    ensures grown { vec_capacity out.old ≤ vec_capacity out.new }
+    ensures pushes { Pushes out.old out.new (decimal number) result }
 {
     let mut digits = Buffer::new();
     out.extend_from_slice(digits.format(number).as_bytes())

@@ -1,6 +1,7 @@
 -- The line has room for the longest numbers: 6 and 20 bytes, 8 and 20 bytes, and 12 behind them.
 use Rattle.std.proofs.Common.{rules, ◌≡◌, ℕ, ◌-◌, ◌≤◌, List, length, drop, take, ap, arith, length-drop, length-take, length-take-le}
 use Rattle.std.specs.Prelude.{decimal}
+use Rattle.std.proofs.lemmas.Grind.{common_steps}
 use Rattle.std.proofs.lemmas.Fmt.{length-decimal-le}
 use Rattle.std.proofs.lemmas.Slice.{take-put_mid_below}
 use borrow.Rule.Slice.PartMut.{put_mid}
@@ -56,3 +57,13 @@ copy_from_slice-requires-3 g c =
     let six : at - (at - 6) ≡ 6 = omega (arith, few, few_more, c.requires, first, start) in
     let whole : length c.write_digits-number_at.new.buf ≡ 72 = search rules in
     rw six (length-take-le 6 (drop (at - 6) c.write_digits-number_at.new.buf) (omega (arith, few, few_more, c.requires, first, start, whole, length-drop (at - 6) c.write_digits-number_at.new.buf)))
+
+pub returns : goal.returns
+returns g c = record {
+  pushes = record {
+    ok = grind (arith, common_steps);
+    kept = search rules;
+    full = grind (arith, common_steps);
+    grown = search rules;
+  };
+}

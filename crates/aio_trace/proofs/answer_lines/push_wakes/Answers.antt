@@ -1,5 +1,6 @@
-use Rattle.std.proofs.Common.{◌≡◌, refl, ℕ, ◌<◌, ◌≤◌, ◌++◌, List, length, length-append, take, get_or, ap, arith, Result, Ok, Err, flat_map}
+use Rattle.std.proofs.Common.{rules, ◌≡◌, refl, ℕ, ◌<◌, ◌≤◌, ◌++◌, List, length, length-append, take, get_or, ap, arith, Result, Ok, Err, flat_map}
 use Rattle.std.specs.Prelude.{OnErr}
+use Rattle.std.proofs.lemmas.Grind.{common_steps}
 use Rattle.std.proofs.lemmas.List.Folds.{length-flat_map-take}
 use Rattle.aio_base.specs.declared.names.Waker.{Waker}
 use Rattle.aio_base.specs.declared.steps.Answer.TheVariants.{Wake}
@@ -18,9 +19,16 @@ wakes_lack_room : (f : Waker → List ℕ) (old items line : List ℕ) (wakes : 
 wakes_lack_room f old items line wakes i d before capacity le is lt same full =
     omega (arith, le, ap length is, length-append old (flat_map f (take i wakes)), length-flat_map-take f wakes i d lt, full, ap length same)
 
-pub returns-in_err-push_wake-clause-full : goal.returns-in_err-push_wake-clause-full
+pub returns-in_err-push_wake : goal.returns-in_err-push_wake
 unfolding answer_line
-returns-in_err-push_wake-clause-full c =
-    on_err c.from_residual.result _
-    (wakes_lack_room (λ waker. ended_line (answer_line (Wake waker))) c.args.out.now.items _ _ c.args.wakes.now _ _ _ _
-    c.loop-waker.invariant.grown c.loop-waker.invariant.lines c.loop-waker-test.true refl c.in_err-push_wake.ensures.full)
+returns-in_err-push_wake c = record {
+  pushes = record {
+    ok = search rules;
+    kept = grind (arith, common_steps);
+    full =
+        on_err c.from_residual.result _
+        (wakes_lack_room (λ waker. ended_line (answer_line (Wake waker))) c.args.out.now.items _ _ c.args.wakes.now _ _ _ _
+        c.loop-waker.invariant.grown c.loop-waker.invariant.lines c.loop-waker-test.true refl c.in_err-push_wake.ensures.pushes.full);
+    grown = search rules;
+  };
+}

@@ -1,5 +1,6 @@
 use Rattle.std.proofs.Common.{rules, ◌≡◌, ◌-◌, ◌≤◌, length, drop, arith, length-drop, length-take-le}
 use Rattle.std.specs.Prelude.{decimal}
+use Rattle.std.proofs.lemmas.Grind.{common_steps}
 use Rattle.std.proofs.lemmas.Fmt.{length-decimal-le}
 use Rattle.aio_trace.proofs.writing.push_close.Goals as goal
 
@@ -22,3 +23,13 @@ copy_from_slice-requires g c =
     let whole : length c.write_digits-digits.new.buf ≡ 32 = search rules in
     let own : length c.args.word.now ≡ g.row.N = search rules in
     rw (size, own) (length-take-le g.row.N (drop (at - g.row.N) c.write_digits-digits.new.buf) (omega (arith, few, c.requires, start, whole, length-drop (at - g.row.N) c.write_digits-digits.new.buf)))
+
+pub returns : goal.returns
+returns g c = record {
+  pushes = record {
+    ok = grind (arith, common_steps);
+    kept = search rules;
+    full = grind (arith, common_steps);
+    grown = search rules;
+  };
+}

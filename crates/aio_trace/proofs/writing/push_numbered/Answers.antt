@@ -40,8 +40,8 @@ write_digits-count-requires g c =
     let few : length (decimal c.args.number) ≤ 20 = search (rules, length-decimal-le 20) in
     (few, omega arith)
 
-pub returns-clause-ok : goal.returns-clause-ok
-returns-clause-ok g c =
+pub returns : goal.returns
+returns g c =
     let old = c.args.out.now.items in
     let word = c.args.word.now in
     let digits = decimal c.args.number in
@@ -59,7 +59,15 @@ returns-clause-ok g c =
     (omega (arith, size, count, c.write_digits.ensures.start)) (omega (arith, size, count)) few
     (c.write_digits.ensures.before ∙ ap (λ (xs : List ℕ). take c.write_digits.result xs) slice)
     (c.write_digits.ensures.written ∙ ap (λ (xs : List ℕ). decimal c.args.number ++ drop (c.len-len.result + g.row.N + (20 - c.write_digits-count.result)) xs) slice) in
-    c.truncate.ensures.items
-    ∙ ap (λ (xs : List ℕ). take (c.len-len.result + g.row.N + (20 - c.write_digits-count.result) + 1) xs)
-    (written-back _ ms _ c.as_mut_slice.result.now c.write_digits.auto.buf c.as_mut_slice.ensures.value c.as_mut_slice.ensures.len)
-    ∙ placed ∙ append_assoc old word (digits ++ 10 ∷ []) ∙ ap (λ (xs : List ℕ). c.args.out.now.items ++ xs) (sym (append_assoc word digits (10 ∷ [])))
+    record {
+      pushes = record {
+        ok =
+            c.truncate.ensures.items
+            ∙ ap (λ (xs : List ℕ). take (c.len-len.result + g.row.N + (20 - c.write_digits-count.result) + 1) xs)
+            (written-back _ ms _ c.as_mut_slice.result.now c.write_digits.auto.buf c.as_mut_slice.ensures.value c.as_mut_slice.ensures.len)
+            ∙ placed ∙ append_assoc old word (digits ++ 10 ∷ []) ∙ ap (λ (xs : List ℕ). c.args.out.now.items ++ xs) (sym (append_assoc word digits (10 ∷ [])));
+        kept = tt;
+        full = tt;
+        grown = search rules;
+      };
+    }
