@@ -151,30 +151,6 @@ at_end s line (word ∷ words) fits spelled = refl
 
 -- ## Forms
 
-add_tells : (words : List (List ℕ)) → Tells (ended step.Add words) (fault_in [] no_more words) (codes "add" ∷ words)
-add_tells words =
-    at_end (step.Add) (λ words. codes "add" ∷ words) words tt (refl, tt)
-
-interrupt_tells : (words : List (List ℕ)) → Tells (ended step.Interrupt words) (fault_in [] no_more words) (codes "interrupt" ∷ words)
-interrupt_tells words =
-    at_end (step.Interrupt) (λ words. codes "interrupt" ∷ words) words tt (refl, tt)
-
-wait_tells : (words : List (List ℕ)) → Tells (ended step.Wait words) (fault_in [] no_more words) (codes "wait" ∷ words)
-wait_tells words =
-    at_end (step.Wait) (λ words. codes "wait" ∷ words) words tt (refl, tt)
-
-handle_tells : (words : List (List ℕ)) → Tells (ended step.Handle words) (fault_in [] no_more words) (codes "handle" ∷ words)
-handle_tells words =
-    at_end (step.Handle) (λ words. codes "handle" ∷ words) words tt (refl, tt)
-
-finish_tells : (words : List (List ℕ)) → Tells (ended step.Finish words) (fault_in [] no_more words) (codes "finish" ∷ words)
-finish_tells words =
-    at_end (step.Finish) (λ words. codes "finish" ∷ words) words tt (refl, tt)
-
-react_tells : (words : List (List ℕ)) → Tells (ended step.React words) (fault_in [] no_more words) (codes "react" ∷ words)
-react_tells words =
-    at_end (step.React) (λ words. codes "react" ∷ words) words tt (refl, tt)
-
 del_tells : (words : List (List ℕ)) → Tells (del_of words) (fault_in (ANumber ∷ []) no_more words) (codes "del" ∷ words)
 del_tells words =
     at_number _ [] no_more (λ words. codes "del" ∷ words) words (λ key k rest is_key.
@@ -257,22 +233,6 @@ set_every_tells number n is words =
     at_period _ [] no_more (λ words. codes "set" ∷ number ∷ codes "every" ∷ moment ∷ words) rest (λ period p rest is_period.
     at_end (step.SetEvery n t p) (λ words. codes "set" ∷ number ∷ codes "every" ∷ moment ∷ period ∷ words) rest (is.1, is_moment.1, (is_period.1, is_period.2)) (refl, (is.0, (refl, (is_moment.0, (is_period.0, tt)))))))
 
-fault_add_tells : (words : List (List ℕ)) → Tells (ended (step.Fault which.Add) words) (fault_in [] no_more words) (codes "fault" ∷ codes "add" ∷ words)
-fault_add_tells words =
-    at_end (step.Fault which.Add) (λ words. codes "fault" ∷ codes "add" ∷ words) words tt (refl, (refl, tt))
-
-fault_arm_tells : (words : List (List ℕ)) → Tells (ended (step.Fault which.Arm) words) (fault_in [] no_more words) (codes "fault" ∷ codes "arm" ∷ words)
-fault_arm_tells words =
-    at_end (step.Fault which.Arm) (λ words. codes "fault" ∷ codes "arm" ∷ words) words tt (refl, (refl, tt))
-
-fault_remove_tells : (words : List (List ℕ)) → Tells (ended (step.Fault which.Remove) words) (fault_in [] no_more words) (codes "fault" ∷ codes "remove" ∷ words)
-fault_remove_tells words =
-    at_end (step.Fault which.Remove) (λ words. codes "fault" ∷ codes "remove" ∷ words) words tt (refl, (refl, tt))
-
-fault_wait_tells : (words : List (List ℕ)) → Tells (ended (step.Fault which.Wait) words) (fault_in [] no_more words) (codes "fault" ∷ codes "wait" ∷ words)
-fault_wait_tells words =
-    at_end (step.Fault which.Wait) (λ words. codes "fault" ∷ codes "wait" ∷ words) words tt (refl, (refl, tt))
-
 -- a line with a choice
 timer_chosen_tells : (choice : List ℕ) (words : List (List ℕ))
     → Tells (timer_chosen choice words) (fault_of_choice (choose (codes "at") (AMoment ∷ []) ∷ choose (codes "every") (AMoment ∷ APeriod ∷ []) ∷ choose (codes "never") [] ∷ []) (choice ∷ words)) (codes "timer" ∷ choice ∷ words)
@@ -309,13 +269,13 @@ fault_chosen_tells choice words = by_tests (bytes_eq choice (codes "add")) (byte
     by_tests : (t0 t1 t2 t3 : Bool) → bytes_eq choice (codes "add") ≡ t0 → bytes_eq choice (codes "arm") ≡ t1 → bytes_eq choice (codes "remove") ≡ t2 → bytes_eq choice (codes "wait") ≡ t3
         → Tells (cond t0 (ended (step.Fault which.Add) words) (cond t1 (ended (step.Fault which.Arm) words) (cond t2 (ended (step.Fault which.Remove) words) (cond t3 (ended (step.Fault which.Wait) words) (Err fault.Choice))))) (fault_of_chosen (cond t0 (Some (choose (codes "add") [])) (cond t1 (Some (choose (codes "arm") [])) (cond t2 (Some (choose (codes "remove") [])) (cond t3 (Some (choose (codes "wait") [])) None)))) words) (codes "fault" ∷ choice ∷ words)
     by_tests true t1 t2 t3 here e1 e2 e3 =
-        subst (λ word. Tells (ended (step.Fault which.Add) words) (fault_in [] no_more words) (codes "fault" ∷ word ∷ words)) (sym (same_bytes choice (codes "add") here)) (fault_add_tells words)
+        subst (λ word. Tells (ended (step.Fault which.Add) words) (fault_in [] no_more words) (codes "fault" ∷ word ∷ words)) (sym (same_bytes choice (codes "add") here)) (at_end (step.Fault which.Add) (λ words. codes "fault" ∷ codes "add" ∷ words) words tt (refl, (refl, tt)))
     by_tests false true t2 t3 e0 here e2 e3 =
-        subst (λ word. Tells (ended (step.Fault which.Arm) words) (fault_in [] no_more words) (codes "fault" ∷ word ∷ words)) (sym (same_bytes choice (codes "arm") here)) (fault_arm_tells words)
+        subst (λ word. Tells (ended (step.Fault which.Arm) words) (fault_in [] no_more words) (codes "fault" ∷ word ∷ words)) (sym (same_bytes choice (codes "arm") here)) (at_end (step.Fault which.Arm) (λ words. codes "fault" ∷ codes "arm" ∷ words) words tt (refl, (refl, tt)))
     by_tests false false true t3 e0 e1 here e3 =
-        subst (λ word. Tells (ended (step.Fault which.Remove) words) (fault_in [] no_more words) (codes "fault" ∷ word ∷ words)) (sym (same_bytes choice (codes "remove") here)) (fault_remove_tells words)
+        subst (λ word. Tells (ended (step.Fault which.Remove) words) (fault_in [] no_more words) (codes "fault" ∷ word ∷ words)) (sym (same_bytes choice (codes "remove") here)) (at_end (step.Fault which.Remove) (λ words. codes "fault" ∷ codes "remove" ∷ words) words tt (refl, (refl, tt)))
     by_tests false false false true e0 e1 e2 here =
-        subst (λ word. Tells (ended (step.Fault which.Wait) words) (fault_in [] no_more words) (codes "fault" ∷ word ∷ words)) (sym (same_bytes choice (codes "wait") here)) (fault_wait_tells words)
+        subst (λ word. Tells (ended (step.Fault which.Wait) words) (fault_in [] no_more words) (codes "fault" ∷ word ∷ words)) (sym (same_bytes choice (codes "wait") here)) (at_end (step.Fault which.Wait) (λ words. codes "fault" ∷ codes "wait" ∷ words) words tt (refl, (refl, tt)))
     by_tests false false false false e0 e1 e2 e3 = refl
 
 timer_tells : (words : List (List ℕ)) → Tells (timer_of words) (fault_of_choice (choose (codes "at") (AMoment ∷ []) ∷ choose (codes "every") (AMoment ∷ APeriod ∷ []) ∷ choose (codes "never") [] ∷ []) words) (codes "timer" ∷ words)
@@ -399,7 +359,7 @@ of_its_text command.Finish = refl
 of_its_text command.React = refl
 
 form_tells : (c : Command) (words : List (List ℕ)) → Tells (step_of c words) (fault_in_form (Some (form_of c)) words) (command_text c ∷ words)
-form_tells command.Add words = add_tells words
+form_tells command.Add words = at_end step.Add (λ words. codes "add" ∷ words) words tt (refl, tt)
 form_tells command.Del words = del_tells words
 form_tells command.Poll words = poll_tells words
 form_tells command.New words = new_tells words
@@ -412,12 +372,12 @@ form_tells command.End words = end_tells words
 form_tells command.Now words = now_tells words
 form_tells command.Event words = event_tells words
 form_tells command.Fault words = fault_tells words
-form_tells command.Interrupt words = interrupt_tells words
+form_tells command.Interrupt words = at_end step.Interrupt (λ words. codes "interrupt" ∷ words) words tt (refl, tt)
 form_tells command.Begin words = begin_tells words
-form_tells command.Wait words = wait_tells words
-form_tells command.Handle words = handle_tells words
-form_tells command.Finish words = finish_tells words
-form_tells command.React words = react_tells words
+form_tells command.Wait words = at_end step.Wait (λ words. codes "wait" ∷ words) words tt (refl, tt)
+form_tells command.Handle words = at_end step.Handle (λ words. codes "handle" ∷ words) words tt (refl, tt)
+form_tells command.Finish words = at_end step.Finish (λ words. codes "finish" ∷ words) words tt (refl, tt)
+form_tells command.React words = at_end step.React (λ words. codes "react" ∷ words) words tt (refl, tt)
 
 abbrev every_command : List Command
 every_command =
