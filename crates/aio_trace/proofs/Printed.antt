@@ -48,16 +48,13 @@ flags_printed true true = refl
 
 which_printed : (kind : Which) → IsPrinted (which_text kind)
 which_printed which.Add = refl
-which_printed which.Arm = refl
-which_printed which.Remove = refl
-which_printed which.Wait = refl
+which_printed _ = refl
 
 limit_printed : (limit : Option ℕ) → IsPrintedWord (limit_word limit)
 limit_printed None = refl
 limit_printed (Some n) = tt
 
 pub step_printed : (s : Step) → ArePrintedWords (step_words s)
-step_printed step.Add = (refl, tt)
 step_printed (step.Del key) = (refl, (tt, tt))
 step_printed (step.Poll key dir waker) = (refl, (tt, (dir_printed dir, (tt, tt))))
 step_printed (step.New key dir) = (refl, (tt, (dir_printed dir, tt)))
@@ -73,12 +70,8 @@ step_printed (step.End number) = (refl, (tt, tt))
 step_printed (step.Now moment) = (refl, (tt, tt))
 step_printed (step.Note event) = (refl, (tt, (flags_printed event.on.read event.on.write, tt)))
 step_printed (step.Fault kind) = (refl, (which_printed kind, tt))
-step_printed step.Interrupt = (refl, tt)
 step_printed (step.Begin limit) = (refl, (limit_printed limit, tt))
-step_printed step.Wait = (refl, tt)
-step_printed step.Handle = (refl, tt)
-step_printed step.Finish = (refl, tt)
-step_printed step.React = (refl, tt)
+step_printed _ = (refl, tt)
 
 -- ## The words of a line
 

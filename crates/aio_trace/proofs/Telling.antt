@@ -339,24 +339,7 @@ form_of command.React = plain (codes "react") []
 
 of_its_text : (c : Command) → (form_of c).command ≡ command_text c
 of_its_text command.Add = refl
-of_its_text command.Del = refl
-of_its_text command.Poll = refl
-of_its_text command.New = refl
-of_its_text command.Step = refl
-of_its_text command.Drop = refl
-of_its_text command.Timer = refl
-of_its_text command.Tick = refl
-of_its_text command.Set = refl
-of_its_text command.End = refl
-of_its_text command.Now = refl
-of_its_text command.Event = refl
-of_its_text command.Fault = refl
-of_its_text command.Interrupt = refl
-of_its_text command.Begin = refl
-of_its_text command.Wait = refl
-of_its_text command.Handle = refl
-of_its_text command.Finish = refl
-of_its_text command.React = refl
+of_its_text _ = refl
 
 form_tells : (c : Command) (words : List (List ℕ)) → Tells (step_of c words) (fault_in_form (Some (form_of c)) words) (command_text c ∷ words)
 form_tells command.Add words = at_end step.Add (λ words. codes "add" ∷ words) words tt (refl, tt)

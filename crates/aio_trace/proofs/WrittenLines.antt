@@ -31,7 +31,6 @@ limit_small None fits = tt
 limit_small (Some n) fits = (fits, tt)
 
 step_small : (s : Step) → HasSpelling s → AreSmall (step_words s)
-step_small step.Add fits = tt
 step_small (step.Del key) fits = (omega arith, tt)
 step_small (step.Poll key dir waker) fits = (let k = fits.0 in omega arith, (let w = fits.1 in omega arith, tt))
 step_small (step.New key dir) fits = (omega arith, tt)
@@ -39,20 +38,14 @@ step_small (step.StepEar number waker) fits = (let n = fits.0 in omega arith, (l
 step_small (step.DropEar number) fits = (omega arith, tt)
 step_small (step.TimerAt deadline) fits = (fits, tt)
 step_small (step.TimerEvery deadline period) fits = (fits.0, (fits.1.1, tt))
-step_small step.TimerNever fits = tt
 step_small (step.Tick number waker) fits = (let n = fits.0 in omega arith, (let w = fits.1 in omega arith, tt))
 step_small (step.SetAt number deadline) fits = (let n = fits.0 in omega arith, (fits.1, tt))
 step_small (step.SetEvery number deadline period) fits = (let n = fits.0 in omega arith, (fits.1, (fits.2.1, tt)))
 step_small (step.End number) fits = (omega arith, tt)
 step_small (step.Now moment) fits = (fits, tt)
 step_small (step.Note event) fits = (omega arith, tt)
-step_small (step.Fault kind) fits = tt
-step_small step.Interrupt fits = tt
 step_small (step.Begin limit) fits = limit_small limit fits
-step_small step.Wait fits = tt
-step_small step.Handle fits = tt
-step_small step.Finish fits = tt
-step_small step.React fits = tt
+step_small _ fits = tt
 
 -- ## Lengths
 
@@ -75,37 +68,24 @@ flags_short true true = refl
 
 which_short : (kind : Which) → leb (length (which_text kind)) 19 ≡ true
 which_short which.Add = refl
-which_short which.Arm = refl
-which_short which.Remove = refl
-which_short which.Wait = refl
+which_short _ = refl
 
 limit_short : (limit : Option ℕ) → AreShort 5 (limit_word limit ∷ [])
 limit_short None = (refl, tt)
 limit_short (Some n) = tt
 
 step_short : (s : Step) → AreShort 6 (step_words s)
-step_short step.Add = (refl, tt)
-step_short (step.Del key) = (refl, tt)
 step_short (step.Poll key dir waker) = (refl, (dir_short dir, tt))
 step_short (step.New key dir) = (refl, (dir_short dir, tt))
-step_short (step.StepEar number waker) = (refl, tt)
-step_short (step.DropEar number) = (refl, tt)
 step_short (step.TimerAt deadline) = (refl, (refl, tt))
 step_short (step.TimerEvery deadline period) = (refl, (refl, tt))
 step_short step.TimerNever = (refl, (refl, tt))
-step_short (step.Tick number waker) = (refl, tt)
 step_short (step.SetAt number deadline) = (refl, (refl, tt))
 step_short (step.SetEvery number deadline period) = (refl, (refl, tt))
-step_short (step.End number) = (refl, tt)
-step_short (step.Now moment) = (refl, tt)
 step_short (step.Note event) = (refl, (flags_short event.on.read event.on.write, tt))
 step_short (step.Fault kind) = (refl, (which_short kind, tt))
-step_short step.Interrupt = (refl, tt)
 step_short (step.Begin limit) = (refl, limit_short limit)
-step_short step.Wait = (refl, tt)
-step_short step.Handle = (refl, tt)
-step_short step.Finish = (refl, tt)
-step_short step.React = (refl, tt)
+step_short _ = (refl, tt)
 
 number_short : (n : ℕ) → n ≤ 10 ^ 18 → length (decimal n) ≤ 19
 number_short n small = length-decimal-le 19 n (omega arith) (omega arith) (omega arith)
