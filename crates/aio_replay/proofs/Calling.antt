@@ -101,18 +101,14 @@ fits : (s : Step) (w : World) (kinds : List Which) → IsCall s → Asked s kind
 fits step.Add w kinds call asked = once_fits step.Add w which.Add kinds refl asked
 fits (step.Del key) w kinds call asked = once_fits (step.Del key) w which.Remove kinds refl asked
 fits (step.Poll key dir waker) w kinds call asked = once_fits (step.Poll key dir waker) w which.Arm kinds refl asked
-fits (step.New key dir) w kinds call asked = none_fits (step.New key dir) w kinds asked
 fits (step.StepEar number waker) w kinds call asked = once_fits (step.StepEar number waker) w which.Arm kinds refl asked
-fits (step.DropEar number) w kinds call asked = none_fits (step.DropEar number) w kinds asked
-fits (step.Begin limit) w kinds call asked = none_fits (step.Begin limit) w kinds asked
 fits step.Wait w kinds call asked = once_fits step.Wait w which.Wait kinds refl asked
 fits step.Handle w kinds call asked = once_fits step.Handle w which.Arm kinds refl asked
-fits step.Finish w kinds call asked = none_fits step.Finish w kinds asked
 fits step.React w kinds call asked =
     ⊎_elim (λ (none : kinds ≡ []). none_fits step.React w kinds none)
     (λ (some : (arms : ℕ) × (kinds ≡ which.Wait ∷ replicate arms which.Arm)). round_fits w some.0 kinds some.1)
     asked
-fits _ w kinds call asked = absurd call
+fits s w kinds call asked = none_fits s w kinds asked
 
 -- ## What the calls used up
 

@@ -11,7 +11,7 @@ use Rattle.aio_base.specs.declared.outcomes.Which.{Which}
 use Rattle.aio_base.specs.declared.outcomes.Which.TheVariants as which
 use Rattle.aio_base.specs.Machine.{Outcome, fails, next_answer, later_answers, after_arm, pending, add, del_source, is_fresh_since, is_waker, with_waiter, poll_source, new_listener, with_listening, step_listener, drop_listener, begin_round, wait_answered, wait_in, without_waiters, world_taken, wakers_taken, rearmed, handle_source, handle_first, handle_in, makes_second_pass, finish_in, source_limit}
 use Rattle.aio_base.specs.Timers.{after_pass}
-use Rattle.aio_base.specs.World.{PollerAnswer, Succeeds, Gives, IsInterrupted, Fails, World, Registration, ListenerEntry, TimerEntry, DueFaults, RoundState, directions_of, serial_of, key_of, poll_waiter, mark_of, is_empty_list, is_idle, is_broken, wanted}
+use Rattle.aio_base.specs.World.{PollerAnswer, Fails, World, Registration, ListenerEntry, TimerEntry, DueFaults, RoundState, directions_of, serial_of, key_of, poll_waiter, mark_of, is_empty_list, is_idle, is_broken, wanted}
 use Rattle.aio_replay.specs.Timers.{OnlyAt}
 
 -- ## What is left as it was
@@ -230,9 +230,7 @@ begin_does w given answers =
 pub wait_answered_does : (w : World) (round : RoundState) (told : PollerAnswer) (rest : List PollerAnswer)
     → Does (OnceAtMost which.Wait) 0 0 w (wait_answered w round told rest)
 wait_answered_does w round Fails rest = record { leaves = leaves_all 0 0 (rest_of w); asks = inr refl }
-wait_answered_does w round IsInterrupted rest = record { leaves = leaves_all 0 0 (rest_of w); asks = inr refl }
-wait_answered_does w round Succeeds rest = record { leaves = leaves_all 0 0 (rest_of w); asks = inr refl }
-wait_answered_does w round (Gives events) rest = record { leaves = leaves_all 0 0 (rest_of w); asks = inr refl }
+wait_answered_does w round _ rest = record { leaves = leaves_all 0 0 (rest_of w); asks = inr refl }
 
 pub wait_does : (w : World) (round : Option RoundState) (answers : List PollerAnswer) → Does (OnceAtMost which.Wait) 0 0 w (wait_in w round answers)
 wait_does w None answers = record { leaves = leaves_all 0 0 (rest_of w); asks = inl refl }
