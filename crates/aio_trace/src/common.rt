@@ -21,45 +21,31 @@ const MOMENT_DIGITS: usize = 18;
 
 /// Hands the step that a line in its plainest spelling reads as to a taker, in the arm that read it;
 /// `None` for any other line, and then the taker is as it was. The commonest commands are looked for
-/// first, by their first four letters at once.
+/// first.
 #[inline(always)]
 pub(crate) fn take_common<T: StepTaker>(line: &[u8], taker: &mut T) -> Option<T::Answer>
     requires ready { T.is_ready taker.old }
     ensures { MatchOption result (taker.new ≡ taker.old)
         (λ answer. HandsStep T.takes taker.old line.now answer taker.new) }
 {
-    let [a, b, c, d, behind @ ..] = line else {
-        return take_rarer(line, taker);
-    };
-    let front = [*a, *b, *c, *d];
-    if are_letters(front, *b"poll") {
-        let [b' ', places @ ..] = behind else {
-            return None;
-        };
-        return Some(hand(line, poll_step(places)?, taker));
+    if let [a, b, c, d, b't', b' ', places @ ..] = line {
+        if are_letters([*a, *b, *c, *d], *b"even") {
+            let step = event_step(places)?;
+            return Some(hand(line, step, taker));
+        }
     }
-    if are_letters(front, *b"even") {
-        let [b't', b' ', places @ ..] = behind else {
-            return None;
-        };
-        let step = event_step(places)?;
-        return Some(hand(line, step, taker));
+    match line {
+        [b'p', b'o', b'l', b'l', b' ', places @ ..] => Some(hand(line, poll_step(places)?, taker)),
+        [b's', b't', b'e', b'p', b' ', places @ ..] => {
+            let (listener, waker) = number_and_waker(places)?;
+            Some(hand(line, Step::StepEar(listener, waker), taker))
+        }
+        [b't', b'i', b'c', b'k', b' ', places @ ..] => {
+            let (timer, waker) = number_and_waker(places)?;
+            Some(hand(line, Step::Tick(timer, waker), taker))
+        }
+        _ => take_rarer(line, taker),
     }
-    if are_letters(front, *b"step") {
-        let [b' ', places @ ..] = behind else {
-            return None;
-        };
-        let (listener, waker) = number_and_waker(places)?;
-        return Some(hand(line, Step::StepEar(listener, waker), taker));
-    }
-    if are_letters(front, *b"tick") {
-        let [b' ', places @ ..] = behind else {
-            return None;
-        };
-        let (timer, waker) = number_and_waker(places)?;
-        return Some(hand(line, Step::Tick(timer, waker), taker));
-    }
-    take_rarer(line, taker)
 }
 
 /// Whether four bytes are these letters, by one comparison.
@@ -359,13 +345,14 @@ fn few_digits(text: &[u8], digits: usize) -> Option<(u64, &[u8])>
     let front = &text[..text.len().min(digits)];
     let mut value: u64 = 0;
     for (at, byte) in front.iter().enumerate() {
-        if *byte < b'0' || *byte > b'9' {
+        let digit = u64::from(*byte).wrapping_sub(u64::from(b'0'));
+        if digit > 9 {
             if at > 0 && *byte == b' ' {
                 return Some((value, &text[at + 1..]));
             }
             return None;
         }
-        value = 10 * value + u64::from(*byte) - u64::from(b'0');
+        value = 10 * value + digit;
     }
     if front.is_empty() || front.len() < text.len() {
         return None;

@@ -1,4 +1,4 @@
-use Rattle.std.proofs.Common.{◌+◌, ◌∙◌, take, sym, ap, arith, length-take-le, Ok}
+use Rattle.std.proofs.Common.{◌+◌, ◌≤◌, ◌∙◌, get_or, take, sym, ap, arith, length-take-le, Ok}
 use Rattle.std.proofs.lemmas.List.{take_rest}
 use Rattle.std.proofs.lemmas.Bool.Decides.{nat_tests}
 use Rattle.aio_base.specs.Lines.{words_in}
@@ -23,15 +23,18 @@ overflow_mul-value c =
 pub overflow_add-value : goal.overflow_add-value
 overflow_add-value c =
     let small = small_value c.args.text.now c.min.result c.loop-at.at c.loop-at.value 18 (omega (arith, length-take-le c.min.result c.args.text.now (omega arith))) (omega arith) c.loop-at.auto.at-end c.loop-at.invariant.digits c.loop-at.invariant.value in
-    omega (arith, c.from.ensures, c.if-byte-gt57.false)
+    omega (arith, small, c.if-digit-gt9.false)
 
 pub loop-at-preserved : goal.loop-at-preserved
 loop-at-preserved c =
     let front = take c.min.result c.args.text.now in
-    let more = one_digit_more front c.loop-at.at c.loop-at-test.true c.if-byte-lt48.false c.if-byte-gt57.false in
+    let digit = c.if-digit-gt9.false in
+    let least : 48 ≤ get_or front c.loop-at.at 0 = omega (arith, digit, c.from.ensures, c.from-in-loop-at.ensures) in
+    let most : get_or front c.loop-at.at 0 ≤ 57 = omega (arith, digit, c.from.ensures, c.from-in-loop-at.ensures) in
+    let more = one_digit_more front c.loop-at.at c.loop-at-test.true least most in
     record {
-      digits = one_more_digit front c.loop-at.at c.loop-at-test.true c.loop-at.invariant.digits c.if-byte-lt48.false c.if-byte-gt57.false;
-      value = omega (arith, more, c.loop-at.invariant.value, c.from.ensures, c.from-in-loop-at.ensures, c.if-byte-lt48.false);
+      digits = one_more_digit front c.loop-at.at c.loop-at-test.true c.loop-at.invariant.digits least most;
+      value = omega (arith, more, c.loop-at.invariant.value, digit, c.from.ensures, c.from-in-loop-at.ensures);
     }
 
 pub returns-clause-read : goal.returns-clause-read
