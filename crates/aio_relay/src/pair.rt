@@ -38,6 +38,8 @@ pub struct Pair<E: Tells> {
     last: Moment,
     timer: Timer,
     polls: u64,
+    // Whether the last poll stopped at a block of a side. It changes nothing of what a poll does.
+    has_more: bool,
 }
 
 impl<E: Tells> Model for Pair<E> {
@@ -89,6 +91,7 @@ impl<E: Tells> Pair<E> {
             last: start,
             timer: Timer::never(),
             polls: 0,
+            has_more: false,
         })
     }
 
@@ -100,6 +103,12 @@ impl<E: Tells> Pair<E> {
             Side::A => &self.a,
             Side::B => &self.b,
         }
+    }
+
+    /// Whether the last poll stopped because it had read 65,536 bytes of a side, so that a poll at once
+    /// may find more. A hint: no clause speaks of it, and none of a poll depends on it.
+    pub fn has_more(&self) -> bool {
+        self.has_more
     }
 
     /// Both connections back, that of side A first.
@@ -180,8 +189,9 @@ impl<E: Tells> Pair<E> {
         let moved_a = tally_a.has_moved();
         let moved_b = tally_b.has_moved();
         self.last = last_after(moved_a, moved_b, self.last, now);
+        self.has_more = has_block(tally_a, tally_b);
         match passed {
-            Ok(()) => Ok(has_block(tally_a, tally_b)),
+            Ok(()) => Ok(self.has_more),
             Err(end) => Err(end),
         }
     }

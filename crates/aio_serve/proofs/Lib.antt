@@ -3,3 +3,4 @@ pub mod Stopping
 pub mod Complete
 pub mod Slots
 pub mod WorkerRows
+pub mod InARow

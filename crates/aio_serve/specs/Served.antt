@@ -1,5 +1,5 @@
 -- A pair while a worker serves it.
-use Rattle.std.specs.Prelude.{◌≡◌, ℕ, ◌≤◌, Bool, List, Result, Ok, Err}
+use Rattle.std.specs.Prelude.{◌≡◌, ℕ, zero, suc, ◌<◌, ◌≤◌, Bool, List, Result, Ok, Err}
 use Rattle.aio_base.specs.declared.outcomes.CountFault.{CountFault}
 use Rattle.aio_base.specs.declared.outcomes.Poll.{Poll}
 use Rattle.aio_base.specs.declared.outcomes.Poll.TheVariants.{Ready, Pending}
@@ -48,14 +48,31 @@ pub record ClosesBoth (removes : (key : ℕ) → (rest : List ℕ) → Result (U
   pub a : removes p.a.key p.a.rest answer_a
   pub b : removes p.b.key p.b.rest answer_b
 
--- A poll of what stands in a slot. An open pair is polled once, and its answer is the answer; it stays open while that is Pending, and both its ends are
--- closed as the poll left them where it is not. A fault is told at once.
+-- so many polls of a pair one after the other, each of them Pending
+abbrev pub PollsPending : {H : Type 0} → (PairState SourceEndValue → H → Cx → Poll PairEnd → PairState SourceEndValue → H → Type 0)
+    → ℕ → PairState SourceEndValue → H → Cx → PairState SourceEndValue → H → Type 0
+PollsPending polls_pair zero p host cx after left = (after ≡ p) × (left ≡ host)
+PollsPending {H} polls_pair (suc n) p host cx after left =
+    (mid : PairState SourceEndValue) × (between : H) × PollsPending polls_pair n p host cx mid between × polls_pair mid between cx Pending after left
+
+-- A pair was polled once or more in a row, 128 times at most: each poll but the last was Pending, and the answer is that of the last.
+pub record PollsInARow {H : Type 0} (polls_pair : PairState SourceEndValue → H → Cx → Poll PairEnd → PairState SourceEndValue → H → Type 0)
+    (p : PairState SourceEndValue) (host : H) (cx : Cx) (answer : Poll PairEnd) (after : PairState SourceEndValue) (left : H) : Type 0 where
+  pub before : ℕ
+  pub most : before < 128
+  pub mid : PairState SourceEndValue
+  pub between : H
+  pub pending : PollsPending polls_pair before p host cx mid between
+  pub last : polls_pair mid between cx answer after left
+
+-- A poll of what stands in a slot. An open pair is polled in a row; it stays open where the last poll is Pending, and both its ends are closed as that poll
+-- left them where it is not. A fault is told at once.
 module _ {H : Type 0} (polls_pair : PairState SourceEndValue → H → Cx → Poll PairEnd → PairState SourceEndValue → H → Type 0)
     (removes : (key : ℕ) → (rest : List ℕ) → Result (Unit {0}) CountFault → Type 0) where
   abbrev pub PollsOpen : PairState SourceEndValue → H → Cx → Poll PairEnd → StageValue → H → Type 0
-  PollsOpen p host cx Pending stage left = (after : PairState SourceEndValue) × polls_pair p host cx Pending after left × (stage ≡ Open after)
+  PollsOpen p host cx Pending stage left = (after : PairState SourceEndValue) × PollsInARow polls_pair p host cx Pending after left × (stage ≡ Open after)
   PollsOpen p host cx (Ready end) stage left =
-      (after : PairState SourceEndValue) × polls_pair p host cx (Ready end) after left × ClosesBoth removes after × (stage ≡ Over)
+      (after : PairState SourceEndValue) × PollsInARow polls_pair p host cx (Ready end) after left × ClosesBoth removes after × (stage ≡ Over)
 
   abbrev pub PollsStage : StageValue → H → Cx → Poll PairEnd → StageValue → H → Type 0
   PollsStage (Open p) host cx answer stage left = PollsOpen p host cx answer stage left

@@ -4,7 +4,7 @@ ghost use Rattle.std.specs.Prelude.{◌≡◌, ◌<◌, ◌≤◌, ◌^◌, ℕ,
 ghost use Rattle.aio_base.specs.Polls.{IfReady, WhilePending};
 ghost use Rattle.aio_pairs.specs.declared.outcomes.PairEnd.{PairEnd};
 ghost use Rattle.aio_relay.specs.Pairs.{may_come_to};
-ghost use Rattle.aio_serve.specs.Served.{ClosesBoth, PollsOpen, first_stage, stage_gives};
+ghost use Rattle.aio_serve.specs.Served.{ClosesBoth, PollsInARow, PollsOpen, first_stage, stage_gives};
 ghost use Rattle.aio_serve.specs.declared.served.Stage.TheVariants.{Open, Over};
 ghost use Rattle.aio_shared.specs.Inside.{IsLaterInside};
 ghost use Rattle.aio_sources.specs.Sources.{Removes};
@@ -19,6 +19,11 @@ use std::marker::Model;
 use std::mem;
 use std::sync::Wait;
 use std::thread::Threads;
+
+/// How many polls in which they read a block the pairs of a worker have in a turn: what one pair after the
+/// other passes is still in the processor's caches where it is polled again at once, and in turns of a
+/// block each it is not. A turn is not to last long, since all its polls have the moment of its begin.
+const POLLS_IN_A_TURN: u32 = 128;
 
 /// How far a pair is.
 #[derive(Drop)]
@@ -43,6 +48,8 @@ pub struct Served<'g, C: Conn, W: EventWait, G> {
     gate: &'g G,
     number: u32,
     polls: u64,
+    // How many pairs have their turns with it, itself among them.
+    pairs: u32,
 }
 
 impl<'g, C: Conn, W: EventWait, G> Model for Served<'g, C, W, G> {
@@ -60,6 +67,7 @@ impl<'g, C: Conn + Drop, W: EventWait + Drop, G> Drop for Served<'g, C, W, G> {
             gate: _,
             number: _,
             polls: _,
+            pairs: _,
         } = self;
     }
 }
@@ -80,6 +88,23 @@ impl<'g, C: Conn + Drop, W: EventWait + Drop, G> Served<'g, C, W, G> {
         ensures { IfOk result (λ served. served
             ≡ record { stage = first_stage idle start place; polls = 0 }) }
     {
+        Served::among(alloc, place, idle, start, gate, 1)
+    }
+
+    /// The same of one of so many pairs that have their turns with it.
+    pub(crate) fn among(
+        alloc: Global,
+        place: Place<C, W>,
+        idle: u64,
+        start: Moment,
+        gate: &'g G,
+        pairs: u32,
+    ) -> Result<Served<'g, C, W, G>, OutOfMemory>
+        requires some { 0 < idle }
+        requires bound { idle ≤ 10 ^ 18 }
+        ensures { IfOk result (λ served. served
+            ≡ record { stage = first_stage idle start place; polls = 0 }) }
+    {
         let Place { number, sides } = place;
         let stage = match sides {
             Err(fault) => Stage::Refused(fault),
@@ -93,12 +118,14 @@ impl<'g, C: Conn + Drop, W: EventWait + Drop, G> Served<'g, C, W, G> {
             gate,
             number,
             polls: 0,
+            pairs,
         })
     }
 }
 
 impl<C: Conn + Drop, W: EventWait + Drop, G: Gate> Served<'_, C, W, G> {
-    // Polls a pair once. One that ends is over; any other is as open as before.
+    // Polls a pair, and again at once where it may have more to read. One that ends is over; any other
+    // is as open as before.
     fn poll_open<R: Wait, N: Notify>(
         &mut self,
         mut pair: Pair<SourceEnd<C, W>>,
@@ -118,7 +145,7 @@ impl<C: Conn + Drop, W: EventWait + Drop, G: Gate> Served<'_, C, W, G> {
         ensures polls { self.new.polls ≡ self.old.polls }
         ensures later { IsLaterInside N.fault_count N.is_sure host.old host.new }
     {
-        if let Poll::Ready(end) = pair.poll(host, cx) {
+        if let Poll::Ready(end) = poll_in_a_row(&mut pair, host, cx, self.pairs) {
             self.close(pair, &host.rt);
             return Poll::Ready(end);
         }
@@ -135,6 +162,48 @@ impl<C: Conn + Drop, W: EventWait + Drop, G: Gate> Served<'_, C, W, G> {
         let _passed_over = a.close(rt);
         let _passed_over = b.close(rt);
         self.gate.passed(self.number);
+    }
+}
+
+// How often one of so many pairs is polled in a row at most.
+fn polls_in_a_row(pairs: u32) -> u32
+    ensures some { 1 ≤ result }
+    ensures most { result ≤ 128 }
+{
+    if pairs == 0 {
+        return 1;
+    }
+    (POLLS_IN_A_TURN / pairs).max(1).min(POLLS_IN_A_TURN)
+}
+
+// Polls one of so many pairs, and again at once while it reads a block in each poll.
+fn poll_in_a_row<R: Wait, N: Notify, C: Conn + Drop, W: EventWait + Drop>(
+    pair: &mut Pair<SourceEnd<C, W>>,
+    host: &mut Inside<R, N, C, W>,
+    cx: Cx,
+    pairs: u32,
+) -> Poll<PairEnd>
+    ensures ready { IfReady result (λ end. stage_gives (Open pair.old)
+        (N.is_sure host.old.member.notifier) cx.now end) }
+    ensures pending { WhilePending result ((moment : ℕ) (end : PairEnd) → cx.now ≤ moment
+        → stage_gives (Open pair.new) (N.is_sure host.old.member.notifier) moment end
+        → stage_gives (Open pair.old) (N.is_sure host.old.member.notifier) moment end) }
+    ensures step { PollsInARow
+        ⟦<Pair<SourceEnd<C, W>> as Task<Inside<R, N, C, W>>>⟧.poll_step
+        pair.old host.old cx result pair.new host.new }
+    ensures later { IsLaterInside N.fault_count N.is_sure host.old host.new }
+{
+    let Cx { parker, mask, now } = cx;
+    let mut polls_left = polls_in_a_row(pairs);
+    loop {
+        match pair.poll(host, Cx { parker, mask, now }) {
+            Poll::Ready(end) => return Poll::Ready(end),
+            Poll::Pending => {}
+        }
+        polls_left -= 1;
+        if polls_left == 0 || !pair.has_more() {
+            return Poll::Pending;
+        }
     }
 }
 

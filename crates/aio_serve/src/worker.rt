@@ -244,8 +244,9 @@ fn seat_all<'g, A: Conn + Drop, W: EventWait + Drop, G>(
 {
     let mut group = Group::new(alloc, parker);
     let mut left = places;
+    let pairs = left.len() as u32;
     while let Some(place) = left.pop_front() {
-        let served = Served::new(alloc, place, idle, start, gate)?;
+        let served = Served::among(alloc, place, idle, start, gate, pairs)?;
         match group.add(served) {
             Ok(_) => {}
             Err((_, GroupRefusal::Full)) => unreachable!(),
