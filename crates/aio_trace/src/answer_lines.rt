@@ -5,7 +5,7 @@ ghost use Rattle.aio_base.specs.Script.{reply_text};
 ghost use Rattle.aio_base.specs.Text.{answer_line, end_text, ended_line, fault_text, limit_text};
 ghost use Rattle.aio_trace.specs.Writing.{Pushes};
 
-use crate::writing::{push_number, push_numbered};
+use crate::writing::{push_before, push_numbered};
 use aio_base::{Answer, EndWord, Key, Waker};
 use itoa::write_digits;
 use std::alloc::AllocError;
@@ -153,8 +153,7 @@ fn push_begin(out: &mut Vec<u8>, number: u64, limit: Option<u64>) -> Result<(), 
     ensures pushes { Pushes out.old out.new (ended_line (codes "begin " ++ decimal number
         ++ codes " wait " ++ limit_text limit)) result }
 {
-    out.extend_from_slice(b"begin ")?;
-    push_number(out, number)?;
+    push_before(out, b"begin ", number)?;
     push_wait(out, limit)
 }
 
@@ -177,7 +176,6 @@ fn push_handled(out: &mut Vec<u8>, key: Key, fault: bool) -> Result<(), AllocErr
     if !fault {
         return push_numbered(out, b"handled ", u64::from(key.0));
     }
-    out.extend_from_slice(b"handled ")?;
-    push_number(out, u64::from(key.0))?;
+    push_before(out, b"handled ", u64::from(key.0))?;
     out.extend_from_slice(b" fault arm\n")
 }

@@ -2,11 +2,11 @@
 //! digits. They are read from their front in one pass, compiled in place where they are used, and
 //! the arm that read a step hands it on; every other line is left to `reading`.
 
-ghost use Rattle.std.specs.Prelude.{◌≡◌, ◌↔◌, ◌<◌, ◌≤◌, ◌+◌, ◌^◌, ℕ, true, [], None, Ok, Some, IfSome, MatchOption, OnSome, length};
+ghost use Rattle.std.specs.Prelude.{◌≡◌, ◌++◌, ◌∷◌, ◌↔◌, ◌<◌, ◌≤◌, ◌+◌, ◌^◌, ℕ, true, [], None, Ok, Some, IfSome, MatchOption, OnSome, length};
 ghost use Rattle.aio_base.specs.World.{last_moment};
 ghost use Rattle.aio_base.specs.Lines.{last_number, words_in};
 ghost use Rattle.aio_base.specs.declared.steps.Step.{Step};
-ghost use Rattle.aio_trace.specs.Reading.{begin_of, event_of, fault_line_of, listener_poll_of, new_of, poll_of, set_of, step_of_words, take_direction, take_number, take_period, tick_of, timer_of};
+ghost use Rattle.aio_trace.specs.Reading.{begin_of, event_of, fault_line_of, listener_poll_of, new_of, poll_of, set_every_of, set_of, step_of_words, take_direction, take_number, tick_of, timer_every_of, timer_of};
 ghost use Rattle.aio_trace.specs.Taking.{HandsStep};
 
 use crate::reading::moment_at;
@@ -34,18 +34,29 @@ pub(crate) fn take_common<T: StepTaker>(line: &[u8], taker: &mut T) -> Option<T:
             return Some(hand(line, step, taker));
         }
     }
-    match line {
-        [b'p', b'o', b'l', b'l', b' ', places @ ..] => Some(hand(line, poll_step(places)?, taker)),
-        [b's', b't', b'e', b'p', b' ', places @ ..] => {
-            let (listener, waker) = number_and_waker(places)?;
-            Some(hand(line, Step::StepEar(listener, waker), taker))
-        }
-        [b't', b'i', b'c', b'k', b' ', places @ ..] => {
-            let (timer, waker) = number_and_waker(places)?;
-            Some(hand(line, Step::Tick(timer, waker), taker))
-        }
-        _ => take_rarer(line, taker),
+    if let [b'p', b'o', b'l', b'l', b' ', places @ ..] = line {
+        let step = poll_step(places)?;
+        return Some(hand(line, step, taker));
     }
+    take_two_numbers(line, taker)
+}
+
+/// The same of a poll of a listener or a timer, and of the rarer commands.
+#[inline(always)]
+fn take_two_numbers<T: StepTaker>(line: &[u8], taker: &mut T) -> Option<T::Answer>
+    requires ready { T.is_ready taker.old }
+    ensures { MatchOption result (taker.new ≡ taker.old)
+        (λ answer. HandsStep T.takes taker.old line.now answer taker.new) }
+{
+    if let Some([b' ', places @ ..]) = behind(line, *b"step") {
+        let (listener, waker) = number_and_waker(places)?;
+        return Some(hand(line, Step::StepEar(listener, waker), taker));
+    }
+    if let Some([b' ', places @ ..]) = behind(line, *b"tick") {
+        let (timer, waker) = number_and_waker(places)?;
+        return Some(hand(line, Step::Tick(timer, waker), taker));
+    }
+    take_rarer(line, taker)
 }
 
 /// Whether four bytes are these letters, by one comparison.
@@ -81,36 +92,79 @@ fn take_with_places<T: StepTaker>(line: &[u8], taker: &mut T) -> Option<T::Answe
     ensures { MatchOption result (taker.new ≡ taker.old)
         (λ answer. HandsStep T.takes taker.old line.now answer taker.new) }
 {
-    match line {
-        [b'n', b'e', b'w', b' ', places @ ..] => Some(hand(line, new_step(places)?, taker)),
-        [b'n', b'o', b'w', b' ', places @ ..] => {
-            let step = Step::Now(whole_moment(places)?);
-            Some(hand(line, step, taker))
-        }
-        [b'd', b'r', b'o', b'p', b' ', places @ ..] => {
-            let step = Step::DropEar(whole_number(places)?);
-            Some(hand(line, step, taker))
-        }
-        [b'd', b'e', b'l', b' ', places @ ..] => {
-            let step = Step::Del(Key(whole_number(places)?));
-            Some(hand(line, step, taker))
-        }
-        [b'e', b'n', b'd', b' ', places @ ..] => {
-            let step = Step::End(whole_number(places)?);
-            Some(hand(line, step, taker))
-        }
-        [b't', b'i', b'm', b'e', b'r', b' ', choice @ ..] => take_timer(line, choice, taker),
-        [b's', b'e', b't', b' ', places @ ..] => take_set(line, places, taker),
-        [b'b', b'e', b'g', b'i', b'n', b' ', places @ ..] => {
-            let step = begin_step(places)?;
-            Some(hand(line, step, taker))
-        }
-        [b'f', b'a', b'u', b'l', b't', b' ', kind @ ..] => {
-            let step = fault_step(kind)?;
-            Some(hand(line, step, taker))
-        }
-        _ => None,
+    if let Some(places) = behind(line, *b"now ") {
+        let step = Step::Now(whole_moment(places)?);
+        return Some(hand(line, step, taker));
     }
+    if let Some(choice) = behind_word(line, *b"timer") {
+        return take_timer(line, choice, taker);
+    }
+    if let Some(places) = behind(line, *b"set ") {
+        return take_set(line, places, taker);
+    }
+    if let Some(limit) = behind_word(line, *b"begin") {
+        let step = begin_step(limit)?;
+        return Some(hand(line, step, taker));
+    }
+    if let Some(places) = behind(line, *b"end ") {
+        let step = Step::End(whole_number(places)?);
+        return Some(hand(line, step, taker));
+    }
+    take_rarest(line, taker)
+}
+
+/// The same of the other commands that have places.
+#[inline(always)]
+fn take_rarest<T: StepTaker>(line: &[u8], taker: &mut T) -> Option<T::Answer>
+    requires ready { T.is_ready taker.old }
+    ensures { MatchOption result (taker.new ≡ taker.old)
+        (λ answer. HandsStep T.takes taker.old line.now answer taker.new) }
+{
+    if let Some([b' ', places @ ..]) = behind(line, *b"drop") {
+        let step = Step::DropEar(whole_number(places)?);
+        return Some(hand(line, step, taker));
+    }
+    if let Some(places) = behind(line, *b"new ") {
+        let step = new_step(places)?;
+        return Some(hand(line, step, taker));
+    }
+    if let Some(places) = behind(line, *b"del ") {
+        let step = Step::Del(Key(whole_number(places)?));
+        return Some(hand(line, step, taker));
+    }
+    let kind = behind_word(line, *b"fault")?;
+    let step = fault_step(kind)?;
+    Some(hand(line, step, taker))
+}
+
+/// What follows these four letters at the front of a text; `None` for a text with others.
+#[inline(always)]
+fn behind(text: &[u8], letters: [u8; 4]) -> Option<&[u8]>
+    ensures { IfSome result (λ rest. text.now ≡ letters ++ rest.now) }
+{
+    let [a, b, c, d, rest @ ..] = text else {
+        return None;
+    };
+    if !are_letters([*a, *b, *c, *d], letters) {
+        return None;
+    }
+    Some(rest)
+}
+
+/// What follows this word of five letters and a space at the front of a text; `None` for a text
+/// with others.
+#[inline(always)]
+fn behind_word(text: &[u8], word: [u8; 5]) -> Option<&[u8]>
+    ensures { IfSome result (λ rest. text.now ≡ word ++ (32 ∷ rest.now)) }
+{
+    let [a, b, c, d, e] = word;
+    let [last, b' ', rest @ ..] = behind(text, [a, b, c, d])? else {
+        return None;
+    };
+    if *last != e {
+        return None;
+    }
+    Some(rest)
 }
 
 /// The same of a line `timer at T`, `timer every T P` or `timer never`, read behind its command.
@@ -123,19 +177,18 @@ fn take_timer<T: StepTaker>(line: &[u8], choice: &[u8], taker: &mut T) -> Option
     ensures { MatchOption result (taker.new ≡ taker.old)
         (λ answer. HandsStep T.takes taker.old line.now answer taker.new) }
 {
-    match choice {
-        [b'a', b't', b' ', places @ ..] => {
-            let step = Step::TimerAt(whole_moment(places)?);
-            Some(hand(line, step, taker))
-        }
-        [b'e', b'v', b'e', b'r', b'y', b' ', places @ ..] => {
-            let (first, rest) = first_nanoseconds(places)?;
-            let period = whole_period(rest)?;
-            Some(hand(line, Step::TimerEvery(moment_at(first), period), taker))
-        }
-        [b'n', b'e', b'v', b'e', b'r'] => Some(hand(line, Step::TimerNever, taker)),
-        _ => None,
+    if let [b'a', b't', b' ', places @ ..] = choice {
+        let step = Step::TimerAt(whole_moment(places)?);
+        return Some(hand(line, step, taker));
     }
+    if let Some(places) = behind_word(choice, *b"every") {
+        let (first, period) = first_and_period(places)?;
+        return Some(hand(line, Step::TimerEvery(first, period), taker));
+    }
+    if let Some(b"r") = behind(choice, *b"neve") {
+        return Some(hand(line, Step::TimerNever, taker));
+    }
+    None
 }
 
 /// The same of a line `set N at T` or `set N every T P`, read behind its command.
@@ -149,18 +202,14 @@ fn take_set<T: StepTaker>(line: &[u8], places: &[u8], taker: &mut T) -> Option<T
         (λ answer. HandsStep T.takes taker.old line.now answer taker.new) }
 {
     let (timer, choice) = first_number(places)?;
-    match choice {
-        [b'a', b't', b' ', places @ ..] => {
-            let step = Step::SetAt(timer, whole_moment(places)?);
-            Some(hand(line, step, taker))
-        }
-        [b'e', b'v', b'e', b'r', b'y', b' ', places @ ..] => {
-            let (first, rest) = first_nanoseconds(places)?;
-            let period = whole_period(rest)?;
-            Some(hand(line, Step::SetEvery(timer, moment_at(first), period), taker))
-        }
-        _ => None,
+    if let [b'a', b't', b' ', places @ ..] = choice {
+        let step = Step::SetAt(timer, whole_moment(places)?);
+        return Some(hand(line, step, taker));
     }
+    let places = behind_word(choice, *b"every")?;
+    let (first, period) = first_and_period(places)?;
+    let step = Step::SetEvery(timer, first, period);
+    Some(hand(line, step, taker))
 }
 
 /// Hands the step that a line was read as to a taker.
@@ -319,17 +368,21 @@ fn whole_moment(text: &[u8]) -> Option<Moment>
     Some(moment_at(whole_nanoseconds(text)?))
 }
 
-/// The period in nanoseconds that is the one word of a text.
+/// The moment and the period in nanoseconds that are the two words of a text.
 #[inline(always)]
-fn whole_period(text: &[u8]) -> Option<u64>
-    ensures read { IfSome result (λ p. take_period (words_in text.now) ≡ Ok (p, [])) }
-    ensures short { OnSome result (length text.now ≤ 19) }
+fn first_and_period(text: &[u8]) -> Option<(Moment, u64)>
+    ensures timer { IfSome result (λ r.
+        timer_every_of (words_in text.now) ≡ Ok (Step.TimerEvery r.0 r.1)) }
+    ensures set { IfSome result (λ r. (timer : ℕ)
+        → set_every_of timer (words_in text.now) ≡ Ok (Step.SetEvery timer r.0 r.1)) }
+    ensures short { OnSome result (length text.now ≤ 38) }
 {
-    let period = whole_nanoseconds(text)?;
+    let (first, rest) = first_nanoseconds(text)?;
+    let period = whole_nanoseconds(rest)?;
     if period == 0 {
         return None;
     }
-    Some(period)
+    Some((moment_at(first), period))
 }
 
 /// The number of at most so many digits at the front of a text, up to a space or the end of the

@@ -1,14 +1,14 @@
 //! Reading the step of a line. It takes no memory. A line in its plainest spelling is read by
 //! `common`; any other is read here, and looked at once more where it reads as no step.
 
-ghost use Rattle.std.specs.Prelude.{◌≡◌, ◌↔◌, None, Some, Ok, Err, MatchResult, IfOk, if◌then◌else◌, ◌≤◌, ◌^◌};
+ghost use Rattle.std.specs.Prelude.{◌≡◌, ◌↔◌, None, Some, Ok, Err, MatchResult, IfOk, bytes_eq, if◌then◌else◌, ◌≤◌, ◌^◌};
 ghost use Rattle.std.specs.List.{list_all};
 ghost use Rattle.aio_base.specs.World.{last_moment};
 ghost use Rattle.aio_base.specs.Lines.{Reads, body_of, fault_of, is_allowed, last_number, words_in};
 ghost use Rattle.aio_base.specs.Trace.{is_header};
 ghost use Rattle.aio_base.specs.declared.steps.LineFault.{LineFault};
 ghost use Rattle.aio_base.specs.declared.steps.Step.{Step};
-ghost use Rattle.aio_trace.specs.Reading.{begin_of, clock_command_named, command_named, del_of, dir_of, drop_of, end_of, event_of, fault_chosen, fault_line_of, flags_of_word, limit_of, line_read, listener_poll_of, new_of, now_of, poll_of, round_command_named, set_at_of, set_chosen, set_every_of, set_of, step_of, step_of_words, take_direction, take_flags, take_limit, take_number, take_period, tick_of, timer_at_of, timer_chosen, timer_command_named, timer_every_of, timer_of};
+ghost use Rattle.aio_trace.specs.Reading.{begin_of, command_named, del_of, drop_of, end_of, event_of, fault_line_of, flags_of_word, limit_of, line_read, listener_poll_of, new_of, now_of, poll_of, round_command_named, set_at_of, set_every_of, set_of, step_of, step_of_words, take_direction, take_flags, take_limit, take_number, take_period, tick_of, timer_at_of, timer_every_of, timer_of};
 ghost use Rattle.aio_trace.specs.Taking.{HandsLine};
 
 use crate::common::take_common;
@@ -166,38 +166,32 @@ fn read_body(body: &[u8]) -> Result<Step, LineFault>
 fn read_command(word: &[u8]) -> Option<Command>
     ensures { result ≡ command_named word.now }
 {
-    match word {
-        b"add" => Some(Command::Add),
-        b"del" => Some(Command::Del),
-        b"poll" => Some(Command::Poll),
-        b"new" => Some(Command::New),
-        b"step" => Some(Command::Step),
-        b"drop" => Some(Command::Drop),
-        _ => read_timer_command(word),
-    }
-}
-
-/// The same of the commands that make, poll and set a timer, and of those that follow in the list.
-fn read_timer_command(word: &[u8]) -> Option<Command>
-    ensures { result ≡ timer_command_named word.now }
-{
-    match word {
-        b"timer" => Some(Command::Timer),
-        b"tick" => Some(Command::Tick),
-        b"set" => Some(Command::Set),
-        _ => read_clock_command(word),
-    }
-}
-
-/// The same of the end of a timer, of the clock and of an event, and of those that follow in the list.
-fn read_clock_command(word: &[u8]) -> Option<Command>
-    ensures { result ≡ clock_command_named word.now }
-{
-    match word {
-        b"end" => Some(Command::End),
-        b"now" => Some(Command::Now),
-        b"event" => Some(Command::Event),
-        _ => read_round_command(word),
+    if word_is(word, b"add") {
+        Some(Command::Add)
+    } else if word_is(word, b"del") {
+        Some(Command::Del)
+    } else if word_is(word, b"poll") {
+        Some(Command::Poll)
+    } else if word_is(word, b"new") {
+        Some(Command::New)
+    } else if word_is(word, b"step") {
+        Some(Command::Step)
+    } else if word_is(word, b"drop") {
+        Some(Command::Drop)
+    } else if word_is(word, b"timer") {
+        Some(Command::Timer)
+    } else if word_is(word, b"tick") {
+        Some(Command::Tick)
+    } else if word_is(word, b"set") {
+        Some(Command::Set)
+    } else if word_is(word, b"end") {
+        Some(Command::End)
+    } else if word_is(word, b"now") {
+        Some(Command::Now)
+    } else if word_is(word, b"event") {
+        Some(Command::Event)
+    } else {
+        read_round_command(word)
     }
 }
 
@@ -205,16 +199,30 @@ fn read_clock_command(word: &[u8]) -> Option<Command>
 fn read_round_command(word: &[u8]) -> Option<Command>
     ensures { result ≡ round_command_named word.now }
 {
-    match word {
-        b"fault" => Some(Command::Fault),
-        b"interrupt" => Some(Command::Interrupt),
-        b"begin" => Some(Command::Begin),
-        b"wait" => Some(Command::Wait),
-        b"handle" => Some(Command::Handle),
-        b"finish" => Some(Command::Finish),
-        b"react" => Some(Command::React),
-        _ => None,
+    if word_is(word, b"fault") {
+        Some(Command::Fault)
+    } else if word_is(word, b"interrupt") {
+        Some(Command::Interrupt)
+    } else if word_is(word, b"begin") {
+        Some(Command::Begin)
+    } else if word_is(word, b"wait") {
+        Some(Command::Wait)
+    } else if word_is(word, b"handle") {
+        Some(Command::Handle)
+    } else if word_is(word, b"finish") {
+        Some(Command::Finish)
+    } else if word_is(word, b"react") {
+        Some(Command::React)
+    } else {
+        None
     }
+}
+
+/// Whether a word is this text.
+fn word_is(word: &[u8], text: &[u8]) -> bool
+    ensures { result ≡ bytes_eq word.now text.now }
+{
+    word == text
 }
 
 /// What a line reads as that has this command, and this text behind it.
@@ -301,21 +309,17 @@ fn read_tick(text: &[u8]) -> Result<Step, LineFault>
 fn read_timer(text: &[u8]) -> Result<Step, LineFault>
     ensures { result ≡ timer_of (words_in text.now) }
 {
-    match next_word(text) {
-        None => Err(LineFault::Count),
-        Some((choice, rest)) => read_timer_chosen(choice, rest),
-    }
-}
-
-/// A line of a timer, read behind its choice.
-fn read_timer_chosen(choice: &[u8], text: &[u8]) -> Result<Step, LineFault>
-    ensures { result ≡ timer_chosen choice.now (words_in text.now) }
-{
-    match choice {
-        b"at" => read_timer_at(text),
-        b"every" => read_timer_every(text),
-        b"never" => ended(Step::TimerNever, text),
-        _ => Err(LineFault::Choice),
+    let Some((choice, rest)) = next_word(text) else {
+        return Err(LineFault::Count);
+    };
+    if word_is(choice, b"at") {
+        read_timer_at(rest)
+    } else if word_is(choice, b"every") {
+        read_timer_every(rest)
+    } else if word_is(choice, b"never") {
+        ended(Step::TimerNever, rest)
+    } else {
+        Err(LineFault::Choice)
     }
 }
 
@@ -341,20 +345,15 @@ fn read_set(text: &[u8]) -> Result<Step, LineFault>
     ensures { result ≡ set_of (words_in text.now) }
 {
     let (timer, rest) = take_number(text)?;
-    match next_word(rest) {
-        None => Err(LineFault::Count),
-        Some((choice, rest)) => read_set_chosen(timer, choice, rest),
-    }
-}
-
-/// A line that sets this timer, read behind its choice.
-fn read_set_chosen(timer: u32, choice: &[u8], text: &[u8]) -> Result<Step, LineFault>
-    ensures { result ≡ set_chosen timer choice.now (words_in text.now) }
-{
-    match choice {
-        b"at" => read_set_at(timer, text),
-        b"every" => read_set_every(timer, text),
-        _ => Err(LineFault::Choice),
+    let Some((choice, rest)) = next_word(rest) else {
+        return Err(LineFault::Count);
+    };
+    if word_is(choice, b"at") {
+        read_set_at(timer, rest)
+    } else if word_is(choice, b"every") {
+        read_set_every(timer, rest)
+    } else {
+        Err(LineFault::Choice)
     }
 }
 
@@ -405,22 +404,19 @@ fn read_event(text: &[u8]) -> Result<Step, LineFault>
 fn read_fault(text: &[u8]) -> Result<Step, LineFault>
     ensures { result ≡ fault_line_of (words_in text.now) }
 {
-    match next_word(text) {
-        None => Err(LineFault::Count),
-        Some((kind, rest)) => read_fault_chosen(kind, rest),
-    }
-}
-
-/// A line of a fault, read behind its kind.
-fn read_fault_chosen(kind: &[u8], text: &[u8]) -> Result<Step, LineFault>
-    ensures { result ≡ fault_chosen kind.now (words_in text.now) }
-{
-    match kind {
-        b"add" => ended(Step::Fault(Which::Add), text),
-        b"arm" => ended(Step::Fault(Which::Arm), text),
-        b"remove" => ended(Step::Fault(Which::Remove), text),
-        b"wait" => ended(Step::Fault(Which::Wait), text),
-        _ => Err(LineFault::Choice),
+    let Some((kind, rest)) = next_word(text) else {
+        return Err(LineFault::Count);
+    };
+    if word_is(kind, b"add") {
+        ended(Step::Fault(Which::Add), rest)
+    } else if word_is(kind, b"arm") {
+        ended(Step::Fault(Which::Arm), rest)
+    } else if word_is(kind, b"remove") {
+        ended(Step::Fault(Which::Remove), rest)
+    } else if word_is(kind, b"wait") {
+        ended(Step::Fault(Which::Wait), rest)
+    } else {
+        Err(LineFault::Choice)
     }
 }
 
@@ -482,20 +478,15 @@ fn take_direction(text: &[u8]) -> Result<(Dir, &[u8]), LineFault>
         (λ r. take_direction (words_in text.now) ≡ Ok (r.0, words_in r.1.now))
         (λ f. take_direction (words_in text.now) ≡ Err f) }
 {
-    match next_word(text) {
-        None => Err(LineFault::Count),
-        Some((word, rest)) => Ok((read_direction(word)?, rest)),
-    }
-}
-
-/// The direction that a word names.
-fn read_direction(word: &[u8]) -> Result<Dir, LineFault>
-    ensures { result ≡ dir_of word.now }
-{
-    match word {
-        b"r" => Ok(Dir::Read),
-        b"w" => Ok(Dir::Write),
-        _ => Err(LineFault::Direction),
+    let Some((word, rest)) = next_word(text) else {
+        return Err(LineFault::Count);
+    };
+    if word_is(word, b"r") {
+        Ok((Dir::Read, rest))
+    } else if word_is(word, b"w") {
+        Ok((Dir::Write, rest))
+    } else {
+        Err(LineFault::Direction)
     }
 }
 
@@ -515,12 +506,16 @@ fn take_flags(text: &[u8]) -> Result<(Interest, &[u8]), LineFault>
 fn read_flags(word: &[u8]) -> Result<Interest, LineFault>
     ensures { result ≡ flags_of_word word.now }
 {
-    match word {
-        b"-" => Ok(Interest::NONE),
-        b"r" => Ok(Interest::READ),
-        b"w" => Ok(Interest::WRITE),
-        b"rw" => Ok(Interest::BOTH),
-        _ => Err(LineFault::Flags),
+    if word_is(word, b"-") {
+        Ok(Interest::NONE)
+    } else if word_is(word, b"r") {
+        Ok(Interest::READ)
+    } else if word_is(word, b"w") {
+        Ok(Interest::WRITE)
+    } else if word_is(word, b"rw") {
+        Ok(Interest::BOTH)
+    } else {
+        Err(LineFault::Flags)
     }
 }
 
@@ -533,7 +528,7 @@ fn take_limit(text: &[u8]) -> Result<(Option<u64>, &[u8]), LineFault>
     match next_word(text) {
         None => Err(LineFault::Count),
         Some((word, rest)) => {
-            if word == b"none".as_slice() {
+            if word_is(word, b"none") {
                 return Ok((None, rest));
             }
             let (limit, rest) = take_moment(text)?;

@@ -5,7 +5,7 @@ ghost use Rattle.aio_base.specs.Lines.{IsInRange, written_line};
 ghost use Rattle.aio_base.specs.Text.{dir_text, ended_line, flags_text, limit_text, which_text};
 ghost use Rattle.aio_trace.specs.Writing.{Pushes};
 
-use crate::writing::{push_number, push_numbered};
+use crate::writing::{push_before, push_numbered};
 use aio_base::{Dir, Event, Key, Moment, Step, Waker, Which};
 use std::alloc::AllocError;
 
@@ -50,8 +50,7 @@ fn push_poll(out: &mut Vec<u8>, key: Key, direction: Dir, waker: Waker) -> Resul
     ensures pushes { Pushes out.old out.new (ended_line (codes "poll " ++ decimal key.0 ++ codes " "
         ++ dir_text direction ++ codes " " ++ decimal waker.0)) result }
 {
-    out.extend_from_slice(b"poll ")?;
-    push_number(out, u64::from(key.0))?;
+    push_before(out, b"poll ", u64::from(key.0))?;
     push_poller(out, direction, waker)
 }
 
@@ -71,8 +70,7 @@ fn push_new(out: &mut Vec<u8>, key: Key, direction: Dir) -> Result<(), AllocErro
     ensures pushes { Pushes out.old out.new (ended_line (codes "new " ++ decimal key.0 ++ codes " "
         ++ dir_text direction)) result }
 {
-    out.extend_from_slice(b"new ")?;
-    push_number(out, u64::from(key.0))?;
+    push_before(out, b"new ", u64::from(key.0))?;
     out.extend_from_slice(match direction {
         Dir::Read => b" r\n",
         Dir::Write => b" w\n",
@@ -84,8 +82,7 @@ fn push_two(out: &mut Vec<u8>, words: &[u8], first: u64, second: u64) -> Result<
     ensures pushes { Pushes out.old out.new (ended_line (words.now ++ decimal first ++ codes " "
         ++ decimal second)) result }
 {
-    out.extend_from_slice(words)?;
-    push_number(out, first)?;
+    push_before(out, words, first)?;
     push_numbered(out, b" ", second)
 }
 
@@ -94,8 +91,7 @@ fn push_set_at(out: &mut Vec<u8>, timer: u32, deadline: Moment) -> Result<(), Al
     ensures pushes { Pushes out.old out.new (ended_line (codes "set " ++ decimal timer
         ++ codes " at " ++ decimal deadline)) result }
 {
-    out.extend_from_slice(b"set ")?;
-    push_number(out, u64::from(timer))?;
+    push_before(out, b"set ", u64::from(timer))?;
     push_numbered(out, b" at ", deadline.get())
 }
 
@@ -109,8 +105,7 @@ fn push_set_every(
     ensures pushes { Pushes out.old out.new (ended_line (codes "set " ++ decimal timer
         ++ codes " every " ++ decimal deadline ++ codes " " ++ decimal period)) result }
 {
-    out.extend_from_slice(b"set ")?;
-    push_number(out, u64::from(timer))?;
+    push_before(out, b"set ", u64::from(timer))?;
     push_two(out, b" every ", deadline.get(), period)
 }
 
@@ -119,8 +114,7 @@ fn push_event(out: &mut Vec<u8>, event: Event) -> Result<(), AllocError>
     ensures pushes { Pushes out.old out.new (ended_line (codes "event " ++ decimal event.key.0
         ++ codes " " ++ flags_text event.on)) result }
 {
-    out.extend_from_slice(b"event ")?;
-    push_number(out, u64::from(event.key.0))?;
+    push_before(out, b"event ", u64::from(event.key.0))?;
     out.extend_from_slice(match (event.on.read, event.on.write) {
         (false, false) => b" -\n".as_slice(),
         (true, false) => b" r\n",

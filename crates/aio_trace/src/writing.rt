@@ -132,8 +132,17 @@ fn push_close<const N: usize>(
     out.extend_from_slice(&line[start..])
 }
 
+/// Writes words, and a number in decimal digits behind them.
+#[inline(always)]
+pub(crate) fn push_before(out: &mut Vec<u8>, words: &[u8], number: u64) -> Result<(), AllocError>
+    ensures pushes { Pushes out.old out.new (words.now ++ decimal number) result }
+{
+    out.extend_from_slice(words)?;
+    push_number(out, number)
+}
+
 /// Writes a number in decimal digits.
-pub(crate) fn push_number(out: &mut Vec<u8>, number: u64) -> Result<(), AllocError>
+fn push_number(out: &mut Vec<u8>, number: u64) -> Result<(), AllocError>
     ensures pushes { Pushes out.old out.new (decimal number) result }
 {
     let mut digits = Buffer::new();
