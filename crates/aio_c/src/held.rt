@@ -5,8 +5,14 @@ use aio_script::ScriptPoller;
 
 /// A core over the poller in memory: what the system's poller is asked and what it gives is told to
 /// that one call by call.
-#[derive(Drop)]
 pub struct Held {
     /// The core.
     pub core: Core<ScriptPoller>,
+}
+
+// Written out: a derived one has those of all that lies in it proved again.
+impl Drop for Held {
+    fn drop(self) {
+        let Held { core: _ } = self;
+    }
 }

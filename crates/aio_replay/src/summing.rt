@@ -38,10 +38,19 @@ pub fn summary(alloc: Global, n: u32, seed: u64) -> Result<Summary, OutOfMemory>
 }
 
 /// A replayer, and what the steps that it ran came to.
-#[derive(Drop)]
 struct Tally {
     replayer: Replayer,
     counts: Summary,
+}
+
+// Written out: a derived one has those of all that lies in it proved again.
+impl Drop for Tally {
+    fn drop(self) {
+        let Tally {
+            replayer: _,
+            counts: _,
+        } = self;
+    }
 }
 
 impl Tally {
