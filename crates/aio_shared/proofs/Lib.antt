@@ -8,3 +8,9 @@ pub mod SeatOnly
 pub mod Notifying
 pub mod DrainedOnly
 pub mod InTurn
+pub mod Reporting
+pub mod Inserting
+pub mod Refusing
+pub mod Entering
+pub mod Leaving
+pub mod Hosting

@@ -12,3 +12,4 @@ pub mod Reacting
 pub mod Notifying
 pub mod Polling
 pub mod Waking
+pub mod Reporting

@@ -6,14 +6,14 @@ ghost use Rattle.aio_rules.specs.SharedWords.{after};
 ghost use Rattle.aio_rules.specs.WordCalls.{wake_steps};
 ghost use Rattle.aio_rules.specs.declared.seats.WordStep.TheVariants as word_step;
 ghost use Rattle.aio_ops.specs.Passes.{pass_limit};
-ghost use Rattle.aio_react.specs.Hosts.{NotifierTells, wake_fault};
+ghost use Rattle.aio_react.specs.Hosts.{NotifierTells, has_id_left, next_id, wake_fault};
 ghost use Rattle.aio_words.specs.Calls.{Offers};
 ghost use Rattle.aio_shared.specs.Lending.{LendsPass};
 ghost use Rattle.aio_shared.specs.Members.{IsLaterMember, IsMemberOf, IsNewMember, with_one_more_made};
 
 use crate::round_lock::Claim;
 use crate::shared::Shared;
-use aio_base::{Arm, CountFault, EventWait, Notify, Waker};
+use aio_base::{Arm, CountFault, EventWait, Notify, TimerId, Waker};
 use aio_ops::{OpPass, PassRefusal};
 use aio_words::{Pass, Words};
 use std::marker::Model;
@@ -144,6 +144,14 @@ impl<N, W: EventWait> Member<N, W> {
         ensures value { result.now ≡ self.old.pass }
     {
         &mut self.pass
+    }
+
+    /// The id that the member draws next.
+    pub(crate) fn next_id(&self) -> TimerId
+        requires { IsTrue (has_id_left self.now.ids) }
+        ensures { result ≡ next_id self.now.ops.number self.now.ids }
+    {
+        TimerId(((self.ops.number() as u64) << 40) + self.ids + 1)
     }
 
     /// Whether no further member can be made, as far as this one has counted them: it counts 2^24.

@@ -9,7 +9,8 @@ ghost use Rattle.aio_shared.specs.Cells.{Awaits, EndsInRise};
 ghost use Rattle.aio_shared.specs.Notifying.{NotifiesAsWon};
 ghost use Rattle.aio_shared.specs.Members.{IsLaterMember, IsMemberOf, moved_on};
 ghost use Rattle.aio_shared.specs.OneCell.{IsCellOf};
-ghost use Rattle.aio_shared.specs.Reacting.{BeginRefused, BeginsAs, BeginsOver, ClockGoesOn, DrainsAtMost, EnterRefused, Enters, Finishes, FinishesOver, NotifyFailed, Reacts, Settles, ReportsRound, Wakes, rose, start_of, until};
+ghost use Rattle.aio_shared.specs.Reacting.{BeginRefused, BeginsAs, BeginsOver, ClockGoesOn, DrainsAtMost, EnterRefused, Enters, Finishes, FinishesOver, NotifyFailed, Reacts, Settles, ReportsRound, Wakes, looked, rose, start_of, until};
+ghost use Rattle.aio_shared.specs.Reporting.{Reports};
 ghost use Rattle.aio_shared.specs.Waking.{TellsFirstWake};
 ghost use Rattle.aio_sources.specs.Events.{HandlesSome};
 ghost use Rattle.aio_ops.specs.Passes.{Drained};
@@ -21,10 +22,10 @@ use crate::shared::Shared;
 use crate::waiting::CellWait;
 use crate::waking::wake_each;
 use aio_base::{Arm, ArmFault, Clock, CountFault, EventWait, Notify, OutOfMemory};
-use aio_ops::OpPass;
+use aio_ops::{OpPass, Ops};
 use aio_react::{Round, RoundFault};
 use aio_timers::TimerBook;
-use aio_words::RoundSeat;
+use aio_words::{RoundSeat, Words};
 use std::sync::Wait;
 
 /// What a call of `Shared::react_in` did.
@@ -142,49 +143,22 @@ impl<A: Arm, W: EventWait> Shared<A, W> {
             EnterRefused fault cell.old cell.new m.old.ops m.new.ops) }
         ensures clock { ClockGoesOn C.bounds C.latest clock.old clock.new }
     {
-        if cell.work.round.is_idle() {
-            match self.begin_round(
-                rt,
-                &mut m.ops,
-                &mut cell.seat,
-                &mut cell.work.round,
-                clock,
-                limit,
-            ) {
+        let seat = &mut cell.seat;
+        let work = &mut *cell.work;
+        if work.round.is_idle() {
+            match self.begin_round(rt, &mut m.ops, seat, &mut work.round, clock, limit) {
                 Err(fault) => {
-                    self.settle(&mut cell.seat);
+                    settle(&self.words, seat);
                     return Err(fault);
                 }
                 Ok(()) => {
-                    let work = &mut *cell.work;
-                    self.wait_for_events(&mut cell.seat, &mut work.round, &mut work.wait);
+                    wait_for_events(&self.words, seat, &mut work.round, &mut work.wait);
                     return Ok(());
                 }
             }
         }
-        self.settle(&mut cell.seat);
+        settle(&self.words, seat);
         Ok(())
-    }
-
-    /// Makes the wait of a round that has begun, and then clears `notified`: a seat that waited blocks
-    /// again.
-    fn wait_for_events(&self, seat: &mut RoundSeat, round: &mut Round, wait: &mut CellWait<W>)
-        requires words { Belongs self.now.words seat.old }
-        requires mode { IsIdleOrWaits seat.old }
-        requires risen { EndsInRise seat.old.view }
-        requires number { round.old.number ≡ seat.old.view.seen }
-        requires runs { round.old.running ≡ true }
-        requires empty { round.old.hand ≡ [] }
-        ensures awaits { Awaits W.wait_step round.old round.new wait.old wait.new
-            (W.wait_count wait.old) (W.fault_count wait.old)
-            (W.wait_count wait.new) (W.fault_count wait.new) (W.is_sure wait.old) }
-        ensures stays { W.is_sure wait.new ≡ W.is_sure wait.old }
-        ensures words { seat.new.words ≡ seat.old.words }
-        ensures cleared { (found : ℕ)
-            × (seat.new.view ≡ after (word_step.SwapNotified found) seat.old.view) }
-    {
-        wait.await_events(seat, round);
-        self.words.waited(seat);
     }
 
     /// Looks at the ticker, begins a round after a drain, and raises the ticker to its number.
@@ -206,6 +180,7 @@ impl<A: Arm, W: EventWait> Shared<A, W> {
             ops.old ops.new round.new) }
         ensures drained { OnOk result (Drained ops.old ops.new) }
         ensures seat { OnOk result (seat.new.view ≡ rose seat.old.view) }
+        ensures looked { OnErr result (seat.new.view ≡ looked seat.old.view) }
         ensures room { OnOk result (seat.old.view.seen < 2 ^ 64 - 1) }
         ensures refused { IfErr result (λ fault. BeginRefused fault
             seat.old.view seat.new.view round.old round.new ops.old ops.new) }
@@ -246,40 +221,7 @@ impl<A: Arm, W: EventWait> Shared<A, W> {
         ensures clock { ClockGoesOn C.bounds C.latest clock.old clock.new }
     {
         let mut guard = self.timers.lock(rt);
-        self.begin_over(rt, ops, &mut *guard, round, clock, limit, number)
-    }
-
-    /// Drains the queue of operations into the book and begins a round, by a pass over what the drain left.
-    fn begin_over<R: Wait, C: Clock>(
-        &self,
-        rt: &R,
-        ops: &mut OpPass,
-        book: &mut TimerBook,
-        round: &mut Round,
-        clock: &mut C,
-        limit: Option<u64>,
-        number: u64,
-    ) -> Result<(), OutOfMemory>
-        requires ops { ops.old.queue ≡ self.now.ops }
-        requires idle { round.old.running ≡ false }
-        ensures begun { OnOk result
-            (BeginsOver number (C.bounds clock.old) (C.latest clock.old) (C.latest clock.new) limit
-            ops.old ops.new book.old book.new round.new) }
-        ensures drained { OnOk result (Drained ops.old ops.new) }
-        ensures refused { OnErr result (round.new ≡ round.old) }
-        ensures pushed { OnErr result (PushedNothing ops.old ops.new) }
-        ensures kept { OnErr result (DrainsAtMost ops.old ops.new book.old book.new) }
-        ensures clock { ClockGoesOn C.bounds C.latest clock.old clock.new }
-    {
-        match self.ops.drain(rt, ops, book) {
-            Err(refused) => return Err(refused),
-            Ok(_) => {}
-        }
-        let now = clock.now();
-        match round.begin(book, now, limit, number) {
-            Err(refused) => Err(refused),
-            Ok(_) => Ok(()),
-        }
+        begin_over(&self.ops, rt, ops, &mut *guard, round, clock, limit, number)
     }
 
     /// Handles each event in hand. `OutOfMemory` leaves in hand what was not handled.
@@ -314,40 +256,14 @@ impl<A: Arm, W: EventWait> Shared<A, W> {
         ensures clock { ClockGoesOn C.bounds C.latest clock.old clock.new }
     {
         let mut guard = self.timers.lock(rt);
-        self.end_over(rt, &mut m.ops, &mut *guard, &mut cell.work.round, clock)
-    }
-
-    /// Drains the queue of operations into the book and ends the round, by a pass over what the drain left
-    /// where the round asks for one.
-    fn end_over<R: Wait, C: Clock>(
-        &self,
-        rt: &R,
-        p: &mut OpPass,
-        book: &mut TimerBook,
-        round: &mut Round,
-        clock: &mut C,
-    ) -> Result<(), OutOfMemory>
-        requires ops { p.old.queue ≡ self.now.ops }
-        requires running { round.old.running ≡ true }
-        requires hand { round.old.hand ≡ [] }
-        ensures finished { OnOk result
-            (FinishesOver (C.bounds clock.old) (C.latest clock.old) (C.latest clock.new)
-            p.old p.new book.old book.new round.old round.new) }
-        ensures drained { OnOk result (Drained p.old p.new) }
-        ensures refused { OnErr result (round.new ≡ round.old) }
-        ensures pushed { OnErr result (PushedNothing p.old p.new) }
-        ensures kept { OnErr result (DrainsAtMost p.old p.new book.old book.new) }
-        ensures clock { ClockGoesOn C.bounds C.latest clock.old clock.new }
-    {
-        match self.ops.drain(rt, p, book) {
-            Err(refused) => return Err(refused),
-            Ok(_) => {}
-        }
-        let now = clock.now();
-        match round.finish(book, now) {
-            Err(no_room) => Err(no_room),
-            Ok(_) => Ok(()),
-        }
+        end_over(
+            &self.ops,
+            rt,
+            &mut m.ops,
+            &mut *guard,
+            &mut cell.work.round,
+            clock,
+        )
     }
 
     /// Wakes each waker that the ended round took, and answers the first fault or what was done.
@@ -379,36 +295,138 @@ impl<A: Arm, W: EventWait> Shared<A, W> {
             cell.work.round.woken(),
             &mut m.notifier,
         );
-        match cell.work.round.fault() {
-            Some(RoundFault::Wait(fault)) => return Err(ReactFault::Wait(fault)),
-            Some(RoundFault::Arm(fault)) => return Err(ReactFault::Arm(fault)),
-            None => {}
-        }
-        if let Some(fault) = failed {
-            return Err(ReactFault::Notify(fault));
-        }
-        let events = if resumed {
-            in_hand
-        } else {
-            cell.work.round.given()
-        };
-        Ok(ReactedIn {
-            resumed,
-            events,
-            woken: cell.work.round.woken().len() as u64,
-        })
+        report(&cell.work.round, failed, resumed, in_hand)
     }
+}
 
-    /// Clears `notified` for a seat that waits, in a call that made no wait; it blocks again. Any other
-    /// seat is let be.
-    fn settle(&self, seat: &mut RoundSeat)
-        requires { Belongs self.now.words seat.old × IsIdleOrWaits seat.old }
-        ensures words { seat.new.words ≡ seat.old.words }
-        ensures settled { Settles (is_waiting seat.old.view.mode) seat.old.view seat.new.view }
-        ensures mode { seat.new.view.mode ≡ blocking seat.old.view.mode }
-    {
-        if seat.is_waiting() {
-            self.words.waited(seat);
-        }
+/// Makes the wait of a round that has begun, and then clears `notified`: a seat that waited blocks
+/// again.
+fn wait_for_events<W: EventWait>(
+    words: &Words,
+    seat: &mut RoundSeat,
+    round: &mut Round,
+    wait: &mut CellWait<W>,
+)
+    requires words { Belongs words.now seat.old }
+    requires mode { IsIdleOrWaits seat.old }
+    requires risen { EndsInRise seat.old.view }
+    requires number { round.old.number ≡ seat.old.view.seen }
+    requires runs { round.old.running ≡ true }
+    requires empty { round.old.hand ≡ [] }
+    ensures awaits { Awaits W.wait_step round.old round.new wait.old wait.new
+        (W.wait_count wait.old) (W.fault_count wait.old)
+        (W.wait_count wait.new) (W.fault_count wait.new) (W.is_sure wait.old) }
+    ensures stays { W.is_sure wait.new ≡ W.is_sure wait.old }
+    ensures words { seat.new.words ≡ seat.old.words }
+    ensures cleared { (found : ℕ)
+        × (seat.new.view ≡ after (word_step.SwapNotified found) seat.old.view) }
+{
+    wait.await_events(seat, round);
+    words.waited(seat);
+}
+
+/// Drains the queue of operations into the book and begins a round, by a pass over what the drain left.
+fn begin_over<R: Wait, C: Clock>(
+    queue: &Ops,
+    rt: &R,
+    ops: &mut OpPass,
+    book: &mut TimerBook,
+    round: &mut Round,
+    clock: &mut C,
+    limit: Option<u64>,
+    number: u64,
+) -> Result<(), OutOfMemory>
+    requires ops { ops.old.queue ≡ queue.now }
+    requires idle { round.old.running ≡ false }
+    ensures begun { OnOk result
+        (BeginsOver number (C.bounds clock.old) (C.latest clock.old) (C.latest clock.new) limit
+        ops.old ops.new book.old book.new round.new) }
+    ensures drained { OnOk result (Drained ops.old ops.new) }
+    ensures refused { OnErr result (round.new ≡ round.old) }
+    ensures pushed { OnErr result (PushedNothing ops.old ops.new) }
+    ensures kept { OnErr result (DrainsAtMost ops.old ops.new book.old book.new) }
+    ensures clock { ClockGoesOn C.bounds C.latest clock.old clock.new }
+{
+    match queue.drain(rt, ops, book) {
+        Err(refused) => return Err(refused),
+        Ok(_) => {}
     }
+    let now = clock.now();
+    match round.begin(book, now, limit, number) {
+        Err(refused) => Err(refused),
+        Ok(_) => Ok(()),
+    }
+}
+
+/// Drains the queue of operations into the book and ends the round, by a pass over what the drain left
+/// where the round asks for one.
+fn end_over<R: Wait, C: Clock>(
+    queue: &Ops,
+    rt: &R,
+    p: &mut OpPass,
+    book: &mut TimerBook,
+    round: &mut Round,
+    clock: &mut C,
+) -> Result<(), OutOfMemory>
+    requires ops { p.old.queue ≡ queue.now }
+    requires running { round.old.running ≡ true }
+    requires hand { round.old.hand ≡ [] }
+    ensures finished { OnOk result
+        (FinishesOver (C.bounds clock.old) (C.latest clock.old) (C.latest clock.new)
+        p.old p.new book.old book.new round.old round.new) }
+    ensures drained { OnOk result (Drained p.old p.new) }
+    ensures refused { OnErr result (round.new ≡ round.old) }
+    ensures pushed { OnErr result (PushedNothing p.old p.new) }
+    ensures kept { OnErr result (DrainsAtMost p.old p.new book.old book.new) }
+    ensures clock { ClockGoesOn C.bounds C.latest clock.old clock.new }
+{
+    match queue.drain(rt, p, book) {
+        Err(refused) => return Err(refused),
+        Ok(_) => {}
+    }
+    let now = clock.now();
+    match round.finish(book, now) {
+        Err(no_room) => Err(no_room),
+        Ok(_) => Ok(()),
+    }
+}
+
+/// Clears `notified` for a seat that waits, in a call that made no wait; it blocks again. Any other
+/// seat is let be.
+fn settle(words: &Words, seat: &mut RoundSeat)
+    requires { Belongs words.now seat.old × IsIdleOrWaits seat.old }
+    ensures words { seat.new.words ≡ seat.old.words }
+    ensures settled { Settles (is_waiting seat.old.view.mode) seat.old.view seat.new.view }
+    ensures mode { seat.new.view.mode ≡ blocking seat.old.view.mode }
+{
+    if seat.is_waiting() {
+        words.waited(seat);
+    }
+}
+
+/// What is answered for a round that ended, by the first fault of its wakes: the round's own fault
+/// first.
+fn report(
+    round: &Round,
+    failed: Option<CountFault>,
+    resumed: bool,
+    in_hand: u32,
+) -> Result<ReactedIn, ReactFault>
+    requires few { in_hand ≤ 1024 }
+    ensures { Reports round.now failed resumed in_hand result }
+{
+    match round.fault() {
+        Some(RoundFault::Wait(fault)) => return Err(ReactFault::Wait(fault)),
+        Some(RoundFault::Arm(fault)) => return Err(ReactFault::Arm(fault)),
+        None => {}
+    }
+    if let Some(fault) = failed {
+        return Err(ReactFault::Notify(fault));
+    }
+    let events = if resumed { in_hand } else { round.given() };
+    Ok(ReactedIn {
+        resumed,
+        events,
+        woken: round.woken().len() as u64,
+    })
 }

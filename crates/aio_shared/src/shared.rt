@@ -2,7 +2,8 @@
 
 ghost use Rattle.std.specs.Prelude.{◌≡◌, ◌≤◌, [], IfOk, IfErr, IsPermutation};
 ghost use Rattle.std.specs.Arc.{arc_value};
-ghost use Rattle.aio_rules.specs.SharedWords.{first_view, after_split};
+ghost use Rattle.aio_ops.specs.Passes.{new_pass};
+ghost use Rattle.aio_rules.specs.SharedWords.{first_view, after_split, split_view};
 ghost use Rattle.aio_shared.specs.OneCell.{first_claim};
 ghost use Rattle.aio_shared.specs.Starting.{AreParts, IsFirstMember, IsNewReactor, new_about};
 ghost use Rattle.aio_sources.specs.Starting.{keys_added};
@@ -76,12 +77,8 @@ impl<A: Arm + Drop> Parts<A> {
             made.0.pass made.0.ops made.0.first) }
         ensures sources { IfOk result (λ made. made.0.table ≡ []) }
     {
-        let (words, seat, pass) = Words::new(alloc, parkers)?;
-        let (ops, first) = Ops::new(alloc)?;
-        let Ok(words) = Arc::new(alloc, words) else {
-            return Err(OutOfMemory);
-        };
-        let table = SourceTable::new(alloc)?;
+        let (words, seat, pass) = shared_words(alloc, parkers)?;
+        let (ops, first, table) = queue_and_table(alloc)?;
         let parts = Parts {
             words,
             pass,
@@ -145,6 +142,39 @@ impl<A: Arm + Drop> Parts<A> {
             sources,
         }
     }
+}
+
+/// Words for so many parkers, which threads may share, with the seat of the rounds and a first seat.
+/// `OutOfMemory` where memory ran out.
+fn shared_words(
+    alloc: Global,
+    parkers: u32,
+) -> Result<(Arc<Words, Global>, RoundSeat, Pass), OutOfMemory>
+    requires { (1 ≤ parkers) × (parkers ≤ 16) }
+    ensures words { IfOk result (λ made. (arc_value made.0).parkers ≡ parkers) }
+    ensures seat { IfOk result (λ made. made.1
+        ≡ record { words = (arc_value made.0).identity; view = after_split first_view }) }
+    ensures pass { IfOk result (λ made. made.2
+        ≡ record { words = (arc_value made.0).identity; view = split_view first_view }) }
+{
+    let (words, seat, pass) = Words::new(alloc, parkers)?;
+    match Arc::new(alloc, words) {
+        Ok(words) => Ok((words, seat, pass)),
+        Err(_) => Err(OutOfMemory),
+    }
+}
+
+/// A queue of operations with its first seat, and a table with no source. `OutOfMemory` where memory
+/// ran out.
+fn queue_and_table<A: Arm + Drop>(
+    alloc: Global,
+) -> Result<(Ops, OpPass, SourceTable<A>), OutOfMemory>
+    ensures first { IfOk result (λ made. made.1 ≡ new_pass made.0 0 1) }
+    ensures table { IfOk result (λ made. made.2 ≡ []) }
+{
+    let (ops, first) = Ops::new(alloc)?;
+    let table = SourceTable::new(alloc)?;
+    Ok((ops, first, table))
 }
 
 /// The lock of a new reactor whose connections are of the type `A`: an idle round over this wait lies in

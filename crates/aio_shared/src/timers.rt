@@ -5,11 +5,12 @@ ghost use Rattle.aio_ops.specs.Passes.{Drained};
 ghost use Rattle.aio_react.specs.Hosts.{NotifierTells, has_id_left, insert_fault};
 ghost use Rattle.aio_shared.specs.Members.{IsLaterMember, IsMemberOf};
 ghost use Rattle.aio_shared.specs.TimerCalls.{CarriesOut, GivesUp, Inserts, IsLaterPass, RemovesTimer, Tries, TriesOver};
+ghost use Rattle.aio_shared.specs.Reporting.{told_of};
 
 use crate::members::Member;
 use crate::shared::Shared;
-use aio_base::{Arm, EventWait, Moment, Notify, OutOfMemory, TimerId, Waker};
-use aio_ops::OpPass;
+use aio_base::{Arm, CountFault, EventWait, Moment, Notify, OutOfMemory, TimerId, Waker};
+use aio_ops::{OpPass, Ops};
 use aio_react::InsertRefusal;
 use aio_timers::{TimerBook, TimerOp};
 use std::sync::Wait;
@@ -53,15 +54,13 @@ impl<A: Arm, W: EventWait> Shared<A, W> {
         ensures belongs { IsMemberOf self.now m.new }
         ensures later { IsLaterMember N.fault_count N.is_sure m.old m.new }
     {
-        let id = TimerId(((m.ops.number() as u64) << 40) + m.ids + 1);
+        let id = m.next_id();
         match self.carry_out(rt, &mut m.ops, &TimerOp::Insert(at, id, waker)) {
             Err(_) => Err(InsertRefusal::OutOfMemory),
             Ok(()) => {
                 m.ids += 1;
-                match self.words.notify(&mut m.pass, &mut m.notifier) {
-                    Ok(()) => Ok(id),
-                    Err(fault) => Err(InsertRefusal::Notify { id, fault }),
-                }
+                let told = self.words.notify(&mut m.pass, &mut m.notifier);
+                registered(id, told)
             }
         }
     }
@@ -116,24 +115,7 @@ impl<A: Arm, W: EventWait> Shared<A, W> {
         ensures tries { Tries op.now p.old p.new result }
     {
         let mut guard = self.timers.lock(rt);
-        self.push_after_drain(rt, p, &mut *guard, op)
-    }
-
-    /// Drains the queue into the book, and then pushes an operation. Whether the queue took it.
-    /// `OutOfMemory` where there was no room; then neither.
-    fn push_after_drain<R: Wait>(
-        &self,
-        rt: &R,
-        p: &mut OpPass,
-        book: &mut TimerBook,
-        op: &TimerOp,
-    ) -> Result<bool, OutOfMemory>
-        requires belongs { p.old.queue ≡ self.now.ops }
-        ensures tries { Tries op.now p.old p.new result }
-        ensures over { TriesOver op.now p.old p.new book.old book.new result }
-    {
-        self.ops.drain(rt, p, book)?;
-        Ok(self.ops.push(rt, p, *op).is_ok())
+        push_after_drain(&self.ops, rt, p, &mut *guard, op)
     }
 
     /// Drains the queue and applies an operation to the book, under its lock.
@@ -149,5 +131,32 @@ impl<A: Arm, W: EventWait> Shared<A, W> {
     {
         let mut guard = self.timers.lock(rt);
         self.ops.apply_after_drain(rt, p, &mut *guard, *op)
+    }
+}
+
+/// Drains the queue into the book, and then pushes an operation. Whether the queue took it.
+/// `OutOfMemory` where there was no room; then neither.
+fn push_after_drain<R: Wait>(
+    queue: &Ops,
+    rt: &R,
+    p: &mut OpPass,
+    book: &mut TimerBook,
+    op: &TimerOp,
+) -> Result<bool, OutOfMemory>
+    requires belongs { p.old.queue ≡ queue.now }
+    ensures tries { Tries op.now p.old p.new result }
+    ensures over { TriesOver op.now p.old p.new book.old book.new result }
+{
+    queue.drain(rt, p, book)?;
+    Ok(queue.push(rt, p, *op).is_ok())
+}
+
+/// What an insert answers that registered its timer under this id, by the answer of its notify.
+fn registered(id: TimerId, told: Result<(), CountFault>) -> Result<TimerId, InsertRefusal>
+    ensures { result ≡ told_of id told }
+{
+    match told {
+        Ok(()) => Ok(id),
+        Err(fault) => Err(InsertRefusal::Notify { id, fault }),
     }
 }

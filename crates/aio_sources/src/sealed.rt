@@ -5,6 +5,7 @@
 //! Each step says what the source and its connection are afterwards, so that nothing else was done to them.
 
 ghost use Rattle.std.specs.Prelude.{◌≡◌, ◌<◌, [], true, false, None, Some, IfOk, IfErr, OnOk, OnErr, option_map, slice_get};
+ghost use Rattle.std.specs.Arc.{arc_value};
 ghost use Rattle.aio_base.specs.Devices.{RemoveOf};
 ghost use Rattle.aio_base.specs.declared.names.Event.{Event};
 ghost use Rattle.aio_rules.specs.SharedLock.{AgreesWithNotes, first_owner, is_inside, put_back, taken_first, taken_second, took_out};
@@ -49,14 +50,24 @@ impl<T: Noted + Drop> SharedLock<T> {
         ensures owner { IfOk result (λ made.
             made.2 ≡ owner_of made.0 (took_out [] [] (first_owner []))) }
     {
-        let (lock, owner, _second) = Lock::vacant(alloc)?;
-        let Ok(lock) = Arc::new(alloc, lock) else {
-            return Err(OutOfMemory);
-        };
+        let (lock, owner) = vacant_lock(alloc)?;
         let Ok(twin) = Arc::try_clone(&lock) else {
             return Err(OutOfMemory);
         };
         Ok((SharedLock { lock }, SharedLock { lock: twin }, owner))
+    }
+}
+
+/// A lock with no value yet, where several can hold it, and its owner, which is inside. `OutOfMemory`
+/// where the memory is not there.
+fn vacant_lock<T: Noted + Drop>(alloc: Global) -> Result<(Arc<Lock<T>, Global>, Owner), OutOfMemory>
+    ensures { IfOk result (λ made.
+        made.1 ≡ owner_of (arc_value made.0) (took_out [] [] (first_owner []))) }
+{
+    let (lock, owner, _) = Lock::vacant(alloc)?;
+    match Arc::new(alloc, lock) {
+        Ok(lock) => Ok((lock, owner)),
+        Err(_) => Err(OutOfMemory),
     }
 }
 

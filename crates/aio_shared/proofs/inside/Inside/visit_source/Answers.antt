@@ -1,4 +1,5 @@
 use Rattle.std.proofs.Common.{rules}
+use Rattle.aio_shared.proofs.Leaving.{leaves}
 use Rattle.aio_shared.proofs.inside.Inside.visit_source.Goals as goal
 
 pub returns-clause-works : goal.returns-clause-works
@@ -10,3 +11,10 @@ returns-clause-works g c = record {
   woke = search rules;
   answer_is = c.told.ensures.answer;
 }
+
+pub returns-clause-leaves : goal.returns-clause-leaves
+returns-clause-leaves g c =
+    let visit = c.enter_and_leave-tried.ensures in
+    let wake = c.wake_replaced-woken.ensures in
+    leaves _ _ _ _ _ c.enter_and_leave-tried.new.self _ c.enter_and_leave-tried.result.answer c.wake_replaced-woken.result _ visit.kept visit.later wake.kept wake.later wake.notifier visit.arm
+    c.told.ensures.answer c.told.ensures.arm

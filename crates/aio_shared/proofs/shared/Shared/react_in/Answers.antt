@@ -2,6 +2,7 @@ use Rattle.std.proofs.Common.{rules, ◌≡◌, ap, ◌∙◌, refl, subst}
 use Rattle.aio_shared.specs.Waking.{TellsFirstWake}
 use Rattle.aio_shared.proofs.Draining.{pushed_nothing_itself, pushed_nothing_further}
 use Rattle.aio_shared.proofs.DrainedOnly.{drained_is_later}
+use Rattle.aio_shared.proofs.Refusing.{not_spent, quiet_calls, refused_belongs, refused_cell, refused_faults, refused_first, refused_later, refused_mode, refused_reacts, refused_spent, reported_unspent, unspent}
 use Rattle.aio_shared.proofs.Rounding.{entered_pushed, entered_until, handled_says, is_later, new_says, ran_out, reacts}
 use Rattle.aio_shared.proofs.shared.Shared.react_in.Goals as goal
 
@@ -80,3 +81,41 @@ returns-in-Err-end_round-clause-later g c =
     let m2 = c.end_round.new.m in
     drained_is_later _ _ c.args.m.now m2 (c.end_round.ensures.kept ∙ (λ i. record (c.enter_round.ensures.kept i) { ops = m2.ops }))
     (pushed_nothing_further _ _ _ (entered_pushed _ _ _ _ _ c.in-Ok.ensures.entered) c.in-Err-end_round.ensures.pushed)
+
+-- no round was entered
+pub returns-in-Err-clause-reacts : goal.returns-in-Err-clause-reacts
+returns-in-Err-clause-reacts g c = refused_reacts c.args.cell.now c.enter_round.new.cell c.args.m.now c.enter_round.new.m c.in-Err.ensures.kept _ _ _ _ c.in-Err.fault c.in-Err.ensures.refused
+
+pub returns-in-Err-clause-first : goal.returns-in-Err-clause-first
+returns-in-Err-clause-first g c = refused_first c.args.cell.now c.enter_round.new.cell c.args.m.now c.enter_round.new.m c.in-Err.ensures.kept _ _ _ _ _ _ _ _ _ c.in-Err.fault c.in-Err.ensures.refused
+
+pub returns-in-Err-clause-spent : goal.returns-in-Err-clause-spent
+returns-in-Err-clause-spent g c = refused_spent c.args.cell.now c.enter_round.new.cell c.args.m.now c.enter_round.new.m c.in-Err.ensures.kept c.in-Err.fault c.in-Err.ensures.refused
+
+pub returns-in-Err-clause-calls : goal.returns-in-Err-clause-calls
+returns-in-Err-clause-calls g c = quiet_calls c.args.cell.now c.enter_round.new.cell c.args.m.now c.enter_round.new.m c.in-Err.ensures.kept g.N.Notify.call_count
+
+pub returns-in-Err-clause-seat : goal.returns-in-Err-clause-seat
+returns-in-Err-clause-seat g c = refused_mode c.args.cell.now c.enter_round.new.cell c.args.m.now c.enter_round.new.m c.in-Err.ensures.kept c.in-Err.fault c.in-Err.ensures.refused
+
+pub returns-in-Err-clause-belongs : goal.returns-in-Err-clause-belongs
+returns-in-Err-clause-belongs g c = refused_belongs c.args.cell.now c.enter_round.new.cell c.args.m.now c.enter_round.new.m c.in-Err.ensures.kept _ c.in-Err.fault c.in-Err.ensures.refused c.requires.belongs
+
+pub returns-in-Err-clause-cell : goal.returns-in-Err-clause-cell
+returns-in-Err-clause-cell g c = refused_cell c.args.cell.now c.enter_round.new.cell c.args.m.now c.enter_round.new.m c.in-Err.ensures.kept c.in-Err.fault c.in-Err.ensures.refused c.requires.cell
+
+pub returns-in-Err-clause-later : goal.returns-in-Err-clause-later
+returns-in-Err-clause-later g c = refused_later c.args.cell.now c.enter_round.new.cell c.args.m.now c.enter_round.new.m c.in-Err.ensures.kept _ _ c.in-Err.fault c.in-Err.ensures.refused
+
+pub returns-in-Err-clause-faults : goal.returns-in-Err-clause-faults
+returns-in-Err-clause-faults g c = refused_faults c.args.cell.now c.enter_round.new.cell c.args.m.now c.enter_round.new.m c.in-Err.ensures.kept _ _ c.in-Err.fault c.in-Err.ensures.refused
+
+-- a round was entered, so the rounds were not spent
+pub returns-in-Err-handle_in_hand-clause-spent : goal.returns-in-Err-handle_in_hand-clause-spent
+returns-in-Err-handle_in_hand-clause-spent g c = unspent _ c.args.cell.now c.enter_round.new.cell _ _ c.in-Ok.ensures.entered _ not_spent
+
+pub returns-in-Err-end_round-clause-spent : goal.returns-in-Err-end_round-clause-spent
+returns-in-Err-end_round-clause-spent g c = unspent _ c.args.cell.now c.enter_round.new.cell _ _ c.in-Ok.ensures.entered _ not_spent
+
+pub returns-clause-spent : goal.returns-clause-spent
+returns-clause-spent g c = reported_unspent _ c.args.cell.now c.enter_round.new.cell _ _ c.in-Ok.ensures.entered c.end_round.new.cell.round _ _ _ _ c.wake_taken.ensures.tells

@@ -1,6 +1,6 @@
 use Rattle.std.proofs.Common.{rules}
 use Rattle.aio_shared.proofs.Draining.{untouched_pushed_nothing}
-use Rattle.aio_shared.proofs.shared.Shared.end_over.Goals as goal
+use Rattle.aio_shared.proofs.reacting.end_over.Goals as goal
 
 pub returns-in-Err-clause-pushed : goal.returns-in-Err-clause-pushed
 returns-in-Err-clause-pushed g c = untouched_pushed_nothing _ _ c.in-Err.ensures.refused

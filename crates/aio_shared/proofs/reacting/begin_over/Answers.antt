@@ -1,5 +1,5 @@
 use Rattle.aio_shared.proofs.Draining.{untouched_pushed_nothing}
-use Rattle.aio_shared.proofs.shared.Shared.begin_over.Goals as goal
+use Rattle.aio_shared.proofs.reacting.begin_over.Goals as goal
 
 pub returns-in-Err-clause-pushed : goal.returns-in-Err-clause-pushed
 returns-in-Err-clause-pushed g c = untouched_pushed_nothing _ _ c.in-Err.ensures.refused

@@ -1,5 +1,5 @@
 use Rattle.std.proofs.Common.{rules}
-use Rattle.aio_shared.proofs.shared.Shared.wait_for_events.Goals as goal
+use Rattle.aio_shared.proofs.reacting.wait_for_events.Goals as goal
 
 pub await_events-requires-clause-risen : goal.await_events-requires-clause-risen
 await_events-requires-clause-risen g c = search rules
