@@ -23,6 +23,17 @@ GainsNone old new = (parker : ℕ) → Gains parker old new []
 abbrev pub member_did : {N : Type 0} → WordStep → MemberValue N → MemberValue N
 member_did step m = record m { pass = record m.pass { view = after step m.pass.view } }
 
+-- What a member does after a call of `react_in` that told this fault, and what is answered then.
+pub data LooksAfter {N : Type 0} (fault : ReactFault) (m later : MemberValue N) (answer : Result (Option ReactedIn) ReactFault) : Type 0 where
+  -- it does nothing, and the fault is handed on, if that is not that no round can begin
+  HandsOn : fault ≢ react_fault.RoundsSpent → later ≡ m → answer ≡ Err fault → LooksAfter fault m later answer
+  -- otherwise it looks at the ticker: that stands at its end, and the fault is handed on
+  FindsEnd : (found : ℕ) → fault ≡ react_fault.RoundsSpent → later ≡ member_did (word_step.LoadTicker found) m → found ≡ 2 ^ 64 - 1 → answer ≡ Err react_fault.RoundsSpent
+      → LooksAfter fault m later answer
+  -- or it stands below, and nothing came of the call
+  FindsLess : (found : ℕ) → fault ≡ react_fault.RoundsSpent → later ≡ member_did (word_step.LoadTicker found) m → found ≢ 2 ^ 64 - 1 → answer ≡ Ok None
+      → LooksAfter fault m later answer
+
 module _ {N W : Type 0} where
   -- Tries to begin a round came to nothing: of the cell changed nothing but its seat, and of the member nothing but its seat, which did nothing but look at
   -- the ticker, and never found its end.

@@ -8,7 +8,7 @@ ghost use Rattle.aio_shared.specs.OneCell.{IsCellOf};
 ghost use Rattle.aio_shared.specs.Reacting.{until, start_of};
 ghost use Rattle.aio_words.specs.Seats.{IsIdleOrWaits};
 ghost use Rattle.aio_park.specs.Blocking.{KeepsThread};
-ghost use Rattle.aio_park.specs.Driving.{Drives, DrivesRound, DrivesRounds, DrivesUntilFault, FailsRound, FailsWithin, GainsNone, Tries};
+ghost use Rattle.aio_park.specs.Driving.{Drives, DrivesRound, DrivesRounds, DrivesUntilFault, FailsRound, FailsWithin, GainsNone, LooksAfter, Tries};
 ghost use Rattle.aio_park.specs.Looks.{WaitsAfterLooks};
 
 use aio_base::{Arm, Clock, EventWait, Notify};
@@ -175,15 +175,27 @@ pub(crate) fn react_once<R: Wait, N: Notify, C: Clock, A: Arm, W: EventWait>(
 {
     match shared.react_in(rt, m, cell, clock, limit) {
         Ok(reacted) => Ok(Some(reacted)),
-        Err(ReactFault::RoundsSpent) => {
+        Err(fault) => after_fault(shared, m, fault),
+    }
+}
+
+/// What `react_once` answers after this fault. Where the fault is that no round can begin, the
+/// member looks at the ticker first.
+fn after_fault<N: Notify, A: Arm, W: EventWait>(
+    shared: &Shared<A, W>,
+    m: &mut Member<N, W>,
+    fault: ReactFault,
+) -> Result<Option<ReactedIn>, ReactFault>
+    requires { IsMemberOf shared.now m.old }
+    ensures { LooksAfter fault m.old m.new result }
+{
+    match fault {
+        ReactFault::RoundsSpent => {
             if shared.words().ticker(m.words_pass()) == u64::MAX {
-                return Err(ReactFault::RoundsSpent);
+                return Err(fault);
             }
             Ok(None)
         }
-        Err(ReactFault::Wait(fault)) => Err(ReactFault::Wait(fault)),
-        Err(ReactFault::Arm(fault)) => Err(ReactFault::Arm(fault)),
-        Err(ReactFault::Notify(fault)) => Err(ReactFault::Notify(fault)),
-        Err(ReactFault::OutOfMemory) => Err(ReactFault::OutOfMemory),
+        _ => Err(fault),
     }
 }

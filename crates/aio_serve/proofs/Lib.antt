@@ -1,3 +1,4 @@
+pub mod Handed
 pub mod Fitting
 pub mod Stopping
 pub mod Complete

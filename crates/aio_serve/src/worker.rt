@@ -1,6 +1,6 @@
 //! A worker: one thread of a server's reactor, and the places of the pairs that it serves.
 
-ghost use Rattle.std.specs.Prelude.{◌≡◌, ◌<◌, ◌≤◌, ◌^◌, ℕ, Ok, IfOk, IfErr};
+ghost use Rattle.std.specs.Prelude.{◌≡◌, ◌<◌, ◌≤◌, ◌^◌, ◌++◌, ◌∷◌, [], ℕ, length, Ok, IfOk, IfErr, OnOk};
 ghost use Rattle.std.specs.List.{AllZip};
 ghost use Rattle.std.specs.VecDeque.{deque_len};
 ghost use Rattle.std.specs.Arc.{arc_value};
@@ -9,8 +9,10 @@ ghost use Rattle.aio_base.specs.ClockBounds.{IsWithin};
 ghost use Rattle.aio_shared.specs.Inside.{IsLaterInside};
 ghost use Rattle.aio_park.specs.Blocking.{IsPast};
 ghost use Rattle.aio_park.specs.Stopping.{StopsFor};
+ghost use Rattle.aio_park.specs.declared.group.Slot.TheVariants.{Running};
 ghost use Rattle.aio_serve.specs.Places.{WorkerEnds};
 ghost use Rattle.aio_serve.specs.Seated.{IsSeated};
+ghost use Rattle.aio_serve.specs.Served.{first_stage};
 
 use crate::seats::Seats;
 use crate::served::Served;
@@ -246,12 +248,35 @@ fn seat_all<'g, A: Conn + Drop, W: EventWait + Drop, G>(
     let mut left = places;
     let pairs = left.len() as u32;
     while let Some(place) = left.pop_front() {
-        let served = Served::among(alloc, place, idle, start, gate, pairs)?;
-        match group.add(served) {
-            Ok(_) => {}
-            Err((_, GroupRefusal::Full)) => unreachable!(),
-            Err((_, GroupRefusal::OutOfMemory)) => return Err(OutOfMemory),
-        }
+        seat(&mut group, alloc, place, idle, start, gate, pairs)?;
     }
     Ok(Seats { group, gate })
+}
+
+/// Puts a place, one of so many pairs, in the next slot of a group. `OutOfMemory` where there was no
+/// memory for it; it is let go.
+fn seat<'g, A: Conn + Drop, W: EventWait + Drop, G>(
+    group: &mut Group<Served<'g, A, W, G>, PairEnd>,
+    alloc: Global,
+    place: Place<A, W>,
+    idle: u64,
+    start: Moment,
+    gate: &'g G,
+    pairs: u32,
+) -> Result<(), OutOfMemory>
+    requires room { length group.old.slots < 64 }
+    requires some { 0 < idle }
+    requires bound { idle ≤ 10 ^ 18 }
+    ensures { OnOk result (group.new ≡ record group.old {
+      slots = group.old.slots
+          ++ Running (record { stage = first_stage idle start place; polls = 0 }) ∷ [];
+    }) }
+{
+    let served = Served::among(alloc, place, idle, start, gate, pairs)?;
+    match group.add(served) {
+        Ok(_) => {}
+        Err((_, GroupRefusal::Full)) => unreachable!(),
+        Err((_, GroupRefusal::OutOfMemory)) => return Err(OutOfMemory),
+    }
+    Ok(())
 }

@@ -97,3 +97,17 @@ pub returns-in-Err-clause-cell : goal.returns-in-Err-clause-cell
 returns-in-Err-clause-cell g c =
     ap (λ (t : ClaimValue). t.holds) c.in-Err.ensures.keeps.later.claim ∙ ap (λ (t : ClaimValue). t.holds) c.poll_once.ensures.later.member.claim
     ∙ ap (λ (t : ClaimValue). t.holds) c.loop.invariant.later.member.claim
+
+-- ## The clock
+
+pub returns-in-Ready-clause-bounds : goal.returns-in-Ready-clause-bounds
+returns-in-Ready-clause-bounds g c = c.poll_once.ensures.bounds ∙ c.loop.invariant.bounds
+
+pub returns-in-Ready-clause-latest : goal.returns-in-Ready-clause-latest
+returns-in-Ready-clause-latest g c = le_trans c.loop.invariant.latest c.poll_once.ensures.latest
+
+pub returns-in-Err-clause-bounds : goal.returns-in-Err-clause-bounds
+returns-in-Err-clause-bounds g c = c.in-Err.ensures.keeps.bounds ∙ c.poll_once.ensures.bounds ∙ c.loop.invariant.bounds
+
+pub returns-in-Err-clause-latest : goal.returns-in-Err-clause-latest
+returns-in-Err-clause-latest g c = le_trans c.loop.invariant.latest (le_trans c.poll_once.ensures.latest c.in-Err.ensures.keeps.latest)

@@ -94,3 +94,27 @@ returns-in-Err-clause-tries g c = (
 
 pub returns-in-Some-take_or_wait-clause-tries : goal.returns-in-Some-take_or_wait-clause-tries
 returns-in-Some-take_or_wait-clause-tries g c = (c.loop.invariant.tries.0, tries_after g.N.Faults.fault_count c.args.shared.now.words.parkers c.args.shared.now.sure_of_arms (until (g.C.Clock.latest c.loop.clock) (start_of g.C.Clock.bounds g.C.Clock.latest g.W.EventWait.wait_step c.args.clock.now)) c.loop.invariant.tries.0 c.args.cell.now c.loop.cell (record c.loop.cell { seat = c.take_or_wait.new.s }) c.args.m.now c.loop.m refl c.loop.invariant.tries.1)
+
+pub returns-in-Some-take_or_wait-clause-took : goal.returns-in-Some-take_or_wait-clause-took
+returns-in-Some-take_or_wait-clause-took g c = c.loop.invariant.took
+
+pub returns-in-Some-take_or_wait-clause-keeps : goal.returns-in-Some-take_or_wait-clause-keeps
+returns-in-Some-take_or_wait-clause-keeps g c = c.loop.invariant.keeps
+
+pub returns-in-Some-take_or_wait-clause-claim : goal.returns-in-Some-take_or_wait-clause-claim
+returns-in-Some-take_or_wait-clause-claim g c = c.loop.invariant.claim
+
+pub react_once-requires-clause-belongs : goal.react_once-requires-clause-belongs
+react_once-requires-clause-belongs g c = c.loop.invariant.keeps.belongs
+
+pub returns-in-Err-clause-mode : goal.returns-in-Err-clause-mode
+returns-in-Err-clause-mode g c =
+    c.react_once.ensures.seat
+    ∙ ap blocking (c.in-None-take_or_wait.ensures.none c.requires.blocks.0 (ap (λ (s : SeatValue). s.view.mode) c.seat.ensures.value ∙ c.loop.invariant.mode ∙ c.requires.blocks.1))
+    ∙ sym c.requires.blocks.1
+
+pub returns-in-Err-clause-claim : goal.returns-in-Err-clause-claim
+returns-in-Err-clause-claim g c = ap (λ (x : MemberValue g.row.N.Denot). x.claim) c.react_once.ensures.kept ∙ c.loop.invariant.claim
+
+pub returns-in-Err-clause-cell : goal.returns-in-Err-clause-cell
+returns-in-Err-clause-cell g c = c.react_once.ensures.cell

@@ -1,9 +1,44 @@
 use Rattle.std.proofs.Common.{refl, ap, ◌∙◌, le_refl, None, Ok, Err}
 use Rattle.aio_rules.specs.SharedWords.{blocking}
+use Rattle.aio_shared.specs.Members.{MemberValue, moved_on}
 use Rattle.aio_shared.specs.Reacting.{until, start_of}
-use Rattle.aio_park.proofs.Holding.{nothing_further, try_of, with_bounds}
-use Rattle.aio_park.proofs.Keeping.{keeps_as, keeps_then}
+use Rattle.aio_shared.proofs.Notifying.{notifies_nobody}
+use Rattle.aio_park.proofs.Gaining.{member_itself}
+use Rattle.aio_park.proofs.Holding.{nothing_further, nothing_itself, try_of, with_bounds}
+use Rattle.aio_park.proofs.Keeping.{keeps_as, keeps_member, keeps_then}
 use Rattle.aio_park.proofs.rounds.drive_round.Goals as goal
+
+pub loop-init : goal.loop-init
+loop-init g c = record {
+  nothing = nothing_itself c.args.cell.now c.args.m.now;
+  keeps = keeps_member c.requires.belongs (member_itself _ _ _) (notifies_nobody _ _);
+  cell = c.requires.cell;
+  idle = c.requires.idle;
+}
+
+pub react_once-requires-clause-belongs : goal.react_once-requires-clause-belongs
+react_once-requires-clause-belongs g c = c.loop.invariant.keeps.belongs
+
+pub react_once-requires-clause-cell : goal.react_once-requires-clause-cell
+react_once-requires-clause-cell g c = c.loop.invariant.cell
+
+pub returns-in-Err-clause-idle : goal.returns-in-Err-clause-idle
+returns-in-Err-clause-idle g c = c.react_once.ensures.seat ∙ ap blocking c.loop.invariant.idle
+
+pub returns-in-Err-clause-kept : goal.returns-in-Err-clause-kept
+returns-in-Err-clause-kept g c = c.react_once.ensures.kept ∙ ap (λ (x : MemberValue g.row.N.Denot). moved_on x c.react_once.new.m) c.loop.invariant.nothing.member
+
+pub returns-in-Err-clause-cell : goal.returns-in-Err-clause-cell
+returns-in-Err-clause-cell g c = c.react_once.ensures.cell
+
+pub returns-in-Ok-Some-clause-idle : goal.returns-in-Ok-Some-clause-idle
+returns-in-Ok-Some-clause-idle g c = c.react_once.ensures.seat ∙ ap blocking c.loop.invariant.idle
+
+pub returns-in-Ok-Some-clause-kept : goal.returns-in-Ok-Some-clause-kept
+returns-in-Ok-Some-clause-kept g c = c.react_once.ensures.kept ∙ ap (λ (x : MemberValue g.row.N.Denot). moved_on x c.react_once.new.m) c.loop.invariant.nothing.member
+
+pub returns-in-Ok-Some-clause-cell : goal.returns-in-Ok-Some-clause-cell
+returns-in-Ok-Some-clause-cell g c = c.react_once.ensures.cell
 
 pub returns-in-Err-clause-keeps : goal.returns-in-Err-clause-keeps
 returns-in-Err-clause-keeps g c = keeps_then c.loop.invariant.keeps (keeps_as (λ cause. cause) c.in-Err.ensures.keeps)

@@ -1,15 +1,11 @@
-use Rattle.std.proofs.Common.{◌≡◌, ◌∙◌, ℕ, true, refl, ap, subst, Ok}
-use Rattle.aio_rules.specs.declared.seats.WordStep.TheVariants as word_step
-use Rattle.aio_rules.specs.SharedWords.{after}
-use Rattle.aio_words.specs.Seats.{SeatValue}
-use Rattle.aio_shared.specs.Reacting.{BeginsNone}
+use Rattle.std.proofs.Common.{ℕ, true, sym, subst, Ok}
+use Rattle.aio_shared.specs.OneCell.{ClaimValue, IsCellOf}
 use Rattle.aio_park.specs.Blocking.{KeepsThread}
 use Rattle.aio_park.specs.Driving.{GainsNone}
 use Rattle.aio_park.specs.Looks.{WaitsAfterLooks}
-use Rattle.aio_park.proofs.Gaining.{gains_reacts}
+use Rattle.aio_park.proofs.AfterFault.{claim_after, fault_cause, keeps_after, kept_after, took_after, tries_after_fault}
+use Rattle.aio_park.proofs.Gaining.{gains_neither, gains_reacts}
 use Rattle.aio_park.proofs.Looking.{reacts_looks}
-use Rattle.aio_park.proofs.Holding.{nothing_begun, spent_cause}
-use Rattle.aio_park.proofs.Keeping.{keeps_as, keeps_look, keeps_then}
 use Rattle.aio_park.proofs.rounds.react_once.Goals as goal
 use Rattle.aio_park.proofs.rounds.react_once.Goals.{After-react_in}
 use Rattle.aio_park.proofs.rounds.react_once.Given.{Over}
@@ -39,53 +35,33 @@ keeps g c = record {
 pub returns-in-Ok-clause-took : goal.returns-in-Ok-clause-took
 returns-in-Ok-clause-took g c = took g (goal.at.returns-in-Ok-clause-took g c).After-react_in
 
-pub returns-in-Err-Wait-clause-took : goal.returns-in-Err-Wait-clause-took
-returns-in-Err-Wait-clause-took g c = took g (goal.at.returns-in-Err-Wait-clause-took g c).After-react_in
-
-pub returns-in-Err-Arm-clause-took : goal.returns-in-Err-Arm-clause-took
-returns-in-Err-Arm-clause-took g c = took g (goal.at.returns-in-Err-Arm-clause-took g c).After-react_in
-
-pub returns-in-Err-Notify-clause-took : goal.returns-in-Err-Notify-clause-took
-returns-in-Err-Notify-clause-took g c = took g (goal.at.returns-in-Err-Notify-clause-took g c).After-react_in
-
 pub returns-in-Ok-clause-looks : goal.returns-in-Ok-clause-looks
 returns-in-Ok-clause-looks g c = looks g (goal.at.returns-in-Ok-clause-looks g c).After-react_in
 
-pub returns-in-Err-Wait-clause-looks : goal.returns-in-Err-Wait-clause-looks
-returns-in-Err-Wait-clause-looks g c = looks g (goal.at.returns-in-Err-Wait-clause-looks g c).After-react_in
+pub returns-in-Err-clause-tries : goal.returns-in-Err-clause-tries
+returns-in-Err-clause-tries g c =
+    tries_after_fault c.args.shared.now.words.parkers c.args.shared.now.sure_of_arms _ c.args.cell.now c.react_in.new.cell c.args.m.now g.N.Faults.fault_count
+    c.react_in.new.m c.after_fault.new.m c.in-Err.fault c.after_fault.result c.in-Err.ensures.reacts c.after_fault.ensures
 
-pub returns-in-Err-Arm-clause-looks : goal.returns-in-Err-Arm-clause-looks
-returns-in-Err-Arm-clause-looks g c = looks g (goal.at.returns-in-Err-Arm-clause-looks g c).After-react_in
+pub returns-in-Err-clause-keeps : goal.returns-in-Err-clause-keeps
+returns-in-Err-clause-keeps g c =
+    keeps_after c.in-Err.fault c.args.m.now c.react_in.new.m c.after_fault.new.m c.args.clock.now c.react_in.new.clock c.after_fault.result
+    (fault_cause c.args.shared.now.words.parkers c.args.shared.now.sure_of_arms _ c.args.cell.now c.react_in.new.cell c.args.m.now g.N.Faults.fault_count g.N.Faults.is_sure
+    c.react_in.new.m c.in-Err.fault c.in-Err.ensures.reacts c.in-Err.ensures.faults)
+    (keeps g (goal.at.returns-in-Err-clause-keeps g c).After-react_in) c.after_fault.ensures
 
-pub returns-in-Err-Notify-clause-looks : goal.returns-in-Err-Notify-clause-looks
-returns-in-Err-Notify-clause-looks g c = looks g (goal.at.returns-in-Err-Notify-clause-looks g c).After-react_in
+pub returns-in-Err-clause-took : goal.returns-in-Err-clause-took
+returns-in-Err-clause-took g c =
+    gains_neither c.args.m.now.pass.view c.react_in.new.m.pass.view c.after_fault.new.m.pass.view (took g (goal.at.returns-in-Err-clause-took g c).After-react_in)
+    (took_after c.in-Err.fault c.react_in.new.m c.after_fault.new.m c.after_fault.result c.after_fault.ensures)
 
-pub returns-in-Err-OutOfMemory-clause-looks : goal.returns-in-Err-OutOfMemory-clause-looks
-returns-in-Err-OutOfMemory-clause-looks g c = looks g (goal.at.returns-in-Err-OutOfMemory-clause-looks g c).After-react_in
+pub returns-in-Err-clause-looks : goal.returns-in-Err-clause-looks
+returns-in-Err-clause-looks g c = looks g (goal.at.returns-in-Err-clause-looks g c).After-react_in
 
-pub returns-then-ticker-clause-looks : goal.returns-then-ticker-clause-looks
-returns-then-ticker-clause-looks g c = looks g (goal.at.returns-then-ticker-clause-looks g c).After-react_in
+pub returns-in-Err-clause-kept : goal.returns-in-Err-clause-kept
+returns-in-Err-clause-kept g c =
+    kept_after c.in-Err.fault c.args.m.now c.react_in.new.m c.after_fault.new.m c.after_fault.result c.react_in.ensures.kept c.after_fault.ensures
 
-pub returns-else-ticker-clause-looks : goal.returns-else-ticker-clause-looks
-returns-else-ticker-clause-looks g c = looks g (goal.at.returns-else-ticker-clause-looks g c).After-react_in
-
-pub returns-else-ticker-clause-tries : goal.returns-else-ticker-clause-tries
-returns-else-ticker-clause-tries g c =
-    let reacts : BeginsNone c.args.cell.now c.react_in.new.cell × (c.react_in.new.m ≡ c.args.m.now) = rw c.in-Err-RoundsSpent.field-0-is at c.in-Err-RoundsSpent.ensures.reacts in
-    nothing_begun _ _ _ c.react_in.new.m _ c.ticker.result reacts.0 reacts.1 refl
-    (subst (λ (p : SeatValue). c.ticker.new.p.view ≡ after (word_step.LoadTicker c.ticker.result) p.view) c.words_pass.ensures.value c.ticker.ensures.view) c.if-ticker.false
-
-pub returns-then-ticker-clause-keeps : goal.returns-then-ticker-clause-keeps
-returns-then-ticker-clause-keeps g c =
-    let view = subst (λ (p : SeatValue). c.ticker.new.p.view ≡ after (word_step.LoadTicker c.ticker.result) p.view) c.words_pass.ensures.value c.ticker.ensures.view in
-    keeps_then (keeps g (goal.at.returns-then-ticker-clause-keeps g c).After-react_in)
-    (keeps_as (λ none. spent_cause c.react_in.new.m (record c.react_in.new.m { pass = c.ticker.new.p }) c.ticker.result c.if-ticker.true view)
-    (keeps_look c.ticker.result c.react_in.ensures.belongs refl (c.ticker.ensures.words ∙ ap (λ (p : SeatValue). p.words) c.words_pass.ensures.value)
-    view))
-
-pub returns-else-ticker-clause-keeps : goal.returns-else-ticker-clause-keeps
-returns-else-ticker-clause-keeps g c =
-    keeps_then (keeps g (goal.at.returns-else-ticker-clause-keeps g c).After-react_in)
-    (keeps_as (λ none. none)
-    (keeps_look c.ticker.result c.react_in.ensures.belongs refl (c.ticker.ensures.words ∙ ap (λ (p : SeatValue). p.words) c.words_pass.ensures.value)
-    (subst (λ (p : SeatValue). c.ticker.new.p.view ≡ after (word_step.LoadTicker c.ticker.result) p.view) c.words_pass.ensures.value c.ticker.ensures.view)))
+pub returns-in-Err-clause-cell : goal.returns-in-Err-clause-cell
+returns-in-Err-clause-cell g c =
+    subst (λ (t : ClaimValue). IsCellOf t c.react_in.new.cell) (sym (claim_after c.in-Err.fault c.react_in.new.m c.after_fault.new.m c.after_fault.result c.after_fault.ensures)) c.react_in.ensures.cell

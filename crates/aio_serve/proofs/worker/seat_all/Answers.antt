@@ -1,9 +1,12 @@
 use Rattle.std.proofs.Common.{◌≡◌, List, [], ◌∷◌, ◌++◌, length, refl, sym, ap, ◌∙◌, subst, arith, append_assoc, append-nil, length-append}
 use Rattle.std.proofs.lemmas.List.{nil_from_length}
 use Rattle.std.specs.List.{AllZip}
+use Rattle.aio_pairs.specs.declared.outcomes.PairEnd.{PairEnd}
+use Rattle.aio_park.specs.declared.group.Slot.{Slot}
 use Rattle.aio_park.specs.declared.group.Slot.TheVariants.{Running}
 use Rattle.aio_places.specs.Places.{PlaceValue}
 use Rattle.aio_serve.specs.Seated.{IsSeated}
+use Rattle.aio_serve.specs.Served.{ServedValue, first_stage}
 use Rattle.aio_serve.proofs.Slots.{seats_one_more}
 use Rattle.aio_serve.proofs.worker.seat_all.Goals as goal
 
@@ -22,15 +25,15 @@ pub loop-place-preserved : goal.loop-place-preserved
 loop-place-preserved g c =
     let before = c.loop-place.invariant in
     let place = c.in-Some.place in
-    let added = ap (λ group. group.slots) c.in-Ok.ensures.added in
-    let slot = Running c.in_ok-served.served in
+    let added = ap (λ group. group.slots) c.in_ok-seat.ensures in
+    let slot : Slot ServedValue PairEnd = Running (record { stage = first_stage c.args.idle c.args.start place; polls = 0 }) in
     record {
       seated = before.seated ++ place ∷ [];
       items = before.items ∙ ap (λ (left : List PlaceValue). before.seated ++ left) c.in-Some.ensures.items ∙ sym (append_assoc before.seated (place ∷ []) c.pop_front.new.self.items);
       slots = subst (AllZip (IsSeated c.args.idle c.args.start) (before.seated ++ place ∷ [])) (sym added)
-          (seats_one_more c.args.idle c.args.start before.seated c.loop-place.group.slots place slot before.slots c.in_ok-served.ensures);
+          (seats_one_more c.args.idle c.args.start before.seated c.loop-place.group.slots place slot before.slots refl);
       few = omega (arith, before.few, c.in-Some.ensures.cases, ap length added, length-append c.loop-place.group.slots (slot ∷ []));
-      parker = ap (λ group. group.parker) c.in-Ok.ensures.added ∙ before.parker;
+      parker = ap (λ group. group.parker) c.in_ok-seat.ensures ∙ before.parker;
     }
 
 pub returns : goal.returns
