@@ -1,5 +1,5 @@
--- What a later poll of a listener reads.
-use Rattle.std.proofs.Common.{◌≡◌, ◌≤◌, ℕ, List, Option, Some, subst}
+-- What a later poll of a listener reads, and that its source and its seat are among those that there are.
+use Rattle.std.proofs.Common.{◌≡◌, ◌<◌, ◌≤◌, ℕ, zero, suc, List, [], ◌∷◌, length, slice_index_or, Option, None, Some, subst, arith}
 use Rattle.aio_base.specs.declared.names.Dir.{Dir}
 use Rattle.aio_listen.specs.Listening.{Holds}
 use Rattle.aio_source.specs.Rules.{direction_of}
@@ -34,3 +34,25 @@ again_read sources listeners number key dir place early p e listed seats beside 
       early_is = both.1;
       held = subst (λ (place : Option SourceEntry). IsListenedTo place l) there (heard_at sources listeners number l listed is);
     }
+
+-- ## Places
+
+heard_within : (sources : List (Option SourceEntry)) (at : ℕ) (l : Listener) → IsListenedTo (slice_index_or sources at None) l → at < length sources
+heard_within [] at l heard = absurd heard
+heard_within (e ∷ sources) zero l heard = omega arith
+heard_within (e ∷ sources) (suc at) l heard = omega (arith, heard_within sources at l heard)
+
+-- the key of a listener is within the sources
+pub listed_within : (sources : List (Option SourceEntry)) (listeners : List (Option Listener)) (number : ℕ) (l : Listener) → AreListed sources listeners → value_of listeners number ≡ Some l
+    → l.key.0 < length sources
+listed_within sources listeners number l listed is = heard_within sources l.key.0 l (heard_at sources listeners number l listed is)
+
+polled_at : (listeners : List (Option Listener)) (at key : ℕ) (dir : Dir) (place early : ℕ) → seat.Polled dir key place early ≡ seat_in (slice_index_or listeners at None) → at < length listeners
+polled_at [] at key dir place early seats = absurd cc
+polled_at (l ∷ listeners) zero key dir place early seats = omega arith
+polled_at (l ∷ listeners) (suc at) key dir place early seats = omega (arith, polled_at listeners at key dir place early seats)
+
+-- the number of a listener that was polled was given
+pub polled_given : (listeners : List (Option Listener)) (number key : ℕ) (dir : Dir) (place early : ℕ) → seat.Polled dir key place early ≡ seat_in (value_of listeners number) → number ≤ length listeners
+polled_given listeners zero key dir place early seats = omega arith
+polled_given listeners (suc at) key dir place early seats = omega (arith, polled_at listeners at key dir place early seats)

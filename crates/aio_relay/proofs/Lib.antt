@@ -1,4 +1,5 @@
 pub mod StepLemmas
+pub mod WorkLemmas
 pub mod TurnLemmas
 pub mod WaitLemmas
 pub mod PollLemmas

@@ -138,7 +138,6 @@ impl SourceState {
     /// stays also where the poller could not be armed: `ArmFault` only where the count of faults of
     /// `arm` rose. A poll waiter that it replaced is handed out to be woken. It takes no memory.
     #[inline(always)]
-    #[tactic(auto, using(crate::proofs::WaiterLemmas::held_waits))]
     pub fn poll_dir<A: Arm>(&mut self, arm: &mut A, dir: Dir, w: Waker, ticker: u64) -> Polled
         ensures answer { let p = polling self.old dir w ticker in
             result ≡ record {

@@ -81,6 +81,9 @@ node-told es ss ns i x s e view lt xs_is ss_is =
 
 -- where the slices go back to their vectors
 
+pub length-back : {X Z : Type 0} (v : Vec X Z) (xs ys : List X) → xs ≡ v.items → length xs ≡ v.len → length ys ≡ length xs → length (with_items v ys).items ≡ length v.items
+length-back v xs ys is len same = ap length (with_items_is v ys (same ∙ len)) ∙ same ∙ ap length is
+
 pub both-back : {Y Z : Type 0} (v : Vec Entry Y) (w : Vec Siblings Z) (xs : List Entry) (ys : List Siblings) (ns : List Node) (i : ℕ) (x : Entry) (s : Siblings) → nodes_of v.items w.items ≡ ns → xs ≡ v.items → length xs ≡ v.len → ys ≡ w.items → length ys ≡ w.len
     → nodes_of (with_items v (set xs i x)).items (with_items w (set ys i s)).items ≡ set ns i (node_of x s)
 both-back v w xs ys ns i x s view xs_is xs_len ys_is ys_len =

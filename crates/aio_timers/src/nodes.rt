@@ -93,7 +93,6 @@ impl Nodes {
     }
 
     /// Writes a node.
-    #[tactic(auto, using(crate::proofs::ColumnLemmas::rows_within, crate::proofs::ColumnLemmas::entries_within))]
     pub(crate) fn set(&mut self, at: usize, node: Node)
         requires { at < length self.old }
         ensures { self.new ≡ slice_set self.old at node }
@@ -107,7 +106,6 @@ impl Nodes {
     }
 
     /// Writes the first child of a node.
-    #[tactic(auto, using(crate::proofs::ColumnLemmas::entries_within))]
     pub(crate) fn set_child(&mut self, at: usize, link: Link)
         requires { at < length self.old }
         ensures { self.new ≡ with_child self.old at link }
@@ -117,7 +115,6 @@ impl Nodes {
     }
 
     /// Writes where the row of a node goes on behind it.
-    #[tactic(auto, using(crate::proofs::ColumnLemmas::rows_within))]
     pub(crate) fn set_next(&mut self, at: usize, link: Link)
         requires { at < length self.old }
         ensures { self.new ≡ with_next self.old at link }
@@ -127,7 +124,6 @@ impl Nodes {
     }
 
     /// Writes the way back from a node.
-    #[tactic(auto, using(crate::proofs::ColumnLemmas::rows_within))]
     pub(crate) fn set_prev(&mut self, at: usize, link: Link)
         requires { at < length self.old }
         ensures { self.new ≡ with_prev self.old at link }
@@ -137,7 +133,6 @@ impl Nodes {
     }
 
     /// Writes where a chain goes on behind one of its nodes.
-    #[tactic(auto, using(crate::proofs::ColumnLemmas::entries_within))]
     pub(crate) fn set_chain(&mut self, at: usize, link: Link)
         requires { at < length self.old }
         ensures { self.new ≡ with_chain self.old at link }
@@ -147,7 +142,6 @@ impl Nodes {
     }
 
     /// Writes the waker of a node, or that it is free.
-    #[tactic(auto, using(crate::proofs::ColumnLemmas::entries_within))]
     pub(crate) fn set_waker(&mut self, at: usize, waker: Option<Waker>)
         requires { at < length self.old }
         ensures { self.new ≡ with_write self.old at (λ n. record n { waker = waker }) }
@@ -172,7 +166,6 @@ impl Nodes {
     /// the link back is written to the node itself before its own: a write that is lost costs less
     /// than a jump that cannot be foretold.
     #[inline(always)]
-    #[tactic(auto, using(crate::proofs::ColumnLemmas::rows_within, crate::proofs::ColumnLemmas::entries_within))]
     pub(crate) fn put_under(&mut self, parent: usize, at: usize)
         requires few { length self.old < 2 ^ 32 }
         requires parent { parent < length self.old }

@@ -53,3 +53,15 @@ returns-in-Err-clause-reason g c =
     (g.H.TimerHost.rules.faults c.args.host.now) (g.H.TimerHost.rules.faults i.host) (g.H.TimerHost.rules.faults t.new.host)
     (g.H.Later.notifier_is_sure c.args.host.now) (g.H.Later.notifier_is_sure i.host) c.in-Err.end
     i.invariant.a_same.no_fewer i.invariant.b_same.no_fewer i.invariant.host.faults (g.H.Later.stays_sure _ _ i.invariant.host.goes) c.in-Err.ensures.reason
+
+pub returns-then-finished-clause-host : goal.returns-then-finished-clause-host
+returns-then-finished-clause-host g c =
+    let before = c.loop-finished.invariant.host in
+    let later = c.in-Ok.ensures.host in
+    record { goes = g.H.Later.later_than_later _ _ _ before.goes later.goes; faults = omega (arith, before.faults, later.faults) }
+
+pub returns-in-Err-clause-host : goal.returns-in-Err-clause-host
+returns-in-Err-clause-host g c =
+    let before = c.loop-finished.invariant.host in
+    let later = c.in-Err.ensures.host in
+    record { goes = g.H.Later.later_than_later _ _ _ before.goes later.goes; faults = omega (arith, before.faults, later.faults) }

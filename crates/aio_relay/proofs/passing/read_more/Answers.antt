@@ -1,5 +1,7 @@
-use Rattle.std.proofs.Common.{◌∙◌, ◌+◌, ◌-◌, ℕ, ap}
+use Rattle.std.proofs.Common.{◌≡◌, ◌∙◌, ◌+◌, ◌-◌, ◌≤◌, ℕ, sym, ap, arith}
+use Rattle.aio_future.specs.Tries.{bytes_over}
 use Rattle.aio_relay.proofs.TurnLemmas.{read-passes, read-stops}
+use Rattle.aio_relay.proofs.WorkLemmas.{read-work, read-moves}
 use Rattle.aio_relay.proofs.passing.read_more.Goals as goal
 
 pub returns-in-Ok-clause-passes : goal.returns-in-Ok-clause-passes
@@ -17,3 +19,34 @@ returns-in-Err-clause-passes g c =
     c.args.tally.now c.add_read.new.self (65536 - c.args.tally.now.read) c.args.w r.result
     c.requires.written c.requires.not_ended r.ensures.reads r.ensures.faults
     (c.add_read.ensures ∙ ap (λ (n : ℕ). record { read = c.args.tally.now.read + n; wrote = c.args.tally.now.wrote }) c.count_of.ensures) c.in-Err.ensures.reason
+
+pub returns-in-Ok-clause-most : goal.returns-in-Ok-clause-most
+returns-in-Ok-clause-most g c =
+    let r = c.read_from-tried in
+    let n : c.count_of.result ≡ bytes_over r.result.answer = c.count_of.ensures in
+    let within : c.args.tally.now.read + c.count_of.result ≤ 65536 = omega (arith, r.ensures.most, n, c.requires.room) in
+    let work = read-work c.args.side.now c.args.tally.now r.ensures.reads.bytes c.count_of.result (r.ensures.reads.size ∙ sym n) within in
+    rw (r.ensures.reads.side_is, c.add_read.ensures) (omega (arith, work))
+
+pub returns-in-Err-clause-most : goal.returns-in-Err-clause-most
+returns-in-Err-clause-most g c =
+    let r = c.read_from-tried in
+    let n : c.count_of.result ≡ bytes_over r.result.answer = c.count_of.ensures in
+    let within : c.args.tally.now.read + c.count_of.result ≤ 65536 = omega (arith, r.ensures.most, n, c.requires.room) in
+    let work = read-work c.args.side.now c.args.tally.now r.ensures.reads.bytes c.count_of.result (r.ensures.reads.size ∙ sym n) within in
+    rw (r.ensures.reads.side_is, c.add_read.ensures) (omega (arith, work))
+
+pub returns-in-Ok-clause-less : goal.returns-in-Ok-clause-less
+returns-in-Ok-clause-less g c on =
+    let r = c.read_from-tried in
+    let n : c.count_of.result ≡ bytes_over r.result.answer = c.count_of.ensures in
+    let within : c.args.tally.now.read + c.count_of.result ≤ 65536 = omega (arith, r.ensures.most, n, c.requires.room) in
+    let work = read-work c.args.side.now c.args.tally.now r.ensures.reads.bytes c.count_of.result (r.ensures.reads.size ∙ sym n) within in
+    let moved = read-moves c.args.here r.new.self r.result.answer (sym c.read_answer.ensures ∙ on) in
+    rw (r.ensures.reads.side_is, c.add_read.ensures) (omega (arith, work, moved, n))
+
+pub returns-in-Err-clause-host : goal.returns-in-Err-clause-host
+returns-in-Err-clause-host g c =
+    let before = c.read_from-tried.ensures.host in
+    let later = c.in-Err.ensures.host in
+    record { goes = g.H.Later.later_than_later _ _ _ before.goes later.goes; faults = omega (arith, before.silent.cause.later, later.faults) }

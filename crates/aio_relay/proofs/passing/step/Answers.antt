@@ -64,3 +64,9 @@ returns-clause-passes g c =
     let x = c.read_more in
     subst (λ (m : Bool). GoesOn g.E.End.end_step g.E.Tells.telling g.E.Faults.is_sure g.E.Faults.fault_count c.args.from.now c.args.to.now x.new.from x.new.to
     c.args.side.now x.new.side c.args.tally.now x.new.tally m None) c.if-more.false c.in-Ok.ensures.passes
+
+pub returns-then-more-clause-host : goal.returns-then-more-clause-host
+returns-then-more-clause-host g c =
+    let before = c.in-Ok.ensures.host in
+    let later = c.write_if_any.ensures.host in
+    record { goes = g.H.Later.later_than_later _ _ _ before.goes later.goes; faults = omega (arith, before.faults, later.faults) }

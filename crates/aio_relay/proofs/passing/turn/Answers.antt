@@ -1,4 +1,4 @@
-use Rattle.std.proofs.Common.{refl, sym, ap, subst, true, Bool, Result, None}
+use Rattle.std.proofs.Common.{refl, sym, ap, subst, arith, true, Bool, Result, None}
 use Rattle.std.specs.Prelude.{IsOk}
 use Rattle.std.proofs.lemmas.Bool.{true≢false}
 use Rattle.aio_pairs.specs.Exchanges.{tries_again, try_fault_of}
@@ -59,3 +59,15 @@ returns-in-Err-step-clause-a_same g c =
 pub returns-in-Err-step-clause-b_same : goal.returns-in-Err-step-clause-b_same
 returns-in-Err-step-clause-b_same g c =
     same-on g.E.End.end_step g.E.Tells.telling g.E.Faults.is_sure g.E.Faults.fault_count c.args.b.now c.step.new.to c.step-2.new.from c.in-Ok.ensures.to_same c.in-Err-step.ensures.from_same
+
+pub returns-in-Err-step-clause-host : goal.returns-in-Err-step-clause-host
+returns-in-Err-step-clause-host g c =
+    let before = c.in-Ok.ensures.host in
+    let later = c.in-Err-step.ensures.host in
+    record { goes = g.H.Later.later_than_later _ _ _ before.goes later.goes; faults = omega (arith, before.faults, later.faults) }
+
+pub returns-clause-host : goal.returns-clause-host
+returns-clause-host g c =
+    let before = c.in-Ok.ensures.host in
+    let later = c.in-Ok-step.ensures.host in
+    record { goes = g.H.Later.later_than_later _ _ _ before.goes later.goes; faults = omega (arith, before.faults, later.faults) }

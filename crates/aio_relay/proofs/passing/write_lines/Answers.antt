@@ -1,8 +1,9 @@
-use Rattle.std.proofs.Common.{◌∙◌, ◌≤◌, ap, arith, length}
+use Rattle.std.proofs.Common.{◌∙◌, ◌≤◌, true, sym, ap, arith, length}
 use Rattle.aio_pairs.specs.Backlogs.{SideState}
 use Rattle.aio_pairs.specs.Lines.{lines, unfinished}
-use Rattle.aio_relay.proofs.StepLemmas.{tries-within, shrunk-rest}
+use Rattle.aio_relay.proofs.StepLemmas.{tries-within, shrunk-rest, write-work}
 use Rattle.aio_relay.proofs.TurnLemmas.{write-passes, write-stops}
+use Rattle.aio_relay.proofs.WorkLemmas.{write-moves}
 use Rattle.aio_relay.proofs.passing.write_lines.Goals as goal
 use Rattle.aio_relay.proofs.passing.write_lines.Goals.{After-count_of-n}
 use Rattle.aio_relay.proofs.passing.write_lines.Given.{Over}
@@ -33,3 +34,25 @@ returns-in-Ok-clause-rest g c =
 pub returns-in-Err-clause-rest : goal.returns-in-Err-clause-rest
 returns-in-Err-clause-rest g c =
     ap (λ (s : SideState). unfinished s.backlog) c.shrink.ensures ∙ shrunk-rest c.args.side.now c.count_of-n.result (within g (goal.at.returns-in-Err-clause-rest g c).After-count_of-n)
+
+pub returns-in-Ok-clause-most : goal.returns-in-Ok-clause-most
+returns-in-Ok-clause-most g c =
+    rw (c.shrink.ensures, c.add_written.ensures)
+    (omega (arith, write-work c.args.side.now c.args.tally.now true c.count_of-n.result (within g (goal.at.returns-in-Ok-clause-most g c).After-count_of-n)))
+
+pub returns-in-Err-clause-most : goal.returns-in-Err-clause-most
+returns-in-Err-clause-most g c =
+    rw (c.shrink.ensures, c.add_written.ensures)
+    (omega (arith, write-work c.args.side.now c.args.tally.now true c.count_of-n.result (within g (goal.at.returns-in-Err-clause-most g c).After-count_of-n)))
+
+pub returns-in-Ok-clause-less : goal.returns-in-Ok-clause-less
+returns-in-Ok-clause-less g c on =
+    let moved = write-moves (length c.lines.result.now) c.write-tried.result.answer c.write-tried.ensures.most (sym c.write_answer.ensures ∙ on) in
+    rw (c.shrink.ensures, c.add_written.ensures)
+    (omega (arith, moved, c.count_of-n.ensures, write-work c.args.side.now c.args.tally.now true c.count_of-n.result (within g (goal.at.returns-in-Ok-clause-less g c).After-count_of-n)))
+
+pub returns-in-Err-clause-host : goal.returns-in-Err-clause-host
+returns-in-Err-clause-host g c =
+    let before = c.write-tried.ensures.host in
+    let later = c.in-Err.ensures.host in
+    record { goes = g.H.Later.later_than_later _ _ _ before.goes later.goes; faults = omega (arith, before.silent.cause.later, later.faults) }

@@ -8,6 +8,7 @@ use Rattle.aio_react.proofs.HandleMeets.{handle_idle, handle_empty, handle_dropp
 use Rattle.aio_react.proofs.HeldSources.{HoldsOn, holds_itself, key_is, keyed_on, listed_on, handled_on}
 use Rattle.aio_react.proofs.PartMeets.{part_steps, replies_step}
 use Rattle.aio_react.proofs.RoundPast.{told_running, told_idle}
+use Rattle.aio_react.proofs.SourceChanges.{placed_again}
 use Rattle.aio_react.proofs.reactor.Core.handle.Goals as goal
 use Rattle.aio_react.proofs.reactor.Core.handle.Goals.{in-Ok, in-Err}
 
@@ -77,3 +78,11 @@ returns-in-None-clause-part g c limit =
 pub returns-in-None-clause-meets : goal.returns-in-None-clause-meets
 returns-in-None-clause-meets g c =
     part_steps (PollerStep g.P.Arm.arm_step g.P.EventWait.wait_step) g.P.Arm.interests step.Handle None _ [] None _ _ (returns-in-None-clause-part g c None)
+
+pub returns-after-handle-clause-refused : goal.returns-after-handle-clause-refused
+returns-after-handle-clause-refused g c =
+    let same = placed_again c.self.inside.sources c.in-Some.event.key.0 c.in-Some-get_mut.entry.now (sym c.in-Some-get_mut.ensures.value) in
+    elim c.match-handle.branch [
+      | in-Ok w ↦ rw w.result-is tt
+      | in-Err w ↦ let back = w.in-Err.ensures.refused in rw (w.result-is, ← c.self.view_is, back.0, back.1, back.2, same)
+    ]

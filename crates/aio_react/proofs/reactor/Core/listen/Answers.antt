@@ -3,6 +3,8 @@ use Rattle.aio_base.specs.Devices.{PollerStep}
 use Rattle.aio_react.proofs.HeldSources.{keyed_again}
 use Rattle.aio_react.proofs.ListenMeets.{listen_meets, listen_misses, next_number, listed_more, few_listeners}
 use Rattle.aio_react.proofs.NewListeners.{counted}
+use Rattle.aio_react.proofs.SeatLemmas.{within-sources}
+use Rattle.aio_react.proofs.SourceChanges.{placed_again}
 use Rattle.aio_react.proofs.reactor.Core.listen.Goals as goal
 
 pub returns-in_default-clause-meets : goal.returns-in_default-clause-meets
@@ -11,6 +13,19 @@ returns-in_default-clause-meets g c =
     let is = sym c.in_default.ensures.value in
     rw (← c.self.view_is)
     (listen_misses (PollerStep g.P.Arm.arm_step g.P.EventWait.wait_step) g.P.Arm.interests i.poller _ c.args.key c.args.dir is)
+
+pub add-requires : goal.add-requires
+add-requires g c = omega (arith, within-sources c.self.inside.sources c.args.key.0 c.in-Some.entry.now (sym c.in-Some.ensures.value), c.in-Some.ensures.few)
+
+pub invariant_of-self-in_default-add : goal.invariant_of-self-in_default-add
+invariant_of-self-in_default-add g c =
+    let same = placed_again c.self.inside.sources c.args.key.0 c.in-Some.entry.now (sym c.in-Some.ensures.value) in
+    rw (same, c.in_default-add.ensures.refused) c.self.invariant
+
+pub returns-in_default-add-clause-refused : goal.returns-in_default-add-clause-refused
+returns-in_default-add-clause-refused g c =
+    let same = placed_again c.self.inside.sources c.args.key.0 c.in-Some.entry.now (sym c.in-Some.ensures.value) in
+    rw (← c.self.view_is, same, c.in_default-add.ensures.refused)
 
 pub overflow_add-entry : goal.overflow_add-entry
 overflow_add-entry g c =

@@ -13,13 +13,25 @@ use Rattle.aio_react.specs.Seats.{listened_in}
 use Rattle.aio_react.proofs.Asked.{first_asked, first_fault, again_asked}
 use Rattle.aio_react.proofs.HeardAgain.{keyed_changed}
 use Rattle.aio_react.proofs.HeldSources.{key_is}
-use Rattle.aio_react.proofs.SeatLemmas.{within-sources, seated, gone-seat, gone-else, unpolled-seat}
+use Rattle.aio_react.proofs.SeatLemmas.{within-sources, seated, gone-seat, gone-else, polled-seat, unpolled-seat}
 use Rattle.aio_react.proofs.StepKeeps.{again_key, listed_again_polled, listed_first_polled, listed_unpolled, first_key, first_unrefused, drew, drew_none, drew_unspent, source_unchanged, poller_unchanged, places_unchanged}
 use Rattle.aio_react.proofs.StepMeets.{again_meets, first_meets, step_misses}
-use Rattle.aio_react.proofs.LaterPolls.{again_read}
+use Rattle.aio_react.proofs.LaterPolls.{again_read, listed_within, polled_given}
 use Rattle.aio_react.proofs.reactor.Core.step.Goals as goal
 
 -- ## A later poll
+
+pub first_poll-first_poll-requires-clause-bound : goal.first_poll-first_poll-requires-clause-bound
+first_poll-first_poll-requires-clause-bound g c =
+    let seat = c.in-Polled in
+    polled_given c.self.inside.listeners c.args.listener seat.key seat.dir seat.place seat.early seat.ensures
+
+pub given_mut-requires : goal.given_mut-requires
+given_mut-requires g c =
+    let i = c.self.inside in
+    let seat = c.in-Polled in
+    let both = polled-seat (value_of i.listeners c.args.listener) seat.dir seat.key seat.place seat.early c.first_poll-first_poll.result.now seat.ensures c.first_poll-first_poll.ensures in
+    listed_within i.sources i.listeners c.args.listener _ c.self.invariant.1 both.0
 
 pub poll_again-requires-clause-early : goal.poll_again-requires-clause-early
 poll_again-requires-clause-early g c =
@@ -105,6 +117,12 @@ returns-in_default-seat-clause-lent g c =
     i.poller i.poller) (sym none) refl)
 
 -- ## A first poll
+
+pub given_mut-requires-2 : goal.given_mut-requires-2
+given_mut-requires-2 g c =
+    let i = c.self.inside in
+    let s = c.in-Unpolled in
+    listed_within i.sources i.listeners c.args.listener (seated s.key s.dir None) c.self.invariant.1 (unpolled-seat _ s.dir s.key s.ensures)
 
 pub invariant_of-self-in-Err : goal.invariant_of-self-in-Err
 invariant_of-self-in-Err g c =

@@ -4,6 +4,7 @@ use Rattle.aio_react.specs.Cores.{CoreValue}
 use Rattle.aio_react.specs.Numbers.{value_of}
 use Rattle.aio_react.proofs.DropMeets.{drop_meets, drop_misses}
 use Rattle.aio_react.proofs.HeardAgain.{value_untaken, counts_mine, listed_changed, keyed_changed, gives_up, left_key}
+use Rattle.aio_react.proofs.LaterPolls.{listed_within}
 use Rattle.aio_react.proofs.ListenMeets.{count_at}
 use Rattle.aio_react.proofs.reactor.Core.unlisten.Goals as goal
 
@@ -14,6 +15,24 @@ returns-in_default-clause-meets g c =
     let none : value_of i.listeners c.args.listener ≡ None = sym c.in_default.ensures.value in
     rw (← c.self.view_is, c.in_default.ensures.after, value_untaken i.listeners c.args.listener none)
     (drop_misses (PollerStep g.P.Arm.arm_step g.P.EventWait.wait_step) g.P.Arm.interests i.poller core c.args.listener none)
+
+pub invariant_of-self : goal.invariant_of-self
+invariant_of-self g c =
+    let i = c.self.inside in
+    let none : value_of i.listeners c.args.listener ≡ None = sym c.in_default.ensures.value in (
+      c.self.invariant.0,
+      rw (c.in_default.ensures.after, value_untaken i.listeners c.args.listener none) c.self.invariant.1,
+      c.self.invariant.2,
+    )
+
+pub returns-in_default-clause-refused : goal.returns-in_default-clause-refused
+returns-in_default-clause-refused g c =
+    let i = c.self.inside in
+    let none : value_of i.listeners c.args.listener ≡ None = sym c.in_default.ensures.value in
+    (refl, rw (← c.self.view_is, c.in_default.ensures.after, value_untaken i.listeners c.args.listener none))
+
+pub given_mut-requires : goal.given_mut-requires
+given_mut-requires g c = listed_within c.self.inside.sources c.self.inside.listeners c.args.listener c.in-Some.heard c.self.invariant.1 (sym c.in-Some.ensures.value)
 
 pub give_up-requires-clause-counted : goal.give_up-requires-clause-counted
 give_up-requires-clause-counted g c =
