@@ -42,19 +42,15 @@ pub(crate) enum Act {
 /// What comes of it.
 #[derive(Clone, Copy, Debug, PartialEq)]
 pub(crate) enum Came {
-    /// Nothing is answered.
+    /// Nothing is answered, or nothing failed.
     Done,
-    /// The answer of a poll, with the waker that it replaced.
+    /// The answer of a poll, with the waker that it replaced; of a listener's later poll, which replaces none.
     Polled(Polled),
     /// A new listener waits, and remembers these rounds: those that had begun, and the last of its direction.
     Listened(u64, u64),
-    /// The answer of a listener's later poll.
-    Again(Poll<Result<(), ArmFault>>),
     /// No listener was there.
     Gone,
-    /// An event was handled.
-    Handled(Result<(), ArmFault>),
-    /// A new listener waits whose arm failed.
+    /// An event was handled, or a new listener waits, and the arm failed.
     Failed(ArmFault),
     /// How many arms were counted, and what the last one that did not fail asked for.
     Armed(u64, Interest),
@@ -87,12 +83,6 @@ pub(crate) const READY: Came = Came::Polled(Polled {
     answer: Poll::Ready(Ok(())),
     replaced: None,
 });
-
-/// A listener still waits.
-pub(crate) const STILL_WAITS: Came = Came::Again(Poll::Pending);
-
-/// A listener is ready.
-pub(crate) const IS_READY: Came = Came::Again(Poll::Ready(Ok(())));
 
 /// The fault of the arm that was the first to fail.
 pub(crate) const FIRST_FAULT: ArmFault = ArmFault {
@@ -172,7 +162,10 @@ fn listen_again<A: Arm>(
     if !source.holds(Dir::Read, listened.ticket) {
         return Came::Gone;
     }
-    Came::Again(source.listen_again(arm, Dir::Read, listened, Waker(waker)))
+    Came::Polled(Polled {
+        answer: source.listen_again(arm, Dir::Read, listened, Waker(waker)),
+        replaced: None,
+    })
 }
 
 /// Gives a listener of a source up.
@@ -212,7 +205,8 @@ impl<A: Told + Drop> Polling<A> {
     fn handle(&mut self, on: Interest, round: u64) -> Came {
         let (arm, taken) = (&mut self.arm, &mut self.taken);
         match handle(&mut self.source, arm, on, round, taken) {
-            Some(handled) => Came::Handled(handled),
+            Some(Ok(())) => Came::Done,
+            Some(Err(fault)) => Came::Failed(fault),
             None => Came::Other,
         }
     }

@@ -78,8 +78,25 @@ fn leave_waiting(kept: &mut Kept, left: &mut Left, place: usize) -> bool {
     was_there && kept.listeners.waiting() == left.len() as u64
 }
 
-/// Four listeners leave a list one after the other, in the order of this number from 0 to 23; those who are
+/// Four listeners leave this list one after the other, in the order of this number from 0 to 23; those who are
 /// left wait all the time, or are drained after each.
+fn leave_each(rt: &impl Abort, kept: &mut Kept, left: &mut Left, order: usize, drained: bool) {
+    let wait = if drained { 0 } else { left.len() };
+    wait_each(kept, &left[..wait]);
+    let mut order = order;
+    for _ in 0..4 {
+        let (place, others) = next(order, left.len());
+        order = others;
+        let has_left = if drained {
+            leave_and_drain(kept, left, place)
+        } else {
+            leave_waiting(kept, left, place)
+        };
+        same_in(rt, place, has_left, true);
+    }
+}
+
+/// The same of a new list.
 fn leave_all(
     rt: &impl Abort,
     alloc: Global,
@@ -87,21 +104,17 @@ fn leave_all(
     drained: bool,
 ) -> Result<Kept, AllocError> {
     let mut kept = Kept::new(alloc);
-    let mut left = come(alloc, &mut kept)?;
-    let wait = if drained { 0 } else { left.len() };
-    wait_each(&mut kept, &left[..wait]);
-    let mut order = order;
-    for _ in 0..4 {
-        let (place, others) = next(order, left.len());
-        order = others;
-        let has_left = if drained {
-            leave_and_drain(&mut kept, &mut left, place)
-        } else {
-            leave_waiting(&mut kept, &mut left, place)
-        };
-        same_in(rt, place, has_left, true);
+    match come(alloc, &mut kept) {
+        Ok(mut left) => {
+            leave_each(rt, &mut kept, &mut left, order, drained);
+            drop(left);
+            Ok(kept)
+        }
+        Err(fault) => {
+            drop(kept);
+            Err(fault)
+        }
     }
-    Ok(kept)
 }
 
 #[test]
@@ -185,14 +198,23 @@ fn first_other(wakers: &[u32]) -> Option<usize> {
     None
 }
 
+/// Many listeners come, every second of them leaves, and others come: asserts that the wakers of the others are
+/// drained in order.
+fn come_and_go(rt: &impl Abort, kept: &mut Kept) -> Result<(), Fail> {
+    same(rt, come_many(kept, 0, 20_000), 20_000);
+    same(rt, leave_every_second(kept, 20_000), 10_000);
+    same(rt, come_many(kept, 20_000, 30_000), 10_000);
+    let wakers = kept.drain()?;
+    same(rt, wakers.len(), 20_000);
+    same(rt, first_other(wakers.as_slice()), None);
+    drop(wakers);
+    Ok(())
+}
+
 #[test]
 fn many_listeners_come_and_go(rt: HostRuntime) -> Result<(), Fail> {
     let mut kept = Kept::new(rt.alloc());
-    same(&rt, come_many(&mut kept, 0, 20_000), 20_000);
-    same(&rt, leave_every_second(&mut kept, 20_000), 10_000);
-    same(&rt, come_many(&mut kept, 20_000, 30_000), 10_000);
-    let wakers = kept.drain()?;
-    same(&rt, wakers.len(), 20_000);
-    same(&rt, first_other(wakers.as_slice()), None);
-    Ok(())
+    let came = come_and_go(&rt, &mut kept);
+    drop(kept);
+    came
 }

@@ -7,10 +7,9 @@ use crate::polling::Act::{
     Arms, Asked, FailNext, Handle, Holds, Listen, ListenAgain, Look, Poll, ReadySince, Taken,
     Unlisten,
 };
-use crate::polling::Came::{Armed, Count, Done, Failed, Gone, Handled, Is, Listened, Looked};
+use crate::polling::Came::{Armed, Count, Done, Failed, Gone, Is, Listened, Looked};
 use crate::polling::{
-    Act, Came, FIRST_FAULT, IS_READY, KEY, Polling, READY, REPLACES, STILL_WAITS, THIRD_FAULT,
-    TOLD, WAITS,
+    Act, Came, FIRST_FAULT, KEY, Polling, READY, REPLACES, THIRD_FAULT, TOLD, WAITS,
 };
 use aio_base::{Dir, Interest, Waker};
 use aio_script::ScriptPoller;
@@ -43,7 +42,7 @@ const WAITS_FOR_A_LATER_ROUND: [(Act, Came); 17] = [
     (Poll(Dir::Write, 3, 0), WAITS),
     (Arms, Armed(2, Interest::BOTH)),
     (Look(Dir::Read), Looked(1, 0)),
-    (Handle(Interest::READ, 1), Handled(Ok(()))),
+    (Handle(Interest::READ, 1), Done),
     (Taken, Count(1)),
     (Arms, Armed(3, Interest::WRITE)),
     (ReadySince(Dir::Read, 0, 0), Is(true)),
@@ -62,13 +61,13 @@ fn polls_wait_for_an_event_of_a_later_round(rt: HostRuntime) -> Result<(), Fail>
 const ARMS_WHAT_STILL_WAITS: [(Act, Came); 12] = [
     (Poll(Dir::Read, 1, 0), WAITS),
     (Poll(Dir::Write, 2, 0), WAITS),
-    (Handle(Interest::NONE, 1), Handled(Ok(()))),
+    (Handle(Interest::NONE, 1), Done),
     (Taken, Count(0)),
     (Arms, Armed(3, Interest::BOTH)),
-    (Handle(Interest::BOTH, 5), Handled(Ok(()))),
+    (Handle(Interest::BOTH, 5), Done),
     (Look(Dir::Read), Looked(0, 5)),
     (Asked, Came::Asked(Interest::NONE, false)),
-    (Handle(Interest::BOTH, 3), Handled(Ok(()))),
+    (Handle(Interest::BOTH, 3), Done),
     (Look(Dir::Read), Looked(0, 5)),
     (Asked, Came::Asked(Interest::NONE, false)),
     (Arms, Armed(3, Interest::BOTH)),
@@ -91,10 +90,10 @@ const LISTENS: [(Act, Came); 13] = [
     (ListenAgain(1, 12), Gone),
     (Poll(Dir::Read, 1, 4), WAITS),
     (Look(Dir::Read), Looked(3, 0)),
-    (ListenAgain(0, 14), STILL_WAITS),
-    (Handle(Interest::READ, 5), Handled(Ok(()))),
-    (ListenAgain(0, 14), IS_READY),
-    (ListenAgain(0, 14), IS_READY),
+    (ListenAgain(0, 14), WAITS),
+    (Handle(Interest::READ, 5), Done),
+    (ListenAgain(0, 14), READY),
+    (ListenAgain(0, 14), READY),
 ];
 
 #[test]
@@ -107,7 +106,7 @@ const TELLS_A_FAILED_ARM: [(Act, Came); 14] = [
     (Poll(Dir::Read, 1, 0), WAITS),
     (Poll(Dir::Write, 2, 0), WAITS),
     (FailNext, Done),
-    (Handle(Interest::READ, 1), Handled(Err(FIRST_FAULT))),
+    (Handle(Interest::READ, 1), Failed(FIRST_FAULT)),
     (Taken, Count(1)),
     (Asked, Came::Asked(Interest::NONE, true)),
     (FailNext, Done),
@@ -131,15 +130,15 @@ fn a_failed_arm_is_told_and_made_again(rt: HostRuntime) -> Result<(), Fail> {
 const LISTENS_TO_THE_POLLER: [(Act, Came); 11] = [
     (Listen(11, 4), Listened(4, 0)),
     (Arms, Armed(0, Interest::READ)),
-    (Handle(Interest::NONE, 5), Handled(Ok(()))),
+    (Handle(Interest::NONE, 5), Done),
     (Taken, Count(0)),
     (Arms, Armed(0, Interest::READ)),
-    (Handle(Interest::READ, 9), Handled(Ok(()))),
+    (Handle(Interest::READ, 9), Done),
     (Look(Dir::Read), Looked(0, 9)),
-    (Handle(Interest::READ, 6), Handled(Ok(()))),
+    (Handle(Interest::READ, 6), Done),
     (Look(Dir::Read), Looked(0, 9)),
-    (ListenAgain(0, 12), IS_READY),
-    (ListenAgain(0, 12), IS_READY),
+    (ListenAgain(0, 12), READY),
+    (ListenAgain(0, 12), READY),
 ];
 
 #[test]
@@ -158,7 +157,7 @@ const FAILS_BY_THE_POLLER: [(Act, Came); 6] = [
     (Poll(Dir::Read, 1, 0), WAITS),
     (Poll(Dir::Write, 2, 0), WAITS),
     (FailNext, Done),
-    (Handle(Interest::READ, 1), Handled(Err(FIRST_FAULT))),
+    (Handle(Interest::READ, 1), Failed(FIRST_FAULT)),
     (Poll(Dir::Write, 2, 1), WAITS),
     (Arms, Armed(0, Interest::WRITE)),
 ];

@@ -129,6 +129,7 @@ fn assert_answers<R: Abort + AllocGlobal>(rt: &R, row: usize, steps: &[Told]) {
         same_in(rt, row, call(&mut cell, step), Ok(step));
     }
     same(rt, cell.steps(), steps.len());
+    drop(cell);
 }
 
 #[test]

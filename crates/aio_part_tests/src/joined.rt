@@ -6,7 +6,7 @@ use aio_base::{Arm, Conn, Did, Event, EventWait, Failed, Interest, Key, Port};
 use aio_mio::{MioConn, MioNotify, MioPort, MioWait, mio_parts};
 use std::alloc::Global;
 use std::io::{Read, Write};
-use std::net::{Ipv4Addr, Net, Shutdown, SocketAddr, TcpStream};
+use std::net::{Ipv4Addr, Net, SocketAddr, TcpStream};
 use std::sync::Wait;
 
 /// Ten seconds in nanoseconds, after which a wait for what should come gives up.
@@ -29,15 +29,29 @@ pub(crate) fn client_of<R: Net<Stream = TcpStream>>(rt: &R, used: u16) -> Option
     TcpStream::connect(rt, SocketAddr::from((Ipv4Addr::LOCALHOST, used))).ok()
 }
 
+/// Binds a port: a connection of it, its client, and the port in use.
+fn join<R: Net<Stream = TcpStream> + Copy + Wait>(
+    rt: &R,
+    port: &mut MioPort<R>,
+) -> Option<(MioConn, TcpStream, u16)> {
+    let used = port.bind(0).ok()?;
+    let client = client_of(rt, used)?;
+    let conn = port.accept(rt).ok()?;
+    Some((conn, client, used))
+}
+
 /// A connection whose key is not told yet. `None` where the system refused or memory ran out.
 pub(crate) fn connected<R: Net<Stream = TcpStream> + Copy + Wait>(
     rt: &R,
     alloc: Global,
 ) -> Option<Joined<R>> {
     let (mut port, wait, notify) = mio_parts(alloc, rt).ok()?;
-    let used = port.bind(0).ok()?;
-    let client = client_of(rt, used)?;
-    let conn = port.accept(rt).ok()?;
+    let Some((conn, client, used)) = join(rt, &mut port) else {
+        drop(port);
+        drop(wait);
+        drop(notify);
+        return None;
+    };
     Some(Joined {
         port,
         wait,
@@ -91,16 +105,70 @@ pub(crate) fn send(client: &mut TcpStream, byte: u8) -> bool {
     send_all(client, &[byte])
 }
 
-/// Sends this byte and then the end, both before anybody looks. Whether they were sent.
-pub(crate) fn send_last(client: &mut TcpStream, byte: u8) -> bool {
-    send(client, byte) && client.shutdown(Shutdown::Write).is_ok()
+/// How often the end is asked for before a test gives up.
+const TURNS: u32 = 10;
+
+/// Reads until the end, arming under key 9 and waiting before each read. Whether the end came.
+pub(crate) fn comes_to_its_end<R: Net + Copy>(j: &mut Joined<R>, alloc: Global) -> bool {
+    for _ in 0..TURNS {
+        if j.conn.arm(Key(9), Interest::READ).is_err()
+            || one_event(&mut j.wait, alloc, LONG).is_err()
+        {
+            return false;
+        }
+        if read_some(&mut j.conn).0 == Ok(Did::Bytes(0)) {
+            return true;
+        }
+    }
+    false
 }
 
-/// What one read of the client comes to, where that is one byte.
-pub(crate) fn receive(client: &mut TcpStream) -> Option<u8> {
-    let mut buf = [0u8; 1];
-    match client.read(&mut buf) {
-        Ok(1) => Some(buf[0]),
-        _ => None,
+/// Many bytes.
+pub(crate) const PIECE: usize = 65_536;
+
+/// What one read with room for a piece came to, and the first byte of that room.
+pub(crate) fn read_piece(conn: &mut MioConn) -> (Result<Did, Failed>, u8) {
+    let mut buf = [0u8; PIECE];
+    let did = conn.read(&mut buf);
+    (did, buf[0])
+}
+
+/// Writes pieces until one is blocked. How many bytes went over; `None` where a write failed or none was
+/// blocked.
+fn fill(conn: &mut MioConn) -> Option<usize> {
+    let piece = [7u8; PIECE];
+    let mut sent = 0usize;
+    for _ in 0..10_000 {
+        match conn.write(&piece) {
+            Ok(Did::Bytes(count)) => sent = sent.saturating_add(count),
+            Ok(Did::Blocked) => return Some(sent),
+            Err(_) => return None,
+        }
+    }
+    None
+}
+
+/// Reads so many bytes. Whether they came.
+fn drain(client: &mut TcpStream, bytes: usize) -> bool {
+    let mut piece = [0u8; PIECE];
+    let mut left = bytes;
+    for _ in 0..u32::MAX {
+        if left == 0 {
+            return true;
+        }
+        match client.read(&mut piece) {
+            Ok(0) | Err(_) => return false,
+            Ok(count) => left = left.saturating_sub(count),
+        }
+    }
+    false
+}
+
+/// Writes until a write is blocked, arms under key 1, and has the client read what was written. Whether all of
+/// it was done.
+pub(crate) fn fill_and_drain(conn: &mut MioConn, client: &mut TcpStream) -> bool {
+    match fill(conn) {
+        Some(sent) => conn.arm(Key(1), Interest::WRITE).is_ok() && drain(client, sent),
+        None => false,
     }
 }

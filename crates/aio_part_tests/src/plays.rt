@@ -2,28 +2,35 @@
 
 use crate::asserts::same_in;
 use crate::joined::{
-    Joined, LONG, connected, one_event, read_some, receive, send, send_all, watch,
+    Joined, LONG, PIECE, comes_to_its_end, connected, fill_and_drain, one_event, read_piece,
+    read_some, send, send_all, watch,
 };
 use crate::plays::Act::{
-    Add, Arm, Calls, Faults, Notify, Read, Receive, Remove, Send, SendNine, Wait, WaitFaults,
-    Waits, Watch, Write,
+    Add, Arm, Calls, End, Faults, FillAndDrain, Notify, Read, ReadPiece, ReadToEnd, Receive,
+    Remove, Send, SendHalf, SendLast, SendNine, Wait, WaitFaults, Waits, Watch, Write,
 };
 use crate::plays::Came::{Blocked, Done, Event, Got, Nothing, Number, Went, Wrote};
 use aio_base::{Conn, Did, EventWait, Failed, Interest, Key};
 use aio_mio::MioConn;
 use std::alloc::Global;
-use std::net::{Net, TcpStream};
+use std::net::{Net, Shutdown, TcpStream};
 use std::process::Abort;
 use std::sync;
 use std::test::Fail;
 
 /// What is done.
 #[derive(Clone, Copy)]
-enum Act {
+pub(crate) enum Act {
     /// The client sends this byte.
     Send(u8),
     /// It sends nine of them at once.
     SendNine(u8),
+    /// It sends half a piece of them at once.
+    SendHalf(u8),
+    /// It sends this byte and then the end.
+    SendLast(u8),
+    /// It sends the end.
+    End,
     /// It reads a byte.
     Receive,
     /// Adds the connection under a key and arms it.
@@ -36,8 +43,14 @@ enum Act {
     Remove(u32),
     /// Reads from it, up to eight bytes.
     Read,
+    /// Reads from it, up to a piece.
+    ReadPiece,
+    /// Reads from it until the end, arming it under key 9 and waiting before each read.
+    ReadToEnd,
     /// Writes this byte to it.
     Write(u8),
+    /// Writes to it until a write is blocked, arms it under key 1, and has the client read what was written.
+    FillAndDrain,
     /// Counts its faults.
     Faults,
     /// Notifies.
@@ -54,7 +67,7 @@ enum Act {
 
 /// What comes of it.
 #[derive(Clone, Copy, Debug, PartialEq)]
-enum Came {
+pub(crate) enum Came {
     /// Nothing failed.
     Done,
     /// An event of this key.
@@ -103,9 +116,9 @@ fn waited(answer: Result<Option<aio_base::Event>, Failed>) -> Came {
     }
 }
 
-/// What a read comes to.
-fn was_read(conn: &mut MioConn) -> Came {
-    match read_some(conn) {
+/// What a read comes to, with the first byte of its room.
+fn was_read(read: (Result<Did, Failed>, u8)) -> Came {
+    match read {
         (Ok(Did::Bytes(count)), first) => Went(count, first),
         (Ok(Did::Blocked), 0) => Blocked,
         _ => Came::Other,
@@ -121,22 +134,36 @@ fn written(conn: &mut MioConn, byte: u8) -> Came {
     }
 }
 
+/// Has the client send. Whether it did.
+fn sent(client: &mut TcpStream, act: Act) -> bool {
+    match act {
+        Send(byte) => send(client, byte),
+        SendNine(byte) => send_all(client, &[byte; 9]),
+        SendHalf(byte) => send_all(client, &[byte; PIECE / 2]),
+        SendLast(byte) => send(client, byte) && client.shutdown(Shutdown::Write).is_ok(),
+        _ => client.shutdown(Shutdown::Write).is_ok(),
+    }
+}
+
 /// What the client reads.
 fn received(client: &mut TcpStream) -> Came {
-    match receive(client) {
-        Some(byte) => Got(byte),
-        None => Came::Other,
+    let mut buf = [0u8; 1];
+    match std::io::Read::read(client, &mut buf) {
+        Ok(1) => Got(buf[0]),
+        _ => Came::Other,
     }
 }
 
 /// Does this.
 fn comes_of<R: Net + Copy>(j: &mut Joined<R>, alloc: Global, act: Act) -> Came {
     match act {
-        Send(byte) => done(send(&mut j.client, byte)),
-        SendNine(byte) => done(send_all(&mut j.client, &[byte; 9])),
+        Send(_) | SendNine(_) | SendHalf(_) | SendLast(_) | End => done(sent(&mut j.client, act)),
         Receive => received(&mut j.client),
         Watch(key, _) | Arm(key, _) | Add(key) | Remove(key) => act_on(&mut j.conn, key, act),
-        Read => was_read(&mut j.conn),
+        Read => was_read(read_some(&mut j.conn)),
+        ReadPiece => was_read(read_piece(&mut j.conn)),
+        ReadToEnd => done(comes_to_its_end(j, alloc)),
+        FillAndDrain => done(fill_and_drain(&mut j.conn, &mut j.client)),
         Write(byte) => written(&mut j.conn, byte),
         Faults => Number(aio_base::Faults::faults(&j.conn)),
         Notify => done(aio_base::Notify::notify(&mut j.notify).is_ok()),
@@ -148,21 +175,33 @@ fn comes_of<R: Net + Copy>(j: &mut Joined<R>, alloc: Global, act: Act) -> Came {
 }
 
 /// What is done with a new connection, and what comes of each act.
-struct Row {
-    shows: &'static str,
-    acts: &'static [(Act, Came)],
+pub(crate) struct Row {
+    pub(crate) shows: &'static str,
+    pub(crate) acts: &'static [(Act, Came)],
 }
 
-/// Asserts that what the acts of a row come to is what stands beside each.
-fn plays<R: Net<Stream = TcpStream> + Copy + sync::Wait + Abort>(
+/// Asserts that what the acts of a row come to with this connection is what stands beside each.
+pub(crate) fn plays_with<R: Net + Copy>(
+    rt: &impl Abort,
+    alloc: Global,
+    j: &mut Joined<R>,
+    row: &Row,
+) {
+    for (act, came) in row.acts {
+        same_in(rt, row.shows, comes_of(j, alloc, *act), *came);
+    }
+}
+
+/// The same with a new one.
+pub(crate) fn plays<R: Net<Stream = TcpStream> + Copy + sync::Wait + Abort>(
     rt: &R,
     alloc: Global,
     row: &Row,
 ) -> Result<(), Fail> {
-    let mut j = connected(rt, alloc).ok_or("no connection")?;
-    for (act, came) in row.acts {
-        same_in(rt, row.shows, comes_of(&mut j, alloc, *act), *came);
-    }
+    let Some(mut j) = connected(rt, alloc) else {
+        return Err(Fail::from("no connection"));
+    };
+    plays_with(rt, alloc, &mut j, row);
     drop(j);
     Ok(())
 }

@@ -3,14 +3,27 @@
 use crate::asserts::same;
 use crate::joined::{client_of, connected, read_some, send};
 use aio_base::{Did, Failed, Faults, Port};
-use aio_mio::mio_parts;
+use aio_mio::{MioPort, mio_parts};
+use std::alloc::Global;
+use std::net::Net;
+use std::sync::Wait;
+
+/// What another port answers that is bound to the one in use, and its faults then. `None` where there are no
+/// devices.
+fn bind<R: Net + Copy>(rt: &R, alloc: Global, used: u16) -> Option<(Result<u16, Failed>, u64)> {
+    let (mut other, wait, notify) = mio_parts(alloc, rt).ok()?;
+    let answer = (other.bind(used), other.faults());
+    drop(other);
+    drop(wait);
+    drop(notify);
+    Some(answer)
+}
 
 #[test]
 fn a_port_in_use_is_refused(rt: HostRuntime) {
     let j = connected(&rt, rt.alloc()).expect(&rt, "a connection");
-    let (mut other, _wait, _notify) = mio_parts(rt.alloc(), &rt).expect(&rt, "devices");
-    same(&rt, other.bind(j.used), Err(Failed));
-    same(&rt, other.faults(), 1);
+    same(&rt, bind(&rt, rt.alloc(), j.used), Some((Err(Failed), 1)));
+    drop(j);
 }
 
 #[test]
@@ -18,16 +31,28 @@ fn a_port_is_used_again_once_its_listener_is_gone(rt: HostRuntime) {
     let j = connected(&rt, rt.alloc()).expect(&rt, "a connection");
     let used = j.used;
     drop(j);
-    let (mut other, _wait, _notify) = mio_parts(rt.alloc(), &rt).expect(&rt, "devices");
-    same(&rt, other.bind(used), Ok(used));
-    same(&rt, other.faults(), 0);
+    same(&rt, bind(&rt, rt.alloc(), used), Some((Ok(used), 0)));
 }
 
 #[test]
 fn a_port_that_is_not_bound_accepts_nothing(rt: HostRuntime) {
-    let (mut port, _wait, _notify) = mio_parts(rt.alloc(), &rt).expect(&rt, "devices");
+    let (mut port, wait, notify) = mio_parts(rt.alloc(), &rt).expect(&rt, "devices");
     same(&rt, port.accept(&rt).is_err(), true);
     same(&rt, port.faults(), 1);
+    drop(port);
+    drop(wait);
+    drop(notify);
+}
+
+/// What a read of the next connection of a port comes to, and its first byte.
+fn read_next<R: Net + Copy + Wait>(
+    rt: &R,
+    port: &mut MioPort<R>,
+) -> Option<(Result<Did, Failed>, u8)> {
+    let mut conn = port.accept(rt).ok()?;
+    let answer = read_some(&mut conn);
+    drop(conn);
+    Some(answer)
 }
 
 #[test]
@@ -36,8 +61,10 @@ fn connections_are_accepted_in_the_order_of_their_clients(rt: HostRuntime) {
     let mut first = client_of(&rt, j.used).expect(&rt, "a second client");
     let mut last = client_of(&rt, j.used).expect(&rt, "a third client");
     same(&rt, send(&mut first, 1) && send(&mut last, 2), true);
-    let mut one = j.port.accept(&rt).expect(&rt, "a second connection");
-    let mut other = j.port.accept(&rt).expect(&rt, "a third connection");
-    same(&rt, read_some(&mut one), (Ok(Did::Bytes(1)), 1));
-    same(&rt, read_some(&mut other), (Ok(Did::Bytes(1)), 2));
+    let (one, other) = (read_next(&rt, &mut j.port), read_next(&rt, &mut j.port));
+    same(&rt, one, Some((Ok(Did::Bytes(1)), 1)));
+    same(&rt, other, Some((Ok(Did::Bytes(1)), 2)));
+    drop(first);
+    drop(last);
+    drop(j);
 }

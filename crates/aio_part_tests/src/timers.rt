@@ -59,6 +59,7 @@ const REPLACES: [(Act, Came); 4] = [
 fn an_insert_of_a_pair_that_is_there_replaces_its_waker(rt: HostRuntime) -> Result<(), Fail> {
     let played = plays(&rt, rt.alloc(), 2, &REPLACES)?;
     same(&rt, played.taken.as_slice(), [Waker(5)].as_slice());
+    drop(played);
     Ok(())
 }
 
@@ -97,6 +98,7 @@ fn leaves(rt: &impl Abort, alloc: Global, gone: u32, first: u64) -> Result<(), F
     let seen = (taken.iter().is_sorted(), taken.contains(&Waker(gone)));
     same(rt, seen, (true, false));
     played.plays(rt, &[(Remove(2, 7), Done), (First, Nothing)]);
+    drop(played);
     Ok(())
 }
 
@@ -130,6 +132,7 @@ fn a_count_of_due_timers_ends_at_the_first_that_is_not(rt: HostRuntime) -> Resul
     plays(&rt, rt.alloc(), 0, &[(Due(0), Count(0))])?;
     let mut played = tall(&rt, rt.alloc())?;
     played.plays(&rt, &ARE_DUE);
+    drop(played);
     Ok(())
 }
 
@@ -157,5 +160,6 @@ fn timers_of_one_deadline_fire_by_id(rt: HostRuntime) -> Result<(), Fail> {
     let played = plays(&rt, rt.alloc(), 10, &ONE_DEADLINE)?;
     let wakers = [0, 1, 2, 3, 5, 6, 7, 8, 9].map(Waker);
     same(&rt, played.taken.as_slice(), wakers.as_slice());
+    drop(played);
     Ok(())
 }

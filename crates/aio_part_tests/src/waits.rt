@@ -2,10 +2,12 @@
 //! event is lost for want of room.
 
 use crate::asserts::same;
-use crate::joined::{LONG, client_of, connected, event, one_event, watch};
+use crate::joined::{Joined, LONG, client_of, connected, event, one_event, watch};
 use aio_base::{Arm, EventWait, Failed, Faults, Interest, Key, Notify, Port};
-use aio_mio::{MioNotify, MioWait};
+use aio_mio::{MioConn, MioNotify, MioWait};
 use std::alloc::Global;
+use std::net::Net;
+use std::process::Abort;
 use std::thread::{Threads, join, sleep};
 use std::time::{Clock, Duration};
 
@@ -46,27 +48,37 @@ fn a_twin_ends_the_same_waits_and_counts_for_itself(rt: HostRuntime) {
     same(&rt, one_event(&mut j.wait, rt.alloc(), None), Ok(None));
     same(&rt, (twin.calls(), j.notify.calls()), (1, 0));
     same(&rt, (twin.faults(), j.notify.faults()), (0, 0));
+    drop(twin);
+    drop(j);
+}
+
+/// Asserts that the first event of two connections comes before they are taken out, and the second after that.
+fn gives_both<R: Net + Copy>(
+    rt: &impl Abort,
+    alloc: Global,
+    j: &mut Joined<R>,
+    second: &mut MioConn,
+) {
+    let wait = &mut j.wait;
+    same(rt, watch(&mut j.conn, 1, Interest::WRITE), Ok(()));
+    same(rt, watch(second, 2, Interest::WRITE), Ok(()));
+    let first = one_event(wait, alloc, LONG);
+    same(rt, first, event(1, Interest::WRITE));
+    same(rt, j.conn.remove(Key(1)), Ok(()));
+    same(rt, second.remove(Key(2)), Ok(()));
+    let next = one_event(wait, alloc, Some(0));
+    same(rt, next, event(2, Interest::WRITE));
+    same(rt, one_event(wait, alloc, Some(0)), Ok(None));
+    same(rt, wait.waits(), 3);
 }
 
 #[test]
 fn what_there_is_no_room_for_is_given_by_the_next_wait(rt: HostRuntime) {
     let mut j = connected(&rt, rt.alloc()).expect(&rt, "a connection");
-    let _second_client = client_of(&rt, j.used).expect(&rt, "a second client");
-    let mut second = j.port.accept(&rt).expect(&rt, "a second connection");
-    same(&rt, watch(&mut j.conn, 1, Interest::WRITE), Ok(()));
-    same(&rt, watch(&mut second, 2, Interest::WRITE), Ok(()));
-    same(
-        &rt,
-        one_event(&mut j.wait, rt.alloc(), LONG),
-        event(1, Interest::WRITE),
-    );
-    same(&rt, j.conn.remove(Key(1)), Ok(()));
-    same(&rt, second.remove(Key(2)), Ok(()));
-    same(
-        &rt,
-        one_event(&mut j.wait, rt.alloc(), Some(0)),
-        event(2, Interest::WRITE),
-    );
-    same(&rt, one_event(&mut j.wait, rt.alloc(), Some(0)), Ok(None));
-    same(&rt, j.wait.waits(), 3);
+    let client = client_of(&rt, j.used).expect(&rt, "a second client");
+    let mut conn = j.port.accept(&rt).expect(&rt, "a second connection");
+    gives_both(&rt, rt.alloc(), &mut j, &mut conn);
+    drop(conn);
+    drop(client);
+    drop(j);
 }

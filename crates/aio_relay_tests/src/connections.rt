@@ -113,6 +113,7 @@ fn calls<C: Conn>(rt: &impl Abort, alloc: Global, conn: &mut C, row: &Row) {
         same_in(rt, row.shows, comes_of(*act, conn, &mut heard), *came);
     }
     same(rt, heard.as_slice(), row.read.as_bytes());
+    drop(heard);
 }
 
 /// Asserts what the calls of a row come to over a connection whose calls may fail, and what was sent.
@@ -120,6 +121,7 @@ fn plays(rt: &impl Abort, alloc: Global, row: &Row) -> Result<(), Fail> {
     let mut conn = row.peer.connection(alloc)?;
     calls(rt, alloc, &mut conn, row);
     same(rt, conn.sent(), row.sent.as_bytes());
+    drop(conn);
     Ok(())
 }
 
@@ -128,6 +130,7 @@ fn plays_surely(rt: &impl Abort, alloc: Global, row: &Row) -> Result<(), Fail> {
     let mut conn = sure_connection(alloc, &row.peer)?;
     calls(rt, alloc, &mut conn, row);
     same(rt, conn.sent(), row.sent.as_bytes());
+    drop(conn);
     Ok(())
 }
 

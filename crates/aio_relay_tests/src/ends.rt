@@ -3,7 +3,7 @@
 use crate::hosts::Trouble;
 use crate::peers::TORN;
 use crate::relays::Act::{At, BySlotOne, Sent, Timers, Woken};
-use crate::relays::Came::{Fails, Idles, Is, NoMemory, NotifyFails, One, Registered, Slots, Waits};
+use crate::relays::Came::{Count, Fails, Idles, Is, NoMemory, NotifyFails, One, Slots, Waits};
 use crate::relays::{QUIET, Row, plays_each};
 use aio_base::{ArmFault, CountFault, Key};
 use aio_conns::{ENDS, Peer, SILENT};
@@ -28,7 +28,7 @@ const WAITING: &[Row<'static>] = &[
             (Timers, One(1000, 0)),
             (At(1000), Idles(0, 1000)),
             (Sent(Side::B, "x\n"), Is(true)),
-            (Timers, Registered(0)),
+            (Timers, Count(0)),
         ],
         ..QUIET
     },
@@ -62,7 +62,7 @@ const WAITING: &[Row<'static>] = &[
         shows: "no timer is kept past the last moment",
         idle: 1_000_000_000_000_000_000,
         start: 1,
-        acts: &[(At(1), Waits), (Timers, Registered(0)), (Woken, Slots(0))],
+        acts: &[(At(1), Waits), (Timers, Count(0)), (Woken, Slots(0))],
         ..QUIET
     },
     Row {
@@ -70,7 +70,7 @@ const WAITING: &[Row<'static>] = &[
         trouble: Trouble::IdsSpent,
         acts: &[
             (At(0), Waits),
-            (Timers, Registered(0)),
+            (Timers, Count(0)),
             (Woken, Slots(1)),
             (BySlotOne(999), Waits),
             (At(1000), Idles(0, 1000)),
@@ -132,20 +132,14 @@ const FAILING: &[Row<'static>] = &[
         shows: "a failed read of side A ends a pair",
         a: NOT_READ,
         b: ENDS,
-        acts: &[
-            (At(0), Fails(TryFault::Read(FIRST))),
-            (Timers, Registered(0)),
-        ],
+        acts: &[(At(0), Fails(TryFault::Read(FIRST))), (Timers, Count(0))],
         ..QUIET
     },
     Row {
         shows: "a failed read of side B ends a pair",
         a: ENDS,
         b: NOT_READ,
-        acts: &[
-            (At(0), Fails(TryFault::Read(FIRST))),
-            (Timers, Registered(0)),
-        ],
+        acts: &[(At(0), Fails(TryFault::Read(FIRST))), (Timers, Count(0))],
         ..QUIET
     },
     // Side B is read after its first write, and not before.
@@ -177,13 +171,13 @@ const FAILING: &[Row<'static>] = &[
     Row {
         shows: "a failed notifier ends a pair",
         trouble: Trouble::Notifier,
-        acts: &[(At(0), NotifyFails(FIRST)), (Timers, Registered(0))],
+        acts: &[(At(0), NotifyFails(FIRST)), (Timers, Count(0))],
         ..QUIET
     },
     Row {
         shows: "a host without memory ends a pair",
         trouble: Trouble::Memory,
-        acts: &[(At(0), NoMemory), (Timers, Registered(0))],
+        acts: &[(At(0), NoMemory), (Timers, Count(0))],
         ..QUIET
     },
 ];

@@ -5,7 +5,7 @@ use crate::asserts::same;
 use crate::hosts::{ListHost, Trouble};
 use crate::lines::poll_to_end;
 use crate::peers::TORN;
-use crate::relays::{moment, pair_of};
+use crate::relays::{both, moment, pair_of};
 use aio_base::{ArmFault, CountFault, Faults, Key};
 use aio_conns::{ENDS, MemConn, Peer};
 use aio_relay::{MemEnd, Pair, PairEnd, Side};
@@ -38,9 +38,8 @@ fn pair_over(
     a: Peer<'_>,
     b: Peer<'_>,
 ) -> Result<Pair<MemEnd<MemConn>>, Fail> {
-    let a = a.connection(alloc)?;
-    let b = b.connection(alloc)?;
-    Ok(pair_of(alloc, a, b, 1000, moment(rt, 0)).ok_or("there is no pair")?)
+    let sides = both(a.connection(alloc), b.connection(alloc))?;
+    pair_of(alloc, sides, 1000, moment(rt, 0))
 }
 
 /// What a pair came to: its end, how many calls failed of its sides A and B, and whether nothing
@@ -52,19 +51,27 @@ struct Came {
     whole: bool,
 }
 
-/// Polls a pair over these peers to its end.
-fn comes_to(rt: &impl Abort, alloc: Global, a: Peer<'_>, b: Peer<'_>) -> Result<Came, Fail> {
-    let mut pair = pair_over(rt, alloc, a, b)?;
+/// Polls a pair to its end.
+fn poll_on(rt: &impl Abort, alloc: Global, pair: &mut Pair<MemEnd<MemConn>>) -> Came {
     let mut host = ListHost::new(alloc, Trouble::Nothing);
-    let end = poll_to_end(&mut pair, &mut host, moment(rt, 0));
+    let end = poll_to_end(pair, &mut host, moment(rt, 0));
     let a = &pair.end(Side::A).cell.io;
     let b = &pair.end(Side::B).cell.io;
+    drop(host);
     let lines = b.sent().is_empty() || b.sent() == b"ab\n".as_slice();
-    Ok(Came {
+    Came {
         end,
         faults: (a.faults(), b.faults()),
         whole: a.sent().is_empty() && lines,
-    })
+    }
+}
+
+/// What a pair over these peers comes to.
+fn comes_to(rt: &impl Abort, alloc: Global, a: Peer<'_>, b: Peer<'_>) -> Result<Came, Fail> {
+    let mut pair = pair_over(rt, alloc, a, b)?;
+    let came = poll_on(rt, alloc, &mut pair);
+    drop(pair);
+    Ok(came)
 }
 
 /// Whether a pair came to its end without a fault, or to one of these where a call failed.

@@ -4,8 +4,8 @@ use crate::asserts::same;
 use crate::hosts::{ListHost, Trouble};
 use crate::peers::{TORN, sure_connection};
 use crate::relays::Act::{At, Length, Sent, Timers, Woken};
-use crate::relays::Came::{Bytes, Ended, Idles, Is, One, Registered, Slots, TooLong, Waits};
-use crate::relays::{QUIET, Row, moment, pair_of, plays, plays_each, poll};
+use crate::relays::Came::{Count, Ended, Idles, Is, One, Slots, TooLong, Waits};
+use crate::relays::{Act, Came, QUIET, Row, moment, pair_of, plays, plays_each, poll};
 use aio_base::{Cx, Moment, Poll, Task};
 use aio_conns::{ENDS, Peer, SureConn};
 use aio_react::Host;
@@ -36,7 +36,7 @@ const ROWS: &[Row<'static>] = &[
             (At(0), Ended(0, 3)),
             (Sent(Side::B, "ab\n"), Is(true)),
             (Sent(Side::A, ""), Is(true)),
-            (Timers, Registered(0)),
+            (Timers, Count(0)),
             (Woken, Slots(0)),
         ],
         ..QUIET
@@ -95,7 +95,7 @@ const ROWS: &[Row<'static>] = &[
             ..ENDS
         },
         b: ENDS,
-        acts: &[(At(0), Ended(0, 4096)), (Length(Side::B), Bytes(4096))],
+        acts: &[(At(0), Ended(0, 4096)), (Length(Side::B), Count(4096))],
         ..QUIET
     },
     Row {
@@ -120,7 +120,7 @@ const ROWS: &[Row<'static>] = &[
         b: ENDS,
         acts: &[
             (At(0), Ended(0, 65_530)),
-            (Length(Side::B), Bytes(65_530)),
+            (Length(Side::B), Count(65_530)),
             (Woken, Slots(0)),
         ],
         ..QUIET
@@ -137,7 +137,7 @@ const ROWS: &[Row<'static>] = &[
             (At(0), Waits),
             (Woken, Slots(1)),
             (At(0), Ended(0, 65_530)),
-            (Length(Side::B), Bytes(65_530)),
+            (Length(Side::B), Count(65_530)),
             (Woken, Slots(0)),
         ],
         ..QUIET
@@ -160,45 +160,57 @@ fn block(alloc: Global) -> Result<Vec<u8>, AllocError> {
     Ok(bytes)
 }
 
+/// Makes a pair over what sides A and B send, and asserts that what these acts come to is what stands beside each.
+fn plays_over(
+    rt: &impl Abort,
+    alloc: Global,
+    a: &[u8],
+    b: &[u8],
+    acts: &[(Act, Came)],
+) -> Result<(), Fail> {
+    let row = Row {
+        shows: "bytes that come with one read",
+        a: Peer { first: a, ..ENDS },
+        b: Peer { first: b, ..ENDS },
+        acts,
+        ..QUIET
+    };
+    plays(rt, alloc, &row)
+}
+
+const ARE_PASSED_ON: [(Act, Came); 5] = [
+    (At(0), Waits),
+    (Woken, Slots(1)),
+    (At(0), Ended(0, 65_526)),
+    (Length(Side::B), Count(65_526)),
+    (Woken, Slots(0)),
+];
+
 #[test]
 fn lines_that_come_with_one_read_are_passed_on(rt: HostRuntime) -> Result<(), Fail> {
     let block = block(rt.alloc())?;
-    let row = Row {
-        shows: "lines that come with one read are passed on",
-        a: Peer {
-            first: block.as_slice(),
-            ..ENDS
-        },
-        b: ENDS,
-        acts: &[
-            (At(0), Waits),
-            (Woken, Slots(1)),
-            (At(0), Ended(0, 65_526)),
-            (Length(Side::B), Bytes(65_526)),
-            (Woken, Slots(0)),
-        ],
-        ..QUIET
-    };
-    plays(&rt, rt.alloc(), &row)
+    let passed = plays_over(&rt, rt.alloc(), block.as_slice(), b"", &ARE_PASSED_ON);
+    drop(block);
+    passed
 }
+
+/// Two lines, of which the line feed of the second comes too late.
+fn late(alloc: Global) -> Result<Vec<u8>, AllocError> {
+    let mut bytes = b"x\n".to_vec(alloc)?;
+    bytes.extend_from_slice(ENDLESS)?;
+    bytes.push(b'\n')?;
+    Ok(bytes)
+}
+
+const IS_TOO_LONG: [(Act, Came); 1] = [(At(0), TooLong(Side::B, 4098))];
 
 // Both lines come with one read, and a line feed in the next place comes too late.
 #[test]
 fn the_place_of_a_long_line_counts_from_the_first_byte(rt: HostRuntime) -> Result<(), Fail> {
-    let mut late = b"x\n".to_vec(rt.alloc())?;
-    late.extend_from_slice(ENDLESS)?;
-    late.push(b'\n')?;
-    let row = Row {
-        shows: "too long by one byte",
-        a: ENDS,
-        b: Peer {
-            first: late.as_slice(),
-            ..ENDS
-        },
-        acts: &[(At(0), TooLong(Side::B, 4098))],
-        ..QUIET
-    };
-    plays(&rt, rt.alloc(), &row)
+    let late = late(rt.alloc())?;
+    let came = plays_over(&rt, rt.alloc(), b"", late.as_slice(), &IS_TOO_LONG);
+    drop(late);
+    came
 }
 
 /// Polls a task until it ends, ten times at most.
@@ -224,21 +236,13 @@ pub(crate) fn poll_to_end<H: Host, T: Task<H>>(
 /// A pair of which no call of a connection fails, over those of the first row.
 fn sure_pair(alloc: Global, start: Moment) -> Result<Pair<MemEnd<SureConn>>, Fail> {
     let a = sure_connection(alloc, &TORN)?;
-    let b = sure_connection(alloc, &ENDS)?;
-    match pair_of(alloc, a, b, 1000, start) {
-        Some(pair) => Ok(pair),
-        None => Err(Fail::from("there is no pair")),
+    match sure_connection(alloc, &ENDS) {
+        Ok(b) => pair_of(alloc, (a, b), 1000, start),
+        Err(fail) => {
+            drop(a);
+            Err(fail)
+        }
     }
-}
-
-/// Asserts that a pair ends, on a host without trouble.
-fn ends(rt: &impl Abort, alloc: Global, pair: &mut Pair<MemEnd<SureConn>>, wanted: PairEnd) {
-    let mut host = ListHost::new(alloc, Trouble::Nothing);
-    same(
-        rt,
-        poll_to_end(pair, &mut host, moment(rt, 0)),
-        Some(wanted),
-    );
 }
 
 /// Asserts that the connections of a pair were sent these texts.
@@ -246,17 +250,17 @@ fn hands_back(rt: &impl Abort, pair: Pair<MemEnd<SureConn>>, to_a: &str, to_b: &
     let (a, b) = pair.into_ends();
     same(rt, a.cell.io.sent(), to_a.as_bytes());
     same(rt, b.cell.io.sent(), to_b.as_bytes());
+    drop(a);
+    drop(b);
 }
 
 #[test]
 fn a_pair_hands_its_connections_back(rt: HostRuntime) -> Result<(), Fail> {
     let mut pair = sure_pair(rt.alloc(), moment(&rt, 0))?;
-    ends(
-        &rt,
-        rt.alloc(),
-        &mut pair,
-        PairEnd::Ended { to_a: 0, to_b: 3 },
-    );
+    let mut host = ListHost::new(rt.alloc(), Trouble::Nothing);
+    let end = poll_to_end(&mut pair, &mut host, moment(&rt, 0));
+    same(&rt, end, Some(PairEnd::Ended { to_a: 0, to_b: 3 }));
+    drop(host);
     hands_back(&rt, pair, "", "ab\n");
     Ok(())
 }

@@ -176,6 +176,7 @@ fn a_listener_is_ready_after_an_event_and_none_is_left_once_it_is_closed(
 ) -> Result<(), Fail> {
     let mut heard = Heard::new(rt.alloc(), 3)?;
     heard.plays(&rt, &IS_CLOSED);
+    drop(heard);
     Ok(())
 }
 
@@ -194,6 +195,7 @@ fn is_held_by(heard: &Heard, other: &mut Heard) -> bool {
 fn stands_in_no_other(rt: &impl Abort, alloc: Global, heard: &Heard) -> Result<(), Fail> {
     let mut other = Heard::new(alloc, 4)?;
     same(rt, is_held_by(heard, &mut other), false);
+    drop(other);
     Ok(())
 }
 
@@ -201,5 +203,7 @@ fn stands_in_no_other(rt: &impl Abort, alloc: Global, heard: &Heard) -> Result<(
 fn a_listener_stands_in_the_source_that_it_was_polled_over(rt: HostRuntime) -> Result<(), Fail> {
     let mut heard = Heard::new(rt.alloc(), 3)?;
     heard.plays(&rt, &STANDS_THERE);
-    stands_in_no_other(&rt, rt.alloc(), &heard)
+    let stands = stands_in_no_other(&rt, rt.alloc(), &heard);
+    drop(heard);
+    stands
 }

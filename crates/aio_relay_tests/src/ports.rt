@@ -75,5 +75,6 @@ fn a_port_hands_its_three_connections_out_in_order(rt: HostRuntime) -> Result<()
     let mut port = port_of(rt.alloc(), &["a", "b", "c"])?;
     is_bound(&rt, &mut port);
     hands_out_three(&rt, &mut port);
+    drop(port);
     Ok(())
 }

@@ -80,14 +80,12 @@ pub(crate) enum Came {
     NoMemory,
     /// One timer is registered, for this moment with this waker.
     One(u64, u32),
-    /// So many timers are registered, not one.
-    Registered(usize),
+    /// So many timers, not one, or so many bytes.
+    Count(usize),
     /// The slots, bit by bit.
     Slots(u64),
     /// Whether it is so.
     Is(bool),
-    /// So many bytes.
-    Bytes(usize),
 }
 
 /// An end over a new source of a connection.
@@ -110,32 +108,36 @@ pub(crate) struct Relay {
 /// The longest idle time.
 const LONGEST_IDLE: u64 = 1_000_000_000_000_000_000;
 
-/// A pair over two connections, which have the keys 0 and 1.
+/// Both connections of a pair, where both were made.
+pub(crate) fn both<C: Drop, F: Drop>(a: Result<C, F>, b: Result<C, F>) -> Result<(C, C), F> {
+    Ok((a?, b?))
+}
+
+/// A pair over two connections, which have the keys 0 and 1. Its idle time is 1 to 10^18.
 pub(crate) fn pair_of<C: Conn + Drop>(
     alloc: Global,
-    a: C,
-    b: C,
+    sides: (C, C),
     idle: u64,
     start: Moment,
-) -> Option<Pair<MemEnd<C>>> {
-    let a = end_of(alloc, Key(0), a);
-    let b = end_of(alloc, Key(1), b);
-    if idle == 0 || idle > LONGEST_IDLE {
-        return None;
+) -> Result<Pair<MemEnd<C>>, Fail> {
+    let a = end_of(alloc, Key(0), sides.0);
+    let b = end_of(alloc, Key(1), sides.1);
+    match Pair::new(alloc, a, b, idle.clamp(1, LONGEST_IDLE), start) {
+        Ok(pair) => Ok(pair),
+        Err(ends) => {
+            drop(ends);
+            Err(Fail::from("there is no pair"))
+        }
     }
-    Pair::new(alloc, a, b, idle, start).ok()
 }
 
 impl Relay {
     /// The pair of a row, with a new host.
     fn new(alloc: Global, row: &Row<'_>, start: Moment) -> Result<Relay, Fail> {
-        let a = row.a.connection(alloc)?;
-        let b = row.b.connection(alloc)?;
+        let sides = both(row.a.connection(alloc), row.b.connection(alloc))?;
+        let pair = pair_of(alloc, sides, row.idle, start)?;
         let host = ListHost::new(alloc, row.trouble);
-        match pair_of(alloc, a, b, row.idle, start) {
-            Some(pair) => Ok(Relay { host, pair }),
-            None => Err(Fail::from("there is no pair")),
-        }
+        Ok(Relay { host, pair })
     }
 
     /// Polls the pair.
@@ -152,7 +154,7 @@ impl Relay {
     fn timers(&self) -> Came {
         match self.host.only_timer() {
             Some((at, waker)) => Came::One(at, waker),
-            None => Came::Registered(self.host.timers()),
+            None => Came::Count(self.host.timers()),
         }
     }
 
@@ -169,7 +171,7 @@ impl Relay {
             Act::Timers => self.timers(),
             Act::Woken => Came::Slots(self.host.take_woken()),
             Act::Sent(side, text) => Came::Is(self.sent(side) == text.as_bytes()),
-            Act::Length(side) => Came::Bytes(self.sent(side).len()),
+            Act::Length(side) => Came::Count(self.sent(side).len()),
         }
     }
 
@@ -186,8 +188,11 @@ pub(crate) fn poll<H: Host, T: Task<H>>(task: &mut T, host: &mut H, cx: Cx) -> P
     task.poll(host, cx)
 }
 
-/// What the end of a pair is in a table.
-fn end_told(end: PairEnd) -> Came {
+/// What the answer to a poll comes to.
+fn came_of(answer: Poll<PairEnd>) -> Came {
+    let Poll::Ready(end) = answer else {
+        return Came::Waits;
+    };
     match end {
         PairEnd::Ended { to_a, to_b } => Came::Ended(to_a, to_b),
         PairEnd::Idle { last, now } => Came::Idles(last.get(), now.get()),
@@ -200,14 +205,6 @@ fn end_told(end: PairEnd) -> Came {
     }
 }
 
-/// What the answer to a poll comes to.
-fn came_of(answer: Poll<PairEnd>) -> Came {
-    match answer {
-        Poll::Pending => Came::Waits,
-        Poll::Ready(end) => end_told(end),
-    }
-}
-
 /// The moment so many nanoseconds after the clock's start.
 pub(crate) fn moment(rt: &impl Abort, nanoseconds: u64) -> Moment {
     Moment::new(nanoseconds).expect(rt, "the moment is at most 10^18")
@@ -217,6 +214,7 @@ pub(crate) fn moment(rt: &impl Abort, nanoseconds: u64) -> Moment {
 pub(crate) fn plays(rt: &impl Abort, alloc: Global, row: &Row<'_>) -> Result<(), Fail> {
     let mut relay = Relay::new(alloc, row, moment(rt, row.start))?;
     relay.plays(rt, row);
+    drop(relay);
     Ok(())
 }
 

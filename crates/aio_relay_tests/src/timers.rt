@@ -41,13 +41,6 @@ fn is_set_anew<H: TimerHost>(rt: &impl Abort, host: &mut H) {
     same(rt, timer.close(host).is_ok(), true);
 }
 
-/// Asserts it on a host that keeps a list, which has no timer then.
-fn is_set_anew_on_a_list(rt: &impl Abort, alloc: Global) {
-    let mut host = ListHost::new(alloc, Trouble::Nothing);
-    is_set_anew(rt, &mut host);
-    same(rt, host.timers(), 0);
-}
-
 /// A core over the poller in memory.
 fn new_core(alloc: Global) -> Result<Core<ScriptPoller>, Fail> {
     match Core::new(alloc, ScriptPoller::new(alloc)?) {
@@ -58,7 +51,12 @@ fn new_core(alloc: Global) -> Result<Core<ScriptPoller>, Fail> {
 
 #[test]
 fn a_timer_that_is_set_anew_fires_for_each_period(rt: HostRuntime) -> Result<(), Fail> {
-    is_set_anew_on_a_list(&rt, rt.alloc());
-    is_set_anew(&rt, &mut new_core(rt.alloc())?);
+    let mut host = ListHost::new(rt.alloc(), Trouble::Nothing);
+    is_set_anew(&rt, &mut host);
+    same(&rt, host.timers(), 0);
+    drop(host);
+    let mut core = new_core(rt.alloc())?;
+    is_set_anew(&rt, &mut core);
+    drop(core);
     Ok(())
 }

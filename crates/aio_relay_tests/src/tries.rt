@@ -159,6 +159,8 @@ fn plays(rt: &impl Abort, alloc: Global, row: &Row) -> Result<(), Fail> {
     let state = SourceState::new(alloc, KEY);
     let mut cell = SourceCell { state, io };
     plays_over(rt, &mut cell, row, &mut taken);
+    drop(cell);
+    drop(taken);
     Ok(())
 }
 

@@ -95,5 +95,6 @@ fn an_event_without_memory_is_handled_later(rt: HostRuntime) -> Result<(), Fail>
     same(&rt, listen_times(&mut core, 3_000), 3_000);
     same(&rt, react_to_the_end(&mut core, 10), Ended(None));
     plays(&rt, &mut core, &ALL_ARE_WOKEN);
+    drop(core);
     Ok(())
 }

@@ -284,5 +284,6 @@ pub(crate) fn plays_anew(rt: &impl Abort, alloc: Global, row: &Row) -> Result<()
     for (act, came) in row.acts {
         same_in(rt, row.shows, comes_of(&mut core, *act), *came);
     }
+    drop(core);
     Ok(())
 }

@@ -291,6 +291,7 @@ fn a_core_goes_on_whichever_call_of_a_hostile_poller_fails(rt: HostRuntime) -> R
     for (fails, others) in ROWS {
         let mut core = core_over(rt.alloc(), *fails)?;
         plays(&rt, &mut core, *fails, others);
+        drop(core);
     }
     Ok(())
 }

@@ -31,5 +31,6 @@ fn a_new_core_has_nothing_and_hosts_timers(rt: HostRuntime) -> Result<(), Fail> 
     let ids = insert_two(&mut core, moment(&rt, 10), Waker(1), Waker(2));
     same(&rt, ids, Some((TimerId(1), TimerId(2))));
     plays(&rt, &mut core, &WAKES_THE_SECOND);
+    drop(core);
     Ok(())
 }

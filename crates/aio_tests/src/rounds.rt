@@ -149,6 +149,11 @@ struct Lending {
     arm: FailingArm,
 }
 
+/// Two values, where both were made.
+fn both<A: Drop, B: Drop, F: Drop>(a: Result<A, F>, b: Result<B, F>) -> Result<(A, B), F> {
+    Ok((a?, b?))
+}
+
 /// An idle round over a wait with these answers, and a source that two tasks wait for. Each of them polled,
 /// which armed the source; the arms with the numbers in `fails` fail.
 fn make_lending(
@@ -157,12 +162,18 @@ fn make_lending(
     answers: &[Answer],
     fails: &[u64],
 ) -> Result<Lending, Fail> {
-    let mut arm = arm_of(alloc, fails)?;
+    let (wait, mut arm) = both(wait_of(alloc, answers), arm_of(alloc, fails))?;
     let source = waited_for(rt, alloc, &mut arm);
+    let Ok(round) = Round::new(alloc) else {
+        drop(wait);
+        drop(source);
+        drop(arm);
+        return Err(Fail::from("there is no memory"));
+    };
     Ok(Lending {
-        round: Round::new(alloc)?,
+        round,
         book: TimerBook::new(alloc),
-        wait: wait_of(alloc, answers)?,
+        wait,
         source,
         arm,
     })
@@ -315,6 +326,7 @@ fn plays(
 ) -> Result<(), Fail> {
     let mut lending = make_lending(rt, alloc, answers, fails)?;
     lending.plays(rt, rows);
+    drop(lending);
     Ok(())
 }
 

@@ -168,7 +168,7 @@ const ROWS: &[Row] = &[
 #[test]
 fn a_timer_registers_fires_and_is_set_anew(rt: HostRuntime) {
     for row in ROWS {
-        plays(&rt, rt.alloc(), row);
+        drop(plays(&rt, rt.alloc(), row));
     }
 }
 
@@ -196,6 +196,7 @@ fn a_timer_is_as_it_was_where_ids_are_spent(rt: HostRuntime) {
     let mut hosted = plays(&rt, rt.alloc(), &SPENDS_THE_IDS);
     hosted.timer = Timer::at(moment(&rt, 10));
     hosted.plays(&rt, "another one fires", &[(Poll(10, 1), Ready(10))]);
+    drop(hosted);
 }
 
 /// Takes what may go to another thread, and lets it go.
