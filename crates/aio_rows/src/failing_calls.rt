@@ -5,11 +5,13 @@ ghost use Rattle.std.specs.Prelude.{None, false};
 
 use crate::asserts::same_in;
 use crate::kits::{NOTHING_COMES, kit_of};
-use crate::traces::{FIRST_FAULT, NOTHING_FAILS, ORDINARY, ORDINARY_ANSWERS, Ran, run_from};
+use crate::traces::{
+    FIRST_FAULT, NOTHING_FAILS, ORDINARY, ORDINARY_ANSWERS, Ran, run_from, run_into,
+};
 use aio_base::Faults;
 use aio_bytes::{MemSink, MemSource, Sink, SinkRefusal};
 use aio_conns::MemPort;
-use aio_run::{Status, Why, run};
+use aio_run::{Status, Why};
 use std::alloc::{AllocError, AllocGlobal};
 use std::process::Abort;
 use std::sync::Wait;
@@ -121,29 +123,27 @@ impl Sink for Narrow {
     }
 }
 
-/// Replays the ordinary trace into a sink that takes one byte a write, where the write of this
-/// number fails.
+/// Replays the ordinary trace into a sink that takes one byte a write. The status, and what was told.
+fn write_narrow<R: Wait + Threads + Sync + Send + Copy + AllocGlobal>(
+    rt: &R,
+    out: &mut Narrow,
+) -> Result<(Status, MemSink), AllocError> {
+    let alloc = rt.alloc();
+    let mut source = MemSource::new(ORDINARY.to_vec(alloc)?, 1, Vec::new(alloc));
+    let mut kit = kit_of(alloc, MemPort::new(Vec::new(alloc)), NOTHING_COMES)?;
+    run_into(rt, &["replay"], &mut source, out, &[], &mut kit)
+}
+
+/// The same where the write of this number fails.
 fn fail_write<R: Wait + Threads + Sync + Send + Copy + AllocGlobal>(
     rt: &R,
     number: u64,
 ) -> Result<Ran, AllocError> {
     let alloc = rt.alloc();
-    let mut source = MemSource::new(ORDINARY.to_vec(alloc)?, 1, Vec::new(alloc));
     let mut out = Narrow {
         held: MemSink::new(alloc, vec![in alloc; number]?),
     };
-    let mut err = MemSink::new(alloc, Vec::new(alloc));
-    let mut kit = kit_of(alloc, MemPort::new(Vec::new(alloc)), NOTHING_COMES)?;
-    let words = vec![in alloc; String::from_str(alloc, "replay")?]?;
-    let status = run(
-        rt,
-        alloc,
-        words.as_slice(),
-        &mut source,
-        &mut out,
-        &mut err,
-        &mut kit,
-    );
+    let (status, err) = write_narrow(rt, &mut out)?;
     Ok(Ran {
         status,
         out: out.held,

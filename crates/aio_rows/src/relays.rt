@@ -3,7 +3,7 @@
 
 use crate::asserts::{same, same_in};
 use crate::devices::ClosedPort;
-use crate::kits::{Course, NOTHING_COMES, kit_of};
+use crate::kits::{Course, MemKit, NOTHING_COMES, kit_of};
 use crate::traces::{FIRST_FAULT, Failing, NOTHING_FAILS, Wrote, assert_ran, run_with};
 use aio_base::{ArmFault, Key, Moment, Placement, Port};
 use aio_bytes::MemSource;
@@ -11,7 +11,7 @@ use aio_conns::{ENDS, MemPort, Peer, SILENT};
 use aio_line::pair_lines;
 use aio_pairs::{PairEnd, Side};
 use aio_run::{Which6, Why};
-use std::alloc::{AllocGlobal, Global};
+use std::alloc::{AllocError, AllocGlobal, Global};
 use std::process::Abort;
 use std::sync::Wait;
 use std::test::Fail;
@@ -272,23 +272,35 @@ fn port_of(alloc: Global, peers: &[Peer<'_>]) -> Result<MemPort, Fail> {
     Ok(MemPort::new(conns))
 }
 
-/// Runs a relay over a port, and asserts what came of it.
-fn relay_over<R: Wait + Threads + Sync + Send + Copy + AllocGlobal + Abort, P: Port + Drop>(
+/// Runs a relay over these devices, and asserts what came of it.
+fn relay_with<R: Wait + Threads + Sync + Send + Copy + AllocGlobal + Abort, P: Port>(
     rt: &R,
-    port: P,
+    kit: &mut MemKit<P>,
     row: &Row,
-) -> Result<(), Fail>
+) -> Result<(), AllocError>
 where
     P::C: Send + Drop,
 {
     let alloc = rt.alloc();
-    let mut kit = kit_of(alloc, port, row.course)?;
     let mut source = MemSource::new(Vec::new(alloc), 1, Vec::new(alloc));
     let words = ["relay", "0", row.workers, "1000", row.pairs];
-    let ran = run_with(rt, &words, &mut source, row.failing, &mut kit)?;
+    let ran = run_with(rt, &words, &mut source, row.failing, kit)?;
     assert_ran(rt, &ran, row.wanted, row.why);
     same(rt, ran.status.why, row.why);
     Ok(())
+}
+
+/// The same over a port.
+fn relay_over<R: Wait + Threads + Sync + Send + Copy + AllocGlobal + Abort, P: Port + Drop>(
+    rt: &R,
+    port: P,
+    row: &Row,
+) -> Result<(), AllocError>
+where
+    P::C: Send + Drop,
+{
+    let mut kit = kit_of(rt.alloc(), port, row.course)?;
+    relay_with(rt, &mut kit, row)
 }
 
 #[test]
@@ -312,5 +324,5 @@ const NOT_BOUND: Row = Row {
 
 #[test]
 fn a_port_that_is_not_bound_ends_a_relay(rt: HostRuntime) -> Result<(), Fail> {
-    relay_over(&&rt, ClosedPort::new(), &NOT_BOUND)
+    Ok(relay_over(&&rt, ClosedPort::new(), &NOT_BOUND)?)
 }

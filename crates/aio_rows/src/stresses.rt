@@ -2,7 +2,7 @@
 //! as may be asked for, and that its jobs are run by the lent spawner.
 
 use crate::asserts::{same, same_in};
-use crate::kits::{Course, NOTHING_COMES, kit_of};
+use crate::kits::{Course, MemKit, NOTHING_COMES, kit_of};
 use crate::traces::{FIRST_FAULT, Failing, NOTHING_FAILS, Ran, assert_ran, counts, run_with};
 use aio_base::Placement;
 use aio_bytes::MemSource;
@@ -43,11 +43,26 @@ const ROWS: &[(&str, &str, Placement, &[u8])] = &[
     ),
 ];
 
-/// Runs `stress` over an input whose first read would fail, with this output, and asserts that of the
-/// devices the spawner alone was used, once.
-fn stress_by<R: Wait + Threads + Sync + Send + Copy + AllocGlobal + Abort>(
+/// Runs `stress` over an input whose first read would fail, with this output and these devices, and asserts that
+/// of the devices the spawner alone was used, once.
+fn stress_over<R: Wait + Threads + Sync + Send + Copy + AllocGlobal + Abort>(
     rt: &R,
     (calls, seed): (&str, &str),
+    failing: Failing,
+    kit: &mut MemKit<MemPort>,
+) -> Result<Ran, AllocError> {
+    let alloc = rt.alloc();
+    let mut source = MemSource::new(Vec::new(alloc), 1, [1].to_vec(alloc)?);
+    let words = ["stress", calls, seed];
+    let ran = run_with(rt, &words, &mut source, failing, kit)?;
+    same_in(rt, words, counts(kit), [0, 0, 0, 0, 1]);
+    Ok(ran)
+}
+
+/// The same with new devices, which run jobs here.
+fn stress_by<R: Wait + Threads + Sync + Send + Copy + AllocGlobal + Abort>(
+    rt: &R,
+    asked: (&str, &str),
     placement: Placement,
     failing: Failing,
 ) -> Result<Ran, AllocError> {
@@ -57,11 +72,7 @@ fn stress_by<R: Wait + Threads + Sync + Send + Copy + AllocGlobal + Abort>(
         ..NOTHING_COMES
     };
     let mut kit = kit_of(alloc, MemPort::new(Vec::new(alloc)), course)?;
-    let mut source = MemSource::new(Vec::new(alloc), 1, [1].to_vec(alloc)?);
-    let words = ["stress", calls, seed];
-    let ran = run_with(rt, &words, &mut source, failing, &mut kit)?;
-    same_in(rt, words, counts(&kit), [0, 0, 0, 0, 1]);
-    Ok(ran)
+    stress_over(rt, asked, failing, &mut kit)
 }
 
 #[test]

@@ -7,7 +7,7 @@ use crate::asserts::{same, same_in};
 use crate::devices::Torn;
 use crate::kits::{MemKit, NOTHING_COMES, kit_of};
 use aio_base::{CountFault, EventWait, Failed, Faults, Notify, Port, Reason};
-use aio_bytes::{MemSink, MemSource, Source};
+use aio_bytes::{MemSink, MemSource, Sink, Source};
 use aio_conns::MemPort;
 use aio_run::{Status, Why, run};
 use std::alloc::{AllocError, Global};
@@ -94,12 +94,34 @@ pub(crate) fn run_with<R: Wait + Threads + Sync + Send + Copy + AllocGlobal, S: 
 where
     P::C: Send + Drop,
 {
+    let mut out = MemSink::new(rt.alloc(), failing.writes.to_vec(rt.alloc())?);
+    let (status, err) = run_into(rt, words, source, &mut out, failing.tells, kit)?;
+    Ok(Ran { status, out, err })
+}
+
+/// The same into this output, where the calls of these numbers fail that tell the user. The status, and what was
+/// told.
+pub(crate) fn run_into<
+    R: Wait + Threads + Sync + Send + Copy + AllocGlobal,
+    S: Source,
+    K: Sink,
+    P: Port,
+>(
+    rt: &R,
+    words: &[&str],
+    source: &mut S,
+    out: &mut K,
+    tells: &[u64],
+    kit: &mut MemKit<P>,
+) -> Result<(Status, MemSink), AllocError>
+where
+    P::C: Send + Drop,
+{
     let alloc = rt.alloc();
     let texts = texts_of(alloc, words)?;
-    let mut out = MemSink::new(alloc, failing.writes.to_vec(alloc)?);
-    let mut err = MemSink::new(alloc, failing.tells.to_vec(alloc)?);
-    let status = run(rt, alloc, texts.as_slice(), source, &mut out, &mut err, kit);
-    Ok(Ran { status, out, err })
+    let mut err = MemSink::new(alloc, tells.to_vec(alloc)?);
+    let status = run(rt, alloc, texts.as_slice(), source, out, &mut err, kit);
+    Ok((status, err))
 }
 
 fn texts_of(alloc: Global, words: &[&str]) -> Result<Vec<String>, AllocError> {
@@ -291,14 +313,17 @@ const SECTION_TRACES: &[(&[u8], &[u8])] = &[
     ),
 ];
 
-/// Replays each trace, of which a read gives at most `piece` bytes, and asserts its answers.
+/// Replays each trace, of which a read gives at most so many bytes, for each of these numbers, and asserts its
+/// answers.
 pub(crate) fn replay_rows<R: Wait + Threads + Sync + Send + Copy + AllocGlobal + Abort>(
     rt: &R,
     rows: &[(&[u8], &[u8])],
-    piece: usize,
+    pieces: &[usize],
 ) -> Result<(), AllocError> {
-    for (trace, out) in rows {
-        replay_so(rt, trace, piece, (out, b"", 0))?;
+    for piece in pieces {
+        for (trace, out) in rows {
+            replay_so(rt, trace, *piece, (out, b"", 0))?;
+        }
     }
     Ok(())
 }
@@ -316,21 +341,17 @@ pub(crate) fn replay_so<R: Wait + Threads + Sync + Send + Copy + AllocGlobal + A
 
 #[test]
 fn traces_are_answered_however_they_are_read(rt: HostRuntime) -> Result<(), Fail> {
-    replay_rows(&rt, TRACES, 1)?;
-    replay_rows(&rt, TRACES, 7)?;
-    Ok(replay_rows(&rt, TRACES, 4096)?)
+    Ok(replay_rows(&rt, TRACES, &[1, 7, 4096])?)
 }
 
 #[test]
 fn timers_fire_in_order_and_once(rt: HostRuntime) -> Result<(), Fail> {
-    replay_rows(&rt, TIMER_TRACES, 1)?;
-    Ok(replay_rows(&rt, TIMER_TRACES, 4096)?)
+    Ok(replay_rows(&rt, TIMER_TRACES, &[1, 4096])?)
 }
 
 #[test]
 fn rounds_are_answered_section_by_section(rt: HostRuntime) -> Result<(), Fail> {
-    replay_rows(&rt, SECTION_TRACES, 1)?;
-    Ok(replay_rows(&rt, SECTION_TRACES, 4096)?)
+    Ok(replay_rows(&rt, SECTION_TRACES, &[1, 4096])?)
 }
 
 /// Words that are no command.
@@ -567,12 +588,40 @@ fn adds(alloc: Global, count: u32) -> Result<(Vec<u8>, Vec<u8>), AllocError> {
     Ok((trace, answers))
 }
 
+/// Replays a trace with these lines behind it, and asserts its answers with these behind them.
+fn replay_longer<R: Wait + Threads + Sync + Send + Copy + AllocGlobal + Abort>(
+    rt: &R,
+    trace: &mut Vec<u8>,
+    answers: &mut Vec<u8>,
+    lines: &[u8],
+    told: &[u8],
+) -> Result<(), AllocError> {
+    trace.extend_from_slice(lines)?;
+    answers.extend_from_slice(told)?;
+    replay_whole(rt, trace.as_slice(), answers.as_slice())
+}
+
 #[test]
 fn a_reactor_holds_4096_sources(rt: HostRuntime) -> Result<(), Fail> {
     let (mut trace, mut answers) = adds(rt.alloc(), 4096)?;
-    trace.extend_from_slice(b"add\ndel 7\nadd\n")?;
-    answers.extend_from_slice(b"full\ngone\nkey 7\n")?;
-    Ok(replay_whole(&rt, trace.as_slice(), answers.as_slice())?)
+    let lines = b"add\ndel 7\nadd\n";
+    let told = b"full\ngone\nkey 7\n";
+    Ok(replay_longer(&rt, &mut trace, &mut answers, lines, told)?)
+}
+
+/// Puts the lines behind a trace by which the listener and the timer of this number wait, and their answers
+/// behind the answers.
+fn put_waiting(
+    alloc: Global,
+    trace: &mut Vec<u8>,
+    answers: &mut Vec<u8>,
+    n: u32,
+) -> Result<(), AllocError> {
+    let lines = format!(in alloc; "new 0 r\nstep {n} 5\ntimer at 9\ntick {n} 5\n")?;
+    trace.extend_from_slice(lines.as_bytes())?;
+    drop(lines);
+    let told = format!(in alloc; "listener {n}\npending\ntimer {n}\npending\n")?;
+    answers.extend_from_slice(told.as_bytes())
 }
 
 /// A trace in which so many listeners and as many timers wait, and its answers.
@@ -580,23 +629,36 @@ fn waiting(alloc: Global, count: u32) -> Result<(Vec<u8>, Vec<u8>), AllocError> 
     let mut trace = b"trace 1\nadd\n".to_vec(alloc)?;
     let mut answers = b"key 0\n".to_vec(alloc)?;
     for n in 1..=count {
-        let lines = format!(in alloc; "new 0 r\nstep {n} 5\ntimer at 9\ntick {n} 5\n")?;
-        trace.extend_from_slice(lines.as_bytes())?;
-        let told = format!(in alloc; "listener {n}\npending\ntimer {n}\npending\n")?;
-        answers.extend_from_slice(told.as_bytes())?;
+        put_waiting(alloc, &mut trace, &mut answers, n)?;
     }
     Ok((trace, answers))
+}
+
+/// What comes of a round that wakes so many listeners and as many timers.
+fn wakes(alloc: Global, count: u32) -> Result<Vec<u8>, AllocError> {
+    let mut told = b"at 9\nnoted\nround 1 events 1 ok\n".to_vec(alloc)?;
+    for _ in 0..count {
+        told.extend_from_slice(b"wake 5\nwake 5\n")?;
+    }
+    Ok(told)
+}
+
+/// Replays such a trace with a round behind it that wakes all of them.
+fn wake_waiting<R: Wait + Threads + Sync + Send + Copy + AllocGlobal + Abort>(
+    rt: &R,
+    trace: &mut Vec<u8>,
+    answers: &mut Vec<u8>,
+    count: u32,
+) -> Result<(), AllocError> {
+    let told = wakes(rt.alloc(), count)?;
+    let lines = b"now 9\nevent 0 r\nreact\n";
+    replay_longer(rt, trace, answers, lines, told.as_slice())
 }
 
 #[test]
 fn listeners_and_timers_are_as_many_as_memory_holds(rt: HostRuntime) -> Result<(), Fail> {
     let (mut trace, mut answers) = waiting(rt.alloc(), 65_537)?;
-    trace.extend_from_slice(b"now 9\nevent 0 r\nreact\n")?;
-    answers.extend_from_slice(b"at 9\nnoted\nround 1 events 1 ok\n")?;
-    for _ in 0..65_537 {
-        answers.extend_from_slice(b"wake 5\nwake 5\n")?;
-    }
-    Ok(replay_whole(&rt, trace.as_slice(), answers.as_slice())?)
+    Ok(wake_waiting(&rt, &mut trace, &mut answers, 65_537)?)
 }
 
 /// A trace that is longer than memory would hold well: a few lines, and then one line again and again, up to so
@@ -679,7 +741,7 @@ fn a_trace_without_end_is_refused_past_its_millionth_line(rt: HostRuntime) -> Re
         (PAST_THE_MILLIONTH, told),
     );
     assert_counted(&rt, ran.out.bytes(), ROUNDS, 999_999);
-    assert!(rt; source.given <= 257_000_257, "{}", source.given);
+    same_in(&rt, source.given, source.given <= 257_000_257, true);
     Ok(())
 }
 
@@ -729,10 +791,10 @@ fn assert_counted(rt: &impl Abort, answers: &[u8], between: (&[u8], &[u8]), coun
     for number in 0..count {
         match past_answer(rest, between, number as u64 + 1) {
             Some(more) => rest = more,
-            None => assert_eq!(rt; number, count, "answers that came one after the other"),
+            None => same_in(rt, "answers that came one after the other", number, count),
         }
     }
-    assert!(rt; rest.is_empty());
+    same(rt, rest.is_empty(), true);
 }
 
 /// What comes behind the answer with this number, where that comes first.

@@ -4,9 +4,6 @@ use aio_base::{CountFault, Dir, OutOfMemory, Poll, TimerId};
 use aio_react::InsertRefusal;
 use aio_shared::{PollFault, ReactFault, ReactedIn};
 
-/// What a try to react comes to: nothing where another thread has the round cell.
-pub(crate) type Reaction = Option<Result<ReactedIn, ReactFault>>;
-
 /// What polls of a source answer.
 pub(crate) type Answer = Poll<Result<(), PollFault>>;
 
@@ -160,17 +157,16 @@ pub(crate) fn resumed(in_hand: usize, answer: Result<ReactedIn, ReactFault>) -> 
     }
 }
 
-/// What a try to react came to.
-pub(crate) fn reacted(reaction: Reaction) -> Came {
-    match reaction {
-        Some(Ok(answer)) => {
-            if answer.resumed {
+/// What a round came to that goes on with none before it.
+pub(crate) fn reacted(answer: Result<ReactedIn, ReactFault>) -> Came {
+    match answer {
+        Ok(reacted) => {
+            if reacted.resumed {
                 Came::Other
             } else {
-                Came::Round(answer.events, answer.woken)
+                Came::Round(reacted.events, reacted.woken)
             }
         }
-        Some(Err(fault)) => Came::Failed(fault),
-        None => Came::Other,
+        Err(fault) => Came::Failed(fault),
     }
 }

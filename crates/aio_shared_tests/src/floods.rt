@@ -6,36 +6,27 @@ use crate::acts::Act::{InsertTimes, Listen, Look, Poll, React, ReactAgain, Take}
 use crate::acts::Came::{Cell, Mask, Pending, Round, Times};
 use crate::acts::Row;
 use crate::owners::plays;
-use crate::scripts::one_by_one;
-use aio_base::{Dir, Event, Interest, Key};
-use aio_devices::{MemNotify, MemWait, ScriptedWait, SureArm, WaitAnswer};
+use crate::scripts::{gives, one_by_one};
+use aio_base::{Dir, Interest};
+use aio_devices::{MemNotify, MemWait, ScriptedWait, SureArm};
 use std::alloc::Global;
 use std::test::Fail;
 
-/// Events of 1,024 keys, from this one on.
-fn flood_from(alloc: Global, first: u32) -> Result<WaitAnswer, Fail> {
-    let mut events = Vec::with_capacity(alloc, 1024)?;
-    for number in 0..1024 {
-        events.push(Event {
-            key: Key(first.saturating_add(number)),
-            on: Interest::BOTH,
-        })?;
-    }
-    Ok(WaitAnswer::Gives(events))
-}
+/// The first key of each round, of how many keys there are events, and in which directions: three floods of
+/// keys which no source has, and then the first source.
+const FLOODS: [(u32, u32, Interest); 4] = [
+    (1, 1024, Interest::BOTH),
+    (4096, 1024, Interest::BOTH),
+    (u32::MAX - 1023, 1024, Interest::BOTH),
+    (0, 1, Interest::READ),
+];
 
-/// A wait that gives events of keys which no source has in each of three rounds, and then one of
-/// the first source.
+/// A wait that gives these events.
 fn floods(alloc: Global) -> Result<ScriptedWait, Fail> {
-    let mut answers = Vec::with_capacity(alloc, 4)?;
-    for first in [1, 4096, u32::MAX - 1023] {
-        answers.push(flood_from(alloc, first)?)?;
+    let mut answers = Vec::new(alloc);
+    for (first, count, on) in FLOODS {
+        answers.push(gives(alloc, first, count, on)?)?;
     }
-    let event = Event {
-        key: Key(0),
-        on: Interest::READ,
-    };
-    answers.push(WaitAnswer::Gives(vec![in alloc; event]?))?;
     Ok(ScriptedWait::new(answers))
 }
 

@@ -1,37 +1,24 @@
 //! What no clause says of the wakes by which a thread hands over: which slots of three parkers are woken, also
 //! where the notifier fails.
 
-ghost use Rattle.std.specs.Prelude.{◌≡◌, ◌<◌, IfOk};
+ghost use Rattle.std.specs.Prelude.{◌≡◌, ◌<◌};
 ghost use Rattle.aio_rules.specs.declared.seats.Mode.TheVariants as mode;
 ghost use Rattle.aio_shared.specs.Members.{IsMemberOf};
 ghost use Rattle.aio_shared.specs.OneCell.{IsCellOf};
 
 use crate::acts::FIRST_FAULT;
 use crate::asserts::same;
-use crate::seats::{unblock_in, waits_for_first};
+use crate::hosts::enter_inside;
+use crate::seats::{unblock_first, waits_for_first};
 use aio_base::{Arm, CountFault, EventWait, Notify, OutOfMemory};
 use aio_devices::{FailingNotify, MemWait, SureArm};
 use aio_shared::{Inside, Member, RoundCell, Shared};
 use std::alloc::Global;
-use std::process::Abort;
-use std::sync::{Arc, Wait};
+use std::sync::Wait;
 use std::test::Fail;
 
 /// A way into a reactor whose notifier fails.
 type Untold<R> = Inside<R, FailingNotify, SureArm, MemWait>;
-
-/// The way into a new reactor of three parkers.
-fn enter_three<R: Wait + Drop>(rt: R, alloc: Global) -> Result<Untold<R>, OutOfMemory>
-    ensures { IfOk result (λ host. host.shared.words.parkers ≡ 3) }
-{
-    let Ok((shared, member)) = Shared::new(alloc, 3, MemWait::new(0), FailingNotify::new()) else {
-        return Err(OutOfMemory);
-    };
-    match Arc::new(alloc, shared) {
-        Ok(shared) => Ok(Inside { rt, shared, member }),
-        Err(_) => Err(OutOfMemory),
-    }
-}
 
 /// Takes the masks of the first three parkers.
 fn masks<R: Wait, N: Notify, A: Arm, W: EventWait>(host: &mut Inside<R, N, A, W>) -> [u64; 3]
@@ -80,7 +67,7 @@ fn wake_in_a_wait<R: Wait, N: Notify, A: Arm, W: EventWait>(
 {
     let mut cell = host.shared.take_round(&host.rt, &mut host.member);
     let told = wake_where_waiting(&host.shared, &mut host.member, &mut cell);
-    unblock_in(&host.shared, &host.member, &mut cell);
+    unblock_first(host.shared.words(), cell.seat());
     host.shared.give_round(&host.rt, &mut host.member, cell);
     told
 }
@@ -100,12 +87,13 @@ fn found<R: Wait, N: Notify, A: Arm, W: EventWait>(
     ([others, all, masks(host)], told)
 }
 
-/// The same in a new reactor.
-fn found_in_new<R: Wait + Drop>(
+/// The same in a new reactor of three parkers.
+fn found_in_new<R: Wait + Copy>(
     rt: R,
     alloc: Global,
 ) -> Result<([[u64; 3]; 3], Option<Result<(), CountFault>>), OutOfMemory> {
-    let mut host = enter_three(rt, alloc)?;
+    let devices = (MemWait::new(0), FailingNotify::new());
+    let mut host: Untold<R> = enter_inside(rt, alloc, 3, devices)?;
     let found = found(&mut host);
     drop(host);
     Ok(found)

@@ -4,7 +4,7 @@ ghost use Rattle.std.specs.Prelude.{◌≡◌, ◌<◌, ◌≤◌, IfOk};
 ghost use Rattle.aio_shared.specs.Cells.{IsIdle};
 ghost use Rattle.aio_shared.specs.OneCell.{IsCellOf};
 
-use crate::acts::{Came, Reaction, resumed};
+use crate::acts::{Came, resumed};
 use aio_base::{Arm, CountFault, EventWait, Moment, Notify, OutOfMemory, TimerId, Waker};
 use aio_devices::{MemClock, MemNotify, SureArm, clock_at};
 use aio_react::{Host, InsertRefusal, TimerHost};
@@ -36,7 +36,29 @@ fn clock(alloc: Global, now: u64) -> Result<MemClock, OutOfMemory> {
     }
 }
 
-/// The first way into a new reactor of so many parkers over this wait, with this notifier and a clock at this moment.
+/// The first way into a new reactor of so many parkers over this wait, with this notifier.
+pub(crate) fn enter_inside<R: Wait + Copy, N: Notify + Drop, A: Arm + Drop, W: EventWait + Drop>(
+    rt: R,
+    alloc: Global,
+    parkers: u32,
+    devices: (W, N),
+) -> Result<Inside<R, N, A, W>, OutOfMemory>
+    requires { (1 ≤ parkers) × (parkers ≤ 16) }
+    ensures number { IfOk result (λ host. host.member.ops.number ≡ 0) }
+    ensures parkers { IfOk result (λ host. host.shared.words.parkers ≡ parkers) }
+{
+    let (wait, notifier) = devices;
+    let Ok((shared, member)) = Shared::new(alloc, parkers, wait, notifier) else {
+        return Err(OutOfMemory);
+    };
+    let Ok(shared) = Arc::new(alloc, shared) else {
+        drop(member);
+        return Err(OutOfMemory);
+    };
+    Ok(Inside { rt, shared, member })
+}
+
+/// The same with a clock at this moment.
 pub(crate) fn enter<R: Wait + Copy, N: Notify + Drop, A: Arm + Drop, W: EventWait + Drop>(
     rt: R,
     alloc: Global,
@@ -48,21 +70,12 @@ pub(crate) fn enter<R: Wait + Copy, N: Notify + Drop, A: Arm + Drop, W: EventWai
     ensures number { IfOk result (λ made. made.host.member.ops.number ≡ 0) }
     ensures parkers { IfOk result (λ made. made.host.shared.words.parkers ≡ parkers) }
 {
-    let (wait, notifier) = devices;
-    let clock = clock(alloc, now)?;
-    let Ok((shared, member)) = Shared::new(alloc, parkers, wait, notifier) else {
-        drop(clock);
+    let host = enter_inside(rt, alloc, parkers, devices)?;
+    let Ok(clock) = clock(alloc, now) else {
+        drop(host);
         return Err(OutOfMemory);
     };
-    let Ok(shared) = Arc::new(alloc, shared) else {
-        drop(member);
-        drop(clock);
-        return Err(OutOfMemory);
-    };
-    Ok(Caller {
-        host: Inside { rt, shared, member },
-        clock,
-    })
+    Ok(Caller { host, clock })
 }
 
 /// The way of another thread into the same reactor, by the first one, with a clock at this moment.
@@ -156,7 +169,7 @@ pub(crate) fn count_and_wake<H: Host>(host: &mut H, waker: u32) -> (u64, Result<
 }
 
 /// Reacts by a cell that the thread has taken, by this clock, without waiting.
-fn react_by<R: Wait, N: Notify, A: Arm, W: EventWait>(
+pub(crate) fn react_by<R: Wait, N: Notify, A: Arm, W: EventWait>(
     host: &mut Inside<R, N, A, W>,
     cell: &mut RoundCell<W>,
     clock: &mut MemClock,
@@ -172,27 +185,13 @@ fn react_by<R: Wait, N: Notify, A: Arm, W: EventWait>(
         .react_in(&host.rt, &mut host.member, cell, clock, Some(0))
 }
 
-/// Tries the reactor lock; where the thread has the cell, reacts by this clock without waiting, and gives the
-/// cell back. `None` where another thread has it.
-pub(crate) fn react<R: Wait, N: Notify, A: Arm, W: EventWait>(
-    host: &mut Inside<R, N, A, W>,
-    clock: &mut MemClock,
-) -> Reaction
-    ensures { host.new.shared ≡ host.old.shared }
-{
-    let mut cell = host.shared.try_round(&host.rt, &mut host.member)?;
-    let answer = react_by(host, &mut cell, clock);
-    host.shared.give_round(&host.rt, &mut host.member, cell);
-    Some(answer)
-}
-
-/// Makes a round. Where memory ran out in it, so many events were in hand then, and the answer is that of the
-/// next call, which goes on with it.
-fn react_twice_at_most<R: Wait, N: Notify, A: Arm, W: EventWait>(
+/// Makes a round, by two calls where memory ran out in the first: then what comes is that of the second, which
+/// goes on with the events that were in hand.
+pub(crate) fn react_twice_at_most<R: Wait, N: Notify, A: Arm, W: EventWait>(
     host: &mut Inside<R, N, A, W>,
     cell: &mut RoundCell<W>,
     clock: &mut MemClock,
-) -> (usize, Result<ReactedIn, ReactFault>)
+) -> Came
     requires cell { IsCellOf host.old.member.claim cell.old }
     requires idle { IsIdle cell.old }
     ensures shared { host.new.shared ≡ host.old.shared }
@@ -202,21 +201,8 @@ fn react_twice_at_most<R: Wait, N: Notify, A: Arm, W: EventWait>(
 {
     let first = react_by(host, cell, clock);
     if first != Err(ReactFault::OutOfMemory) {
-        return (0, first);
+        return resumed(0, first);
     }
     let in_hand = cell.round().in_hand();
-    (in_hand, react_by(host, cell, clock))
-}
-
-/// Takes the cell, makes a round, by two calls where memory ran out in the first, and gives the cell back.
-pub(crate) fn react_again<R: Wait, N: Notify, A: Arm, W: EventWait>(
-    host: &mut Inside<R, N, A, W>,
-    clock: &mut MemClock,
-) -> Came
-    ensures { host.new.shared ≡ host.old.shared }
-{
-    let mut cell = host.shared.take_round(&host.rt, &mut host.member);
-    let (in_hand, answer) = react_twice_at_most(host, &mut cell, clock);
-    host.shared.give_round(&host.rt, &mut host.member, cell);
-    resumed(in_hand, answer)
+    resumed(in_hand, react_by(host, cell, clock))
 }

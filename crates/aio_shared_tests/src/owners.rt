@@ -2,12 +2,10 @@
 
 ghost use Rattle.std.specs.Prelude.{◌≡◌, ◌<◌, false};
 
-use crate::acts::{Act, Came, Row, inserted, polled, reacted, removed, replaced, woken};
+use crate::acts::{Act, Came, Row, inserted, polled, removed, woken};
 use crate::asserts::same_in;
-use crate::hosts::{
-    Caller, count_and_wake, enter, insert, insert_times, react, react_again, remove,
-};
-use crate::seats::{look, poll_while_blocking, react_waiting, take, wake_apart};
+use crate::hosts::{Caller, count_and_wake, enter, insert, insert_times, remove};
+use crate::seats::{act_by_cell, act_by_seat, poll_while_blocking};
 use aio_base::{Arm, Dir, EventWait, Notify, Waker};
 use aio_devices::SureArm;
 use aio_react::Host;
@@ -44,34 +42,20 @@ fn act_on_host<H: Host>(host: &mut H, act: Act) -> Came
     }
 }
 
-/// Does this, unless it needs a clock or a source.
-fn act_inside<R: Wait, N: Notify, A: Arm, W: EventWait>(
-    host: &mut Inside<R, N, A, W>,
-    act: Act,
-) -> Came
-    requires { 0 < host.old.shared.words.parkers }
-    ensures { host.new.shared ≡ host.old.shared }
-{
-    match act {
-        Act::InsertTimes(at, times) => Came::Times(insert_times(host, at, times, true)),
-        Act::InsertAndRemove(at, times) => Came::Times(insert_times(host, at, times, false)),
-        Act::WakeApart(waker) => wake_apart(host, waker),
-        Act::Take => Came::Mask(take(host)),
-        Act::Look => look(host),
-        act => act_on_host(host, act),
-    }
-}
-
 impl<R: Wait, N: Notify, A: Arm, W: EventWait> Caller<R, N, A, W> {
     /// Does this, unless it is done to a source.
     pub(crate) fn act(&mut self, act: Act) -> Came
         ensures { self.new.host.shared ≡ self.old.host.shared }
     {
+        let host = &mut self.host;
         match act {
-            Act::React => reacted(react(&mut self.host, &mut self.clock)),
-            Act::ReactAgain => react_again(&mut self.host, &mut self.clock),
-            Act::ReactWaiting => reacted(react_waiting(&mut self.host, &mut self.clock)),
-            act => act_inside(&mut self.host, act),
+            Act::React | Act::ReactAgain | Act::ReactWaiting | Act::Look => {
+                act_by_cell(host, &mut self.clock, act)
+            }
+            Act::WakeApart(_) | Act::Take => act_by_seat(host, act),
+            Act::InsertTimes(at, times) => Came::Times(insert_times(host, at, times, true)),
+            Act::InsertAndRemove(at, times) => Came::Times(insert_times(host, at, times, false)),
+            _ => act_on_host(host, act),
         }
     }
 
@@ -153,8 +137,7 @@ impl<R: Wait, N: Notify, A: Arm, W: EventWait> Owner<R, N, A, W> {
     /// Polls the source with two wakers in turn while the parker is blocked.
     fn poll_blocking(&mut self) -> Came {
         let caller = &mut self.caller;
-        let (first, second) = poll_while_blocking(&mut caller.host, &mut self.source);
-        replaced(first, second)
+        poll_while_blocking(&mut caller.host, &mut self.source)
     }
 
     /// Does this.

@@ -5,12 +5,26 @@ use aio_devices::{ScriptedWait, WaitAnswer};
 use std::alloc::Global;
 use std::test::Fail;
 
+/// An answer of a wait: events of so many keys, from this one on.
+pub(crate) fn gives(
+    alloc: Global,
+    first: u32,
+    count: u32,
+    on: Interest,
+) -> Result<WaitAnswer, Fail> {
+    let mut events = Vec::new(alloc);
+    for number in 0..count {
+        let key = Key(first.saturating_add(number));
+        events.push(Event { key, on })?;
+    }
+    Ok(WaitAnswer::Gives(events))
+}
+
 /// A wait that gives an event of each of these keys, one in each round.
 pub(crate) fn one_by_one(alloc: Global, keys: &[u32], on: Interest) -> Result<ScriptedWait, Fail> {
     let mut answers = Vec::new(alloc);
     for key in keys {
-        let event = Event { key: Key(*key), on };
-        answers.push(WaitAnswer::Gives(vec![in alloc; event]?))?;
+        answers.push(gives(alloc, *key, 1, on)?)?;
     }
     Ok(ScriptedWait::new(answers))
 }

@@ -1,17 +1,18 @@
-//! Rounds by a seat that waits for a parker, looks at a round cell, and masks.
+//! What a thread does by the round cell or by its member's seat: rounds, looks, wakes and masks.
 
-ghost use Rattle.std.specs.Prelude.{◌≡◌, ◌<◌, false, if◌then◌else◌};
+ghost use Rattle.std.specs.Prelude.{◌≡◌, ◌<◌, false, true, if◌then◌else◌, IfSome};
 ghost use Rattle.aio_rules.specs.declared.seats.Mode.TheVariants as mode;
 ghost use Rattle.aio_words.specs.Seats.{Belongs};
 ghost use Rattle.aio_shared.specs.Cells.{IsIdle};
 ghost use Rattle.aio_shared.specs.Members.{IsMemberOf};
 ghost use Rattle.aio_shared.specs.OneCell.{IsCellOf};
 
-use crate::acts::{Answer, Came, Reaction};
+use crate::acts::{Act, Came, reacted, replaced};
+use crate::hosts::{react_by, react_twice_at_most};
 use aio_base::{Arm, Dir, EventWait, Notify, Waker};
 use aio_devices::{MemClock, MemNotify};
 use aio_shared::{Inside, Member, RoundCell, Shared, SourceRef};
-use aio_words::{RoundSeat, Words};
+use aio_words::{Pass, RoundSeat, Words};
 use std::sync::Wait;
 
 /// Blocks parker 0 and looks at its mask. Whether the seat waits now: then the look found no woken slot. Else
@@ -25,14 +26,25 @@ pub(crate) fn waits_for_first(words: &Words, seat: &mut RoundSeat) -> bool
     words.take_or_wait(seat).is_none()
 }
 
-/// Reacts where the seat waits for parker 0 then, and leaves the seat blocking it. `None` where it does not wait.
+/// Unblocks parker 0.
+pub(crate) fn unblock_first(words: &Words, seat: &mut RoundSeat)
+    requires belongs { Belongs words.now seat.old }
+    requires blocks { seat.old.view.mode ≡ mode.Block 0 }
+    ensures words { seat.new.words ≡ seat.old.words }
+    ensures idle { seat.new.view.mode ≡ mode.Idle }
+{
+    words.unblock(seat);
+}
+
+/// Reacts where the seat waits for parker 0 then, and leaves the seat blocking it. Something else comes where it
+/// does not wait: a slot of the parker is woken already.
 fn react_where_waiting<R: Wait, N: Notify, A: Arm, W: EventWait>(
     rt: &R,
     shared: &Shared<A, W>,
     m: &mut Member<N, W>,
     cell: &mut RoundCell<W>,
     clock: &mut MemClock,
-) -> Reaction
+) -> Came
     requires parker { 0 < shared.now.words.parkers }
     requires member { IsMemberOf shared.now m.old }
     requires cell { IsCellOf m.old.claim cell.old }
@@ -43,92 +55,98 @@ fn react_where_waiting<R: Wait, N: Notify, A: Arm, W: EventWait>(
     ensures blocks { cell.new.seat.view.mode ≡ mode.Block 0 }
 {
     if !waits_for_first(shared.words(), cell.seat()) {
-        return None;
+        return Came::Other;
     }
-    Some(shared.react_in(rt, m, cell, clock, Some(0)))
+    reacted(shared.react_in(rt, m, cell, clock, Some(0)))
 }
 
-/// Unblocks parker 0 by the seat of a cell.
-pub(crate) fn unblock_in<N: Notify, A: Arm, W: EventWait>(
-    shared: &Shared<A, W>,
-    m: &Member<N, W>,
+/// Does what needs the round cell, by the cell that the thread has: looks at it, unless the act reacts.
+fn act_in<R: Wait, N: Notify, A: Arm, W: EventWait>(
+    host: &mut Inside<R, N, A, W>,
     cell: &mut RoundCell<W>,
-)
-    requires member { IsMemberOf shared.now m.now }
-    requires cell { IsCellOf m.now.claim cell.old }
-    requires blocks { cell.old.seat.view.mode ≡ mode.Block 0 }
-    ensures cell { IsCellOf m.now.claim cell.new }
+    clock: &mut MemClock,
+    act: Act,
+) -> Came
+    requires parker { 0 < host.old.shared.words.parkers }
+    requires cell { IsCellOf host.old.member.claim cell.old }
+    requires idle { IsIdle cell.old }
+    ensures shared { host.new.shared ≡ host.old.shared }
+    ensures claim { host.new.member.claim ≡ host.old.member.claim }
+    ensures cell { IsCellOf host.new.member.claim cell.new }
     ensures idle { IsIdle cell.new }
 {
-    shared.words().unblock(cell.seat());
-}
-
-/// Takes the cell, reacts where its seat waits for the parker, and gives the cell back. `None` where a slot of
-/// the parker is woken already.
-pub(crate) fn react_waiting<R: Wait, N: Notify, A: Arm, W: EventWait>(
-    host: &mut Inside<R, N, A, W>,
-    clock: &mut MemClock,
-) -> Reaction
-    requires { 0 < host.old.shared.words.parkers }
-    ensures { host.new.shared ≡ host.old.shared }
-{
-    let mut cell = host.shared.take_round(&host.rt, &mut host.member);
-    let answer = react_where_waiting(&host.rt, &host.shared, &mut host.member, &mut cell, clock);
-    unblock_in(&host.shared, &host.member, &mut cell);
-    host.shared.give_round(&host.rt, &mut host.member, cell);
-    answer
-}
-
-/// Takes the cell and gives it back: how many waits there were, whether its round is idle, and how many
-/// rounds have begun.
-pub(crate) fn look<R: Wait, N: Notify, A: Arm, W: EventWait>(host: &mut Inside<R, N, A, W>) -> Came
-    ensures { host.new.shared ≡ host.old.shared }
-{
-    let mut cell = host.shared.take_round(&host.rt, &mut host.member);
-    let waits = cell.waits();
-    let is_idle = cell.round().is_idle();
-    let rounds = host.shared.words().rounds(cell.seat());
-    host.shared.give_round(&host.rt, &mut host.member, cell);
-    Came::Cell(waits, is_idle, rounds)
-}
-
-/// Takes the mask of parker 0.
-pub(crate) fn take<R: Wait, N: Notify, A: Arm, W: EventWait>(host: &mut Inside<R, N, A, W>) -> u64
-    requires { 0 < host.old.shared.words.parkers }
-    ensures { host.new.shared ≡ host.old.shared }
-{
-    host.shared.words().take(host.member.words_pass(), 0)
-}
-
-/// Wakes a task by the member's seat, with another notifier.
-pub(crate) fn wake_apart<R: Wait, N: Notify, A: Arm, W: EventWait>(
-    host: &mut Inside<R, N, A, W>,
-    waker: u32,
-) -> Came
-    ensures { host.new.shared ≡ host.old.shared }
-{
-    let mut notifier = MemNotify::new();
-    let pass = host.member.words_pass();
-    match host.shared.words().wake(pass, Waker(waker), &mut notifier) {
-        Ok(()) => Came::Done,
-        Err(_) => Came::Other,
+    match act {
+        Act::React => reacted(react_by(host, cell, clock)),
+        Act::ReactAgain => react_twice_at_most(host, cell, clock),
+        Act::ReactWaiting => {
+            let came = react_where_waiting(&host.rt, &host.shared, &mut host.member, cell, clock);
+            unblock_first(host.shared.words(), cell.seat());
+            came
+        }
+        _ => {
+            let rounds = host.shared.words().rounds(cell.seat());
+            Came::Cell(cell.waits(), cell.round().is_idle(), rounds)
+        }
     }
 }
 
-/// Blocks parker 0 by the seat of a cell.
-fn block_in<N: Notify, A: Arm, W: EventWait>(
-    shared: &Shared<A, W>,
-    m: &Member<N, W>,
-    cell: &mut RoundCell<W>,
-)
-    requires parker { 0 < shared.now.words.parkers }
-    requires member { IsMemberOf shared.now m.now }
-    requires cell { IsCellOf m.now.claim cell.old }
-    requires idle { cell.old.seat.view.mode ≡ mode.Idle }
-    ensures cell { IsCellOf m.now.claim cell.new }
-    ensures blocks { cell.new.seat.view.mode ≡ mode.Block 0 }
+/// The round cell: to react, where no other thread has it; for any other act, as soon as no other thread has it.
+fn cell_for<R: Wait, N: Notify, A: Arm, W: EventWait>(
+    host: &mut Inside<R, N, A, W>,
+    act: Act,
+) -> Option<RoundCell<W>>
+    ensures shared { host.new.shared ≡ host.old.shared }
+    ensures cell { IfSome result (λ cell. IsCellOf host.new.member.claim cell × IsIdle cell) }
+    ensures holds { IfSome result (λ cell. host.new.member.claim.holds ≡ true) }
 {
-    shared.words().block(cell.seat(), 0);
+    match act {
+        Act::React => host.shared.try_round(&host.rt, &mut host.member),
+        _ => Some(host.shared.take_round(&host.rt, &mut host.member)),
+    }
+}
+
+/// Takes the round cell, does what needs it, and gives the cell back. Something else comes where another thread
+/// has the cell.
+pub(crate) fn act_by_cell<R: Wait, N: Notify, A: Arm, W: EventWait>(
+    host: &mut Inside<R, N, A, W>,
+    clock: &mut MemClock,
+    act: Act,
+) -> Came
+    requires { 0 < host.old.shared.words.parkers }
+    ensures { host.new.shared ≡ host.old.shared }
+{
+    let Some(mut cell) = cell_for(host, act) else {
+        return Came::Other;
+    };
+    let came = act_in(host, &mut cell, clock, act);
+    host.shared.give_round(&host.rt, &mut host.member, cell);
+    came
+}
+
+/// Takes the mask of parker 0, or wakes a task with another notifier than the member's.
+fn act_on_words(words: &Words, pass: &mut Pass, act: Act) -> Came
+    requires { Belongs words.now pass.old × (0 < words.now.parkers) }
+    ensures { pass.new.words ≡ pass.old.words }
+{
+    match act {
+        Act::Take => Came::Mask(words.take(pass, 0)),
+        Act::WakeApart(waker) => match words.wake(pass, Waker(waker), &mut MemNotify::new()) {
+            Ok(()) => Came::Done,
+            Err(_) => Came::Other,
+        },
+        _ => Came::Other,
+    }
+}
+
+/// Does so by the member's seat.
+pub(crate) fn act_by_seat<R: Wait, N: Notify, A: Arm, W: EventWait>(
+    host: &mut Inside<R, N, A, W>,
+    act: Act,
+) -> Came
+    requires { 0 < host.old.shared.words.parkers }
+    ensures { host.new.shared ≡ host.old.shared }
+{
+    act_on_words(host.shared.words(), host.member.words_pass(), act)
 }
 
 /// Blocks parker 0, polls the read direction of a source with two wakers in turn, and gives the cell back. The
@@ -136,17 +154,17 @@ fn block_in<N: Notify, A: Arm, W: EventWait>(
 pub(crate) fn poll_while_blocking<R: Wait, N: Notify, A: Arm, W: EventWait>(
     host: &mut Inside<R, N, A, W>,
     source: &mut SourceRef<A>,
-) -> (Answer, Answer)
+) -> Came
     requires parker { 0 < host.old.shared.words.parkers }
     requires outside { source.old.inside ≡ false }
     ensures host { host.new.shared ≡ host.old.shared }
     ensures source { source.new ≡ source.old }
 {
     let mut cell = host.shared.take_round(&host.rt, &mut host.member);
-    block_in(&host.shared, &host.member, &mut cell);
+    host.shared.words().block(cell.seat(), 0);
     let first = host.poll_source(source, Dir::Read, Waker(3));
     let second = host.poll_source(source, Dir::Read, Waker(5));
-    unblock_in(&host.shared, &host.member, &mut cell);
+    unblock_first(host.shared.words(), cell.seat());
     host.shared.give_round(&host.rt, &mut host.member, cell);
-    (first, second)
+    replaced(first, second)
 }

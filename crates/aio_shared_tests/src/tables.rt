@@ -15,7 +15,7 @@ use crate::asserts::same;
 use crate::hosts::{Caller, Quiet, another, enter};
 use crate::owners::plays;
 use crate::scripts::one_by_one;
-use aio_base::{Arm, ArmFault, CountFault, Dir, Interest, Key, TimerId};
+use aio_base::{ArmFault, CountFault, Dir, Interest, Key, OutOfMemory, TimerId};
 use aio_conns::SureConn;
 use aio_devices::{
     FailingArm, FailingNotify, FailingWait, MemNotify, MemWait, ScriptedWait, SureArm, WaitAnswer,
@@ -147,8 +147,8 @@ fn calls_of_a_thread_succeed_and_go_together(rt: HostRuntime) -> Result<(), Fail
 }
 
 /// A connection that sends nothing and ends, and never fails.
-fn conn(alloc: Global) -> Result<SureConn, Fail> {
-    Ok(SureConn::new(alloc, Vec::new(alloc), true, 4096, u32::MAX)?)
+fn conn(alloc: Global) -> Result<SureConn, OutOfMemory> {
+    SureConn::new(alloc, Vec::new(alloc), true, 4096, u32::MAX)
 }
 
 #[test]
@@ -166,14 +166,14 @@ fn they_do_so_over_connections_too(rt: HostRuntime) -> Result<(), Fail> {
 
 /// Makes a member for another thread; a connection joins the reactor, and leaves it again. Its key, where nothing
 /// was refused.
-fn join_and_leave<R: Wait + Copy, A: Arm + Drop>(
-    first: &mut Caller<R, MemNotify, A, MemWait>,
+fn join_and_leave<R: Wait + Copy>(
+    first: &mut Caller<R, MemNotify, SureConn, MemWait>,
     alloc: Global,
-    io: A,
 ) -> Option<Key>
     requires { first.old.host.member.ops.number ≡ 0 }
 {
     drop(another(first, alloc, 5).ok()?);
+    let io = conn(alloc).ok()?;
     let host = &first.host;
     let token = host.insert_source(io).ok()?;
     let key = token.key();
@@ -182,9 +182,9 @@ fn join_and_leave<R: Wait + Copy, A: Arm + Drop>(
 }
 
 /// The same in a new reactor of connections.
-fn join_a_new_one<R: Wait + Copy>(rt: R, alloc: Global) -> Result<Option<Key>, Fail> {
+fn join_a_new_one<R: Wait + Copy>(rt: R, alloc: Global) -> Result<Option<Key>, OutOfMemory> {
     let mut first = enter(rt, alloc, 1, (MemWait::new(0), MemNotify::new()), 5)?;
-    let key = join_and_leave(&mut first, alloc, conn(alloc)?);
+    let key = join_and_leave(&mut first, alloc);
     drop(first);
     Ok(key)
 }

@@ -9,8 +9,9 @@ use crate::acts::{Act, Came};
 use crate::asserts::same;
 use crate::hosts::{Quiet, another, enter};
 use crate::owners::Owner;
-use aio_base::{Event, Interest, Key, Poll};
-use aio_devices::{MemNotify, ScriptedWait, SureArm, WaitAnswer};
+use crate::scripts::gives;
+use aio_base::{Interest, Poll};
+use aio_devices::{MemNotify, ScriptedWait, SureArm};
 use aio_source::Polled;
 use std::alloc::Global;
 use std::sync::Wait;
@@ -179,20 +180,11 @@ fn work_beside<R: Threads + Wait + Sync>(
     Ok((tally, (first.act(React), first.act(React))))
 }
 
-/// An event of both directions.
-fn event(key: u32) -> Event {
-    Event {
-        key: Key(key),
-        on: Interest::BOTH,
-    }
-}
-
 /// Four keys, two in each of so many pairs of rounds.
 fn keys_in_turn(alloc: Global, pairs: u32) -> Result<ScriptedWait, Fail> {
     let mut answers = Vec::new(alloc);
-    for _ in 0..pairs {
-        answers.push(WaitAnswer::Gives(vec![in alloc; event(0), event(1)]?))?;
-        answers.push(WaitAnswer::Gives(vec![in alloc; event(2), event(3)]?))?;
+    for round in 0..pairs.saturating_mul(2) {
+        answers.push(gives(alloc, round % 2 * 2, 2, Interest::BOTH)?)?;
     }
     Ok(ScriptedWait::new(answers))
 }

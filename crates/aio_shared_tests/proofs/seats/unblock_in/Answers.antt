@@ -1,9 +1,0 @@
-use Rattle.std.proofs.Common.{◌≡◌, ◌∙◌, ap}
-use Rattle.aio_rules.specs.declared.seats.SeatView.{SeatView}
-use Rattle.aio_words.specs.Seats.{SeatValue}
-use Rattle.aio_shared_tests.proofs.seats.unblock_in.Goals as goal
-
--- the seat blocked parker 0, so that its unblock leaves it idle
-pub returns-clause-idle : goal.returns-clause-idle
-returns-clause-idle g c = ap (λ (v : SeatView). v.mode) (c.unblock.ensures.view 0
-    (ap (λ (s : SeatValue). s.view.mode) c.seat.ensures.value ∙ c.requires.blocks))
