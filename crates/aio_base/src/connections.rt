@@ -101,7 +101,6 @@ pub trait Port: Faults {
 
 /// Whether a connection is sure and what it tells is read off its rest, and off nothing beside it. So
 /// connections of equal rest have equal meanings.
-#[tactic(auto, using(crate::proofs::ConnectionRests::reads_sure, crate::proofs::ConnectionRests::reads_telling))]
 pub fn a_connection_is_read_off_its_rest<C: Conn>()
     ensures sure { (c : C) → C.is_sure c ≡ sure_read (C.rest c) }
     ensures told { (c : C) → C.telling c ≡ telling_read (C.rest c) }

@@ -56,7 +56,10 @@ impl Peer<'_> {
     pub fn connection(&self, alloc: Global) -> Result<MemConn, OutOfMemory>
         ensures { IfOk result (IsMadeFor self.now) }
     {
-        let (Ok(pieces), Ok(fails)) = (self.pieces(alloc), self.fails.to_vec(alloc)) else {
+        let Ok(pieces) = self.pieces(alloc) else {
+            return Err(OutOfMemory);
+        };
+        let Ok(fails) = self.fails.to_vec(alloc) else {
             return Err(OutOfMemory);
         };
         let at_once = self.at_once.max(1);
@@ -69,12 +72,12 @@ impl Peer<'_> {
             ≡ turns_between self.now.first.now self.now.blocks self.now.last.now) }
         ensures bound { IfOk result (λ pieces. total_bytes pieces.items < 2 ^ 64) }
     {
-        let first = Piece::Bytes(self.first.to_vec(alloc)?);
-        let last = Piece::Bytes(self.last.to_vec(alloc)?);
+        let mut pieces = Vec::with_capacity(alloc, 3)?;
+        pieces.push_reserved(Piece::Bytes(self.first.to_vec(alloc)?));
         if self.blocks {
-            Ok(vec![in alloc; first, Piece::Block, last]?)
-        } else {
-            Ok(vec![in alloc; first, last]?)
+            pieces.push_reserved(Piece::Block);
         }
+        pieces.push_reserved(Piece::Bytes(self.last.to_vec(alloc)?));
+        Ok(pieces)
     }
 }
