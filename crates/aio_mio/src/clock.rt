@@ -71,11 +71,17 @@ impl<R: time::Clock + Copy> RealClock<R> {
         ensures { self.new.latest ≡ self.old.latest }
     {
         match self.start {
-            Some(start) => Some(start.elapsed(&self.rt).ok()?.as_nanos()),
-            None => {
-                self.start = Some(Instant::now(&self.rt).ok()?);
-                Some(0)
-            }
+            Some(start) => match start.elapsed(&self.rt) {
+                Ok(passed) => Some(passed.as_nanos()),
+                Err(_) => None,
+            },
+            None => match Instant::now(&self.rt) {
+                Ok(start) => {
+                    self.start = Some(start);
+                    Some(0)
+                }
+                Err(_) => None,
+            },
         }
     }
 }

@@ -121,13 +121,15 @@ impl MioConn {
         };
         let token = token_of(self.key);
         let registry = &self.selector.registry;
-        if self.watched == Interest::NONE {
-            registry.register(&mut self.stream, token, watch)?;
+        let registered = if self.watched == Interest::NONE {
+            registry.register(&mut self.stream, token, watch)
         } else {
-            registry.reregister(&mut self.stream, token, watch)?;
+            registry.reregister(&mut self.stream, token, watch)
+        };
+        if registered.is_ok() {
+            self.watched = on;
         }
-        self.watched = on;
-        Ok(())
+        registered
     }
 
     /// Takes the registration back, where there is one.

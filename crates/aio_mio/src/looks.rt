@@ -68,7 +68,7 @@ fn look_within(poll: &mut Poll, events: &mut Events, limit: Option<u64>) -> io::
 {
     poll.poll(events, limit.map(Duration::from_nanos))?;
     if events.is_empty() && limit != Some(0) {
-        poll.poll(events, Some(Duration::ZERO))?;
+        return poll.poll(events, Some(Duration::ZERO));
     }
     Ok(())
 }
@@ -80,7 +80,7 @@ impl Looks {
     pub(crate) fn new(
         alloc: Global,
         poll: Poll,
-        selector: Arc<Selector, Global>,
+        selector: &Arc<Selector, Global>,
     ) -> Result<Looks, OutOfMemory>
         ensures { IfOk result (λ looks. left_over looks ≡ []) }
     {
@@ -88,6 +88,9 @@ impl Looks {
             return Err(OutOfMemory);
         };
         let Ok(came) = Vec::with_capacity(alloc, EVENTS) else {
+            return Err(OutOfMemory);
+        };
+        let Ok(selector) = Arc::try_clone(selector) else {
             return Err(OutOfMemory);
         };
         Ok(Looks {
@@ -114,7 +117,6 @@ impl Looks {
 
     /// Gives on the first events that are left over, as many as there is room for. How many they
     /// are.
-    #[tactic(auto, using(crate::proofs::LeftOver::left_after_giving))]
     pub(crate) fn give_on(&mut self, out: &mut Vec<Event>, room: u32) -> u32
         requires { vec_len out.old + room ≤ vec_capacity out.old }
         ensures count { result ≡ min room (length (left_over self.old)) }

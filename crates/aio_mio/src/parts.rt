@@ -2,19 +2,14 @@
 
 ghost use Rattle.std.specs.Prelude.{◌≡◌, [], IfOk};
 
-use crate::names::WAKER;
 use crate::notify::MioNotify;
 use crate::ports::MioPort;
-use crate::readiness::Readiness;
 use crate::selector::Selector;
 use crate::waits::MioWait;
-use crate::wakes::Wakes;
 use aio_base::OutOfMemory;
-use mio::{Poll, Waker};
+use mio::Poll;
 use std::alloc::Global;
-use std::io;
 use std::net::Net;
-use std::sync::Arc;
 
 /// Why the devices were not made. No clause says when the system refuses: that is of the outside.
 #[derive(Clone, Copy, Debug, PartialEq, Eq)]
@@ -39,14 +34,6 @@ impl From<OutOfMemory> for MioRefusal {
     }
 }
 
-/// The poll of the connections with its second registry and its waker, and the poll of the listener.
-fn polls<R: Net>(rt: &R) -> io::Result<(Poll, mio::Registry, Waker, Poll)> {
-    let poll = Poll::new(rt)?;
-    let registry = poll.registry().try_clone()?;
-    let waker = Waker::new(&registry, WAKER)?;
-    Ok((poll, registry, waker, Poll::new(rt)?))
-}
-
 /// A port, the half of a poller that waits for the events of the port's connections, and a notifier of
 /// that half. The three share one poll of the system; the port's listener has another. None has counted
 /// anything.
@@ -63,23 +50,15 @@ pub fn mio_parts<R: Net + Copy>(
         parts.1 ≡ record { left = []; waits = 0; faults = 0 }) }
     ensures notify { IfOk result (λ parts. parts.2 ≡ record { calls = 0; faults = 0 }) }
 {
-    let Ok((poll, registry, waker, of_listener)) = polls(rt) else {
+    let Ok(poll) = Poll::new(rt) else {
         return Err(MioRefusal::System);
     };
-    let selector = Selector {
-        registry,
-        readiness: Readiness::new(alloc)?,
-        wakes: Wakes::new(waker),
-    };
-    let Ok(selector) = Arc::new(alloc, selector) else {
+    let selector = Selector::shared(alloc, &poll)?;
+    let Ok(wait) = MioWait::new(alloc, poll, &selector) else {
         return Err(MioRefusal::OutOfMemory);
     };
-    let (Ok(of_port), Ok(of_wait)) = (Arc::try_clone(&selector), Arc::try_clone(&selector)) else {
-        return Err(MioRefusal::OutOfMemory);
-    };
-    Ok((
-        MioPort::new(alloc, *rt, of_listener, of_port)?,
-        MioWait::new(alloc, poll, of_wait)?,
-        MioNotify::new(selector),
-    ))
+    match MioPort::new(alloc, rt, &selector) {
+        Ok(port) => Ok((port, wait, MioNotify::new(selector))),
+        Err(refusal) => Err(refusal),
+    }
 }

@@ -4,6 +4,7 @@ ghost use Rattle.std.specs.Prelude.{◌≡◌, ◌≢◌, false, IfOk};
 
 use crate::answers::counted;
 use crate::connections::MioConn;
+use crate::parts::MioRefusal;
 use crate::selector::Selector;
 use aio_base::{Failed, Faults, OutOfMemory, Port};
 use mio::net::TcpListener;
@@ -20,61 +21,42 @@ const TURNS: u32 = 1_000_000;
 /// The one listener is all that the poll of a port watches.
 const EVENTS: usize = 1;
 
-/// What listens on 127.0.0.1 and accepts connections (`async-io` 2, `lib.rs`, `Async<TcpListener>`). It
-/// tells neither what it will hand out nor a port of its own, and is never sure.
-///
-/// Its listener has a poll of its own, so that an accept can wait while nothing else is waited for. What it
-/// accepts sends small pieces without delay.
-///
-/// Contracts see its count of faults.
+/// The listener of a port with the poll that watches it, and what the connections share that it accepts.
 #[derive(Drop)]
-pub struct MioPort<R: Net + Copy> {
-    rt: R,
+struct Listening {
     poll: Poll,
     events: Events,
     listener: Option<TcpListener>,
     selector: Arc<Selector, Global>,
-    faults: u64,
 }
 
-impl<R: Net + Copy> Model for MioPort<R> {
-    ghost use Rattle.aio_mio.specs.Values.{PortValue};
-
-    ghost Value = { PortValue };
-
-    ghost view = { λ p. record { faults = p.faults } };
-}
-
-impl<R: Net + Copy> MioPort<R> {
-    /// A port that is not bound. `OutOfMemory` where memory ran out.
-    pub(crate) fn new(
+impl Listening {
+    /// Nothing listens yet. `OutOfMemory` where memory ran out.
+    fn new(
         alloc: Global,
-        rt: R,
         poll: Poll,
-        selector: Arc<Selector, Global>,
-    ) -> Result<MioPort<R>, OutOfMemory>
-        ensures { IfOk result (λ port. port.faults ≡ 0) }
-    {
+        selector: &Arc<Selector, Global>,
+    ) -> Result<Listening, OutOfMemory> {
         let Ok(events) = Events::with_capacity(alloc, EVENTS) else {
             return Err(OutOfMemory);
         };
-        Ok(MioPort {
-            rt,
+        let Ok(selector) = Arc::try_clone(selector) else {
+            return Err(OutOfMemory);
+        };
+        Ok(Listening {
             poll,
             events,
             listener: None,
             selector,
-            faults: 0,
         })
     }
 
     /// Listens, in place of what listened before. The port in use: the asked one where that is not 0.
-    fn listen(&mut self, port: u16) -> io::Result<u16>
-        ensures asked { port ≢ 0 → IfOk result (λ used. used ≡ port) }
-        ensures faults { self.new.faults ≡ self.old.faults }
+    fn listen<R: Net>(&mut self, rt: &R, port: u16) -> io::Result<u16>
+        ensures { port ≢ 0 → IfOk result (λ used. used ≡ port) }
     {
         let asked = SocketAddr::from((Ipv4Addr::LOCALHOST, port));
-        let mut listener = TcpListener::bind(&self.rt, asked)?;
+        let mut listener = TcpListener::bind(rt, asked)?;
         let used = if port == 0 {
             listener.local_addr()?.port()
         } else {
@@ -102,9 +84,7 @@ impl<R: Net + Copy> MioPort<R> {
     }
 
     /// The next connection, for which it waits without a limit. An error after the last turn too.
-    fn next(&mut self) -> io::Result<MioConn>
-        ensures faults { self.new.faults ≡ self.old.faults }
-    {
+    fn next(&mut self) -> io::Result<MioConn> {
         for _ in 0..TURNS {
             match self.try_accept() {
                 Ok(conn) => return Ok(conn),
@@ -117,6 +97,52 @@ impl<R: Net + Copy> MioPort<R> {
             }
         }
         Err(io::Error::from(ErrorKind::TimedOut))
+    }
+}
+
+/// What listens on 127.0.0.1 and accepts connections (`async-io` 2, `lib.rs`, `Async<TcpListener>`). It
+/// tells neither what it will hand out nor a port of its own, and is never sure.
+///
+/// Its listener has a poll of its own, so that an accept can wait while nothing else is waited for. What it
+/// accepts sends small pieces without delay.
+///
+/// Contracts see its count of faults.
+#[derive(Drop)]
+pub struct MioPort<R: Net + Copy> {
+    rt: R,
+    listening: Listening,
+    faults: u64,
+}
+
+impl<R: Net + Copy> Model for MioPort<R> {
+    ghost use Rattle.aio_mio.specs.Values.{PortValue};
+
+    ghost Value = { PortValue };
+
+    ghost view = { λ p. record { faults = p.faults } };
+}
+
+impl<R: Net + Copy> MioPort<R> {
+    /// A port that is not bound. `System` where the system refused a poll for its listener, `OutOfMemory`
+    /// where memory ran out.
+    pub(crate) fn new(
+        alloc: Global,
+        rt: &R,
+        selector: &Arc<Selector, Global>,
+    ) -> Result<MioPort<R>, MioRefusal>
+        ensures { IfOk result (λ port. port.faults ≡ 0) }
+    {
+        let Ok(poll) = Poll::new(rt) else {
+            return Err(MioRefusal::System);
+        };
+        let Ok(listening) = Listening::new(alloc, poll, selector) else {
+            return Err(MioRefusal::OutOfMemory);
+        };
+        Ok(MioPort {
+            rt: *rt,
+            listening,
+            faults: 0,
+        })
     }
 }
 
@@ -147,14 +173,14 @@ impl<R: Net + Copy> Port for MioPort<R> {
 
     /// Listens on a port of 127.0.0.1; for 0 the system chooses one that is free.
     fn bind(&mut self, port: u16) -> Result<u16, Failed> {
-        let bound = self.listen(port);
+        let bound = self.listening.listen(&self.rt, port);
         counted(bound, &mut self.faults)
     }
 
     /// The next connection. It tries before it waits, since several connections may stand behind one event
     /// of the listener, and takes at most 1,000,000 turns.
     fn accept<W: Wait>(&mut self, _rt: &W) -> Result<MioConn, Failed> {
-        let accepted = self.next();
+        let accepted = self.listening.next();
         counted(accepted, &mut self.faults)
     }
 }

@@ -37,7 +37,7 @@ impl MioWait {
     pub(crate) fn new(
         alloc: Global,
         poll: Poll,
-        selector: Arc<Selector, Global>,
+        selector: &Arc<Selector, Global>,
     ) -> Result<MioWait, OutOfMemory>
         ensures { IfOk result (λ wait. wait ≡ record { left = []; waits = 0; faults = 0 }) }
     {
