@@ -1,5 +1,5 @@
 -- A read that finds bytes in the buffer of a reader.
-use Rattle.std.proofs.Common.{◌≡◌, ℕ, ◌<◌, ◌==◌, min, List, [], ◌++◌, length, take, drop, Bool, true, false, Option, None, Some, Ok, sym, ap, ◌∙◌, subst, arith}
+use Rattle.std.proofs.Common.{◌≡◌, ℕ, ◌<◌, ◌==◌, min, List, ◌++◌, length, take, drop, Bool, true, false, Option, None, Some, Ok, sym, ap, ◌∙◌, subst, arith}
 use Rattle.std.proofs.lemmas.List.{append_assoc, drop_min, length-take, take-append-drop, take_min}
 use Rattle.std.specs.Prelude.{if◌then◌else◌}
 use Rattle.std.specs.Io.Buffered.{reader_buffer, reader_capacity, reader_inner, reader_remaining}

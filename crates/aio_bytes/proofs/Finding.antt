@@ -4,9 +4,7 @@ use Rattle.std.specs.List.{list_any}
 use Rattle.std.specs.Io.KnownBytes.{Consumes, Keeps, IsAtEnd}
 use Rattle.aio_base.specs.Trace.{lines_of, onto_first_line}
 use Rattle.aio_bytes.specs.Held.{HasNoLineFeed, is_line_feed, PutsAhead}
-use Rattle.aio_bytes.specs.declared.lines.Next.{Next}
-use Rattle.aio_bytes.specs.declared.lines.Next.TheVariants as next
-use Rattle.aio_bytes.specs.Unread.{Unread, LeavesAllBut, BeginsLong, TakesLine, Finds}
+use Rattle.aio_bytes.specs.Unread.{Unread, LeavesAllBut, BeginsLong, TakesLine}
 
 consumed : (left : List ℕ) (after : Option (List ℕ)) (piece : List ℕ) → Consumes (Some left) after piece
     → (rest : List ℕ) × (after ≡ Some rest) × (left ≡ piece ++ rest)

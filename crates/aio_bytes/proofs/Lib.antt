@@ -3,3 +3,4 @@ pub mod LineLaws
 pub mod LineLemmas
 pub mod Written
 pub mod BufferedReads
+pub mod Fronts

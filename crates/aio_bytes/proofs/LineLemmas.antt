@@ -63,6 +63,22 @@ slice_range-cut items start stop n h cut =
     ∙ ap (λ l. l ++ drop n (slice_range items start stop)) (take-slice_range items start stop n front)
     ∙ ap (λ l. slice_range items start (start + n) ++ l) (cut ∙ ap (λ l. 10 ∷ l) (drop-slice_range items start stop (n + 1) rest))
 
+-- a part of a buffer is no longer than its ends are apart
+pub slice_range-most : (items : List ℕ) (start stop most : ℕ) → stop ≤ start + most → length (slice_range items start stop) ≤ most
+slice_range-most items start stop most within = omega (arith, length-take (stop - start) (drop start items))
+
+-- the bytes in hand stand where a move put them, in front of those that a read put behind them
+pub moved_first : (items before moved second new ahead : List ℕ) (start stop : ℕ) → before ≡ items → take (stop - start) moved ≡ slice_range before start stop
+    → second ≡ moved → take (stop - start) new ≡ take (stop - start) second → slice_range items start stop ≡ ahead → take (stop - start) new ≡ ahead
+moved_first items before moved second new ahead start stop first front same kept is =
+    kept ∙ ap (take (stop - start)) same ∙ front ∙ ap (λ l. slice_range l start stop) first ∙ is
+
+-- the bytes in hand, where a read put none behind them
+pub slice_range-front : (whole new ahead : List ℕ) (held : ℕ) → whole ≡ new → take held new ≡ ahead → slice_range whole 0 held ≡ ahead
+slice_range-front whole new ahead held same front =
+    let all : held - 0 ≡ held = omega arith in
+    ap (λ k. take k whole) all ∙ ap (take held) same ∙ front
+
 -- what a read put behind the bytes in hand
 pub slice_range-read : (whole new ahead : List ℕ) (held n : ℕ) → whole ≡ new → take held new ≡ ahead → slice_range whole 0 (held + n) ≡ ahead ++ take n (drop held new)
 slice_range-read whole new ahead held n same front =

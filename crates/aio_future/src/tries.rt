@@ -66,7 +66,6 @@ fn write_now<C: Conn>(io: &mut C, piece: &[u8]) -> Poll<Result<usize, TryFault>>
 
 /// Polls the direction of a blocked connection, to wait for it. `None` where it was ready, which it is
 /// no longer.
-#[tactic(auto, using(crate::proofs::Rests::told_stays))]
 fn wait_for<C: Conn>(cell: &mut SourceCell<C>, dir: Dir, ticker: u64, w: Waker) -> Option<Tried>
     ensures waits { WaitsFor C.arm_step C.interests C.rest C.fault_count C.is_sure dir w ticker
         cell.old.state cell.old.io result cell.new.state cell.new.io }

@@ -1,5 +1,5 @@
 -- What two jobs come to on the cells that they share.
-use Rattle.std.proofs.Common.{◌≡◌, ℕ, suc, ◌+◌, List, [], ◌∷◌, ◌++◌, length, map, refl, sym, ap, ◌∙◌, subst, append-nil}
+use Rattle.std.proofs.Common.{◌≡◌, ℕ, suc, ◌+◌, List, [], ◌∷◌, ◌++◌, length, map, refl, sym, ap, ◌∙◌, subst, append-nil, append_assoc}
 use Rattle.std.specs.List.{AllZip}
 use Rattle.std.specs.Prelude.{Result, Ok, Err, IfOk}
 use Rattle.aio_base.specs.declared.outcomes.OutOfMemory.{OutOfMemory}
@@ -11,7 +11,7 @@ use Rattle.aio_history.specs.DrawnCalls.{calls_from}
 use Rattle.aio_history.proofs.Coding.{numbers_tell}
 use Rattle.aio_record.specs.declared.stress_cell.Maker.TheVariants.{First, Second}
 use Rattle.aio_record.specs.Makers.{StressValue, steps_of, EachHasDrawn, Stressed}
-use Rattle.aio_record.specs.Desks.{DeskValue, DeskDone, EachDesk, Worked, IsFreshPair, IsPair, Joined}
+use Rattle.aio_record.specs.Desks.{DeskValue, DeskDone, EachDesk, Worked, IsFreshPair, IsPair, IsJoint, Joined}
 use Rattle.aio_record.proofs.Counting.{all_steps}
 
 -- the desks stay in pairs
@@ -68,6 +68,21 @@ fresh_more [] [] x y all last = (last, tt)
 fresh_more [] (b ∷ bs) x y all last = absurd all
 fresh_more (a ∷ more) [] x y all last = absurd all
 fresh_more (a ∷ more) (b ∷ bs) x y all last = (all.0, fresh_more more bs x y all.1 last)
+
+-- what is left of desks in pairs where the first of either is taken
+pub pairs_left : (firsts seconds rest later : List DeskValue) (x y : DeskValue) → firsts ≡ x ∷ rest → seconds ≡ y ∷ later → AllZip IsPair firsts seconds → AllZip IsPair rest later
+pairs_left firsts seconds rest later x y first second pairs =
+    let told : AllZip IsPair (x ∷ rest) (y ∷ later) =
+    subst (λ (l : List DeskValue). AllZip IsPair (x ∷ rest) l) second (subst (λ (l : List DeskValue). AllZip IsPair l seconds) first pairs) in
+    told.1
+
+-- one pair of desks less, and the cell of that pair behind the others
+pub joined_more : (firsts seconds rest later : List DeskValue) (cells after : List StressValue) (a b : List DeskValue) (x y : DeskValue) (cell : StressValue)
+    → firsts ≡ x ∷ rest → seconds ≡ y ∷ later → after ≡ cells ++ cell ∷ [] → IsJoint x y cell
+    → ((more : List StressValue) → Joined firsts seconds more → Joined a b (cells ++ more)) → (more : List StressValue) → Joined rest later more → Joined a b (after ++ more)
+joined_more firsts seconds rest later cells after a b x y cell first second is joint joined more left =
+    let told : Joined firsts seconds (cell ∷ more) = rw (first, second) (joint, left) in
+    subst (λ (cs : List StressValue). Joined a b cs) (sym (append_assoc cells (cell ∷ []) more) ∙ ap (λ (cs : List StressValue). cs ++ more) (sym is)) (joined (cell ∷ more) told)
 
 -- no desk is left
 pub joined_end : (firsts seconds : List DeskValue) (cells : List StressValue) (a b : List DeskValue) → firsts ≡ [] → AllZip IsPair firsts seconds

@@ -80,7 +80,6 @@ impl RecordedCell {
 
     /// Handles an event of a round, as `SourceState::handle` does, and records that. It answers how many
     /// wakers were taken. Where there is no memory for the step or the wakers, nothing is done.
-    #[tactic(auto, using(crate::proofs::Leaving::keeps_handle))]
     pub fn handle(&mut self, on: Interest, round: u64) -> Result<u32, OutOfMemory>
         ensures answer { IfOk result (λ taken. taken ≡ waiters_among on (reverse self.old.steps)) }
         ensures step { IfOk result (λ taken. self.new.steps

@@ -38,3 +38,9 @@ returns-clause-calls g c =
       InTurn-ends g.K.Sink.write_step c.args.out.now c.args.bytes.now begun.offered.0 c.loop-rest.out c.loop-rest.rest.now
           (EndsWith g.K.Sink.write_step (Ok tt) c.loop-rest.out) begun.offered.1 (refl, nil_from_length c.loop-rest.rest.now none),
     )
+
+pub returns-in_err-taken-clause-empty : goal.returns-in_err-taken-clause-empty
+returns-in_err-taken-clause-empty g c = grind (arith, common_steps)
+
+pub returns-clause-written : goal.returns-clause-written
+returns-clause-written g c = grind (arith, common_steps)

@@ -8,3 +8,6 @@ returns-then-not-is_empty-clause-step g c =
     let count = c.copy_front-count.result in
     reads_held g.R.Read.remaining _ _ _ count (take count c.copy_front-count.new.to) c.requires (grind (arith, common_steps)) (grind (arith, common_steps)) (grind (arith, common_steps))
     (grind (arith, common_steps)) (grind (arith, common_steps)) (grind (arith, common_steps)) (grind (arith, common_steps))
+
+pub returns-in-Ok-clause-step : goal.returns-in-Ok-clause-step
+returns-in-Ok-clause-step g c = grind (arith, common_steps)

@@ -57,3 +57,6 @@ returns-clause-reads g c =
       call = r.ensures.step;
       tells = r.ensures.told;
     }
+
+pub read_behind-tried-requires-clause-fits : goal.read_behind-tried-requires-clause-fits
+read_behind-tried-requires-clause-fits g c = grind (arith, common_steps)
