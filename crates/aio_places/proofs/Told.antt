@@ -125,6 +125,18 @@ faults_of told before after was is (Ready (Err (fault.Arm why))) few f =
     let two : CountFault = record { before = why.before; after = why.after } in
     failing told was is ((told_from told two).after == 0) two few (is_unsure was (λ sure. (f.cause.never sure).0 refl)) f.sure f.counts.1
 
+none_told : (told : ℕ) (answer : Poll (Result ℕ TryFault)) → ¬ IsSome (fault_counts answer) → told ≡ 0 → last_told told (answer_from told answer) ≡ 0
+none_told told Pending never none = none
+none_told told (Ready (Ok n)) never none = none
+none_told told (Ready (Err (fault.Read why))) never none = absurd (never refl)
+none_told told (Ready (Err (fault.Write why))) never none = absurd (never refl)
+none_told told (Ready (Err (fault.Arm why))) never none = absurd (never refl)
+
+-- an end that told no fault has told none after a try without one
+pub still_none : (told last : ℕ) (tried answered : Tried) → answered ≡ tried_from told tried → last ≡ last_told told answered.answer → ¬ IsSome (fault_counts tried.answer)
+    → told ≡ 0 → last ≡ 0
+still_none told last tried answered is is_last never none = is_last ∙ ap (λ a. last_told told a.answer) is ∙ none_told told tried.answer never none
+
 same_bytes : (told : ℕ) (answer : Poll (Result ℕ TryFault)) → bytes_over (answer_from told answer) ≡ bytes_over answer
 same_bytes told Pending = refl
 same_bytes told (Ready (Ok n)) = refl

@@ -146,7 +146,7 @@ impl<R: Wait, N: Notify, C: Conn, W: EventWait> End<Inside<R, N, C, W>> for Sour
         let mut cell = self.token.take(&host.rt);
         let tried = read_entered(&mut cell, rounds, buf, w);
         self.token.give(cell);
-        self.tell(tried)
+        tell(&mut self.told, tried)
     }
 
     fn write(&mut self, host: &mut Inside<R, N, C, W>, piece: &[u8], w: Waker) -> Tried {
@@ -154,7 +154,7 @@ impl<R: Wait, N: Notify, C: Conn, W: EventWait> End<Inside<R, N, C, W>> for Sour
         let mut cell = self.token.take(&host.rt);
         let tried = write_entered(&mut cell, rounds, piece, w);
         self.token.give(cell);
-        self.tell(tried)
+        tell(&mut self.told, tried)
     }
 }
 
@@ -242,31 +242,27 @@ fn last_count(fault: TryFault) -> u64
     }
 }
 
-impl<C: Conn, W: EventWait> SourceEnd<C, W> {
-    /// Tells what a try came to, its counts of faults from the greatest one on that was told before.
-    fn tell(&mut self, tried: Tried) -> Tried
-        requires { IsSome (fault_counts tried.answer) → ¬ IsTrue (sure_read self.old.rest) }
-        ensures told { result ≡ tried_from self.old.told tried }
-        ensures kept { self.new ≡ record self.old { told = self.new.told } }
-        ensures count { self.new.told ≡ last_told self.old.told result.answer }
-    {
-        match tried.answer {
-            Poll::Ready(Err(fault)) => {
-                let fault = fault_on(self.told, fault);
-                self.told = last_count(fault);
-                Tried {
-                    answer: Poll::Ready(Err(fault)),
-                    replaced: tried.replaced,
-                }
+/// Tells what a try came to, its counts of faults from the greatest one on that was told before.
+fn tell(told: &mut u64, tried: Tried) -> Tried
+    ensures told { result ≡ tried_from told.old tried }
+    ensures count { told.new ≡ last_told told.old result.answer }
+{
+    match tried.answer {
+        Poll::Ready(Err(fault)) => {
+            let fault = fault_on(*told, fault);
+            *told = last_count(fault);
+            Tried {
+                answer: Poll::Ready(Err(fault)),
+                replaced: tried.replaced,
             }
-            Poll::Ready(Ok(count)) => Tried {
-                answer: Poll::Ready(Ok(count)),
-                replaced: tried.replaced,
-            },
-            Poll::Pending => Tried {
-                answer: Poll::Pending,
-                replaced: tried.replaced,
-            },
         }
+        Poll::Ready(Ok(count)) => Tried {
+            answer: Poll::Ready(Ok(count)),
+            replaced: tried.replaced,
+        },
+        Poll::Pending => Tried {
+            answer: Poll::Pending,
+            replaced: tried.replaced,
+        },
     }
 }

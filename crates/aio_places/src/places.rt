@@ -1,10 +1,11 @@
 //! The places of pairs, made of what became of their connections as a reactor began.
 
-ghost use Rattle.std.specs.Prelude.{◌≡◌, ◌*◌, ◌≤◌, length, IfOk, IsTrue};
+ghost use Rattle.std.specs.Prelude.{◌≡◌, ◌*◌, ◌≤◌, ◌∷◌, false, length, IfOk, IsTrue};
 ghost use Rattle.std.specs.List.{AllByRecursion};
 ghost use Rattle.std.specs.Arc.{arc_value};
 ghost use Rattle.aio_shared.specs.Members.{IsMemberOf};
-ghost use Rattle.aio_places.specs.Places.{AllStandFor, ArePlacesOf, ClosesOther, HasJoined, IsPlaceOf};
+ghost use Rattle.aio_places.specs.Places.{AllStandFor, ArePlacesOf, ClosesOther, HasJoined, IsPlaceOf, new_end};
+ghost use Rattle.aio_places.specs.SourceEnds.{IsRestOf};
 ghost use Rattle.aio_sources.specs.Sources.{Removes};
 
 use crate::ends::SourceEnd;
@@ -109,16 +110,25 @@ fn places_of<R: Wait, A: Conn + Drop, W: EventWait + Drop>(
     };
     let mut left = VecDeque::from(answers);
     for earlier in 0..pairs {
-        let Some(a) = left.pop_front() else {
-            unreachable!()
-        };
-        let Some(b) = left.pop_front() else {
-            unreachable!()
-        };
+        let (a, b) = take_two(&mut left);
         let place = place_of(rt, shared, earlier + 1, a, b)?;
         places.push_reserved(place);
     }
     Ok(places)
+}
+
+/// Takes the first two of items, of which there are as many, in order.
+fn take_two<X: Drop>(left: &mut VecDeque<X>) -> (X, X)
+    requires { 2 ≤ length left.old.items }
+    ensures { left.old.items ≡ result.0 ∷ result.1 ∷ left.new.items }
+{
+    let Some(first) = left.pop_front() else {
+        unreachable!()
+    };
+    let Some(second) = left.pop_front() else {
+        unreachable!()
+    };
+    (first, second)
 }
 
 /// The place of the pair of this number, by the answers of its two connections. Where one of them
@@ -136,25 +146,43 @@ fn place_of<R: Wait, A: Conn + Drop, W: EventWait + Drop>(
     ensures place { IfOk result (IsPlaceOf a b) }
     ensures other { ClosesOther (Removes A.arm_step A.rest A.fault_count) a b }
 {
-    let sides = match (a, b) {
-        (Ok(a), Ok(b)) => {
-            let Ok(of_a) = Arc::try_clone(shared) else {
-                return Err(OutOfMemory);
-            };
-            let Ok(of_b) = Arc::try_clone(shared) else {
-                return Err(OutOfMemory);
-            };
-            Ok((SourceEnd::new(of_a, a), SourceEnd::new(of_b, b)))
-        }
-        (Ok(other), Err(fault)) => {
-            let _passed_over = shared.close_source(rt, other);
+    let sides = match a {
+        Err(fault) => {
+            match b {
+                Ok(other) => {
+                    let _passed_over = shared.close_source(rt, other);
+                }
+                Err(_) => {}
+            }
             Err(fault)
         }
-        (Err(fault), Ok(other)) => {
-            let _passed_over = shared.close_source(rt, other);
-            Err(fault)
-        }
-        (Err(fault), Err(_)) => Err(fault),
+        Ok(a) => match b {
+            Err(fault) => {
+                let _passed_over = shared.close_source(rt, a);
+                Err(fault)
+            }
+            Ok(b) => {
+                let a = end_of(shared, a)?;
+                let b = end_of(shared, b)?;
+                Ok((a, b))
+            }
+        },
     };
     Ok(Place { number, sides })
+}
+
+/// The end of a connection whose source has this token. `OutOfMemory` where too many hold the reactor.
+fn end_of<A: Conn + Drop, W: EventWait + Drop>(
+    shared: &Arc<Shared<A, W>, Global>,
+    token: SourceRef<A>,
+) -> Result<SourceEnd<A, W>, OutOfMemory>
+    requires belongs { token.words ≡ (arc_value shared.now).words.identity }
+    requires outside { token.inside ≡ false }
+    requires rest { IsRestOf A.rest token.rest }
+    ensures { IfOk result (λ end. end ≡ new_end token) }
+{
+    let Ok(shared) = Arc::try_clone(shared) else {
+        return Err(OutOfMemory);
+    };
+    Ok(SourceEnd::new(shared, token))
 }

@@ -1,5 +1,5 @@
 -- A pair that is polled in a row.
-use Rattle.std.proofs.Common.{◌≡◌, ℕ, suc, ◌+◌, ◌-◌, ◌<◌, ◌≤◌, Bool, refl, sym, subst, le_refl, arith}
+use Rattle.std.proofs.Common.{ℕ, suc, ◌+◌, ◌-◌, ◌≤◌, Bool, refl, sym, subst, le_refl, arith}
 use Rattle.aio_base.specs.declared.outcomes.Poll.{Poll}
 use Rattle.aio_base.specs.declared.outcomes.Poll.TheVariants.{Pending}
 use Rattle.aio_base.specs.declared.tasks.Cx.{Cx}

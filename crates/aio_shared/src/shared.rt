@@ -59,13 +59,24 @@ impl<A: Arm + Drop, W: EventWait + Drop> Drop for Shared<A, W> {
 }
 
 /// What a reactor and its first member are made of, but for the lock of the rounds.
-#[derive(Drop)]
 pub(crate) struct Parts<A: Arm> {
     pub(crate) words: Arc<Words, Global>,
     pub(crate) pass: Pass,
     pub(crate) ops: Ops,
     pub(crate) first: OpPass,
     pub(crate) table: SourceTable<A>,
+}
+
+impl<A: Arm + Drop> Drop for Parts<A> {
+    fn drop(self) {
+        let Parts {
+            words: _,
+            pass: _,
+            ops: _,
+            first: _,
+            table: _,
+        } = self;
+    }
 }
 
 impl<A: Arm + Drop> Parts<A> {

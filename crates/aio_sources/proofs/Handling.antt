@@ -1,5 +1,6 @@
 -- Events of a round that are handled one after the other.
-use Rattle.std.proofs.Common.{◌≡◌, ◌≢◌, ◌<◌, ⊎_elim, ℕ, Bool, List, [], ◌∷◌, ◌++◌, length, refl, sym, ap, ◌∙◌, subst, append-nil, append_assoc, Option, Some, None, Result, Ok, Err, OnOk, arith}
+use Rattle.std.proofs.Common.{◌≡◌, ◌≢◌, ◌<◌, ⊎_elim, inl, inr, ℕ, Bool, List, [], ◌∷◌, ◌++◌, length, drop, slice_get, refl, sym, ap, ◌∙◌, subst, append-nil, append_assoc, Option, Some, None, Result, Ok, Err, OnOk, arith}
+use Rattle.std.specs.List.{Contains}
 use Rattle.aio_base.specs.declared.names.Event.{Event}
 use Rattle.aio_base.specs.declared.names.Key.{Key}
 use Rattle.aio_base.specs.declared.names.Waker.{Waker}
@@ -41,6 +42,37 @@ module _ {S : Type 0} (step : S → ArmCall → Result (Unit {0}) Failed → S �
       → OnOk answer (HandlesBy step tells rest count is_sure found put old new) → OnOk answer (HandlesByKey step tells rest count is_sure same.key old new)
   handles_by_key found put old new (Ok done) own handles = record { found = found; key_is = own ∙ ap (key_in event.key) (sym is ∙ is_same); put = put; handles = handles }
   handles_by_key found put old new (Err refused) own handles = tt
+
+-- the first event is what is in hand before all others
+in_hand : (hand : List Event) (event : Event) → slice_get hand 0 ≡ Some event → hand ≡ event ∷ drop 1 hand
+in_hand [] event is = cc
+in_hand (first ∷ hand) event is = let same : first ≡ event = cc in ap (λ e. e ∷ hand) same
+
+pub one_first : (first : Option Event) (event same : Event) → first ≡ Some event → first ≡ Some same → same ≡ event
+one_first first event same is is_same = cc
+
+pub skips_one : (all_sure : Bool) (keys : List ℕ) (event : Event) (old new : RoundValue) → slice_get old.hand 0 ≡ Some event → ¬ Contains keys event.key.0 → new ≡ skipped old
+    → HandlesOne all_sure keys event old new
+skips_one all_sure keys event old new first none is = record {
+  hand = in_hand old.hand event first ∙ sym (ap (λ (r : RoundValue). event ∷ r.hand) is);
+  became = inr (none, is);
+  fault = subst (λ (r : RoundValue). KeepsFault all_sure old.fault r.fault) (sym is) (keeps_itself all_sure old.fault);
+}
+
+module _ {S : Type 0} (step : S → ArmCall → Result (Unit {0}) Failed → S → Type 0) (tells : S → Option Interests) (rest : S → List ℕ) (count : S → ℕ) (is_sure : S → Bool) where
+  pub handles_one : (all_sure : Bool) (keys : List ℕ) (event : Event) (found put : SourceCell S) (old new : RoundValue) (answer : Result (Unit {0}) OutOfMemory)
+      → slice_get old.hand 0 ≡ Some event → Contains keys event.key.0 → OnOk answer (found.state.key ≡ event.key)
+      → OnOk answer (HandlesBy step tells rest count is_sure found put old new) → OnOk answer (KeepsFault all_sure old.fault new.fault)
+      → OnOk answer ((e : Event) × HandlesOne all_sure keys e old new)
+  handles_one all_sure keys event found put old new (Ok done) first among own handles fault = (
+    event,
+    record {
+      hand = in_hand old.hand event first ∙ sym (ap (λ (r : RoundValue). event ∷ r.hand) handles.round);
+      became = inl (among, record { source = found.state; key_is = own; fault = handles.fault; round = handles.round });
+      fault = fault;
+    },
+  )
+  handles_one all_sure keys event found put old new (Err refused) first among own handles fault = tt
 
 -- ## One event after the other
 

@@ -1,25 +1,23 @@
 //! A source that is closed: it goes out of the table, then out of its lock for good, and then its
 //! connection is told.
 
-ghost use Rattle.std.specs.Prelude.{◌≡◌, false, IfErr};
+ghost use Rattle.std.specs.Prelude.{IfErr};
 ghost use Rattle.std.specs.List.{Contains};
 ghost use Rattle.aio_sources.specs.Sources.{IsUnsure, Removes};
 
 use crate::sealed::{Sealed, remove_from};
-use crate::source_table::{SourceTable, TakenOut};
-use crate::sources::SourceRef;
+use crate::source_table::SourceTable;
 use aio_base::{Arm, CountFault, Key};
 use aio_source::SourceCell;
 use std::marker::Model;
-use std::sync::Wait;
 
 /// A source that went out of the table and then out of its lock, with its connection.
 /// `SourceRef::take_closed` alone makes one. Contracts see the key of the source, and the rest of its
 /// connection.
 #[derive(Drop)]
 pub struct Closed<A: Arm> {
-    key: Key,
-    cell: Sealed<SourceCell<A>>,
+    pub(crate) key: Key,
+    pub(crate) cell: Sealed<SourceCell<A>>,
 }
 
 impl<A: Arm> Model for Closed<A> {
@@ -31,29 +29,6 @@ impl<A: Arm> Model for Closed<A> {
     ghost view = { λ c. record { key = c.key.0; rest = A.rest c.cell.value.io } };
 
     ghost invariant = { λ c. c.key.0 < 4096 };
-}
-
-impl<A: Arm + Drop> SourceRef<A> {
-    /// Takes the source out of its lock for good, as soon as no round visits it. The caller has the table,
-    /// which the source has left, so that no round comes to it any more. Takes no memory.
-    pub fn take_closed<R: Wait>(self, rt: &R, table: &SourceTable<A>, out: &TakenOut) -> Closed<A>
-        requires out { ¬ Contains table.now out.now }
-        requires key { out.now ≡ self.key }
-        requires outside { self.inside ≡ false }
-        ensures { result ≡ record { key = self.key; rest = self.rest } }
-    {
-        let SourceRef {
-            key: _,
-            words: _,
-            lock,
-            mut owner,
-        } = self;
-        let cell = Sealed::take(rt, &lock, &mut owner);
-        Closed {
-            key: out.key(),
-            cell,
-        }
-    }
 }
 
 impl<A: Arm + Drop> Closed<A> {

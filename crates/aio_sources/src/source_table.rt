@@ -20,7 +20,6 @@ use std::sync::{Arc, Wait};
 
 /// The locks of the sources, each at its key. Contracts see the keys, which rise. It has room for as
 /// many sources as may live.
-#[derive(Drop)]
 pub struct SourceTable<A: Arm> {
     locks: KeyTable<SourceLock<A>>,
     alloc: Global,
@@ -33,6 +32,12 @@ impl<A: Arm> Model for SourceTable<A> {
     ghost Value = { List ℕ };
 
     ghost view = { λ t. live_keys 0 t.locks };
+}
+
+impl<A: Arm + Drop> Drop for SourceTable<A> {
+    fn drop(self) {
+        let SourceTable { locks: _, alloc: _ } = self;
+    }
 }
 
 /// The memory of a source that is to come: its lock, once for the table and once for its token. Contracts
@@ -93,10 +98,10 @@ impl<A: Arm + Drop> Vacancy<A> {
     pub(crate) fn new(alloc: Global, words: &Arc<Words, Global>) -> Result<Vacancy<A>, OutOfMemory>
         ensures { IfOk result (λ vacancy. vacancy ≡ (arc_value words.now).identity) }
     {
-        let (kept, lent, owner) = SharedLock::twice(alloc)?;
         let Ok(words) = Arc::try_clone(words) else {
             return Err(OutOfMemory);
         };
+        let (kept, lent, owner) = SharedLock::twice(alloc)?;
         Ok(Vacancy {
             kept,
             lent,
@@ -174,7 +179,10 @@ impl<A: Arm + Drop> SourceTable<A> {
     {
         let source = match add_source(self.alloc, key, io) {
             Ok(source) => source,
-            Err(back) => return Err(back),
+            Err(back) => {
+                drop(vacancy);
+                return Err(back);
+            }
         };
         let Vacancy {
             kept,

@@ -1,14 +1,16 @@
 //! The sources of a table: they join it, and are entered by the holders of their tokens.
 
 ghost use Rattle.std.specs.Prelude.{◌≡◌, ◌↔◌, ◌∷◌, true, false, length, IfOk, ◌<◌, IfErr, OnErr, Some};
+ghost use Rattle.std.specs.List.{Contains};
 ghost use Rattle.std.specs.List.Sorted.{IsStrictlyIncreasing};
 ghost use Rattle.std.specs.Arc.{arc_value};
 ghost use Rattle.aio_rules.specs.SharedLock.{first_owner};
 ghost use Rattle.aio_lock.specs.Tokens.{owner_of};
 ghost use Rattle.aio_sources.specs.Sources.{Adds, HandsBack, Joins, outside, refusal_of, rest_of};
 
-use crate::sealed::SourceLock;
-use crate::source_table::SourceTable;
+use crate::closing::Closed;
+use crate::sealed::{Sealed, SourceLock};
+use crate::source_table::{SourceTable, TakenOut};
 use aio_base::{Arm, CountFault, Key};
 use aio_lock::Owner;
 use aio_source::SourceCell;
@@ -31,7 +33,6 @@ pub enum InsertFault {
 /// Names a source, and is its token: it alone enters the source, and knows the rest of its connection.
 /// `take_closed` uses it up. Where it is let go instead, the source stays in the table, and where it is let
 /// go inside, the source stays taken.
-#[derive(Drop)]
 pub struct SourceRef<A: Arm> {
     pub(crate) key: Key,
     pub(crate) words: Arc<Words, Global>,
@@ -56,6 +57,17 @@ impl<A: Arm> Model for SourceRef<A> {
 
     ghost invariant = { λ s. (s.owner.lock ≡ s.lock)
         × IsSourceOwner s.key.0 s.owner.knows × (s.key.0 < 4096) };
+}
+
+impl<A: Arm + Drop> Drop for SourceRef<A> {
+    fn drop(self) {
+        let SourceRef {
+            key: _,
+            words: _,
+            lock: _,
+            owner: _,
+        } = self;
+    }
 }
 
 impl<A: Arm> SourceRef<A> {
@@ -104,6 +116,29 @@ impl<A: Arm> SourceRef<A> {
         ensures { result.0 ≡ self.now.key }
     {
         self.key
+    }
+}
+
+impl<A: Arm + Drop> SourceRef<A> {
+    /// Takes the source out of its lock for good, as soon as no round visits it. The caller has the table,
+    /// which the source has left, so that no round comes to it any more. Takes no memory.
+    pub fn take_closed<R: Wait>(self, rt: &R, table: &SourceTable<A>, out: &TakenOut) -> Closed<A>
+        requires out { ¬ Contains table.now out.now }
+        requires key { out.now ≡ self.key }
+        requires outside { self.inside ≡ false }
+        ensures { result ≡ record { key = self.key; rest = self.rest } }
+    {
+        let SourceRef {
+            key: _,
+            words: _,
+            lock,
+            mut owner,
+        } = self;
+        let cell = Sealed::take(rt, &lock, &mut owner);
+        Closed {
+            key: out.key(),
+            cell,
+        }
     }
 }
 

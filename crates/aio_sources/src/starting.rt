@@ -17,7 +17,6 @@ use std::sync::Arc;
 
 /// All the memory that connections take when they are added: that of their sources, and room for their
 /// answers. Contracts see of each of these sources the words of its reactor.
-#[derive(Drop)]
 pub struct Places<A: Arm> {
     vacancies: Vec<Vacancy<A>>,
     answers: Vec<Result<SourceRef<A>, ArmFault>>,
@@ -33,6 +32,15 @@ impl<A: Arm> Model for Places<A> {
 
     ghost invariant = { λ p. (p.answers.items ≡ [])
         × (vec_len p.vacancies ≤ vec_capacity p.answers) };
+}
+
+impl<A: Arm + Drop> Drop for Places<A> {
+    fn drop(self) {
+        let Places {
+            vacancies: _,
+            answers: _,
+        } = self;
+    }
 }
 
 impl<A: Arm + Drop> Places<A> {

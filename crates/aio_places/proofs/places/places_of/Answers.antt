@@ -8,11 +8,8 @@ use Rattle.aio_places.proofs.places.places_of.Goals as goal
 pub loop-earlier-preserved : goal.loop-earlier-preserved
 loop-earlier-preserved g c =
     let place = c.in_ok-place.place in
-    let left = c.pop_front-in-loop-earlier.new.self.items in
-    let all : c.loop-earlier.left.items ≡ c.in-Some.a ∷ c.in-Some-pop_front.b ∷ left =
-    c.in-Some.ensures.items ∙ ap (λ items. c.in-Some.a ∷ items) c.in-Some-pop_front.ensures.items in
-    let joined : AllByRecursion (HasJoined g.A.Arm.rest (arc_value c.args.shared.now).words.identity) (c.in-Some.a ∷ c.in-Some-pop_front.b ∷ left) =
-    subst (AllByRecursion (HasJoined g.A.Arm.rest (arc_value c.args.shared.now).words.identity)) all c.loop-earlier.invariant.joined in
+    let all : c.loop-earlier.left.items ≡ c.take_two-a.result.0 ∷ c.take_two-a.result.1 ∷ c.take_two-a.new.left.items = c.take_two-a.ensures in
+    let joined = subst (AllByRecursion (HasJoined g.A.Arm.rest (arc_value c.args.shared.now).words.identity)) all c.loop-earlier.invariant.joined in
     record {
       places = λ later are. subst (λ items. ArePlacesOf c.args.answers.items items)
           (sym (ap (λ items. items ++ later) c.push_reserved.ensures.items ∙ append_assoc c.loop-earlier.places.items (place ∷ []) later))

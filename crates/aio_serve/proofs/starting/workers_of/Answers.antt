@@ -3,6 +3,7 @@ use Rattle.std.specs.Prelude.{IsTrue}
 use Rattle.std.specs.List.{AllByRecursion}
 use Rattle.std.specs.Arc.{arc_value}
 use Rattle.std.proofs.lemmas.List.{nil_from_length}
+use Rattle.aio_shared.specs.Members.{IsMemberOf}
 use Rattle.aio_places.specs.Dealing.{GivesInTurn}
 use Rattle.aio_places.specs.Places.{PlaceValue}
 use Rattle.aio_serve.specs.Places.{AllServeUnder, HaveParkers, IsFellowMember, ServesUnder, Terms, WorkerValue}
@@ -67,6 +68,27 @@ loop-parker-preserved g c =
       room = omega (arith, kept.room, c.push_reserved.ensures.capacity);
       reactor = kept.reactor;
     }
+
+pub members_of-requires-clause-belongs : goal.members_of-requires-clause-belongs
+members_of-requires-clause-belongs g c = subst (λ shared. IsMemberOf shared c.args.begun.member) (sym c.deref.ensures) c.requires.member
+
+pub worker_of-requires-clause-belongs : goal.worker_of-requires-clause-belongs
+worker_of-requires-clause-belongs g c =
+    let fellows = subst (AllByRecursion (IsFellowMember g.N.Faults.is_sure (arc_value c.args.begun.shared) (g.N.Faults.is_sure c.args.begun.member.notifier)
+    c.args.begun.member.claim.sure_of_wait)) c.in-Some-pop_front.ensures.items c.loop-parker.invariant.fellows in
+    fellows.0.member
+
+pub worker_of-requires-clause-parker : goal.worker_of-requires-clause-parker
+worker_of-requires-clause-parker g c = omega (arith, c.loop-parker-test.true, c.requires.parkers)
+
+pub worker_of-requires-clause-few : goal.worker_of-requires-clause-few
+worker_of-requires-clause-few g c =
+    let few = subst (AllByRecursion (λ (r : List PlaceValue). length r ≤ 64)) c.in-Some.ensures.row c.loop-parker.invariant.few in
+    omega (arith, c.in-Some.row.ok.0, few.0)
+
+pub push_reserved-requires : goal.push_reserved-requires
+push_reserved-requires g c =
+    omega (arith, c.loop-parker.workers.ok.0, c.loop-parker.invariant.made, c.loop-parker.invariant.room, c.loop-parker-test.true)
 
 pub returns-clause-dealt : goal.returns-clause-dealt
 returns-clause-dealt g c =

@@ -1,18 +1,9 @@
-use Rattle.std.proofs.Common.{◌≡◌, ◌<◌, ◌^◌, sym, ap, ◌∙◌, subst, refl}
-use Rattle.aio_base.specs.Connections.{sure_read}
-use Rattle.std.specs.Prelude.{IsTrue}
+use Rattle.std.proofs.Common.{◌≡◌, ◌<◌, ◌^◌, sym, ap, ◌∙◌, subst}
 use Rattle.aio_future.specs.Tries.{FaultsWithin, fault_counts}
 use Rattle.aio_pairs.specs.Calls.{Writes}
 use Rattle.aio_places.specs.SourceEnds.{call_from, is_sure_end, last_told}
-use Rattle.aio_places.proofs.Told.{end_fails, end_writes, stays_sure, sure_by, unsure}
+use Rattle.aio_places.proofs.Told.{end_fails, end_writes, stays_sure, still_none, sure_by, unsure}
 use Rattle.aio_places.proofs.ends.SourceEndEndInside.write.Goals as goal
-
-pub tell-requires : goal.tell-requires
-tell-requires g c failed sure =
-    let after = c.write_entered-tried.new.cell.io in
-    unsure _ _ _ _ _ (g.C.Arm.rest after) c.write_entered-tried.ensures.faults
-    (sure_by g.C.Arm.rest g.C.Faults.is_sure g.C.Tells.telling g.met.C.Conn.rest_is_laid_out g.C.Tells.left_is_bounded after (g.C.Arm.rest after) refl)
-    failed (subst (λ s. IsTrue (sure_read s.rest)) c.give.ensures sure)
 
 pub returns-clause-step : goal.returns-clause-step
 returns-clause-step g c = record {
@@ -26,10 +17,9 @@ returns-clause-step g c = record {
   tries = c.write_entered-tried.ensures.enters;
   told = subst (λ n. Writes c.args.piece.now c.args.w c.tell.result ≡ call_from n (Writes c.args.piece.now c.args.w c.write_entered-tried.result))
       (ap (λ end. end.told) c.self.view_is) (ap (λ tried. Writes c.args.piece.now c.args.w tried) c.tell.ensures.told);
-  left = c.tell.ensures.kept
-      ∙ ap (λ token. record { words = token.words; key = token.key; rest = token.rest; told = c.tell.new.self.told }) c.give.ensures
-      ∙ ap (λ token. record { words = token.words; key = token.key; rest = g.C.Arm.rest c.write_entered-tried.new.cell.io; told = c.tell.new.self.told }) c.take-cell.ensures.inside
-      ∙ ap (λ end. record { words = end.words; key = end.key; rest = g.C.Arm.rest c.write_entered-tried.new.cell.io; told = c.tell.new.self.told }) c.self.view_is
+  left = ap (λ token. record { words = token.words; key = token.key; rest = token.rest; told = c.tell.new.told }) c.give.ensures
+      ∙ ap (λ token. record { words = token.words; key = token.key; rest = g.C.Arm.rest c.write_entered-tried.new.cell.io; told = c.tell.new.told }) c.take-cell.ensures.inside
+      ∙ ap (λ end. record { words = end.words; key = end.key; rest = g.C.Arm.rest c.write_entered-tried.new.cell.io; told = c.tell.new.told }) c.self.view_is
       ∙ ap (λ told. record { words = c.args.self.now.words; key = c.args.self.now.key; rest = g.C.Arm.rest c.write_entered-tried.new.cell.io; told = told })
       (c.tell.ensures.count ∙ ap (λ end. last_told end.told c.tell.result.answer) c.self.view_is);
 }
@@ -37,19 +27,19 @@ returns-clause-step g c = record {
 pub returns-clause-told : goal.returns-clause-told
 returns-clause-told g c =
     end_writes g.C.Arm.rest g.C.Faults.is_sure g.C.Tells.telling g.met.C.Conn.rest_is_laid_out g.C.Tells.left_is_bounded
-    c.self.inside.told c.take-cell.result.io c.write_entered-tried.new.cell.io c.args.self.now.rest c.tell.new.self.rest c.write_entered-tried.result c.tell.result c.args.piece.now
-    (c.take-cell.ensures.rest ∙ ap (λ end. end.rest) c.self.view_is) (sym (ap (λ end. end.rest) c.tell.ensures.kept ∙ ap (λ token. token.rest) c.give.ensures))
+    c.self.inside.told c.take-cell.result.io c.write_entered-tried.new.cell.io c.args.self.now.rest c.give.new.self.rest c.write_entered-tried.result c.tell.result c.args.piece.now
+    (c.take-cell.ensures.rest ∙ ap (λ end. end.rest) c.self.view_is) (sym (ap (λ token. token.rest) c.give.ensures))
     c.tell.ensures.told c.write_entered-tried.ensures.told
 
 pub returns-clause-faults : goal.returns-clause-faults
 returns-clause-faults g c =
     let few : c.self.inside.told < 2 ^ 64 = c.self.ranges.1.1.0.1 in
-    subst (λ told. FaultsWithin told c.tell.new.self.told (is_sure_end c.args.self.now.rest told) (is_sure_end c.tell.new.self.rest c.tell.new.self.told)
+    subst (λ told. FaultsWithin told c.tell.new.told (is_sure_end c.args.self.now.rest told) (is_sure_end c.give.new.self.rest c.tell.new.told)
     (fault_counts c.tell.result.answer)) (ap (λ end. end.told) c.self.view_is)
     (end_fails g.C.Arm.rest g.C.Faults.is_sure g.C.Tells.telling g.met.C.Conn.rest_is_laid_out g.C.Tells.left_is_bounded
-    c.self.inside.told _ _ c.tell.new.self.told c.take-cell.result.io c.write_entered-tried.new.cell.io c.args.self.now.rest c.tell.new.self.rest
+    c.self.inside.told _ _ c.tell.new.told c.take-cell.result.io c.write_entered-tried.new.cell.io c.args.self.now.rest c.give.new.self.rest
     c.write_entered-tried.result c.tell.result few
-    (c.take-cell.ensures.rest ∙ ap (λ end. end.rest) c.self.view_is) (sym (ap (λ end. end.rest) c.tell.ensures.kept ∙ ap (λ token. token.rest) c.give.ensures))
+    (c.take-cell.ensures.rest ∙ ap (λ end. end.rest) c.self.view_is) (sym (ap (λ token. token.rest) c.give.ensures))
     c.tell.ensures.told c.tell.ensures.count c.write_entered-tried.ensures.faults)
 
 pub invariant_of-self : goal.invariant_of-self
@@ -60,6 +50,10 @@ invariant_of-self g c =
     c.write_entered-tried.ensures.faults.sure in (
       ap (λ token. token.inside) c.give.ensures,
       (c.write_entered-tried.new.cell.io, left),
-      λ sure. c.self.invariant.2 (sym same ∙ sure),
+      λ sure. still_none c.self.inside.told c.tell.new.told c.write_entered-tried.result c.tell.result c.tell.ensures.told c.tell.ensures.count
+          (λ failed. unsure _ _ _ _ _ c.give.new.self.rest c.write_entered-tried.ensures.faults
+          (sure_by g.C.Arm.rest g.C.Faults.is_sure g.C.Tells.telling g.met.C.Conn.rest_is_laid_out g.C.Tells.left_is_bounded c.write_entered-tried.new.cell.io c.give.new.self.rest left)
+          failed sure)
+          (c.self.invariant.2 (sym same ∙ sure)),
       ap (λ token. token.words) c.give.ensures ∙ ap (λ token. token.words) c.take-cell.ensures.inside ∙ c.self.invariant.3,
     )
