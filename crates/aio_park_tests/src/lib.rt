@@ -4,6 +4,9 @@
 //! to the test build. What a thread does is a table of acts with what comes of each (`acts`), which a thread
 //! with a source of its own carries out (`readers`). Of several threads beside each other `aio_thread_tests`
 //! has the tests.
+//!
+//! A body that has a reactor lets go of it by `drop`: that call is proved once for the type, and the end of a
+//! scope in each body.
 #![tactic(auto)]
 
 #[cfg(test)]

@@ -121,7 +121,9 @@ mod tests {
         let mut thread: Alone<_, _, MemBytes, _> = alone(rt, alloc, devices, (looks, TIMEOUT))?;
         let until = moment(&rt, TIMEOUT);
         let read = read_in_time(&mut thread, MemBytes::new(blocks, 7), until);
-        Ok((read, waits(&mut thread)))
+        let waits = waits(&mut thread);
+        drop(thread);
+        Ok((read, waits))
     }
 
     #[test]

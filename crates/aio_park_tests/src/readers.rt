@@ -132,7 +132,11 @@ impl<R: Wait + Copy, N: Notify + Drop, A: Arm + Drop, W: EventWait + Drop> Reade
                 thread,
                 task: Readable { source, polls: 0 },
             }),
-            Err(_) => Err(Fail::from("no source")),
+            Err((io, _)) => {
+                drop(io);
+                drop(thread);
+                Err(Fail::from("no source"))
+            }
         }
     }
 }
@@ -184,5 +188,6 @@ pub(crate) fn plays<R: Wait + Copy + Abort, N: Notify + Drop, A: Arm + Drop, W: 
     let thread = alone(rt, alloc, (notifier, wait), times)?;
     let mut reader = Reader::of(thread, io)?;
     reader.plays(&rt, rows);
+    drop(reader);
     Ok(())
 }

@@ -23,8 +23,12 @@ fn answers_of<
 >(rt: R, alloc: Global, mut group: Group<T, u64>) -> Result<(Vec<u64>, Option<u64>), Fail> {
     let devices = (MemNotify::new(), MemWait::new(0));
     let mut thread: Undisturbed<R> = alone(rt, alloc, devices, (1, 0))?;
-    match block_on(&mut thread, &mut group) {
-        Ok(answers) => Ok((answers, waits(&mut thread))),
+    let blocked = block_on(&mut thread, &mut group);
+    drop(group);
+    let waits = waits(&mut thread);
+    drop(thread);
+    match blocked {
+        Ok(answers) => Ok((answers, waits)),
         Err(_) => Err(Fail::from("no answers")),
     }
 }

@@ -6,7 +6,7 @@ use crate::acts::Act::{InsertTimes, Listen, Look, Poll, React, ReactAgain, Take}
 use crate::acts::Came::{Cell, Mask, Pending, Round, Times};
 use crate::acts::Row;
 use crate::owners::plays;
-use crate::scripts::{gives, one_by_one};
+use crate::scripts::{give, one_by_one};
 use aio_base::{Dir, Interest};
 use aio_devices::{MemNotify, MemWait, ScriptedWait, SureArm};
 use std::alloc::Global;
@@ -25,7 +25,7 @@ const FLOODS: [(u32, u32, Interest); 4] = [
 fn floods(alloc: Global) -> Result<ScriptedWait, Fail> {
     let mut answers = Vec::new(alloc);
     for (first, count, on) in FLOODS {
-        answers.push(gives(alloc, first, count, on)?)?;
+        give(alloc, &mut answers, first, count, on)?;
     }
     Ok(ScriptedWait::new(answers))
 }

@@ -104,7 +104,8 @@ fn a_thread_wakes_the_other_parkers_or_all_slots_though_it_cannot_tell(
     rt: HostRuntime,
 ) -> Result<(), Fail> {
     let (masks, told) = found_in_new(&rt, rt.alloc())?;
-    same(&rt, masks, [[1, 0, 1], [u64::MAX; 3], [u64::MAX; 3]]);
+    let wanted = [[1, 0, 1], [u64::MAX; 3], [u64::MAX; 3]];
+    same(&rt, masks.as_slice(), wanted.as_slice());
     same(&rt, told, Some(Err(FIRST_FAULT)));
     Ok(())
 }

@@ -133,13 +133,8 @@ fn insert_once<H: TimerHost>(host: &mut H, at: u64, kept: bool) -> bool
 
 /// Registers a timer with waker 0, and takes it out again where it is not to be kept, so many times. How
 /// often nothing failed.
-pub(crate) fn insert_times<R: Wait, N: Notify, A: Arm, W: EventWait>(
-    host: &mut Inside<R, N, A, W>,
-    at: u64,
-    times: u32,
-    kept: bool,
-) -> u32
-    ensures { host.new.shared ≡ host.old.shared }
+pub(crate) fn insert_times<H: TimerHost>(host: &mut H, at: u64, times: u32, kept: bool) -> u32
+    ensures { H.is_later host.old host.new }
 {
     let mut done: u32 = 0;
     for _ in 0..times {

@@ -5,7 +5,7 @@ ghost use Rattle.std.specs.Prelude.{◌≡◌, ◌<◌, false};
 use crate::acts::{Act, Came, Row, inserted, polled, removed, woken};
 use crate::asserts::same_in;
 use crate::hosts::{Caller, count_and_wake, enter, insert, insert_times, remove};
-use crate::seats::{act_by_cell, act_by_seat, poll_while_blocking};
+use crate::seats::{act_by_cell, act_on_words, poll_while_blocking};
 use aio_base::{Arm, Dir, EventWait, Notify, Waker};
 use aio_devices::SureArm;
 use aio_react::Host;
@@ -27,12 +27,14 @@ pub(crate) struct Owner<R: Wait, N: Notify, A: Arm, W: EventWait> {
     ghost outside: { source.inside ≡ false },
 }
 
-/// Registers a timer or takes it out again, or wakes a task.
+/// Registers timers or takes them out again, or wakes a task.
 fn act_on_host<H: Host>(host: &mut H, act: Act) -> Came
     ensures { H.is_later host.old host.new }
 {
     match act {
         Act::Insert(at, waker) => inserted(insert(host, at, waker)),
+        Act::InsertTimes(at, times) => Came::Times(insert_times(host, at, times, true)),
+        Act::InsertAndRemove(at, times) => Came::Times(insert_times(host, at, times, false)),
         Act::Remove(at, id) => removed(remove(host, at, id)),
         Act::Wake(waker) => {
             let (rounds, answer) = count_and_wake(host, waker);
@@ -52,9 +54,9 @@ impl<R: Wait, N: Notify, A: Arm, W: EventWait> Caller<R, N, A, W> {
             Act::React | Act::ReactAgain | Act::ReactWaiting | Act::Look => {
                 act_by_cell(host, &mut self.clock, act)
             }
-            Act::WakeApart(_) | Act::Take => act_by_seat(host, act),
-            Act::InsertTimes(at, times) => Came::Times(insert_times(host, at, times, true)),
-            Act::InsertAndRemove(at, times) => Came::Times(insert_times(host, at, times, false)),
+            Act::WakeApart(_) | Act::Take => {
+                act_on_words(host.shared.words(), host.member.words_pass(), act)
+            }
             _ => act_on_host(host, act),
         }
     }
@@ -134,17 +136,11 @@ impl<R: Wait, N: Notify, A: Arm, W: EventWait> Owner<R, N, A, W> {
         came
     }
 
-    /// Polls the source with two wakers in turn while the parker is blocked.
-    fn poll_blocking(&mut self) -> Came {
-        let caller = &mut self.caller;
-        poll_while_blocking(&mut caller.host, &mut self.source)
-    }
-
     /// Does this.
     pub(crate) fn act(&mut self, act: Act) -> Came {
         match act {
             Act::Poll(..) | Act::Listen(_) => self.visit(act),
-            Act::PollBlocking => self.poll_blocking(),
+            Act::PollBlocking => poll_while_blocking(&mut self.caller.host, &mut self.source),
             act => self.caller.act(act),
         }
     }

@@ -5,26 +5,28 @@ use aio_devices::{ScriptedWait, WaitAnswer};
 use std::alloc::Global;
 use std::test::Fail;
 
-/// An answer of a wait: events of so many keys, from this one on.
-pub(crate) fn gives(
+/// Adds an answer of a wait: events of so many keys, from this one on.
+pub(crate) fn give(
     alloc: Global,
+    answers: &mut Vec<WaitAnswer>,
     first: u32,
     count: u32,
     on: Interest,
-) -> Result<WaitAnswer, Fail> {
+) -> Result<(), Fail> {
     let mut events = Vec::new(alloc);
     for number in 0..count {
         let key = Key(first.saturating_add(number));
         events.push(Event { key, on })?;
     }
-    Ok(WaitAnswer::Gives(events))
+    answers.push(WaitAnswer::Gives(events))?;
+    Ok(())
 }
 
 /// A wait that gives an event of each of these keys, one in each round.
 pub(crate) fn one_by_one(alloc: Global, keys: &[u32], on: Interest) -> Result<ScriptedWait, Fail> {
     let mut answers = Vec::new(alloc);
     for key in keys {
-        answers.push(gives(alloc, *key, 1, on)?)?;
+        give(alloc, &mut answers, *key, 1, on)?;
     }
     Ok(ScriptedWait::new(answers))
 }

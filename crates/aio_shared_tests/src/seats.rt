@@ -124,7 +124,7 @@ pub(crate) fn act_by_cell<R: Wait, N: Notify, A: Arm, W: EventWait>(
 }
 
 /// Takes the mask of parker 0, or wakes a task with another notifier than the member's.
-fn act_on_words(words: &Words, pass: &mut Pass, act: Act) -> Came
+pub(crate) fn act_on_words(words: &Words, pass: &mut Pass, act: Act) -> Came
     requires { Belongs words.now pass.old × (0 < words.now.parkers) }
     ensures { pass.new.words ≡ pass.old.words }
 {
@@ -136,17 +136,6 @@ fn act_on_words(words: &Words, pass: &mut Pass, act: Act) -> Came
         },
         _ => Came::Other,
     }
-}
-
-/// Does so by the member's seat.
-pub(crate) fn act_by_seat<R: Wait, N: Notify, A: Arm, W: EventWait>(
-    host: &mut Inside<R, N, A, W>,
-    act: Act,
-) -> Came
-    requires { 0 < host.old.shared.words.parkers }
-    ensures { host.new.shared ≡ host.old.shared }
-{
-    act_on_words(host.shared.words(), host.member.words_pass(), act)
 }
 
 /// Blocks parker 0, polls the read direction of a source with two wakers in turn, and gives the cell back. The

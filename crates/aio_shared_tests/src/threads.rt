@@ -9,7 +9,7 @@ use crate::acts::{Act, Came};
 use crate::asserts::same;
 use crate::hosts::{Quiet, another, enter};
 use crate::owners::Owner;
-use crate::scripts::gives;
+use crate::scripts::give;
 use aio_base::{Interest, Poll};
 use aio_devices::{MemNotify, ScriptedWait, SureArm};
 use aio_source::Polled;
@@ -184,7 +184,7 @@ fn work_beside<R: Threads + Wait + Sync>(
 fn keys_in_turn(alloc: Global, pairs: u32) -> Result<ScriptedWait, Fail> {
     let mut answers = Vec::new(alloc);
     for round in 0..pairs.saturating_mul(2) {
-        answers.push(gives(alloc, round % 2 * 2, 2, Interest::BOTH)?)?;
+        give(alloc, &mut answers, round % 2 * 2, 2, Interest::BOTH)?;
     }
     Ok(ScriptedWait::new(answers))
 }

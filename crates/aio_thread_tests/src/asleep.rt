@@ -5,10 +5,9 @@
 use crate::acts::Act::{Await, Drive, Follow, Give, HandOver, Poll, Rest, SetTimer, Wake, WakeAll};
 use crate::acts::Came::{Done, Ended, Events, Mask};
 use crate::acts::{Act, Came};
-use crate::asserts::moment;
+use crate::clocks::still_clocks;
 use crate::teams::play_blocking;
 use aio_base::Dir;
-use aio_devices::{MemClock, clock_at};
 use std::alloc::Global;
 use std::process::Abort;
 use std::sync::Wait;
@@ -17,17 +16,6 @@ use std::thread::Threads;
 
 /// How often both tables are carried out, each time with the second thread a turn later.
 const TIMES: u32 = 20;
-
-/// Clocks that stand still at these moments.
-fn still_clocks(
-    rt: &impl Abort,
-    alloc: Global,
-    moments: (u64, u64),
-) -> Result<(MemClock, MemClock), Fail> {
-    let clock = clock_at(alloc, moment(rt, moments.0))?;
-    let clock_of_other = clock_at(alloc, moment(rt, moments.1))?;
-    Ok((clock, clock_of_other))
-}
 
 /// Two threads over devices that block carry out these tables at once, the second one so many turns late.
 /// Their clocks stand still at these moments.
@@ -39,7 +27,7 @@ fn plays<R: Threads + Wait + Sync + Abort>(
     rows_of_other: &[(Act, Came)],
     late: u32,
 ) -> Result<(), Fail> {
-    let clocks = still_clocks(rt, alloc, moments)?;
+    let clocks = still_clocks(rt, alloc, (0, moments.0), (0, moments.1))?;
     play_blocking(rt, alloc, 2, clocks, (rows, rows_of_other), late)
 }
 

@@ -1,7 +1,10 @@
-//! A clock that several threads share.
+//! A clock that several threads share, and clocks that stand still in the end.
 
+use crate::asserts::moment;
 use aio_base::{Clock, Moment, OutOfMemory};
+use aio_devices::{MemClock, clock_until};
 use std::alloc::Global;
+use std::process::Abort;
 use std::sync::{Arc, Mutex, Wait};
 use std::test::Fail;
 
@@ -60,4 +63,16 @@ pub(crate) fn shared_clocks<R: Wait + Copy>(
     let one = SharedClock { rt, time, last };
     let other = one.twin()?;
     Ok((one, other))
+}
+
+/// Two clocks, each of which stands at 0 for so many looks, and then at this moment.
+pub(crate) fn still_clocks(
+    rt: &impl Abort,
+    alloc: Global,
+    times: (usize, u64),
+    times_of_other: (usize, u64),
+) -> Result<(MemClock, MemClock), Fail> {
+    let clock = clock_until(alloc, times.0, moment(rt, times.1))?;
+    let clock_of_other = clock_until(alloc, times_of_other.0, moment(rt, times_of_other.1))?;
+    Ok((clock, clock_of_other))
 }

@@ -49,6 +49,7 @@ fn plays_in_turn<R: Wait + Copy + Abort>(
     same(&rt, play_at(&mut threads, 1, rows), true);
     same(&rt, play_at(&mut threads, 0, rows_of_other), true);
     same(&rt, play_at(&mut threads, 1, rows_after), true);
+    drop(threads);
     Ok(())
 }
 

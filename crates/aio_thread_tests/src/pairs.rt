@@ -4,28 +4,16 @@
 use crate::acts::Act::{Await, Follow, HandOver, Hold, Rest, Sleep, Wake, WakeItself};
 use crate::acts::Came::{Done, Ended, Mask};
 use crate::acts::{Act, Came};
-use crate::asserts::moment;
+use crate::clocks::still_clocks;
 use crate::teams::{play_blocking, play_instant};
-use aio_devices::{MemClock, clock_until};
 use std::alloc::Global;
 use std::process::Abort;
 use std::sync::Wait;
 use std::test::Fail;
 use std::thread::Threads;
 
-/// Clocks that stand at 0 for so many looks, and then at 5.
-fn clocks(
-    rt: &impl Abort,
-    alloc: Global,
-    looks: (usize, usize),
-) -> Result<(MemClock, MemClock), Fail> {
-    let clock = clock_until(alloc, looks.0, moment(rt, 5))?;
-    let clock_of_other = clock_until(alloc, looks.1, moment(rt, 5))?;
-    Ok((clock, clock_of_other))
-}
-
 /// Two threads carry out these tables at the same time: over devices that answer at once, and then over such
-/// as block until they are told.
+/// as block until they are told. Their clocks stand at 0 for so many looks, and then at 5.
 fn plays<R: Threads + Wait + Sync + Abort>(
     rt: &R,
     alloc: Global,
@@ -34,8 +22,11 @@ fn plays<R: Threads + Wait + Sync + Abort>(
     rows_of_other: &[(Act, Came)],
 ) -> Result<(), Fail> {
     let tables = (rows, rows_of_other);
-    play_instant(rt, alloc, 2, clocks(rt, alloc, looks)?, tables)?;
-    play_blocking(rt, alloc, 2, clocks(rt, alloc, looks)?, tables, 0)
+    let (times, times_of_other) = ((looks.0, 5), (looks.1, 5));
+    let clocks = still_clocks(rt, alloc, times, times_of_other)?;
+    play_instant(rt, alloc, 2, clocks, tables)?;
+    let clocks = still_clocks(rt, alloc, times, times_of_other)?;
+    play_blocking(rt, alloc, 2, clocks, tables, 0)
 }
 
 // It has the reactor lock until the other wakes it.

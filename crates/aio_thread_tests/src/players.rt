@@ -49,14 +49,6 @@ fn block_on<
     thread.run(&mut task)
 }
 
-/// Blocks until one of these slots of the thread's parker is woken.
-fn rest<R: Wait + Copy, N: Notify, W: EventWait, C: Clock>(
-    thread: &mut Sleeper<R, N, W, C>,
-    slots: u64,
-) -> Came {
-    ended(block_on(thread, Rests::until(slots)))
-}
-
 /// Blocks until a timer fires.
 fn sleep<R: Wait + Copy, N: Notify, W: EventWait, C: Clock>(
     thread: &mut Sleeper<R, N, W, C>,
@@ -74,24 +66,6 @@ fn sleep_in_turn<R: Wait + Copy, N: Notify, W: EventWait, C: Clock>(
 ) -> Came {
     let at = u64::from(thread.parker) + 1;
     done(sleep(thread, at) == Came::Ended(at))
-}
-
-/// Blocks on a task that wakes itself.
-fn wake_itself<R: Wait + Copy, N: Notify, W: EventWait, C: Clock>(
-    thread: &mut Sleeper<R, N, W, C>,
-    last: u64,
-) -> Came {
-    ended(block_on(thread, WakesItself::until(last)))
-}
-
-/// Blocks on meetings with another thread.
-fn meet<R: Wait + Copy, N: Notify, W: EventWait, C: Clock>(
-    thread: &mut Sleeper<R, N, W, C>,
-    other: u32,
-    times: u32,
-    timed: bool,
-) -> Came {
-    ended(block_on(thread, Meets::new(other, times, timed)))
 }
 
 /// Makes so many rounds.
@@ -138,31 +112,36 @@ fn take<R: Wait + Copy, N: Notify, W: EventWait, C>(thread: &mut Sleeper<R, N, W
         .take(host.member.words_pass(), thread.parker)
 }
 
-/// Takes masks of the thread's parker until one tells a woken slot.
-fn await_wake<R: Wait + Copy, N: Notify, W: EventWait, C>(
+/// What this act waits for, where it has come: a mask of the thread's parker that tells a woken slot, or that a
+/// round has begun, which runs for so many turns then.
+fn awaited<R: Wait + Copy, N: Notify, W: EventWait, C>(
     thread: &mut Sleeper<R, N, W, C>,
-) -> Came {
-    let rt = thread.host.rt;
-    for _ in rt.forever() {
-        let mask = take(thread);
-        if mask != 0 {
-            return Came::Mask(mask);
-        }
-        yield_now();
+    act: Act,
+    turns: u32,
+) -> Option<Came> {
+    if let Act::Await = act {
+        return match take(thread) {
+            0 => None,
+            mask => Some(Came::Mask(mask)),
+        };
     }
-    unreachable!()
+    if thread.host.ticker() == 0 {
+        return None;
+    }
+    let_run(turns);
+    Some(Came::Done)
 }
 
-/// Waits until a round has begun, and lets that run for so many turns.
-fn follow<R: Wait + Copy, N: Notify, W: EventWait, C>(
+/// Waits until what this act waits for has come.
+fn wait_for<R: Wait + Copy, N: Notify, W: EventWait, C>(
     thread: &mut Sleeper<R, N, W, C>,
+    act: Act,
     turns: u32,
 ) -> Came {
     let rt = thread.host.rt;
     for _ in rt.forever() {
-        if thread.host.ticker() > 0 {
-            let_run(turns);
-            return Came::Done;
+        if let Some(came) = awaited(thread, act, turns) {
+            return came;
         }
         yield_now();
     }
@@ -190,7 +169,9 @@ fn poll_new<R: Wait + Copy, N: Notify, W: EventWait, C>(
         return None;
     };
     let key = source.key();
-    match host.poll_source(&mut source, dir, Waker(waker)) {
+    let answer = host.poll_source(&mut source, dir, Waker(waker));
+    drop(source);
+    match answer {
         Poll::Pending => Some(key.0),
         Poll::Ready(_) => None,
     }
@@ -257,16 +238,15 @@ impl<R: Wait + Copy, N: Notify, W: EventWait, C: Clock> Player<'_, R, N, W, C> {
     fn act(&mut self, act: Act) -> Came {
         let thread = &mut self.thread;
         match act {
-            Act::Rest(slots) => rest(thread, slots),
+            Act::Rest(slots) => ended(block_on(thread, Rests::until(slots))),
             Act::Sleep(at) => sleep(thread, at),
             Act::SleepInTurn => sleep_in_turn(thread),
-            Act::WakeItself(last) => wake_itself(thread, last),
-            Act::Meet(other, times) => meet(thread, other, times, false),
-            Act::MeetLater(other, times) => meet(thread, other, times, true),
+            Act::WakeItself(last) => ended(block_on(thread, WakesItself::until(last))),
+            Act::Meet(other, times) => ended(block_on(thread, Meets::new(other, times, false))),
+            Act::MeetLater(other, times) => ended(block_on(thread, Meets::new(other, times, true))),
             Act::Drive(rounds) => drive_on(thread, rounds),
             Act::Hold(waker, turns) => hold(thread, waker, turns),
-            Act::Await => await_wake(thread),
-            Act::Follow => follow(thread, self.late),
+            Act::Await | Act::Follow => wait_for(thread, act, self.late),
             act => self.act_at_once(act),
         }
     }

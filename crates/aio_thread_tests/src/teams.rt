@@ -76,19 +76,34 @@ pub(crate) fn over_blocking<R: Wait + Copy, C: Drop>(
 }
 
 impl<R: Wait + Copy, N: Notify + Drop, W: EventWait + Drop, C: Clock + Drop> Team<R, N, W, C> {
-    /// Another thread with this parker and this clock. Where the reactor has no such parker it is refused.
-    fn another(&mut self, parker: u32, clock: C) -> Result<Sleeper<R, N, W, C>, Fail> {
+    /// One more player, with this parker, a clock like this one and this table. The first of them makes events
+    /// ready. Where the reactor has no such parker it is refused.
+    fn join<'a>(
+        &mut self,
+        players: &mut Vec<Player<'a, R, N, W, C>>,
+        parker: u32,
+        clock_of_others: &C,
+        rows: &'a [(Act, Came)],
+        late: u32,
+    ) -> Result<(), Fail> {
         if parker >= self.parkers {
             return Err(Fail::from("no parker"));
         }
-        match self.first.another(parker, clock) {
-            Ok(thread) => Ok(thread),
-            Err(_) => Err(Fail::from("no thread")),
-        }
+        let clock = clock_of_others.twin()?;
+        let Ok(thread) = self.first.another(parker, clock) else {
+            return Err(Fail::from("no thread"));
+        };
+        players.push(Player {
+            thread,
+            outside: self.outside.take(),
+            rows,
+            late,
+            parkers: self.parkers,
+        })?;
+        Ok(())
     }
 
-    /// A player for each other parker, with clocks like this one and this table. The first of them makes events
-    /// ready.
+    /// A player for each other parker, with clocks like this one and this table.
     fn others<'a>(
         &mut self,
         alloc: Global,
@@ -96,31 +111,31 @@ impl<R: Wait + Copy, N: Notify + Drop, W: EventWait + Drop, C: Clock + Drop> Tea
         rows: &'a [(Act, Came)],
         late: u32,
     ) -> Result<Vec<Player<'a, R, N, W, C>>, Fail> {
-        let parkers = self.parkers;
         let mut players = Vec::new(alloc);
-        for parker in 1..parkers {
-            let clock = clock_of_others.twin()?;
-            let thread = self.another(parker, clock)?;
-            players.push(Player {
-                thread,
-                outside: self.outside.take(),
-                rows,
-                late,
-                parkers,
-            })?;
+        for parker in 1..self.parkers {
+            if let Err(fail) = self.join(&mut players, parker, clock_of_others, rows, late) {
+                drop(players);
+                return Err(fail);
+            }
         }
         Ok(players)
     }
 
-    /// The player of the first thread.
-    fn into_first<'a>(self, rows: &'a [(Act, Came)], late: u32) -> Player<'a, R, N, W, C> {
-        Player {
+    /// These players, and after them that of the first thread.
+    fn with_first<'a>(
+        self,
+        mut players: Vec<Player<'a, R, N, W, C>>,
+        rows: &'a [(Act, Came)],
+        late: u32,
+    ) -> Result<Vec<Player<'a, R, N, W, C>>, Fail> {
+        players.push(Player {
             thread: self.first,
             outside: None,
             rows,
             late,
             parkers: self.parkers,
-        }
+        })?;
+        Ok(players)
     }
 
     /// A player for each parker, the first one last. The others have clocks like this one, and a table for
@@ -133,9 +148,13 @@ impl<R: Wait + Copy, N: Notify + Drop, W: EventWait + Drop, C: Clock + Drop> Tea
         rows_of_others: &'a [(Act, Came)],
         late: u32,
     ) -> Result<Vec<Player<'a, R, N, W, C>>, Fail> {
-        let mut players = self.others(alloc, clock_of_others, rows_of_others, late)?;
-        players.push(self.into_first(rows, late))?;
-        Ok(players)
+        match self.others(alloc, clock_of_others, rows_of_others, late) {
+            Ok(players) => self.with_first(players, rows, late),
+            Err(fail) => {
+                drop(self);
+                Err(fail)
+            }
+        }
     }
 }
 
