@@ -60,7 +60,6 @@ impl Token {
 }
 
 /// Where tokens go in, which takes the value out, and go out again, which puts one back.
-#[derive(Drop)]
 pub struct Gate<T: Noted> {
     table: Table<Option<T>, LockSeat, (), Rule<T>, Global>,
     // How many threads sleep on the word, or are about to.
@@ -76,6 +75,15 @@ impl<T: Noted> Model for Gate<T> {
     ghost view = { λ g. g.table.shared.table_id };
 
     ghost invariant = { λ g. IsLock g.table.shared.table_id };
+}
+
+impl<T: Noted + Drop> Drop for Gate<T> {
+    fn drop(self) {
+        let Gate {
+            table: _,
+            sleepers: _,
+        } = self;
+    }
 }
 
 impl<T: Noted> Gate<T> {

@@ -44,7 +44,6 @@ impl Model for Visit {
 /// A lock that holds one value or none. Contracts see which lock it is.
 ///
 /// A token that is let go while it is inside leaves the lock taken for good.
-#[derive(Drop)]
 pub struct Lock<T: Noted> {
     gate: Gate<T>,
 }
@@ -55,6 +54,12 @@ impl<T: Noted> Model for Lock<T> {
     ghost Value = { TableId };
 
     ghost view = { λ l. l.gate };
+}
+
+impl<T: Noted + Drop> Drop for Lock<T> {
+    fn drop(self) {
+        let Lock { gate: _ } = self;
+    }
 }
 
 impl<T: Noted> Lock<T> {

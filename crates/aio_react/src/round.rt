@@ -42,7 +42,6 @@ pub enum RoundFault {
 ///
 /// Contracts see the running round, or the last one as it ended. At most 1,024 events are in hand,
 /// and none on an idle round. A fault that is kept has two counts between which the count rose.
-#[derive(Drop)]
 pub struct Round {
     /// The events of the last wait, of which so many were handled or skipped.
     events: Vec<Event>,
@@ -74,6 +73,21 @@ impl Model for Round {
     ghost invariant = { λ r. (1024 ≤ vec_capacity r.events) × (vec_len r.events ≤ 1024)
         × (r.done ≤ vec_len r.events) × (r.running ≡ false → drop r.done r.events.items ≡ [])
         × IfSome r.fault HasRisen };
+}
+
+impl Drop for Round {
+    fn drop(self) {
+        let Round {
+            events: _,
+            done: _,
+            taken: _,
+            number: _,
+            limit: _,
+            last: _,
+            fault: _,
+            running: _,
+        } = self;
+    }
 }
 
 impl Round {

@@ -12,7 +12,6 @@ use std::alloc::Global;
 use std::marker::Model;
 
 /// The directions of a source.
-#[derive(Drop)]
 pub(crate) struct Directions {
     read: Direction,
     write: Direction,
@@ -24,6 +23,12 @@ impl Model for Directions {
     ghost Value = { DirectionValues };
 
     ghost view = { λ ds. record { read = ds.read; write = ds.write } };
+}
+
+impl Drop for Directions {
+    fn drop(self) {
+        let Directions { read: _, write: _ } = self;
+    }
 }
 
 impl Directions {

@@ -10,7 +10,6 @@ use std::marker::Model;
 
 /// The listeners of a direction, in memory that is taken when the first of them comes. So a source
 /// that is only polled stays small, and more sources fit into a processor's cache.
-#[derive(Drop)]
 pub(crate) struct LateListeners {
     held: Option<Box<Listeners<Waker>>>,
     alloc: Global,
@@ -25,6 +24,12 @@ impl Model for LateListeners {
     ghost Value = { Listening Waker };
 
     ghost view = { λ l. listeners_in (option_map (λ b. b.value) l.held) };
+}
+
+impl Drop for LateListeners {
+    fn drop(self) {
+        let LateListeners { held: _, alloc: _ } = self;
+    }
 }
 
 impl LateListeners {

@@ -21,7 +21,6 @@ use std::marker::Model;
 /// directions, and what the poller was asked for.
 ///
 /// Each direction with a waiter was asked for, or the last arm failed; its key is below 4,096.
-#[derive(Drop)]
 pub struct SourceState {
     // Fields lie in this order: these two small ones share a word.
     key: Key,
@@ -45,6 +44,16 @@ impl Model for SourceState {
 
     ghost invariant = { λ s. (s.key.0 < 4096)
         × Covers s.directions s.arming.asked s.arming.broken };
+}
+
+impl Drop for SourceState {
+    fn drop(self) {
+        let SourceState {
+            key: _,
+            arming: _,
+            directions: _,
+        } = self;
+    }
 }
 
 /// A source beside the object that is armed for it.

@@ -25,7 +25,6 @@ use std::marker::Model;
 /// A timer that is polled with another waker is unregistered, and registered anew with the same
 /// deadline at once. So a removal waits for the next change: where that is an insert of the same
 /// deadline, the node gets the new id and the new waker in its place, and nothing else is touched.
-#[derive(Drop)]
 pub struct TimerBook {
     heap: TimerHeap,
     /// A timer that was unregistered and is in the heap still, behind the one that fires first.
@@ -45,6 +44,12 @@ impl Model for TimerBook {
     } };
 
     ghost invariant = { λ b. IfSome b.late (λ pair. IsBehind b.heap.entries pair.0 pair.1.0) };
+}
+
+impl Drop for TimerBook {
+    fn drop(self) {
+        let TimerBook { heap: _, late: _ } = self;
+    }
 }
 
 impl TimerBook {

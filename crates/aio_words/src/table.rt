@@ -40,7 +40,6 @@ impl Model for WordSeat {
 }
 
 /// The words for so many parkers.
-#[derive(Drop)]
 pub struct WordTable {
     table: Table<(), SeatView, u32, Rule, Global>,
 }
@@ -55,6 +54,12 @@ impl Model for WordTable {
     ghost view = { λ t. record { identity = t.table.shared.table_id; parkers = t.table.shared.key } };
 
     ghost invariant = { λ t. t.table.shared.table_id.words ≡ word_count t.table.shared.key };
+}
+
+impl Drop for WordTable {
+    fn drop(self) {
+        let WordTable { table: _ } = self;
+    }
 }
 
 // The words for so many parkers, all 0.

@@ -23,7 +23,6 @@ pub struct RoundsSpent;
 
 /// The words of one reactor, which its threads share by reference. Contracts see which words they are
 /// and for how many parkers.
-#[derive(Drop)]
 pub struct Words {
     table: WordTable,
     parkers: u32,
@@ -38,6 +37,16 @@ impl Model for Words {
     ghost view = { λ w. w.table };
 
     ghost invariant = { λ w. IsWords w.table w.parkers w.sleepers };
+}
+
+impl Drop for Words {
+    fn drop(self) {
+        let Words {
+            table: _,
+            parkers: _,
+            sleepers: _,
+        } = self;
+    }
 }
 
 /// The seat of one thread. Between calls it owes nothing, so each wake that it made was told.
