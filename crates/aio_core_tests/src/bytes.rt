@@ -1,15 +1,13 @@
 //! What no clause says: that calls succeed where memory is left, and how often an adapter tries again.
 
-use crate::asserts::{same, same_in};
+use crate::asserts::{MEMORY, same, same_in};
 use aio_base::{Failed, Faults};
 use aio_bytes::{
     BufferedSource, MemSink, MemSource, Sink, SinkRefusal, Source, StdSink, StdSource, SureSink,
     SureSource, write_all,
 };
-use std::alloc::Global;
 use std::io::{self, BufReader, ErrorKind};
 use std::process::Abort;
-use std::test::Fail;
 
 /// Asserts that a sink takes all of these bytes.
 fn writes<K: Sink>(rt: &impl Abort, sink: &mut K, bytes: &[u8]) {
@@ -36,21 +34,32 @@ fn sinks_in_memory_hold_what_was_written(rt: HostRuntime) {
 /// Bytes that are written at once, what comes of it, and what the sink holds then.
 type Written = (&'static [u8], Result<(), SinkRefusal>, &'static [u8]);
 
-const FAILS_AT_ITS_SECOND_CALL: [Written; 3] = [
+const FAILS_AT_ITS_SECOND_CALL: &[Written] = &[
     (b"ab", Ok(()), b"ab"),
     (b"cd", Err(SinkRefusal::Failed), b"ab"),
     (b"ef", Ok(()), b"abef"),
 ];
 
+/// Asserts what comes of bytes that are written at once, and what the sink holds then.
+fn writes_so(
+    rt: &impl Abort,
+    sink: &mut MemSink,
+    bytes: &[u8],
+    answer: Result<(), SinkRefusal>,
+    held: &[u8],
+) {
+    let wrote = write_all(sink, bytes);
+    same(rt, (wrote, sink.bytes()), (answer, held));
+}
+
 #[test]
-fn a_scripted_sink_fails_at_its_second_call_alone(rt: HostRuntime) -> Result<(), Fail> {
-    let mut sink = MemSink::new(rt.alloc(), [2].to_vec(rt.alloc())?);
+fn a_scripted_sink_fails_at_its_second_call_alone(rt: HostRuntime) {
+    let fails = [2].to_vec(rt.alloc()).expect(&rt, MEMORY);
+    let mut sink = MemSink::new(rt.alloc(), fails);
     for (bytes, answer, held) in FAILS_AT_ITS_SECOND_CALL {
-        same(&rt, write_all(&mut sink, bytes), answer);
-        same(&rt, sink.bytes(), held);
+        writes_so(&rt, &mut sink, bytes, *answer, held);
     }
     same(&rt, sink.faults(), 1);
-    Ok(())
 }
 
 /// What a read with room for two bytes answers, and the two bytes then.
@@ -64,10 +73,16 @@ fn read_two<S: Source>(source: &mut S) -> Read {
 
 /// Asserts what reads come to, one after the other, and how many bytes are in hand behind each.
 fn reads<S: Source>(rt: &impl Abort, source: &mut S, rows: &[(Read, usize)]) {
-    for (read, in_hand) in rows {
-        same(rt, read_two(source), *read);
-        same(rt, source.in_hand(), *in_hand);
+    for row in rows {
+        let read = read_two(source);
+        same(rt, (read, source.in_hand()), *row);
     }
+}
+
+/// Asserts what a read comes to, and how many faults are counted then.
+fn counts<S: Source>(rt: &impl Abort, source: &mut S, wanted: (Read, u64)) {
+    let read = read_two(source);
+    same(rt, (read, source.faults()), wanted);
 }
 
 /// The end of the bytes.
@@ -76,7 +91,7 @@ const END: (Read, usize) = ((Ok(0), [0, 0]), 0);
 /// A read that fails.
 const FAILS: Read = (Err(Failed), [0, 0]);
 
-const AFTER_A_FAILING_CALL: [(Read, usize); 4] = [
+const AFTER_A_FAILING_CALL: &[(Read, usize)] = &[
     ((Ok(1), [b'a', 0]), 0),
     (FAILS, 0),
     ((Ok(1), [b'b', 0]), 0),
@@ -84,28 +99,26 @@ const AFTER_A_FAILING_CALL: [(Read, usize); 4] = [
 ];
 
 #[test]
-fn a_scripted_source_goes_on_after_a_failing_call(rt: HostRuntime) -> Result<(), Fail> {
-    let fails = [2].to_vec(rt.alloc())?;
-    let mut source = MemSource::new(b"ab".to_vec(rt.alloc())?, 1, fails);
-    reads(&rt, &mut source, &AFTER_A_FAILING_CALL);
+fn a_scripted_source_goes_on_after_a_failing_call(rt: HostRuntime) {
+    let bytes = b"ab".to_vec(rt.alloc()).expect(&rt, MEMORY);
+    let fails = [2].to_vec(rt.alloc()).expect(&rt, MEMORY);
+    let mut source = MemSource::new(bytes, 1, fails);
+    reads(&rt, &mut source, AFTER_A_FAILING_CALL);
     same(&rt, source.faults(), 1);
-    Ok(())
 }
 
-const WHAT_FITS: [(Read, usize); 3] = [((Ok(2), *b"ab"), 1), ((Ok(1), [b'c', 0]), 0), END];
+const WHAT_FITS: &[(Read, usize)] = &[((Ok(2), *b"ab"), 1), ((Ok(1), [b'c', 0]), 0), END];
 
 #[test]
-fn a_sure_source_gives_what_fits(rt: HostRuntime) -> Result<(), Fail> {
-    let mut source = SureSource::new(b"abc".to_vec(rt.alloc())?);
-    reads(&rt, &mut source, &WHAT_FITS);
-    Ok(())
+fn a_sure_source_gives_what_fits(rt: HostRuntime) {
+    let bytes = b"abc".to_vec(rt.alloc()).expect(&rt, MEMORY);
+    reads(&rt, &mut SureSource::new(bytes), WHAT_FITS);
 }
 
 #[test]
 fn an_adapter_hands_on_what_it_reads(rt: HostRuntime) {
     let mut source = StdSource::new(b"abc".as_slice());
-    same(&rt, read_two(&mut source), (Ok(2), *b"ab"));
-    same(&rt, source.faults(), 0);
+    counts(&rt, &mut source, ((Ok(2), *b"ab"), 0));
 }
 
 #[test]
@@ -117,7 +130,7 @@ fn an_adapter_hands_on_what_is_written(rt: HostRuntime) {
     same(&rt, written.as_slice(), b"hello".as_slice());
 }
 
-const BEHIND_A_BUFFER: [(Read, usize); 4] = [
+const BEHIND_A_BUFFER: &[(Read, usize)] = &[
     ((Ok(2), *b"ab"), 2),
     ((Ok(2), *b"cd"), 0),
     ((Ok(1), [b'e', 0]), 0),
@@ -125,22 +138,20 @@ const BEHIND_A_BUFFER: [(Read, usize); 4] = [
 ];
 
 #[test]
-fn a_buffered_source_has_its_buffer_in_hand(rt: HostRuntime) -> Result<(), Fail> {
-    let reader = BufReader::with_capacity(rt.alloc(), 4, b"abcde".as_slice())?;
-    let mut source = BufferedSource::new(reader);
+fn a_buffered_source_has_its_buffer_in_hand(rt: HostRuntime) {
+    let reader = BufReader::with_capacity(rt.alloc(), 4, b"abcde".as_slice());
+    let mut source = BufferedSource::new(reader.expect(&rt, MEMORY));
     same(&rt, source.in_hand(), 0);
-    reads(&rt, &mut source, &BEHIND_A_BUFFER);
-    Ok(())
+    reads(&rt, &mut source, BEHIND_A_BUFFER);
 }
 
 #[test]
-fn a_buffered_source_counts_the_faults_behind_its_buffer(rt: HostRuntime) -> Result<(), Fail> {
+fn a_buffered_source_counts_the_faults_behind_its_buffer(rt: HostRuntime) {
     let halting = Halting::new(ErrorKind::WouldBlock, 1);
-    let mut source = BufferedSource::new(BufReader::with_capacity(rt.alloc(), 4, halting)?);
-    same(&rt, (read_two(&mut source), source.faults()), (FAILS, 1));
-    let read = (Ok(1), [b'x', 0]);
-    same(&rt, (read_two(&mut source), source.faults()), (read, 1));
-    Ok(())
+    let reader = BufReader::with_capacity(rt.alloc(), 4, halting);
+    let mut source = BufferedSource::new(reader.expect(&rt, MEMORY));
+    counts(&rt, &mut source, (FAILS, 1));
+    counts(&rt, &mut source, ((Ok(1), [b'x', 0]), 1));
 }
 
 /// A reader and writer whose first tries end in an error of this kind, and which then moves a byte.
@@ -196,7 +207,7 @@ impl io::Write for Halting {
 /// The kind and number of the errors, whether the call answers `Ok`, and how many tries it makes.
 type Halt = (ErrorKind, u32, bool, u32);
 
-const HALTS: [Halt; 5] = [
+const HALTS: &[Halt] = &[
     (ErrorKind::Interrupted, 0, true, 1),
     (ErrorKind::Interrupted, 3, true, 4),
     (ErrorKind::Interrupted, 1_000, true, 1_001),
@@ -222,28 +233,26 @@ fn write_past(kind: ErrorKind, errors: u32) -> (Result<usize, SinkRefusal>, u64,
     (answer, faults, halting.tries)
 }
 
-/// Asserts that a read and a write over so many errors succeed after so many tries.
-fn goes_past(rt: &impl Abort, kind: ErrorKind, errors: u32, tries: u32) {
-    let read = (Ok(1), [b'x', 0]);
-    same_in(rt, errors, read_past(kind, errors), (read, 0, tries));
-    same_in(rt, errors, write_past(kind, errors), (Ok(1), 0, tries));
-}
-
-/// Asserts that both fail after so many.
-fn stops_at(rt: &impl Abort, kind: ErrorKind, errors: u32, tries: u32) {
-    let failed = Err(SinkRefusal::Failed);
-    same_in(rt, errors, read_past(kind, errors), (FAILS, 1, tries));
-    same_in(rt, errors, write_past(kind, errors), (failed, 1, tries));
+/// Asserts that a read and a write over so many errors succeed, or both fail, after so many tries.
+fn halts(rt: &impl Abort, kind: ErrorKind, errors: u32, is_ok: bool, tries: u32) {
+    let (read, written, faults) = if is_ok {
+        ((Ok(1), [b'x', 0]), Ok(1), 0)
+    } else {
+        (FAILS, Err(SinkRefusal::Failed), 1)
+    };
+    same_in(rt, errors, read_past(kind, errors), (read, faults, tries));
+    same_in(
+        rt,
+        errors,
+        write_past(kind, errors),
+        (written, faults, tries),
+    );
 }
 
 #[test]
 fn adapters_try_again_where_they_are_interrupted(rt: HostRuntime) {
     for (kind, errors, is_ok, tries) in HALTS {
-        if is_ok {
-            goes_past(&rt, kind, errors, tries);
-        } else {
-            stops_at(&rt, kind, errors, tries);
-        }
+        halts(&rt, *kind, *errors, *is_ok, *tries);
     }
 }
 

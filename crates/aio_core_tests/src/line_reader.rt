@@ -2,12 +2,11 @@
 
 ghost use Rattle.std.specs.Prelude.{◌≤◌, length, None, false};
 
-use crate::asserts::{same, same_in};
+use crate::asserts::{MEMORY, same, same_in};
 use aio_base::{Failed, Faults};
 use aio_bytes::{LineReader, Next, Source};
-use std::alloc::{AllocError, Global};
+use std::alloc::Global;
 use std::process::Abort;
-use std::test::Fail;
 
 /// Bytes in memory, given in pieces of at most `piece`, where `fails` says that the next read fails.
 #[derive(Drop)]
@@ -70,77 +69,65 @@ fn source_of(bytes: &[u8], piece: usize) -> Pieces<'_> {
     }
 }
 
-/// What a turn of a reader comes to.
-#[derive(Clone, Copy, PartialEq)]
-enum Turn {
-    /// A line.
-    Line,
-    /// A line that is too long.
-    Long,
-    /// More bytes.
-    More,
-    /// A read that failed.
-    Failed,
-    /// The end of the bytes, and what lies ahead of it.
-    End,
+/// A reader that has read nothing.
+fn reader_of(rt: &impl Abort, alloc: Global) -> LineReader {
+    LineReader::new(alloc).expect(rt, MEMORY)
 }
 
-impl Turn {
-    /// The mark behind what the reader has then.
-    fn mark(self) -> &'static [u8] {
-        match self {
-            Turn::Line => b"|",
-            Turn::Long => b"!",
-            Turn::Failed => b"?",
-            Turn::More | Turn::End => b"",
-        }
-    }
+/// A mark behind what a reader has, and whether that was the last of it.
+type Turn = (&'static [u8], bool);
 
-    /// Whether there is no other turn.
-    fn is_last(self) -> bool {
-        match self {
-            Turn::Long | Turn::End => true,
-            _ => false,
-        }
-    }
-}
+/// A line.
+const A_LINE: Turn = (b"|", false);
+
+/// A line that is too long.
+const LONG: Turn = (b"!", true);
+
+/// More bytes were read, and no line is found yet.
+const MORE: Turn = (b"", false);
+
+/// A read that failed.
+const FAILED: Turn = (b"?", false);
+
+/// The end of the bytes, and what lies ahead of it.
+const END: Turn = (b"", true);
 
 /// Finds the next line, or reads more where there is none.
 fn take_turn<S: Source>(reader: &mut LineReader, source: &mut S) -> Turn {
     if reader.find_line() {
-        return Turn::Line;
+        return A_LINE;
     }
     if reader.is_full() {
-        return Turn::Long;
+        return LONG;
     }
     match reader.read(source) {
         Ok(0) => {
             reader.take_rest();
-            Turn::End
+            END
         }
-        Ok(_) => Turn::More,
-        Err(_) => Turn::Failed,
+        Ok(_) => MORE,
+        Err(_) => FAILED,
     }
 }
 
 /// Writes a line and a mark.
-fn note(out: &mut Vec<u8>, line: &[u8], mark: &[u8]) -> Result<(), AllocError> {
-    out.extend_from_slice(line)?;
-    out.extend_from_slice(mark)
+fn note(rt: &impl Abort, out: &mut Vec<u8>, line: &[u8], mark: &[u8]) {
+    out.extend_from_slice(line).expect(rt, MEMORY);
+    out.extend_from_slice(mark).expect(rt, MEMORY);
 }
 
 /// The lines of the source, each followed by '|', its rest, and '!' where a line is too long.
-fn joined<S: Source>(alloc: Global, source: &mut S) -> Result<Vec<u8>, AllocError> {
-    let mut reader = LineReader::new(alloc)?;
+fn joined<S: Source>(rt: &impl Abort, alloc: Global, source: &mut S) -> Vec<u8> {
+    let mut reader = reader_of(rt, alloc);
     let mut out = Vec::new(alloc);
     for _ in 0..2000 {
-        let turn = take_turn(&mut reader, source);
-        note(&mut out, reader.line(), turn.mark())?;
-        if turn.is_last() {
+        let (mark, is_last) = take_turn(&mut reader, source);
+        note(rt, &mut out, reader.line(), mark);
+        if is_last {
             break;
         }
     }
-    Ok(out)
+    out
 }
 
 /// Texts, and what their lines join to.
@@ -158,72 +145,60 @@ const TEXTS: &[(&[u8], &[u8])] = &[
     ),
 ];
 
-/// Asserts what the lines of a text join to, of which a read gives at most `piece` bytes.
-fn joins(
-    rt: &impl Abort,
-    alloc: Global,
-    text: &[u8],
-    piece: usize,
-    wanted: &[u8],
-) -> Result<(), AllocError> {
-    let found = joined(alloc, &mut source_of(text, piece))?;
-    same_in(rt, piece, found.as_slice(), wanted);
-    Ok(())
-}
-
-/// Asserts the same of each of the texts.
-fn joins_each(rt: &impl Abort, alloc: Global, piece: usize) -> Result<(), AllocError> {
+/// Asserts what the lines of each of the texts join to, of which a read gives at most `piece` bytes.
+fn joins_each(rt: &impl Abort, alloc: Global, piece: usize) {
     for (text, wanted) in TEXTS {
-        joins(rt, alloc, text, piece, wanted)?;
+        let found = joined(rt, alloc, &mut source_of(text, piece));
+        same_in(rt, piece, found.as_slice(), wanted);
     }
-    Ok(())
 }
 
 #[test]
-fn gives_each_line_of_pieces_of_any_size(rt: HostRuntime) -> Result<(), Fail> {
-    for piece in [1, 2, 3, 5, 300] {
-        joins_each(&rt, rt.alloc(), piece)?;
+fn gives_each_line_of_pieces_of_any_size(rt: HostRuntime) {
+    for piece in PIECES {
+        joins_each(&rt, rt.alloc(), *piece);
     }
-    Ok(())
 }
 
+/// How many bytes a read gives at most.
+const PIECES: &[usize] = &[1, 2, 3, 5, 300];
+
 /// A line of so many bytes, with its line feed.
-fn line_of(alloc: Global, len: usize) -> Result<Vec<u8>, AllocError> {
-    let mut text = vec![in alloc; b'x'; len]?;
-    text.push(b'\n')?;
-    Ok(text)
+fn line_of(rt: &impl Abort, alloc: Global, len: usize) -> Vec<u8> {
+    let mut text = vec![in alloc; b'x'; len].expect(rt, MEMORY);
+    text.push(b'\n').expect(rt, MEMORY);
+    text
 }
 
 /// How many bytes a text joins to, the last of them, and how many bytes of the text were read.
-fn taken(
-    alloc: Global,
-    text: &[u8],
-    piece: usize,
-) -> Result<(usize, Option<u8>, usize), AllocError> {
+type Taken = (usize, Option<u8>, usize);
+
+fn taken(rt: &impl Abort, alloc: Global, text: &[u8], piece: usize) -> Taken {
     let mut source = source_of(text, piece);
-    let found = joined(alloc, &mut source)?;
-    Ok((found.len(), found.last().copied(), source.at))
+    let found = joined(rt, alloc, &mut source);
+    (found.len(), found.last().copied(), source.at)
 }
 
 /// Asserts what a line of so many bytes joins to, which is read up to its 257th byte.
-fn takes(
-    rt: &impl Abort,
-    alloc: Global,
-    len: usize,
-    wanted: (usize, Option<u8>, usize),
-) -> Result<(), AllocError> {
-    let text = line_of(alloc, len)?;
+fn takes(rt: &impl Abort, alloc: Global, len: usize, wanted: Taken) {
+    let text = line_of(rt, alloc, len);
     for piece in [1, 300] {
-        same_in(rt, len, taken(alloc, text.as_slice(), piece), Ok(wanted));
+        same_in(rt, len, taken(rt, alloc, text.as_slice(), piece), wanted);
     }
-    Ok(())
 }
 
+/// The lengths of lines, and what is taken of each.
+const TAKEN: &[(usize, Taken)] = &[
+    (256, (257, Some(b'|'), 257)),
+    (257, (1, Some(b'!'), 257)),
+    (300, (1, Some(b'!'), 257)),
+];
+
 #[test]
-fn takes_a_line_of_256_bytes_and_no_longer_one(rt: HostRuntime) -> Result<(), Fail> {
-    takes(&rt, rt.alloc(), 256, (257, Some(b'|'), 257))?;
-    takes(&rt, rt.alloc(), 257, (1, Some(b'!'), 257))?;
-    Ok(takes(&rt, rt.alloc(), 300, (1, Some(b'!'), 257))?)
+fn takes_a_line_of_256_bytes_and_no_longer_one(rt: HostRuntime) {
+    for (len, wanted) in TAKEN {
+        takes(&rt, rt.alloc(), *len, *wanted);
+    }
 }
 
 /// Asserts what a read comes to that has room, and how many bytes lie ahead then.
@@ -244,15 +219,25 @@ fn finds(rt: &impl Abort, reader: &mut LineReader, wanted: (bool, &[u8], usize))
     same(rt, (found, reader.line(), reader.ahead_len()), wanted);
 }
 
+/// What is found after one read, one after the other.
+const SEVERAL_LINES: &[(bool, &[u8], usize)] = &[
+    (true, b"a", 4),
+    (true, b"bb", 1),
+    (false, b"", 1),
+];
+
 #[test]
-fn finds_several_lines_of_one_read(rt: HostRuntime) -> Result<(), Fail> {
-    let mut source = source_of(b"a\nbb\nc", 300);
-    let mut reader = LineReader::new(rt.alloc())?;
-    reads(&rt, &mut reader, &mut source, (Ok(6), 6));
-    finds(&rt, &mut reader, (true, b"a", 4));
-    finds(&rt, &mut reader, (true, b"bb", 1));
-    finds(&rt, &mut reader, (false, b"", 1));
-    Ok(())
+fn finds_several_lines_of_one_read(rt: HostRuntime) {
+    let mut reader = reader_of(&rt, rt.alloc());
+    reads(
+        &rt,
+        &mut reader,
+        &mut source_of(b"a\nbb\nc", 300),
+        (Ok(6), 6),
+    );
+    for wanted in SEVERAL_LINES {
+        finds(&rt, &mut reader, *wanted);
+    }
 }
 
 /// Asserts what is found without a read, and the line that it is.
@@ -262,24 +247,23 @@ fn finds_ahead(rt: &impl Abort, reader: &mut LineReader, wanted: (Option<Next>, 
 }
 
 #[test]
-fn tells_what_is_found_next(rt: HostRuntime) -> Result<(), Fail> {
+fn tells_what_is_found_next(rt: HostRuntime) {
     let mut source = source_of(b"a\nbb", 300);
-    let mut reader = LineReader::new(rt.alloc())?;
+    let mut reader = reader_of(&rt, rt.alloc());
     finds_ahead(&rt, &mut reader, (None, b""));
     reads(&rt, &mut reader, &mut source, (Ok(4), 4));
     finds_ahead(&rt, &mut reader, (Some(Next::Line), b"a"));
     finds_ahead(&rt, &mut reader, (None, b""));
     reads(&rt, &mut reader, &mut source, (Ok(0), 2));
-    same(&rt, reader.last(), Next::Line);
-    same(&rt, reader.line(), b"bb".as_slice());
+    let last = reader.last();
+    same(&rt, (last, reader.line()), (Next::Line, b"bb".as_slice()));
     same(&rt, reader.last(), Next::End);
-    Ok(())
 }
 
 #[test]
-fn keeps_what_lies_ahead_over_a_failed_read(rt: HostRuntime) -> Result<(), Fail> {
+fn keeps_what_lies_ahead_over_a_failed_read(rt: HostRuntime) {
     let mut source = source_of(b"one\ntwo", 5);
-    let mut reader = LineReader::new(rt.alloc())?;
+    let mut reader = reader_of(&rt, rt.alloc());
     reads(&rt, &mut reader, &mut source, (Ok(5), 5));
     finds(&rt, &mut reader, (true, b"one", 1));
     source.fails = true;
@@ -287,10 +271,6 @@ fn keeps_what_lies_ahead_over_a_failed_read(rt: HostRuntime) -> Result<(), Fail>
     same(&rt, source.faults(), 1);
     reads(&rt, &mut reader, &mut source, (Ok(2), 3));
     reader.take_rest();
-    same(
-        &rt,
-        (reader.line(), reader.ahead_len()),
-        (b"two".as_slice(), 0),
-    );
-    Ok(())
+    let rest = (reader.line(), reader.ahead_len());
+    same(&rt, rest, (b"two".as_slice(), 0));
 }

@@ -1,13 +1,12 @@
 //! The lines of the language one by one, both ways, and the first steps of two seeds.
 
-use crate::asserts::{moment, same, same_in};
+use crate::asserts::{MEMORY, moment, same, same_in};
 use crate::steps::{is_in_range, read_back};
 use aio_base::{Answer, Dir, EndWord, Event, Interest, Key, OutOfMemory, Step, Waker, Which};
 use aio_generator::{Steps, gen_steps};
 use aio_trace::{LineFault, read_line, write_answer, write_line, write_reply};
-use std::alloc::{AllocError, Global};
+use std::alloc::Global;
 use std::process::Abort;
-use std::test::Fail;
 
 /// The longest limit of a wait, the longest period and the last moment, in nanoseconds.
 const LONGEST: u64 = 1_000_000_000_000_000_000;
@@ -69,18 +68,6 @@ const STEPS: [(&str, Step); 26] = [
     ("react", Step::React),
 ];
 
-/// The line of a step with its line feed, where it has one.
-fn written(alloc: Global, step: &Step) -> Option<Vec<u8>> {
-    if !is_in_range(step) {
-        return None;
-    }
-    let mut out = Vec::new(alloc);
-    match write_line(step, &mut out) {
-        Ok(()) => Some(out),
-        Err(_) => None,
-    }
-}
-
 /// Writes a step and reads the line, where it has one.
 fn read_again(alloc: Global, step: &Step) -> Option<Result<Step, LineFault>> {
     if !is_in_range(step) {
@@ -92,15 +79,12 @@ fn read_again(alloc: Global, step: &Step) -> Option<Result<Step, LineFault>> {
     }
 }
 
-/// Asserts that a step is written as this line.
+/// Asserts that a step is written as this line, with a line feed.
 fn is_written(rt: &impl Abort, alloc: Global, line: &str, step: &Step) {
-    match written(alloc, step) {
-        Some(mut out) => {
-            same_in(rt, line, out.pop(), Some(b'\n'));
-            same(rt, out.as_slice(), line.as_bytes());
-        }
-        None => same_in(rt, line, "not written", "written"),
-    }
+    assert!(rt; is_in_range(step), "{line}");
+    let mut out = Vec::new(alloc);
+    write_line(step, &mut out).expect(rt, MEMORY);
+    same(rt, out.split_last(), Some((&b'\n', line.as_bytes())));
 }
 
 /// Asserts what a line reads as.
@@ -115,11 +99,16 @@ fn spells(rt: &impl Abort, alloc: Global, line: &str, step: Step) {
     same_in(rt, line, read_again(alloc, &step), Some(Ok(step)));
 }
 
+/// Asserts the same of each of these lines.
+fn spells_each(rt: &impl Abort, alloc: Global, rows: &[(&str, Step)]) {
+    for (line, step) in rows {
+        spells(rt, alloc, line, *step);
+    }
+}
+
 #[test]
 fn each_form_reads_as_its_step_and_is_written_so(rt: HostRuntime) {
-    for (line, step) in &STEPS {
-        spells(&rt, rt.alloc(), line, *step);
-    }
+    spells_each(&rt, rt.alloc(), &STEPS);
 }
 
 #[test]
@@ -159,11 +148,16 @@ const OTHER_SPELLINGS: [(&str, Step); 7] = [
     ("del 0004294967295", Step::Del(Key(4_294_967_295))),
 ];
 
+/// Asserts that each of these lines reads as its step.
+fn reads_each(rt: &impl Abort, rows: &[(&str, Step)]) {
+    for (line, step) in rows {
+        reads(rt, line, Ok(*step));
+    }
+}
+
 #[test]
 fn other_spellings_read_as_the_same_step(rt: HostRuntime) {
-    for (line, step) in &OTHER_SPELLINGS {
-        reads(&rt, line, Ok(*step));
-    }
+    reads_each(&rt, &OTHER_SPELLINGS);
 }
 
 /// Lines that are no step, and the fault of each.
@@ -218,29 +212,28 @@ fn lines_have_their_faults(rt: HostRuntime) {
     }
 }
 
-/// As many bytes as a line may have, of which none may stand in one.
-const ZEROS: &[u8] = &[0; 256];
-
-/// One more of them.
-const MORE_ZEROS: &[u8] = &[0; 257];
+/// Asserts what the first 256 bytes of a line read as, and that one more is too long.
+fn reads_up_to_256(rt: &impl Abort, line: &[u8], wanted: Result<Step, LineFault>) {
+    same(rt, read_line(&line[..line.len().min(256)]), wanted);
+    same(rt, read_line(line), Err(LineFault::Long));
+}
 
 /// The line `add` with so many blanks behind it that it has this length.
-fn padded(alloc: Global, len: usize) -> Result<Vec<u8>, AllocError> {
-    let mut line = b"add".to_vec(alloc)?;
+fn padded(rt: &impl Abort, alloc: Global, len: usize) -> Vec<u8> {
+    let mut line = b"add".to_vec(alloc).expect(rt, MEMORY);
     for _ in 3..len {
-        line.push(b' ')?;
+        line.push(b' ').expect(rt, MEMORY);
     }
-    Ok(line)
+    line
 }
 
 #[test]
-fn a_line_has_at_most_256_bytes(rt: HostRuntime) -> Result<(), Fail> {
-    let long = padded(rt.alloc(), 257)?;
-    same(&rt, read_line(&long[..long.len().min(256)]), Ok(Step::Add));
-    same(&rt, read_line(long.as_slice()), Err(LineFault::Long));
-    same(&rt, read_line(ZEROS), Err(LineFault::Byte));
-    same(&rt, read_line(MORE_ZEROS), Err(LineFault::Long));
-    Ok(())
+fn a_line_has_at_most_256_bytes(rt: HostRuntime) {
+    let long = padded(&rt, rt.alloc(), 257);
+    reads_up_to_256(&rt, long.as_slice(), Ok(Step::Add));
+    // None of these bytes may stand in a line.
+    let zeros = vec![in rt.alloc(); 0; 257].expect(&rt, MEMORY);
+    reads_up_to_256(&rt, zeros.as_slice(), Err(LineFault::Byte));
 }
 
 /// A source was handled.
@@ -328,33 +321,23 @@ const ANSWERS: [(Answer, &str); 36] = [
     (Answer::Wake(Waker(4_294_967_295)), "wake 4294967295\n"),
 ];
 
-/// The line of an answer behind another one, where there is memory.
-fn answered(alloc: Global, answer: &Answer) -> Option<Vec<u8>> {
-    let Ok(mut out) = Vec::from_slice(alloc, b"noted\n") else {
-        return None;
-    };
-    match write_answer(answer, &mut out) {
-        Ok(()) => Some(out),
-        Err(_) => None,
-    }
+/// Asserts that an answer is written as this line, behind another one.
+fn answers(rt: &impl Abort, alloc: Global, answer: &Answer, line: &str) {
+    let mut out = b"noted\n".to_vec(alloc).expect(rt, MEMORY);
+    write_answer(answer, &mut out).expect(rt, MEMORY);
+    same(rt, out.strip_prefix(b"noted\n"), Some(line.as_bytes()));
 }
 
-/// Asserts that an answer is written as this line.
-fn answers(rt: &impl Abort, alloc: Global, answer: &Answer, line: &str) {
-    match answered(alloc, answer) {
-        Some(out) => {
-            let after = out.strip_prefix(b"noted\n");
-            same(rt, after, Some(line.as_bytes()));
-        }
-        None => same_in(rt, line, "not written", "written"),
+/// Asserts that each of these answers is written as its line.
+fn answers_each(rt: &impl Abort, alloc: Global, rows: &[(Answer, &str)]) {
+    for (answer, line) in rows {
+        answers(rt, alloc, answer, line);
     }
 }
 
 #[test]
 fn each_answer_is_written(rt: HostRuntime) {
-    for (answer, line) in &ANSWERS {
-        answers(&rt, rt.alloc(), answer, line);
-    }
+    answers_each(&rt, rt.alloc(), &ANSWERS);
 }
 
 #[test]
@@ -376,27 +359,25 @@ fn each_answer_with_a_moment_is_written(rt: HostRuntime) {
     );
 }
 
-/// Writes an answer with its wakes. How many wakes were left then, where there was memory.
-fn reply(answer: Answer, wakes: &mut Vec<Waker>, out: &mut Vec<u8>) -> Option<usize> {
-    match write_reply(answer, wakes, out) {
-        Ok(()) => Some(wakes.len()),
-        Err(_) => None,
-    }
+/// Writes an answer with its wakes, of which none are left then.
+fn reply(rt: &impl Abort, answer: Answer, wakes: &mut Vec<Waker>, out: &mut Vec<u8>) {
+    write_reply(answer, wakes, out).expect(rt, MEMORY);
+    same(rt, wakes.len(), 0);
 }
 
-/// What two replies come to, the second with three wakes.
+/// The wakes of the second of two replies.
+const THREE_WAKES: &[Waker] = &[Waker(2), Waker(0), Waker(4_294_967_295)];
+
+/// What the two replies come to.
 const REPLIES: &str = "noted\nround 1 events 2 fault arm\nwake 2\nwake 0\nwake 4294967295\n";
 
 #[test]
-fn replies_follow_what_was_written(rt: HostRuntime) -> Result<(), Fail> {
+fn replies_follow_what_was_written(rt: HostRuntime) {
     let mut out = Vec::new(rt.alloc());
-    let mut wakes = Vec::new(rt.alloc());
-    same(&rt, reply(Answer::Noted, &mut wakes, &mut out), Some(0));
-    wakes.extend_from_slice(&[Waker(2), Waker(0), Waker(4_294_967_295)])?;
-    let left = reply(ROUND_WITHOUT_AN_ARM, &mut wakes, &mut out);
-    same(&rt, left, Some(0));
+    reply(&rt, Answer::Noted, &mut Vec::new(rt.alloc()), &mut out);
+    let mut wakes = THREE_WAKES.to_vec(rt.alloc()).expect(&rt, MEMORY);
+    reply(&rt, ROUND_WITHOUT_AN_ARM, &mut wakes, &mut out);
     same(&rt, out.as_slice(), REPLIES.as_bytes());
-    Ok(())
 }
 
 /// The two steps of seed 0, as lines.

@@ -7,14 +7,14 @@ ghost use Rattle.aio_base.specs.ClockBounds.{IsWithin};
 ghost use Rattle.aio_base.specs.Devices.{ArmCall, ArmOf, Armed, Awaited, Arms, Becomes, PollerStep, RunOf, clear_interests, raised, with_interest};
 ghost use Rattle.aio_base.specs.Waits.{IsCountOf};
 
-use crate::asserts::{moment, same, same_in};
+use crate::asserts::{MEMORY, moment, same, same_in};
 use aio_base::{
-    Arm, Clock, Cx, Draws, Event, EventWait, Failed, Faults, Interest, Key, Moment, OutOfMemory,
-    Poller, Waited, Waker,
+    Arm, Clock, Cx, Draws, Event, EventWait, Failed, Faults, Interest, Key, Moment, Poller, Waited,
+    Waker,
 };
 use aio_devices::MemClock;
-use std::alloc::{AllocError, Global};
-use std::test::Fail;
+use std::alloc::Global;
+use std::process::Abort;
 
 const READABLE: Event = Event {
     key: Key(3),
@@ -159,8 +159,8 @@ impl Poller for SilentPoller {
 }
 
 #[test]
-fn a_poller_that_tells_nothing_is_called_through_the_bounds(rt: HostRuntime) -> Result<(), Fail> {
-    let mut out = Vec::with_capacity(rt.alloc(), 2)?;
+fn a_poller_that_tells_nothing_is_called_through_the_bounds(rt: HostRuntime) {
+    let mut out = Vec::with_capacity(rt.alloc(), 2).expect(&rt, MEMORY);
     let mut poller = SilentPoller {
         faults: 0,
         waits: 0,
@@ -172,14 +172,13 @@ fn a_poller_that_tells_nothing_is_called_through_the_bounds(rt: HostRuntime) -> 
     let answers = arm_twice(&mut poller, Key(3), Key(4), Interest::READ);
     same(&rt, answers, (Err(Failed), Err(Failed)));
     same(&rt, (poller.faults(), poller.waits()), (3, 1));
-    Ok(())
 }
 
 /// A clock of two moments.
-fn clock_of(alloc: Global, first: Moment, last: Moment) -> Result<MemClock, AllocError>
+fn clock_of(rt: &impl Abort, alloc: Global, first: Moment, last: Moment) -> MemClock
     requires { first ≤ last }
 {
-    Ok(MemClock::new(vec![in alloc; first, last]?))
+    MemClock::new(vec![in alloc; first, last].expect(rt, MEMORY))
 }
 
 /// Two looks at a clock: the later answers no earlier moment, and both lie between its bounds.
@@ -192,18 +191,25 @@ fn look_twice<C: Clock>(clock: &mut C) -> (Moment, Moment)
     (first, second)
 }
 
-fn twin_of<C: Clock>(clock: &C) -> Result<C, OutOfMemory> {
-    clock.twin()
+fn twin_of<C: Clock>(rt: &impl Abort, clock: &C) -> C {
+    clock.twin().expect(rt, MEMORY)
 }
 
 #[test]
-fn a_clock_never_goes_back_and_its_twin_starts_anew(rt: HostRuntime) -> Result<(), Fail> {
+fn a_clock_never_goes_back_and_its_twin_starts_anew(rt: HostRuntime) {
     let (five, eight) = (moment(&rt, 5), moment(&rt, 8));
-    let mut clock = clock_of(rt.alloc(), five, eight)?;
+    let mut clock = clock_of(&rt, rt.alloc(), five, eight);
     same(&rt, look_twice(&mut clock), (five, eight));
-    same(&rt, look_twice(&mut twin_of(&clock)?), (five, eight));
+    same(&rt, look_twice(&mut twin_of(&rt, &clock)), (five, eight));
     same(&rt, look_twice(&mut clock), (eight, eight));
-    Ok(())
+}
+
+/// The nanoseconds of a moment, where there is one.
+fn nanoseconds_of(moment: Option<Moment>) -> Option<u64> {
+    match moment {
+        Some(moment) => Some(moment.get()),
+        None => None,
+    }
 }
 
 /// The last moment.
@@ -212,7 +218,7 @@ const LAST: u64 = 1_000_000_000_000_000_000;
 #[test]
 fn a_moment_is_at_most_the_last(rt: HostRuntime) {
     for (nanoseconds, moment) in [(0, Some(0)), (LAST, Some(LAST)), (LAST + 1, None)] {
-        same(&rt, Moment::new(nanoseconds).map(Moment::get), moment);
+        same(&rt, nanoseconds_of(Moment::new(nanoseconds)), moment);
     }
 }
 

@@ -2,12 +2,12 @@
 //! core that ran it, where memory is left.
 
 use crate::asserts::same;
+use crate::runs::source_of;
 use crate::traces::{ORDINARY, ORDINARY_ANSWERS};
 use aio_base::Key;
-use aio_bytes::{MemSink, MemSource, Sink, Source};
+use aio_bytes::{MemSink, Sink, Source};
 use aio_replay::{ReplayEnd, replay};
 use std::alloc::Global;
-use std::test::Fail;
 
 /// How a replay ended, and what its core says: how many rounds have begun, and whether a source of this
 /// key lives.
@@ -25,12 +25,11 @@ fn ended_with<S: Source, K: Sink>(
 }
 
 #[test]
-fn a_replay_hands_back_the_core_that_ran_it(rt: HostRuntime) -> Result<(), Fail> {
+fn a_replay_hands_back_the_core_that_ran_it(rt: HostRuntime) {
     let alloc = rt.alloc();
-    let mut input = MemSource::new(ORDINARY.to_vec(alloc)?, 7, Vec::new(alloc));
+    let mut input = source_of(&rt, alloc, ORDINARY, 7, &[]);
     let mut out = MemSink::new(alloc, Vec::new(alloc));
     let ended = ended_with(alloc, &mut input, &mut out, Key(0));
     same(&rt, ended, (ReplayEnd::Done, Some((1, true))));
     same(&rt, out.bytes(), ORDINARY_ANSWERS);
-    Ok(())
 }

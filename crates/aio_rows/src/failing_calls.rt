@@ -3,19 +3,17 @@
 
 ghost use Rattle.std.specs.Prelude.{None, false};
 
-use crate::asserts::same_in;
-use crate::kits::{NOTHING_COMES, kit_of};
-use crate::traces::{
-    FIRST_FAULT, NOTHING_FAILS, ORDINARY, ORDINARY_ANSWERS, Ran, run_from, run_into,
-};
+use crate::asserts::{same, same_in};
+use crate::kits::NOTHING_COMES;
+use crate::runs::{FIRST_FAULT, NOTHING_FAILS, Ran, run_from, run_into, sink_of, source_of};
+use crate::traces::{ORDINARY, ORDINARY_ANSWERS};
 use aio_base::Faults;
-use aio_bytes::{MemSink, MemSource, Sink, SinkRefusal};
+use aio_bytes::{MemSink, Sink, SinkRefusal};
 use aio_conns::MemPort;
 use aio_run::{Status, Why};
-use std::alloc::{AllocError, AllocGlobal};
+use std::alloc::AllocGlobal;
 use std::process::Abort;
 use std::sync::Wait;
-use std::test::Fail;
 use std::thread::Threads;
 
 /// A number that no call of these runs has.
@@ -51,17 +49,6 @@ const NOT_WRITTEN: Ended = (
     b"write fault\n",
 );
 
-/// Replays the ordinary trace, of which a read gives one byte and the one of this number fails.
-fn fail_read<R: Wait + Threads + Sync + Send + Copy + AllocGlobal>(
-    rt: &R,
-    number: u64,
-) -> Result<Ran, AllocError> {
-    let alloc = rt.alloc();
-    let fails = vec![in alloc; number]?;
-    let mut source = MemSource::new(ORDINARY.to_vec(alloc)?, 1, fails);
-    run_from(rt, &["replay"], &mut source, NOTHING_FAILS)
-}
-
 /// Asserts the status of a run of the ordinary trace and what it told. Whether it wrote a front of
 /// the answers, and how many bytes that has.
 fn wrote_front(rt: &impl Abort, number: u64, ran: &Ran, ended: Ended) -> (bool, usize) {
@@ -70,25 +57,26 @@ fn wrote_front(rt: &impl Abort, number: u64, ran: &Ran, ended: Ended) -> (bool, 
     (ORDINARY_ANSWERS.starts_with(out), out.len())
 }
 
-/// Fails each read in turn: those of the 50 bytes, and the one that finds the end.
-fn fail_each_read<R: Wait + Threads + Sync + Send + Copy + AllocGlobal + Abort>(
+/// Replays the ordinary trace, of which a read gives one byte and the one of this number fails, and asserts how
+/// that ended. Whether it wrote a front of the answers, and how many bytes that has.
+fn fail_read<R: Wait + Threads + Sync + Send + Copy + AllocGlobal + Abort>(
     rt: &R,
-) -> Result<(), AllocError> {
-    for number in 1..52 {
-        let ran = fail_read(rt, number)?;
-        let (front, _) = wrote_front(rt, number, &ran, NOT_READ);
-        same_in(rt, number, front, true);
-    }
-    Ok(())
+    number: u64,
+    ended: Ended,
+) -> (bool, usize) {
+    let mut source = source_of(rt, rt.alloc(), ORDINARY, 1, &[number]);
+    let ran = run_from(rt, &["replay"], &mut source, NOTHING_FAILS);
+    wrote_front(rt, number, &ran, ended)
 }
 
 #[test]
-fn whichever_read_fails_a_front_of_the_answers_is_written(rt: HostRuntime) -> Result<(), Fail> {
-    fail_each_read(&rt)?;
-    let ran = fail_read(&rt, NONE_HAS)?;
-    let wrote = wrote_front(&rt, NONE_HAS, &ran, DONE);
-    same_in(&rt, NONE_HAS, wrote, (true, 53));
-    Ok(())
+fn whichever_read_fails_a_front_of_the_answers_is_written(rt: HostRuntime) {
+    // Those of the 50 bytes, and the one that finds the end.
+    for number in 1..52 {
+        let (front, _) = fail_read(&rt, number, NOT_READ);
+        same_in(&rt, number, front, true);
+    }
+    same(&rt, fail_read(&rt, NONE_HAS, DONE), (true, 53));
 }
 
 /// A sink in memory that takes one byte a write.
@@ -123,51 +111,42 @@ impl Sink for Narrow {
     }
 }
 
-/// Replays the ordinary trace into a sink that takes one byte a write. The status, and what was told.
-fn write_narrow<R: Wait + Threads + Sync + Send + Copy + AllocGlobal>(
+/// Replays the ordinary trace into a sink that takes one byte a write. The status, what was told, and what the
+/// devices count.
+fn write_narrow<R: Wait + Threads + Sync + Send + Copy + AllocGlobal + Abort>(
     rt: &R,
     out: &mut Narrow,
-) -> Result<(Status, MemSink), AllocError> {
-    let alloc = rt.alloc();
-    let mut source = MemSource::new(ORDINARY.to_vec(alloc)?, 1, Vec::new(alloc));
-    let mut kit = kit_of(alloc, MemPort::new(Vec::new(alloc)), NOTHING_COMES)?;
-    run_into(rt, &["replay"], &mut source, out, &[], &mut kit)
+) -> (Status, MemSink, [u64; 5]) {
+    let mut source = source_of(rt, rt.alloc(), ORDINARY, 1, &[]);
+    let port = MemPort::new(Vec::new(rt.alloc()));
+    run_into(rt, &["replay"], &mut source, out, &[], port, NOTHING_COMES)
 }
 
-/// The same where the write of this number fails.
-fn fail_write<R: Wait + Threads + Sync + Send + Copy + AllocGlobal>(
+/// The same where the write of this number fails, asserting how that ended. Whether it wrote a front of the answers,
+/// and how many bytes that has.
+fn fail_write<R: Wait + Threads + Sync + Send + Copy + AllocGlobal + Abort>(
     rt: &R,
     number: u64,
-) -> Result<Ran, AllocError> {
-    let alloc = rt.alloc();
-    let mut out = Narrow {
-        held: MemSink::new(alloc, vec![in alloc; number]?),
-    };
-    let (status, err) = write_narrow(rt, &mut out)?;
-    Ok(Ran {
+    ended: Ended,
+) -> (bool, usize) {
+    let held = sink_of(rt, rt.alloc(), &[number]);
+    let mut out = Narrow { held };
+    let (status, err, counts) = write_narrow(rt, &mut out);
+    let ran = Ran {
         status,
         out: out.held,
         err,
-    })
-}
-
-/// Fails each write in turn: each before it took a byte.
-fn fail_each_write<R: Wait + Threads + Sync + Send + Copy + AllocGlobal + Abort>(
-    rt: &R,
-) -> Result<(), AllocError> {
-    for number in 1..54_u64 {
-        let ran = fail_write(rt, number)?;
-        let wrote = wrote_front(rt, number, &ran, NOT_WRITTEN);
-        same_in(rt, number, wrote, (true, number as usize - 1));
-    }
-    Ok(())
+        counts,
+    };
+    wrote_front(rt, number, &ran, ended)
 }
 
 #[test]
-fn whichever_write_fails_a_front_of_the_answers_is_written(rt: HostRuntime) -> Result<(), Fail> {
-    fail_each_write(&rt)?;
-    let ran = fail_write(&rt, NONE_HAS)?;
-    let wrote = wrote_front(&rt, NONE_HAS, &ran, DONE);
-    same_in(&rt, NONE_HAS, wrote, (true, 53));
-    Ok(())
+fn whichever_write_fails_a_front_of_the_answers_is_written(rt: HostRuntime) {
+    // Each fails before it took a byte.
+    for number in 1..54_u64 {
+        let wrote = fail_write(&rt, number, NOT_WRITTEN);
+        same_in(&rt, number, wrote, (true, number as usize - 1));
+    }
+    same(&rt, fail_write(&rt, NONE_HAS, DONE), (true, 53));
 }

@@ -3,13 +3,11 @@
 //! model that was written apart from this program.
 
 use crate::asserts::same;
-use crate::traces::{FIRST_FAULT, Failing, NOTHING_FAILS, Ran, ends, run_over};
+use crate::runs::{FIRST_FAULT, Failing, NOTHING_FAILS, Ran, ends, run_over};
 use aio_replay::{Summary, summary};
 use aio_run::{Status, Why};
-use std::alloc::AllocError;
 use std::process::Abort;
 use std::sync::Wait;
-use std::test::Fail;
 use std::thread::Threads;
 
 /// Words, and what is written for them. Leading zeros are read.
@@ -51,26 +49,21 @@ fn write_row<R: Wait + Threads + Sync + Send + Copy + AllocGlobal + Abort>(
     rt: &R,
     words: &[&str],
     out: &[u8],
-) -> Result<(), AllocError> {
+) {
     let failing = Failing {
         reads: &[1],
         ..NOTHING_FAILS
     };
     let wanted = (out, b"".as_slice(), 0);
-    same(
-        rt,
-        ends(rt, words, b"trace 1\n", 1, failing, wanted)?,
-        Why::Done,
-    );
-    Ok(())
+    let why = ends(rt, words, b"trace 1\n", 1, failing, wanted);
+    same(rt, why, Why::Done);
 }
 
 #[test]
-fn a_trace_is_made_and_summed_without_the_input(rt: HostRuntime) -> Result<(), Fail> {
+fn a_trace_is_made_and_summed_without_the_input(rt: HostRuntime) {
     for (words, out) in WRITTEN {
-        write_row(&rt, words, out)?;
+        write_row(&rt, words, out);
     }
-    Ok(())
 }
 
 /// The number of steps, a seed, and what a run of its steps counts to.
@@ -128,19 +121,14 @@ fn make_front<R: Wait + Threads + Sync + Send + Copy + AllocGlobal + Abort>(
     rt: &R,
     trace: &[u8],
     writes: &'static [u64],
-) -> Result<(), AllocError> {
+) {
     let failing = Failing {
         writes,
         ..NOTHING_FAILS
     };
-    let ran = run_over(rt, MADE, b"", 1, failing)?;
-    same(rt, is_front(&ran, trace), true);
-    same(
-        rt,
-        (ran.status, ran.err.bytes()),
-        (NOT_WRITTEN, b"write fault\n"),
-    );
-    Ok(())
+    let ran = run_over(rt, MADE, b"", 1, failing);
+    let found = (is_front(&ran, trace), ran.status, ran.err.bytes());
+    same(rt, found, (true, NOT_WRITTEN, b"write fault\n".as_slice()));
 }
 
 /// The status of a run whose first fault was that of a write.
@@ -155,21 +143,20 @@ fn is_front(ran: &Ran, trace: &[u8]) -> bool {
 }
 
 /// Asserts that the trace is replayed to its end.
-fn replay_made<R: Wait + Threads + Sync + Send + Copy + AllocGlobal + Abort>(
-    rt: &R,
-    trace: &[u8],
-) -> Result<(), AllocError> {
-    let replayed = run_over(rt, &["replay"], trace, 4096, NOTHING_FAILS)?;
+fn replay_made<R: Wait + Threads + Sync + Send + Copy + AllocGlobal + Abort>(rt: &R, trace: &[u8]) {
+    let replayed = run_over(rt, &["replay"], trace, 4096, NOTHING_FAILS);
     same(rt, replayed.status.exit, 0);
-    Ok(())
 }
 
+/// The write that fails.
+const FAILING_WRITES: &[&[u64]] = &[&[1], &[2], &[3]];
+
 #[test]
-fn a_made_trace_is_replayed_or_left_at_its_front(rt: HostRuntime) -> Result<(), Fail> {
-    let made = run_over(&rt, MADE, b"", 1, NOTHING_FAILS)?;
+fn a_made_trace_is_replayed_or_left_at_its_front(rt: HostRuntime) {
+    let made = run_over(&rt, MADE, b"", 1, NOTHING_FAILS);
     let trace = made.out.bytes();
-    replay_made(&rt, trace)?;
-    make_front(&rt, trace, &[1])?;
-    make_front(&rt, trace, &[2])?;
-    Ok(make_front(&rt, trace, &[3])?)
+    replay_made(&rt, trace);
+    for writes in FAILING_WRITES {
+        make_front(&rt, trace, writes);
+    }
 }

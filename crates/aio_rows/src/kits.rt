@@ -1,11 +1,13 @@
 //! Devices in memory for the calls of the tests.
 
-use aio_base::{Moment, Placement, Port, Spawner};
+use crate::asserts::MEMORY;
+use aio_base::{EventWait, Faults, Moment, Notify, Placement, Port, Spawner};
 use aio_devices::{FailingWait, MemClock, MemNotify, clock_until};
 use aio_line::{Kit, SixDevices};
 use aio_serve::OpenGate;
-use std::alloc::{AllocError, Global};
+use std::alloc::Global;
 use std::cell::Cell;
+use std::process::Abort;
 
 /// Six devices, of which the tests choose the port.
 pub(crate) type MemKit<P> = Kit<P, FailingWait, MemNotify, MemClock, OpenGate, ChosenSpawner>;
@@ -56,27 +58,38 @@ pub(crate) const NOTHING_COMES: Course = Course {
 };
 
 /// This port, with a wait, a clock and a spawner of this course, a notifier and an open gate.
-pub(crate) fn kit_of<P: Port + Drop>(
+pub(crate) fn kit_of<P: Port>(
+    rt: &impl Abort,
     alloc: Global,
     port: P,
     course: Course,
-) -> Result<MemKit<P>, AllocError> {
-    let wait = FailingWait::new(course.keys.min(1024), course.fails.to_vec(alloc)?);
-    let Some(until) = Moment::new(course.until) else {
-        return Err(AllocError);
-    };
-    let clock = clock_until(alloc, LOOKS, until)?;
-    Ok(Kit {
+) -> MemKit<P> {
+    let fails = course.fails.to_vec(alloc).expect(rt, MEMORY);
+    let until = Moment::new(course.until).expect(rt, "the moment is at most 10^18");
+    Kit {
         devices: SixDevices {
             port,
-            wait,
+            wait: FailingWait::new(course.keys.min(1024), fails),
             notify: MemNotify::new(),
-            clock,
+            clock: clock_until(alloc, LOOKS, until).expect(rt, MEMORY),
             gate: OpenGate,
             spawner: ChosenSpawner {
                 placement: course.placement,
                 asked: Cell::new(0),
             },
         },
-    })
+    }
+}
+
+/// What devices count: the faults of port and wait, the waits, the calls of the notifier, and how often jobs
+/// were run.
+pub(crate) fn counts<P: Port>(kit: &MemKit<P>) -> [u64; 5] {
+    let six = &kit.devices;
+    [
+        six.port.faults(),
+        six.wait.faults(),
+        six.wait.waits(),
+        six.notify.calls(),
+        six.spawner.asked(),
+    ]
 }

@@ -20,6 +20,8 @@ mod kits;
 #[cfg(test)]
 mod relays;
 #[cfg(test)]
+mod runs;
+#[cfg(test)]
 mod spellings;
 #[cfg(test)]
 mod stresses;

@@ -1,20 +1,18 @@
 //! What no clause says of a relay: that the definitions mean the lines that are told of pairs, that a port
 //! which is not bound ends it before anything is written, and that it serves pairs to their ends.
 
-use crate::asserts::{same, same_in};
+use crate::asserts::{MEMORY, same};
 use crate::devices::ClosedPort;
-use crate::kits::{Course, MemKit, NOTHING_COMES, kit_of};
-use crate::traces::{FIRST_FAULT, Failing, NOTHING_FAILS, Wrote, assert_ran, run_with};
+use crate::kits::{Course, NOTHING_COMES};
+use crate::runs::{FIRST_FAULT, Failing, NOTHING_FAILS, Wrote, assert_ran, run_with, source_of};
 use aio_base::{ArmFault, Key, Moment, Placement, Port};
-use aio_bytes::MemSource;
 use aio_conns::{ENDS, MemPort, Peer, SILENT};
 use aio_line::pair_lines;
 use aio_pairs::{PairEnd, Side};
 use aio_run::{Which6, Why};
-use std::alloc::{AllocError, AllocGlobal, Global};
+use std::alloc::{AllocGlobal, Global};
 use std::process::Abort;
 use std::sync::Wait;
-use std::test::Fail;
 use std::thread::Threads;
 
 /// A moment so many nanoseconds after the start.
@@ -28,7 +26,7 @@ pair 4 too long b 18446744073709551615\npair 5 read fault\npair 6 write fault\n\
 pair 7 arm fault\npair 8 notify fault\npair 9 out of memory\n";
 
 #[test]
-fn each_end_of_a_pair_has_its_line(rt: HostRuntime) -> Result<(), Fail> {
+fn each_end_of_a_pair_has_its_line(rt: HostRuntime) {
     let ends = [
         PairEnd::Ended { to_a: 0, to_b: 3 },
         PairEnd::Idle {
@@ -53,8 +51,8 @@ fn each_end_of_a_pair_has_its_line(rt: HostRuntime) -> Result<(), Fail> {
         PairEnd::NotifyFault(FIRST_FAULT),
         PairEnd::OutOfMemory,
     ];
-    same(&rt, pair_lines(rt.alloc(), &ends)?.as_slice(), LINES);
-    Ok(())
+    let lines = pair_lines(rt.alloc(), &ends).expect(&rt, MEMORY);
+    same(&rt, lines.as_slice(), LINES);
 }
 
 /// Sends a line in two pieces and two bytes behind it, and ends.
@@ -264,51 +262,36 @@ pair 4 too long b 4098\npair 5 read fault\npair 6 write fault\npair 7 arm fault\
 ];
 
 /// A port that hands out connections to these peers.
-fn port_of(alloc: Global, peers: &[Peer<'_>]) -> Result<MemPort, Fail> {
+fn port_of(rt: &impl Abort, alloc: Global, peers: &[Peer<'_>]) -> MemPort {
     let mut conns = Vec::new(alloc);
     for peer in peers {
-        conns.push(peer.connection(alloc)?)?;
+        let conn = peer.connection(alloc).expect(rt, MEMORY);
+        conns.push(conn).expect(rt, MEMORY);
     }
-    Ok(MemPort::new(conns))
+    MemPort::new(conns)
 }
 
-/// Runs a relay over these devices, and asserts what came of it.
-fn relay_with<R: Wait + Threads + Sync + Send + Copy + AllocGlobal + Abort, P: Port>(
-    rt: &R,
-    kit: &mut MemKit<P>,
-    row: &Row,
-) -> Result<(), AllocError>
-where
-    P::C: Send + Drop,
-{
-    let alloc = rt.alloc();
-    let mut source = MemSource::new(Vec::new(alloc), 1, Vec::new(alloc));
-    let words = ["relay", "0", row.workers, "1000", row.pairs];
-    let ran = run_with(rt, &words, &mut source, row.failing, kit)?;
-    assert_ran(rt, &ran, row.wanted, row.why);
-    same(rt, ran.status.why, row.why);
-    Ok(())
-}
-
-/// The same over a port.
+/// Runs a relay over a port, and asserts what came of it.
 fn relay_over<R: Wait + Threads + Sync + Send + Copy + AllocGlobal + Abort, P: Port + Drop>(
     rt: &R,
     port: P,
     row: &Row,
-) -> Result<(), AllocError>
+)
 where
     P::C: Send + Drop,
 {
-    let mut kit = kit_of(rt.alloc(), port, row.course)?;
-    relay_with(rt, &mut kit, row)
+    let mut source = source_of(rt, rt.alloc(), b"", 1, &[]);
+    let words = ["relay", "0", row.workers, "1000", row.pairs];
+    let ran = run_with(rt, &words, &mut source, row.failing, port, row.course);
+    assert_ran(rt, &ran, row.wanted, row.why);
+    same(rt, ran.status.why, row.why);
 }
 
 #[test]
-fn a_relay_tells_what_its_pairs_come_to_and_why_it_stops(rt: HostRuntime) -> Result<(), Fail> {
+fn a_relay_tells_what_its_pairs_come_to_and_why_it_stops(rt: HostRuntime) {
     for row in ROWS {
-        relay_over(&&rt, port_of(rt.alloc(), row.peers)?, row)?;
+        relay_over(&&rt, port_of(&rt, rt.alloc(), row.peers), row);
     }
-    Ok(())
 }
 
 /// A relay over a port that cannot be bound.
@@ -323,6 +306,6 @@ const NOT_BOUND: Row = Row {
 };
 
 #[test]
-fn a_port_that_is_not_bound_ends_a_relay(rt: HostRuntime) -> Result<(), Fail> {
-    Ok(relay_over(&&rt, ClosedPort::new(), &NOT_BOUND)?)
+fn a_port_that_is_not_bound_ends_a_relay(rt: HostRuntime) {
+    relay_over(&&rt, ClosedPort::new(), &NOT_BOUND);
 }

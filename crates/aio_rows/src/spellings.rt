@@ -1,12 +1,11 @@
 //! In which spellings a line is read, and why a line that reads as no step is refused.
 
-use crate::asserts::same_in;
-use crate::traces::{NOTHING_FAILS, Wrote, assert_ran, replay_rows, replay_so, run_from};
+use crate::asserts::{MEMORY, same_in};
+use crate::runs::{NOTHING_FAILS, Wrote, assert_ran, replay_rows, replay_so, run_from, source_of};
 use aio_bytes::{MemSource, Source};
-use std::alloc::{AllocError, Global};
+use std::alloc::Global;
 use std::process::Abort;
 use std::sync::Wait;
-use std::test::Fail;
 use std::thread::Threads;
 
 /// Traces that are read to their end, and the answers.
@@ -105,8 +104,8 @@ const REFUSED: &[(&[u8], &[u8], &[u8])] = &[
 ];
 
 #[test]
-fn a_line_is_read_in_each_of_its_spellings(rt: HostRuntime) -> Result<(), Fail> {
-    Ok(replay_rows(&rt, READ, &[1, 4096])?)
+fn a_line_is_read_in_each_of_its_spellings(rt: HostRuntime) {
+    replay_rows(&rt, READ, &[1, 4096]);
 }
 
 /// Replays each refused trace, of which a read gives at most so many bytes, for each of these numbers, and
@@ -115,18 +114,17 @@ fn refuse_rows<R: Wait + Threads + Sync + Send + Copy + AllocGlobal + Abort>(
     rt: &R,
     rows: &[(&[u8], &[u8], &[u8])],
     pieces: &[usize],
-) -> Result<(), AllocError> {
+) {
     for piece in pieces {
         for (trace, out, err) in rows {
-            replay_so(rt, trace, *piece, (out, err, 2))?;
+            replay_so(rt, trace, *piece, (out, err, 2));
         }
     }
-    Ok(())
 }
 
 #[test]
-fn the_first_refused_line_is_told_with_its_reason(rt: HostRuntime) -> Result<(), Fail> {
-    Ok(refuse_rows(&rt, REFUSED, &[1, 4096])?)
+fn the_first_refused_line_is_told_with_its_reason(rt: HostRuntime) {
+    refuse_rows(&rt, REFUSED, &[1, 4096]);
 }
 
 /// The line is read.
@@ -145,13 +143,13 @@ const LENGTHS: &[(usize, Wrote<'static>)] = &[
 ];
 
 /// A trace with one line `add`, which blanks and this last byte make so many bytes long.
-fn long_line(alloc: Global, len: usize, last: u8) -> Result<Vec<u8>, AllocError> {
-    let mut trace = b"trace 1\nadd".to_vec(alloc)?;
+fn long_line(rt: &impl Abort, alloc: Global, len: usize, last: u8) -> Vec<u8> {
+    let mut trace = b"trace 1\nadd".to_vec(alloc).expect(rt, MEMORY);
     for _ in 4..len {
-        trace.push(b' ')?;
+        trace.push(b' ').expect(rt, MEMORY);
     }
-    trace.push(last)?;
-    Ok(trace)
+    trace.push(last).expect(rt, MEMORY);
+    trace
 }
 
 fn read_long_line<R: Wait + Threads + Sync + Send + Copy + AllocGlobal + Abort>(
@@ -159,28 +157,27 @@ fn read_long_line<R: Wait + Threads + Sync + Send + Copy + AllocGlobal + Abort>(
     len: usize,
     last: u8,
     wanted: Wrote<'_>,
-) -> Result<(), AllocError> {
-    let trace = long_line(rt.alloc(), len, last)?;
-    replay_so(rt, trace.as_slice(), 4096, wanted)
+) {
+    let trace = long_line(rt, rt.alloc(), len, last);
+    replay_so(rt, trace.as_slice(), 4096, wanted);
 }
 
 #[test]
-fn a_line_has_at_most_256_bytes(rt: HostRuntime) -> Result<(), Fail> {
+fn a_line_has_at_most_256_bytes(rt: HostRuntime) {
     for (len, wanted) in LENGTHS {
-        read_long_line(&rt, *len, b' ', *wanted)?;
-        read_long_line(&rt, *len, b'\r', *wanted)?;
+        read_long_line(&rt, *len, b' ', *wanted);
+        read_long_line(&rt, *len, b'\r', *wanted);
     }
-    Ok(())
 }
 
 /// A header that blanks make so many bytes long, and a line behind it.
-fn long_header(alloc: Global, len: usize) -> Result<Vec<u8>, AllocError> {
-    let mut trace = b"trace 1".to_vec(alloc)?;
+fn long_header(rt: &impl Abort, alloc: Global, len: usize) -> Vec<u8> {
+    let mut trace = b"trace 1".to_vec(alloc).expect(rt, MEMORY);
     for _ in 7..len {
-        trace.push(b' ')?;
+        trace.push(b' ').expect(rt, MEMORY);
     }
-    trace.extend_from_slice(b"\nadd\n")?;
-    Ok(trace)
+    trace.extend_from_slice(b"\nadd\n").expect(rt, MEMORY);
+    trace
 }
 
 /// Replays a trace with a header of so many bytes.
@@ -188,35 +185,37 @@ fn read_long_header<R: Wait + Threads + Sync + Send + Copy + AllocGlobal + Abort
     rt: &R,
     len: usize,
     wanted: Wrote<'_>,
-) -> Result<(), AllocError> {
-    let trace = long_header(rt.alloc(), len)?;
-    replay_so(rt, trace.as_slice(), 4096, wanted)
+) {
+    let trace = long_header(rt, rt.alloc(), len);
+    replay_so(rt, trace.as_slice(), 4096, wanted);
 }
 
 /// The first line is no header.
 const IS_NO_HEADER: Wrote<'static> = (b"", b"line 1: header\n", 2);
 
 #[test]
-fn a_header_has_at_most_256_bytes(rt: HostRuntime) -> Result<(), Fail> {
-    read_long_header(&rt, 256, IS_READ)?;
-    Ok(read_long_header(&rt, 257, IS_NO_HEADER)?)
+fn a_header_has_at_most_256_bytes(rt: HostRuntime) {
+    read_long_header(&rt, 256, IS_READ);
+    read_long_header(&rt, 257, IS_NO_HEADER);
 }
 
 #[test]
-fn a_long_line_of_other_bytes_is_long(rt: HostRuntime) -> Result<(), Fail> {
-    let mut trace = b"trace 1\n".to_vec(rt.alloc())?;
-    trace.extend_from_slice(&[0; 257])?;
-    Ok(replay_so(&rt, trace.as_slice(), 4096, IS_LONG)?)
+fn a_long_line_of_other_bytes_is_long(rt: HostRuntime) {
+    let mut trace = b"trace 1\n".to_vec(rt.alloc()).expect(&rt, MEMORY);
+    let zeros = vec![in rt.alloc(); 0; 257].expect(&rt, MEMORY);
+    trace
+        .extend_from_slice(zeros.as_slice())
+        .expect(&rt, MEMORY);
+    replay_so(&rt, trace.as_slice(), 4096, IS_LONG);
 }
 
 #[test]
-fn a_first_line_without_end_is_refused_by_its_first_257_bytes(rt: HostRuntime) -> Result<(), Fail> {
-    let alloc = rt.alloc();
-    let mut source = MemSource::new([b'a'; 300].to_vec(alloc)?, 4096, Vec::new(alloc));
-    let ran = run_from(&rt, &["replay"], &mut source, NOTHING_FAILS)?;
+fn a_first_line_without_end_is_refused_by_its_first_257_bytes(rt: HostRuntime) {
+    let line = vec![in rt.alloc(); b'a'; 300].expect(&rt, MEMORY);
+    let mut source = source_of(&rt, rt.alloc(), line.as_slice(), 4096, &[]);
+    let ran = run_from(&rt, &["replay"], &mut source, NOTHING_FAILS);
     assert_ran(&rt, &ran, IS_NO_HEADER, "no end");
     assert_left(&rt, &mut source, 43);
-    Ok(())
 }
 
 /// Asserts that so many bytes are left in the source at least.

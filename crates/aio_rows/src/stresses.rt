@@ -2,16 +2,13 @@
 //! as may be asked for, and that its jobs are run by the lent spawner.
 
 use crate::asserts::{same, same_in};
-use crate::kits::{Course, MemKit, NOTHING_COMES, kit_of};
-use crate::traces::{FIRST_FAULT, Failing, NOTHING_FAILS, Ran, assert_ran, counts, run_with};
+use crate::kits::{Course, NOTHING_COMES};
+use crate::runs::{FIRST_FAULT, Failing, NOTHING_FAILS, Wrote, assert_ran, run_with, source_of};
 use aio_base::Placement;
-use aio_bytes::MemSource;
 use aio_conns::MemPort;
 use aio_run::Why;
-use std::alloc::AllocError;
 use std::process::Abort;
 use std::sync::Wait;
-use std::test::Fail;
 use std::thread::Threads;
 
 /// Numbers of calls and seeds, where the jobs run, and what is written. Leading zeros are read.
@@ -43,55 +40,44 @@ const ROWS: &[(&str, &str, Placement, &[u8])] = &[
     ),
 ];
 
-/// Runs `stress` over an input whose first read would fail, with this output and these devices, and asserts that
-/// of the devices the spawner alone was used, once.
-fn stress_over<R: Wait + Threads + Sync + Send + Copy + AllocGlobal + Abort>(
-    rt: &R,
-    (calls, seed): (&str, &str),
-    failing: Failing,
-    kit: &mut MemKit<MemPort>,
-) -> Result<Ran, AllocError> {
-    let alloc = rt.alloc();
-    let mut source = MemSource::new(Vec::new(alloc), 1, [1].to_vec(alloc)?);
-    let words = ["stress", calls, seed];
-    let ran = run_with(rt, &words, &mut source, failing, kit)?;
-    same_in(rt, words, counts(kit), [0, 0, 0, 0, 1]);
-    Ok(ran)
-}
-
-/// The same with new devices, which run jobs here.
+/// Runs `stress` over an input whose first read would fail, with its jobs at this place and with this output.
+/// Asserts what it wrote and told, its exit status, and that of the devices the spawner alone was used, once. Why
+/// it ended.
 fn stress_by<R: Wait + Threads + Sync + Send + Copy + AllocGlobal + Abort>(
     rt: &R,
-    asked: (&str, &str),
+    (calls, seed): (&str, &str),
     placement: Placement,
     failing: Failing,
-) -> Result<Ran, AllocError> {
-    let alloc = rt.alloc();
+    wanted: Wrote<'_>,
+) -> Why {
     let course = Course {
         placement,
         ..NOTHING_COMES
     };
-    let mut kit = kit_of(alloc, MemPort::new(Vec::new(alloc)), course)?;
-    stress_over(rt, asked, failing, &mut kit)
+    let mut source = source_of(rt, rt.alloc(), b"", 1, &[1]);
+    let port = MemPort::new(Vec::new(rt.alloc()));
+    let words = ["stress", calls, seed];
+    let ran = run_with(rt, &words, &mut source, failing, port, course);
+    assert_ran(rt, &ran, wanted, words);
+    same_in(rt, words, ran.counts, [0, 0, 0, 0, 1]);
+    ran.status.why
 }
 
 #[test]
-fn two_jobs_come_to_their_line(rt: HostRuntime) -> Result<(), Fail> {
+fn two_jobs_come_to_their_line(rt: HostRuntime) {
     for (calls, seed, placement, line) in ROWS {
-        let ran = stress_by(&rt, (calls, seed), *placement, NOTHING_FAILS)?;
-        assert_ran(&rt, &ran, (line, b"", 0), (calls, seed));
+        let wanted = (*line, b"".as_slice(), 0);
+        let _why = stress_by(&rt, (calls, seed), *placement, NOTHING_FAILS, wanted);
     }
-    Ok(())
 }
 
 #[test]
-fn a_line_that_cannot_be_written_is_a_write_fault(rt: HostRuntime) -> Result<(), Fail> {
+fn a_line_that_cannot_be_written_is_a_write_fault(rt: HostRuntime) {
     let failing = Failing {
         writes: &[1],
         ..NOTHING_FAILS
     };
-    let ran = stress_by(&rt, ("5", "1"), Placement::Caller, failing)?;
-    assert_ran(&rt, &ran, (b"", b"write fault\n", 4), "stress");
-    same(&rt, ran.status.why, Why::WriteFault(FIRST_FAULT));
-    Ok(())
+    let wanted = (b"".as_slice(), b"write fault\n".as_slice(), 4);
+    let why = stress_by(&rt, ("5", "1"), Placement::Caller, failing, wanted);
+    same(&rt, why, Why::WriteFault(FIRST_FAULT));
 }

@@ -3,18 +3,17 @@
 
 ghost use Rattle.std.specs.Prelude.{None, false};
 
-use crate::asserts::{same, same_in};
+use crate::asserts::{MEMORY, same, same_in};
 use crate::devices::Torn;
-use crate::kits::{MemKit, NOTHING_COMES, kit_of};
-use aio_base::{CountFault, EventWait, Failed, Faults, Notify, Port, Reason};
-use aio_bytes::{MemSink, MemSource, Sink, Source};
-use aio_conns::MemPort;
-use aio_run::{Status, Why, run};
+use crate::runs::{
+    FIRST_FAULT, Failing, NOTHING_FAILS, assert_ran, ends, replay_rows, run_from, run_over,
+};
+use aio_base::{Failed, Faults, Reason};
+use aio_bytes::Source;
+use aio_run::{Status, Why};
 use std::alloc::{AllocError, Global};
-use std::fmt::Debug;
 use std::process::Abort;
 use std::sync::Wait;
-use std::test::Fail;
 use std::thread::Threads;
 
 const USAGE: &[u8] =
@@ -26,135 +25,6 @@ pub(crate) const ORDINARY: &[u8] = b"trace 1\nadd\npoll 0 r 7\nevent 0 r\nreact\
 /// The answers to that trace.
 pub(crate) const ORDINARY_ANSWERS: &[u8] =
     b"key 0\npending\nnoted\nround 1 events 1 ok\nwake 7\nready\n";
-
-/// What a call answered, and what it wrote.
-#[derive(Drop)]
-pub(crate) struct Ran {
-    pub(crate) status: Status,
-    pub(crate) out: MemSink,
-    pub(crate) err: MemSink,
-}
-
-/// The numbers of the calls that fail, from 1: the reads of the input, and the writes of the output
-/// and of what is told to the user.
-#[derive(Clone, Copy)]
-pub(crate) struct Failing {
-    pub(crate) reads: &'static [u64],
-    pub(crate) writes: &'static [u64],
-    pub(crate) tells: &'static [u64],
-}
-
-pub(crate) const NOTHING_FAILS: Failing = Failing {
-    reads: &[],
-    writes: &[],
-    tells: &[],
-};
-
-/// The first fault of a device.
-pub(crate) const FIRST_FAULT: CountFault = CountFault {
-    before: 0,
-    after: 1,
-};
-
-/// Runs the command of these words over an input in memory, of which a read gives at most `piece`
-/// bytes, and one where that is 0.
-pub(crate) fn run_over<R: Wait + Threads + Sync + Send + Copy + AllocGlobal>(
-    rt: &R,
-    words: &[&str],
-    input: &[u8],
-    piece: usize,
-    failing: Failing,
-) -> Result<Ran, AllocError> {
-    let alloc = rt.alloc();
-    let bytes = input.to_vec(alloc)?;
-    let mut source = MemSource::new(bytes, piece.max(1), failing.reads.to_vec(alloc)?);
-    run_from(rt, words, &mut source, failing)
-}
-
-/// Runs the command of these words over this source.
-pub(crate) fn run_from<R: Wait + Threads + Sync + Send + Copy + AllocGlobal, S: Source>(
-    rt: &R,
-    words: &[&str],
-    source: &mut S,
-    failing: Failing,
-) -> Result<Ran, AllocError> {
-    let alloc = rt.alloc();
-    let mut kit = kit_of(alloc, MemPort::new(Vec::new(alloc)), NOTHING_COMES)?;
-    run_with(rt, words, source, failing, &mut kit)
-}
-
-/// The same over these devices.
-pub(crate) fn run_with<R: Wait + Threads + Sync + Send + Copy + AllocGlobal, S: Source, P: Port>(
-    rt: &R,
-    words: &[&str],
-    source: &mut S,
-    failing: Failing,
-    kit: &mut MemKit<P>,
-) -> Result<Ran, AllocError>
-where
-    P::C: Send + Drop,
-{
-    let mut out = MemSink::new(rt.alloc(), failing.writes.to_vec(rt.alloc())?);
-    let (status, err) = run_into(rt, words, source, &mut out, failing.tells, kit)?;
-    Ok(Ran { status, out, err })
-}
-
-/// The same into this output, where the calls of these numbers fail that tell the user. The status, and what was
-/// told.
-pub(crate) fn run_into<
-    R: Wait + Threads + Sync + Send + Copy + AllocGlobal,
-    S: Source,
-    K: Sink,
-    P: Port,
->(
-    rt: &R,
-    words: &[&str],
-    source: &mut S,
-    out: &mut K,
-    tells: &[u64],
-    kit: &mut MemKit<P>,
-) -> Result<(Status, MemSink), AllocError>
-where
-    P::C: Send + Drop,
-{
-    let alloc = rt.alloc();
-    let texts = texts_of(alloc, words)?;
-    let mut err = MemSink::new(alloc, tells.to_vec(alloc)?);
-    let status = run(rt, alloc, texts.as_slice(), source, out, &mut err, kit);
-    Ok((status, err))
-}
-
-fn texts_of(alloc: Global, words: &[&str]) -> Result<Vec<String>, AllocError> {
-    let mut texts = Vec::new(alloc);
-    for word in words {
-        texts.push(String::from_str(alloc, *word)?)?;
-    }
-    Ok(texts)
-}
-
-/// What a command writes to the output, what it tells the user, and its exit status.
-pub(crate) type Wrote<'a> = (&'a [u8], &'a [u8], u8);
-
-/// Asserts what a call wrote and told, and its exit status, naming what it was a call of where they differ.
-pub(crate) fn assert_ran<T: Debug + Drop>(rt: &impl Abort, ran: &Ran, wanted: Wrote<'_>, of: T) {
-    let wrote = (ran.out.bytes(), ran.err.bytes(), ran.status.exit);
-    same_in(rt, of, wrote, wanted);
-}
-
-/// Runs the command of these words over an input in memory, in the same way, and asserts what it wrote and told,
-/// and its exit status. Why it ended.
-pub(crate) fn ends<R: Wait + Threads + Sync + Send + Copy + AllocGlobal + Abort>(
-    rt: &R,
-    words: &[&str],
-    input: &[u8],
-    piece: usize,
-    failing: Failing,
-    wanted: Wrote<'_>,
-) -> Result<Why, AllocError> {
-    let ran = run_over(rt, words, input, piece, failing)?;
-    assert_ran(rt, &ran, wanted, (words, input));
-    Ok(ran.status.why)
-}
 
 /// Traces, and the answers to each; all lines of each are read.
 const TRACES: &[(&[u8], &[u8])] = &[
@@ -313,45 +183,19 @@ const SECTION_TRACES: &[(&[u8], &[u8])] = &[
     ),
 ];
 
-/// Replays each trace, of which a read gives at most so many bytes, for each of these numbers, and asserts its
-/// answers.
-pub(crate) fn replay_rows<R: Wait + Threads + Sync + Send + Copy + AllocGlobal + Abort>(
-    rt: &R,
-    rows: &[(&[u8], &[u8])],
-    pieces: &[usize],
-) -> Result<(), AllocError> {
-    for piece in pieces {
-        for (trace, out) in rows {
-            replay_so(rt, trace, *piece, (out, b"", 0))?;
-        }
-    }
-    Ok(())
-}
-
-/// Replays a trace, of which a read gives at most `piece` bytes, and asserts what that writes and tells.
-pub(crate) fn replay_so<R: Wait + Threads + Sync + Send + Copy + AllocGlobal + Abort>(
-    rt: &R,
-    trace: &[u8],
-    piece: usize,
-    wanted: Wrote<'_>,
-) -> Result<(), AllocError> {
-    ends(rt, &["replay"], trace, piece, NOTHING_FAILS, wanted)?;
-    Ok(())
+#[test]
+fn traces_are_answered_however_they_are_read(rt: HostRuntime) {
+    replay_rows(&rt, TRACES, &[1, 7, 4096]);
 }
 
 #[test]
-fn traces_are_answered_however_they_are_read(rt: HostRuntime) -> Result<(), Fail> {
-    Ok(replay_rows(&rt, TRACES, &[1, 7, 4096])?)
+fn timers_fire_in_order_and_once(rt: HostRuntime) {
+    replay_rows(&rt, TIMER_TRACES, &[1, 4096]);
 }
 
 #[test]
-fn timers_fire_in_order_and_once(rt: HostRuntime) -> Result<(), Fail> {
-    Ok(replay_rows(&rt, TIMER_TRACES, &[1, 4096])?)
-}
-
-#[test]
-fn rounds_are_answered_section_by_section(rt: HostRuntime) -> Result<(), Fail> {
-    Ok(replay_rows(&rt, SECTION_TRACES, &[1, 4096])?)
+fn rounds_are_answered_section_by_section(rt: HostRuntime) {
+    replay_rows(&rt, SECTION_TRACES, &[1, 4096]);
 }
 
 /// Words that are no command.
@@ -406,42 +250,21 @@ const OTHER_WORDS: &[&[&str]] = &[
     &["Stress", "1", "1"],
 ];
 
-/// Runs words that are no command, over these devices.
+/// Runs words that are no command, and asserts that no device was used.
 fn refuse_words<R: Wait + Threads + Sync + Send + Copy + AllocGlobal + Abort>(
     rt: &R,
     words: &[&str],
-    kit: &mut MemKit<MemPort>,
-) -> Result<(), AllocError> {
-    let alloc = rt.alloc();
-    let mut source = MemSource::new(ORDINARY.to_vec(alloc)?, 4096, Vec::new(alloc));
-    let ran = run_with(rt, words, &mut source, NOTHING_FAILS, kit)?;
+) {
+    let ran = run_over(rt, words, ORDINARY, 4096, NOTHING_FAILS);
     assert_ran(rt, &ran, (b"", USAGE, 1), words);
-    same(rt, ran.status.why, Why::Usage);
-    Ok(())
-}
-
-/// What devices count: the faults of port and wait, the waits, the calls of the notifier, and how often jobs
-/// were run.
-pub(crate) fn counts(kit: &MemKit<MemPort>) -> [u64; 5] {
-    let six = &kit.devices;
-    [
-        six.port.faults(),
-        six.wait.faults(),
-        six.wait.waits(),
-        six.notify.calls(),
-        six.spawner.asked(),
-    ]
+    same(rt, (ran.status.why, ran.counts), (Why::Usage, [0; 5]));
 }
 
 #[test]
-fn other_words_are_no_command_and_use_no_device(rt: HostRuntime) -> Result<(), Fail> {
-    let alloc = rt.alloc();
-    let mut kit = kit_of(alloc, MemPort::new(Vec::new(alloc)), NOTHING_COMES)?;
+fn other_words_are_no_command_and_use_no_device(rt: HostRuntime) {
     for words in OTHER_WORDS {
-        refuse_words(&rt, words, &mut kit)?;
+        refuse_words(&rt, words);
     }
-    same(&rt, counts(&kit), [0; 5]);
-    Ok(())
 }
 
 /// The read of the ordinary trace that fails, where each gives one byte, and what was written then.
@@ -463,31 +286,29 @@ fn fail_read<R: Wait + Threads + Sync + Send + Copy + AllocGlobal + Abort>(
     rt: &R,
     reads: &'static [u64],
     out: &[u8],
-) -> Result<(), AllocError> {
+) {
     let failing = Failing {
         reads,
         ..NOTHING_FAILS
     };
     let wanted = (out, b"read fault\n".as_slice(), 3);
-    let why = ends(rt, &["replay"], ORDINARY, 1, failing, wanted)?;
+    let why = ends(rt, &["replay"], ORDINARY, 1, failing, wanted);
     same(rt, why, Why::ReadFault(FIRST_FAULT));
-    Ok(())
 }
 
 #[test]
-fn a_failing_read_leaves_the_answers_before_it(rt: HostRuntime) -> Result<(), Fail> {
+fn a_failing_read_leaves_the_answers_before_it(rt: HostRuntime) {
     for (reads, out) in FAILING_READS {
-        fail_read(&rt, reads, out)?;
+        fail_read(&rt, reads, out);
     }
-    Ok(())
 }
 
 /// A trace whose first 257 bytes, which one read gives, end in the middle of its last line; and the
 /// answers to the lines before that.
-fn adds_across_a_read(alloc: Global) -> Result<(Vec<u8>, Vec<u8>), AllocError> {
-    let (mut trace, answers) = adds(alloc, 62)?;
-    trace.extend_from_slice(b"add\n")?;
-    Ok((trace, answers))
+fn adds_across_a_read(rt: &impl Abort, alloc: Global) -> (Vec<u8>, Vec<u8>) {
+    let (mut trace, answers) = adds(rt, alloc, 62);
+    trace.extend_from_slice(b"add\n").expect(rt, MEMORY);
+    (trace, answers)
 }
 
 /// Replays a trace that is all in hand, of which the second read fails.
@@ -496,22 +317,21 @@ fn fail_second_read<R: Wait + Threads + Sync + Send + Copy + AllocGlobal + Abort
     trace: &[u8],
     writes: &'static [u64],
     out: &[u8],
-) -> Result<(), AllocError> {
+) {
     let failing = Failing {
         writes,
         ..NOTHING_FAILS
     };
-    let mut source = Torn::new(trace.to_vec(rt.alloc())?);
-    let ran = run_from(rt, &["replay"], &mut source, failing)?;
+    let mut source = Torn::new(trace.to_vec(rt.alloc()).expect(rt, MEMORY));
+    let ran = run_from(rt, &["replay"], &mut source, failing);
     assert_ran(rt, &ran, (out, b"read fault\n", 3), writes);
-    Ok(())
 }
 
 #[test]
-fn answers_gathered_before_a_failing_read_are_sent(rt: HostRuntime) -> Result<(), Fail> {
-    let (trace, answers) = adds_across_a_read(rt.alloc())?;
-    fail_second_read(&rt, trace.as_slice(), &[], answers.as_slice())?;
-    Ok(fail_second_read(&rt, trace.as_slice(), &[1], b"")?)
+fn answers_gathered_before_a_failing_read_are_sent(rt: HostRuntime) {
+    let (trace, answers) = adds_across_a_read(&rt, rt.alloc());
+    fail_second_read(&rt, trace.as_slice(), &[], answers.as_slice());
+    fail_second_read(&rt, trace.as_slice(), &[1], b"");
 }
 
 /// The write of the answers to the ordinary trace that fails, where each line is read alone, and what
@@ -530,38 +350,35 @@ fn fail_write<R: Wait + Threads + Sync + Send + Copy + AllocGlobal + Abort>(
     rt: &R,
     writes: &'static [u64],
     out: &[u8],
-) -> Result<(), AllocError> {
+) {
     let failing = Failing {
         writes,
         ..NOTHING_FAILS
     };
     let wanted = (out, b"write fault\n".as_slice(), 4);
-    let why = ends(rt, &["replay"], ORDINARY, 1, failing, wanted)?;
+    let why = ends(rt, &["replay"], ORDINARY, 1, failing, wanted);
     same(rt, why, Why::WriteFault(FIRST_FAULT));
-    Ok(())
 }
 
 #[test]
-fn a_failing_write_leaves_the_answers_before_it(rt: HostRuntime) -> Result<(), Fail> {
+fn a_failing_write_leaves_the_answers_before_it(rt: HostRuntime) {
     for (writes, out) in FAILING_WRITES {
-        fail_write(&rt, writes, out)?;
+        fail_write(&rt, writes, out);
     }
-    Ok(())
 }
 
 #[test]
-fn a_user_who_cannot_be_told_changes_no_status(rt: HostRuntime) -> Result<(), Fail> {
+fn a_user_who_cannot_be_told_changes_no_status(rt: HostRuntime) {
     let failing = Failing {
         tells: &[1],
         ..NOTHING_FAILS
     };
-    let why = ends(&rt, &["replay"], b"", 4096, failing, (b"", b"", 2))?;
+    let why = ends(&rt, &["replay"], b"", 4096, failing, (b"", b"", 2));
     let header = Why::Refused {
         line: 1,
         reason: Reason::Header,
     };
     same(&rt, why, header);
-    Ok(())
 }
 
 /// Replays a trace that is read to its end, and asserts its answers without writing them where they
@@ -570,22 +387,21 @@ fn replay_whole<R: Wait + Threads + Sync + Send + Copy + AllocGlobal + Abort>(
     rt: &R,
     trace: &[u8],
     answers: &[u8],
-) -> Result<(), AllocError> {
-    let ran = run_over(rt, &["replay"], trace, 4096, NOTHING_FAILS)?;
+) {
+    let ran = run_over(rt, &["replay"], trace, 4096, NOTHING_FAILS);
     let wrote = (ran.status.exit, ran.out.bytes() == answers);
     same(rt, wrote, (0, true));
-    Ok(())
 }
 
 /// The header and so many lines `add`, and their answers.
-fn adds(alloc: Global, count: u32) -> Result<(Vec<u8>, Vec<u8>), AllocError> {
-    let mut trace = b"trace 1\n".to_vec(alloc)?;
+fn adds(rt: &impl Abort, alloc: Global, count: u32) -> (Vec<u8>, Vec<u8>) {
+    let mut trace = b"trace 1\n".to_vec(alloc).expect(rt, MEMORY);
     let mut answers = Vec::new(alloc);
     for key in 0..count {
-        trace.extend_from_slice(b"add\n")?;
-        answers.extend_from_slice(format!(in alloc; "key {key}\n")?.as_bytes())?;
+        trace.extend_from_slice(b"add\n").expect(rt, MEMORY);
+        put(rt, &mut answers, format!(in alloc; "key {key}\n"));
     }
-    Ok((trace, answers))
+    (trace, answers)
 }
 
 /// Replays a trace with these lines behind it, and asserts its answers with these behind them.
@@ -595,70 +411,63 @@ fn replay_longer<R: Wait + Threads + Sync + Send + Copy + AllocGlobal + Abort>(
     answers: &mut Vec<u8>,
     lines: &[u8],
     told: &[u8],
-) -> Result<(), AllocError> {
-    trace.extend_from_slice(lines)?;
-    answers.extend_from_slice(told)?;
-    replay_whole(rt, trace.as_slice(), answers.as_slice())
+) {
+    trace.extend_from_slice(lines).expect(rt, MEMORY);
+    answers.extend_from_slice(told).expect(rt, MEMORY);
+    replay_whole(rt, trace.as_slice(), answers.as_slice());
 }
 
 #[test]
-fn a_reactor_holds_4096_sources(rt: HostRuntime) -> Result<(), Fail> {
-    let (mut trace, mut answers) = adds(rt.alloc(), 4096)?;
+fn a_reactor_holds_4096_sources(rt: HostRuntime) {
+    let (mut trace, mut answers) = adds(&rt, rt.alloc(), 4096);
     let lines = b"add\ndel 7\nadd\n";
     let told = b"full\ngone\nkey 7\n";
-    Ok(replay_longer(&rt, &mut trace, &mut answers, lines, told)?)
+    replay_longer(&rt, &mut trace, &mut answers, lines, told);
 }
 
 /// Puts the lines behind a trace by which the listener and the timer of this number wait, and their answers
 /// behind the answers.
-fn put_waiting(
-    alloc: Global,
-    trace: &mut Vec<u8>,
-    answers: &mut Vec<u8>,
-    n: u32,
-) -> Result<(), AllocError> {
-    let lines = format!(in alloc; "new 0 r\nstep {n} 5\ntimer at 9\ntick {n} 5\n")?;
-    trace.extend_from_slice(lines.as_bytes())?;
-    drop(lines);
-    let told = format!(in alloc; "listener {n}\npending\ntimer {n}\npending\n")?;
-    answers.extend_from_slice(told.as_bytes())
+fn put_waiting(rt: &impl Abort, alloc: Global, trace: &mut Vec<u8>, answers: &mut Vec<u8>, n: u32) {
+    let lines = format!(in alloc; "new 0 r\nstep {n} 5\ntimer at 9\ntick {n} 5\n");
+    let told = format!(in alloc; "listener {n}\npending\ntimer {n}\npending\n");
+    put(rt, trace, lines);
+    put(rt, answers, told);
+}
+
+/// Puts a text behind others, where memory was left for it.
+fn put(rt: &impl Abort, texts: &mut Vec<u8>, text: Result<String, AllocError>) {
+    let text = text.expect(rt, MEMORY);
+    texts.extend_from_slice(text.as_bytes()).expect(rt, MEMORY);
 }
 
 /// A trace in which so many listeners and as many timers wait, and its answers.
-fn waiting(alloc: Global, count: u32) -> Result<(Vec<u8>, Vec<u8>), AllocError> {
-    let mut trace = b"trace 1\nadd\n".to_vec(alloc)?;
-    let mut answers = b"key 0\n".to_vec(alloc)?;
+fn waiting(rt: &impl Abort, alloc: Global, count: u32) -> (Vec<u8>, Vec<u8>) {
+    let mut trace = b"trace 1\nadd\n".to_vec(alloc).expect(rt, MEMORY);
+    let mut answers = b"key 0\n".to_vec(alloc).expect(rt, MEMORY);
     for n in 1..=count {
-        put_waiting(alloc, &mut trace, &mut answers, n)?;
+        put_waiting(rt, alloc, &mut trace, &mut answers, n);
     }
-    Ok((trace, answers))
+    (trace, answers)
 }
 
 /// What comes of a round that wakes so many listeners and as many timers.
-fn wakes(alloc: Global, count: u32) -> Result<Vec<u8>, AllocError> {
-    let mut told = b"at 9\nnoted\nround 1 events 1 ok\n".to_vec(alloc)?;
+fn wakes(rt: &impl Abort, alloc: Global, count: u32) -> Vec<u8> {
+    let mut told = b"at 9\nnoted\nround 1 events 1 ok\n"
+        .to_vec(alloc)
+        .expect(rt, MEMORY);
     for _ in 0..count {
-        told.extend_from_slice(b"wake 5\nwake 5\n")?;
+        told.extend_from_slice(b"wake 5\nwake 5\n")
+            .expect(rt, MEMORY);
     }
-    Ok(told)
-}
-
-/// Replays such a trace with a round behind it that wakes all of them.
-fn wake_waiting<R: Wait + Threads + Sync + Send + Copy + AllocGlobal + Abort>(
-    rt: &R,
-    trace: &mut Vec<u8>,
-    answers: &mut Vec<u8>,
-    count: u32,
-) -> Result<(), AllocError> {
-    let told = wakes(rt.alloc(), count)?;
-    let lines = b"now 9\nevent 0 r\nreact\n";
-    replay_longer(rt, trace, answers, lines, told.as_slice())
+    told
 }
 
 #[test]
-fn listeners_and_timers_are_as_many_as_memory_holds(rt: HostRuntime) -> Result<(), Fail> {
-    let (mut trace, mut answers) = waiting(rt.alloc(), 65_537)?;
-    Ok(wake_waiting(&rt, &mut trace, &mut answers, 65_537)?)
+fn listeners_and_timers_are_as_many_as_memory_holds(rt: HostRuntime) {
+    let (mut trace, mut answers) = waiting(&rt, rt.alloc(), 65_537);
+    let told = wakes(&rt, rt.alloc(), 65_537);
+    let lines = b"now 9\nevent 0 r\nreact\n";
+    replay_longer(&rt, &mut trace, &mut answers, lines, told.as_slice());
 }
 
 /// A trace that is longer than memory would hold well: a few lines, and then one line again and again, up to so
@@ -726,14 +535,14 @@ fn byte_at(head: &[u8], line: &[u8], place: u64) -> u8 {
 }
 
 #[test]
-fn a_trace_without_end_is_refused_past_its_millionth_line(rt: HostRuntime) -> Result<(), Fail> {
+fn a_trace_without_end_is_refused_past_its_millionth_line(rt: HostRuntime) {
     let mut source = Long {
         head: b"trace 1\n",
         line: b"react\n",
         given: 0,
         end: u64::MAX,
     };
-    let ran = run_from(&rt, &["replay"], &mut source, NOTHING_FAILS)?;
+    let ran = run_from(&rt, &["replay"], &mut source, NOTHING_FAILS);
     let told = b"line 1000001: lines\n".as_slice();
     same(
         &rt,
@@ -742,7 +551,6 @@ fn a_trace_without_end_is_refused_past_its_millionth_line(rt: HostRuntime) -> Re
     );
     assert_counted(&rt, ran.out.bytes(), ROUNDS, 999_999);
     same_in(&rt, source.given, source.given <= 257_000_257, true);
-    Ok(())
 }
 
 /// The status of a run that was refused past its millionth line.
@@ -776,12 +584,11 @@ fn past_add(answers: &[u8]) -> &[u8] {
 }
 
 #[test]
-fn listeners_come_up_to_the_millionth_line(rt: HostRuntime) -> Result<(), Fail> {
+fn listeners_come_up_to_the_millionth_line(rt: HostRuntime) {
     let mut source = listeners_to_the_last_line();
-    let ran = run_from(&rt, &["replay"], &mut source, NOTHING_FAILS)?;
+    let ran = run_from(&rt, &["replay"], &mut source, NOTHING_FAILS);
     same(&rt, ran.status.exit, 0);
     assert_counted(&rt, past_add(ran.out.bytes()), LISTENERS, 999_998);
-    Ok(())
 }
 
 /// Asserts that the answers are so many, each with the next number from 1 on between this beginning and this
