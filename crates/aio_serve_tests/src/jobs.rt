@@ -102,22 +102,32 @@ impl Job for Meeting<'_> {
     }
 }
 
-/// What two jobs come to that wait for each other.
+/// Two jobs that wait for each other by these flags.
+fn meetings<'a>(
+    alloc: Global,
+    one: &'a AtomicU32,
+    two: &'a AtomicU32,
+) -> Result<Vec<Meeting<'a>>, Fail> {
+    let mut jobs = Vec::new(alloc);
+    jobs.push(Meeting {
+        own: one,
+        other: two,
+    })?;
+    jobs.push(Meeting {
+        own: two,
+        other: one,
+    })?;
+    Ok(jobs)
+}
+
+/// What two such jobs come to.
 fn meet<S: Spawner, R: Wait + Threads + Sync + Send + Copy>(
     spawner: &mut S,
     alloc: Global,
     rt: &R,
 ) -> Result<Vec<bool>, Fail> {
     let (one, two) = (AtomicU32::new(0), AtomicU32::new(0));
-    let first = Meeting {
-        own: &one,
-        other: &two,
-    };
-    let second = Meeting {
-        own: &two,
-        other: &one,
-    };
-    Ok(spawner.run_all(alloc, rt, vec![in alloc; first, second]?)?)
+    Ok(spawner.run_all(alloc, rt, meetings(alloc, &one, &two)?)?)
 }
 
 #[test]

@@ -3,12 +3,13 @@
 
 use crate::asserts::same;
 use crate::moments::moment;
-use aio_base::Key;
+use aio_base::{Arm, Clock, EventWait, Key, Notify, Task};
 use aio_conns::{ENDS, MemConn, Peer, SILENT};
 use aio_devices::{MemClock, MemNotify, MemWait, clock_until};
 use aio_park::Thread;
 use aio_places::SourceEnd;
 use aio_relay::{Pair, PairEnd};
+use aio_shared::Inside;
 use std::alloc::Global;
 use std::process::Abort;
 use std::sync::{Arc, Wait};
@@ -64,7 +65,11 @@ pub(crate) fn end_over<R: Wait + Copy>(
     };
     match server.host.insert_source(conn) {
         Ok(token) => Ok(SourceEnd::new(shared, token)),
-        Err(_) => Err(Fail::from("no source")),
+        Err(refused) => {
+            drop(shared);
+            drop(refused);
+            Err(Fail::from("no source"))
+        }
     }
 }
 
@@ -90,9 +95,16 @@ fn pair_of(alloc: Global, ends: (End, End)) -> Result<Pair<End>, Fail> {
     }
 }
 
-/// Serves a pair to its end.
-fn end_of<R: Wait + Copy>(server: &mut Server<R>, pair: &mut Pair<End>) -> Result<PairEnd, Fail> {
-    match server.run(pair) {
+/// Polls a task to its end by a thread. It is over all types, since what `run` promises is long where they are known.
+pub(crate) fn end_of<
+    R: Wait + Copy,
+    N: Notify,
+    A: Arm,
+    W: EventWait,
+    C: Clock,
+    T: Task<Inside<R, N, A, W>>,
+>(thread: &mut Thread<R, N, A, W, C>, task: &mut T) -> Result<T::Output, Fail> {
+    match thread.run(task) {
         Ok(end) => Ok(end),
         Err(_) => Err(Fail::from("no end")),
     }
@@ -103,9 +115,16 @@ fn served<R: Wait + Copy>(
     server: &mut Server<R>,
     mut pair: Pair<End>,
 ) -> Result<(PairEnd, End), Fail> {
-    let end = end_of(server, &mut pair)?;
-    let (_a, b) = pair.into_ends();
-    Ok((end, b))
+    let end = end_of(server, &mut pair);
+    let (a, b) = pair.into_ends();
+    drop(a);
+    match end {
+        Ok(end) => Ok((end, b)),
+        Err(fail) => {
+            drop(b);
+            Err(fail)
+        }
+    }
 }
 
 /// Whether a connection was sent just this text.
@@ -135,10 +154,23 @@ fn relayed<R: Wait + Copy>(
     Ok((end, was_sent(server, b, text)))
 }
 
+/// The same by a new thread, whose clock comes to the idle time after so many looks.
+fn relayed_by_new<R: Wait + Copy + Abort>(
+    rt: R,
+    alloc: Global,
+    looks: usize,
+    sides: &Sides,
+    text: &str,
+) -> Result<(PairEnd, bool), Fail> {
+    let mut server = server(rt, alloc, looks)?;
+    let found = relayed(&mut server, alloc, sides, text);
+    drop(server);
+    found
+}
+
 #[test]
 fn a_thread_serves_a_pair_to_its_end(rt: HostRuntime) -> Result<(), Fail> {
-    let mut server = server(&rt, rt.alloc(), 1000)?;
-    let found = relayed(&mut server, rt.alloc(), &HALTING, "ab\n")?;
+    let found = relayed_by_new(&rt, rt.alloc(), 1000, &HALTING, "ab\n")?;
     same(&rt, found, (PairEnd::Ended { to_a: 0, to_b: 3 }, true));
     Ok(())
 }
@@ -155,8 +187,7 @@ const FALLS_SILENT: Sides = [
 
 #[test]
 fn a_pair_over_silent_connections_ends_idle(rt: HostRuntime) -> Result<(), Fail> {
-    let mut server = server(&rt, rt.alloc(), 20)?;
-    let found = relayed(&mut server, rt.alloc(), &FALLS_SILENT, "x\n")?;
+    let found = relayed_by_new(&rt, rt.alloc(), 20, &FALLS_SILENT, "x\n")?;
     let last = moment(0)?;
     let now = moment(IDLE)?;
     same(&rt, found, (PairEnd::Idle { last, now }, true));
@@ -179,9 +210,16 @@ fn keys_beside<R: Wait + Copy>(server: &Server<R>, alloc: Global) -> Result<(Key
     Ok((beside, next_key(server, alloc)?))
 }
 
+/// The same at a new thread.
+fn keys_at_new<R: Wait + Copy + Abort>(rt: R, alloc: Global) -> Result<(Key, Key), Fail> {
+    let server = server(rt, alloc, 1)?;
+    let keys = keys_beside(&server, alloc);
+    drop(server);
+    keys
+}
+
 #[test]
 fn the_key_of_an_end_that_was_closed_is_free_again(rt: HostRuntime) -> Result<(), Fail> {
-    let server = server(&rt, rt.alloc(), 1)?;
-    same(&rt, keys_beside(&server, rt.alloc())?, (Key(1), Key(0)));
+    same(&rt, keys_at_new(&rt, rt.alloc())?, (Key(1), Key(0)));
     Ok(())
 }

@@ -4,8 +4,8 @@
 use crate::asserts::same;
 use crate::gates::NotingGate;
 use crate::moments::moment;
-use crate::pairs::{HALTING, IDLE, Server, Sides, ends_over, next_key, server};
-use aio_base::{ArmFault, Key};
+use crate::pairs::{HALTING, IDLE, Server, Sides, end_of, ends_over, next_key, server};
+use aio_base::{ArmFault, Key, Moment};
 use aio_conns::{ENDS, MemConn, Peer};
 use aio_devices::MemWait;
 use aio_park::Group;
@@ -58,13 +58,14 @@ pub(crate) fn place_over<R: Wait + Copy>(
     })
 }
 
-/// What stands in the slot of a place.
+/// What stands in the slot of a place, from this moment on.
 fn served_at<'g>(
     alloc: Global,
     place: MemPlace,
+    start: Moment,
     gate: &'g NotingGate,
 ) -> Result<MemServed<'g>, Fail> {
-    match Served::new(alloc, place, IDLE, moment(0)?, gate) {
+    match Served::new(alloc, place, IDLE, start, gate) {
         Ok(served) => Ok(served),
         Err(_) => Err(Fail::from("no pair")),
     }
@@ -78,23 +79,28 @@ fn seat<'g>(slots: &mut Slots<'g>, served: MemServed<'g>) -> Result<(), Fail> {
     }
 }
 
-/// Slots for a place, and behind it for a pair that is refused, with number 2.
-fn slots_of<'g>(alloc: Global, place: MemPlace, gate: &'g NotingGate) -> Result<Slots<'g>, Fail> {
-    let mut slots = Group::new(alloc, 0);
-    seat(&mut slots, served_at(alloc, place, gate)?)?;
-    seat(&mut slots, served_at(alloc, refused_place(2), gate)?)?;
-    Ok(slots)
+/// Adds the slot of a place, from this moment on.
+fn seat_at<'g>(
+    slots: &mut Slots<'g>,
+    alloc: Global,
+    place: MemPlace,
+    start: Moment,
+    gate: &'g NotingGate,
+) -> Result<(), Fail> {
+    let served = served_at(alloc, place, start, gate)?;
+    seat(slots, served)
 }
 
-/// Serves pairs to their ends.
-fn ends_of<R: Wait + Threads + Sync + Send + Copy>(
-    server: &mut Server<R>,
-    mut slots: Slots<'_>,
-) -> Result<Vec<PairEnd>, Fail> {
-    match server.run(&mut slots) {
-        Ok(ends) => Ok(ends),
-        Err(_) => Err(Fail::from("no ends")),
-    }
+/// Adds slots for a place, and behind it for a pair that is refused, with number 2.
+fn seat_two<'g>(
+    slots: &mut Slots<'g>,
+    alloc: Global,
+    place: MemPlace,
+    start: Moment,
+    gate: &'g NotingGate,
+) -> Result<(), Fail> {
+    seat_at(slots, alloc, place, start, gate)?;
+    seat_at(slots, alloc, refused_place(2), start, gate)
 }
 
 /// Serves a pair over these connections, which has number 1, and a refused one with number 2. Their
@@ -105,9 +111,15 @@ fn serve_two<R: Wait + Threads + Sync + Send + Copy>(
     sides: &Sides,
     gate: &NotingGate,
 ) -> Result<Vec<PairEnd>, Fail> {
+    let start = moment(0)?;
     let place = place_over(server, alloc, 1, sides)?;
-    let slots = slots_of(alloc, place, gate)?;
-    ends_of(server, slots)
+    let mut slots = Group::new(alloc, 0);
+    let ends = match seat_two(&mut slots, alloc, place, start, gate) {
+        Ok(()) => end_of(server, &mut slots),
+        Err(fail) => Err(fail),
+    };
+    drop(slots);
+    ends
 }
 
 /// The keys of two sources that join a thread's reactor.
@@ -122,16 +134,27 @@ fn next_keys<R: Wait + Copy>(server: &Server<R>, alloc: Global) -> Result<(Key, 
 type Outcome = (Vec<PairEnd>, u32, (Key, Key));
 
 /// What comes of a pair over these connections, and of a refused one.
+fn outcome_at<R: Wait + Threads + Sync + Send + Copy>(
+    server: &mut Server<R>,
+    alloc: Global,
+    sides: &Sides,
+) -> Result<Outcome, Fail> {
+    let gate = NotingGate::new();
+    let ends = serve_two(server, alloc, sides, &gate)?;
+    let keys = next_keys(server, alloc)?;
+    Ok((ends, gate.digits(), keys))
+}
+
+/// The same at a new thread.
 fn outcome<R: Wait + Threads + Sync + Send + Copy + Abort>(
     rt: R,
     alloc: Global,
     sides: &Sides,
 ) -> Result<Outcome, Fail> {
-    let gate = NotingGate::new();
     let mut server = server(rt, alloc, 1000)?;
-    let ends = serve_two(&mut server, alloc, sides, &gate)?;
-    let keys = next_keys(&server, alloc)?;
-    Ok((ends, gate.digits(), keys))
+    let outcome = outcome_at(&mut server, alloc, sides);
+    drop(server);
+    outcome
 }
 
 /// The ends of the two pairs.

@@ -24,9 +24,8 @@ type MemWorker<'g> = Worker<'g, MemNotify, MemClock, MemConn, MemWait, NotingGat
 /// The place of a pair that is refused, with number 1, and behind it this one.
 fn places_of(alloc: Global, place: MemPlace) -> Result<VecDeque<MemPlace>, Fail> {
     let mut places = VecDeque::new(alloc);
-    if places.push_back(refused_place(1)).is_err() || places.push_back(place).is_err() {
-        return Err(Fail::from("no room"));
-    }
+    places.push_back(refused_place(1))?;
+    places.push_back(place)?;
     Ok(places)
 }
 
@@ -37,19 +36,31 @@ fn alone<'g, R: Wait + Copy>(
     places: VecDeque<MemPlace>,
     gate: &'g NotingGate,
 ) -> Result<MemWorker<'g>, Fail> {
+    if places.len() > 64 || server.parker >= 16 {
+        drop(places);
+        drop(server);
+        return Err(Fail::from("too many"));
+    }
     let Thread {
         host,
         clock,
         parker,
     } = server;
     let Inside { shared, member, .. } = host;
-    if places.len() > 64 || parker >= 16 {
-        return Err(Fail::from("too many"));
-    }
     Ok(Worker::new(shared, member, clock, parker, places, IDLE, gate, alloc))
 }
 
-/// The places of a refused pair and of one over these connections, and a worker that serves them.
+/// The places of a refused pair and of one over these connections.
+fn places_over<R: Wait + Copy>(
+    server: &Server<R>,
+    alloc: Global,
+    sides: &Sides,
+) -> Result<VecDeque<MemPlace>, Fail> {
+    let place = place_over(server, alloc, 2, sides)?;
+    places_of(alloc, place)
+}
+
+/// A worker that serves these places.
 fn worker_of<'g, R: Wait + Copy + Abort>(
     rt: R,
     alloc: Global,
@@ -57,9 +68,13 @@ fn worker_of<'g, R: Wait + Copy + Abort>(
     gate: &'g NotingGate,
 ) -> Result<MemWorker<'g>, Fail> {
     let server = server(rt, alloc, 1000)?;
-    let place = place_over(&server, alloc, 2, sides)?;
-    let places = places_of(alloc, place)?;
-    alone(server, alloc, places, gate)
+    match places_over(&server, alloc, sides) {
+        Ok(places) => alone(server, alloc, places, gate),
+        Err(fail) => {
+            drop(server);
+            Err(fail)
+        }
+    }
 }
 
 /// The ends of a worker's pairs.

@@ -1,11 +1,13 @@
 //! Calls on a reactor, as these tests make them.
 
 ghost use Rattle.std.specs.Prelude.{◌≡◌, false, IfOk};
+ghost use Rattle.aio_shared.specs.Cells.{IsIdle};
 ghost use Rattle.aio_shared.specs.Members.{IsMemberOf};
+ghost use Rattle.aio_shared.specs.OneCell.{IsCellOf};
 
-use aio_base::{Arm, EventWait, Moment, Notify, OutOfMemory};
+use aio_base::{Arm, Clock, EventWait, Moment, Notify, OutOfMemory};
 use aio_devices::{MemClock, clock_at};
-use aio_shared::{InsertFault, Member, ReactFault, ReactedIn, Shared, SourceRef};
+use aio_shared::{InsertFault, Member, ReactFault, ReactedIn, RoundCell, Shared, SourceRef};
 use std::alloc::Global;
 use std::sync::Wait;
 
@@ -18,6 +20,27 @@ fn clock(alloc: Global) -> Result<MemClock, OutOfMemory> {
         Ok(clock) => Ok(clock),
         Err(_) => Err(OutOfMemory),
     }
+}
+
+/// Reacts by the round cell, which the thread has. Of what that promises it tells what the cell needs to be given
+/// back.
+fn react_by<R: Wait, N: Notify, C: Clock, A: Arm, W: EventWait>(
+    rt: &R,
+    shared: &Shared<A, W>,
+    m: &mut Member<N, W>,
+    cell: &mut RoundCell<W>,
+    clock: &mut C,
+    limit: Option<u64>,
+) -> Result<ReactedIn, ReactFault>
+    requires member { IsMemberOf shared.now m.old }
+    requires cell { IsCellOf m.old.claim cell.old }
+    requires idle { IsIdle cell.old }
+    ensures member { IsMemberOf shared.now m.new }
+    ensures claim { m.new.claim ≡ m.old.claim }
+    ensures cell { IsCellOf m.new.claim cell.new }
+    ensures idle { IsIdle cell.new }
+{
+    shared.react_in(rt, m, cell, clock, limit)
 }
 
 /// Takes the round cell as soon as it is there, reacts with this limit by a clock that stands still, and gives the
@@ -36,7 +59,7 @@ pub(crate) fn react<R: Wait, N: Notify, A: Arm, W: EventWait>(
         return Err(ReactFault::OutOfMemory);
     };
     let mut cell = shared.take_round(rt, m);
-    let answer = shared.react_in(rt, m, &mut cell, &mut clock, limit);
+    let answer = react_by(rt, shared, m, &mut cell, &mut clock, limit);
     shared.give_round(rt, m, cell);
     drop(clock);
     answer

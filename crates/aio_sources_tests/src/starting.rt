@@ -5,14 +5,14 @@ use crate::asserts::same;
 use crate::sources::assert_full;
 use aio_base::{Arm, ArmFault, Key};
 use aio_devices::{FailingArm, MemNotify, MemWait, SureArm};
-use aio_shared::{Shared, SourceRef};
+use aio_shared::{Shared, SourceRef, Started};
 use std::alloc::{AllocError, Global};
 use std::process::Abort;
 use std::sync::Wait;
 use std::test::Fail;
 
 /// The keys of the sources with which a reactor started, or their faults.
-fn keys_of<A: Arm>(
+fn keys_in<A: Arm>(
     alloc: Global,
     sources: &[Result<SourceRef<A>, ArmFault>],
 ) -> Result<Vec<Result<Key, ArmFault>>, AllocError> {
@@ -24,6 +24,16 @@ fn keys_of<A: Arm>(
         }
     }
     Ok(keys)
+}
+
+/// The same of sources that are let go.
+fn keys_of<A: Arm + Drop>(
+    alloc: Global,
+    sources: Vec<Result<SourceRef<A>, ArmFault>>,
+) -> Result<Vec<Result<Key, ArmFault>>, Fail> {
+    let keys = keys_in(alloc, sources.as_slice());
+    drop(sources);
+    Ok(keys?)
 }
 
 /// How many sources began under the keys from 0 on, in order.
@@ -41,11 +51,17 @@ fn begun_in_order(keys: &[Result<Key, ArmFault>]) -> u32 {
 fn start_many<R: Wait + Abort>(rt: &R, alloc: Global) -> Result<Vec<Result<Key, ArmFault>>, Fail> {
     let ios = vec![in alloc; SureArm::new(7); 4096]?;
     match Shared::start(alloc, 1, MemWait::new(1), MemNotify::new(), ios) {
-        Ok(started) => {
-            assert_full(rt, &started.shared);
-            let keys = keys_of(alloc, started.sources.as_slice());
-            drop(started);
-            Ok(keys?)
+        Ok(
+            Started {
+                shared,
+                member,
+                sources,
+            },
+        ) => {
+            assert_full(rt, &shared);
+            drop(member);
+            drop(shared);
+            keys_of(alloc, sources)
         }
         Err(_) => Err(Fail::from("no reactor")),
     }
@@ -60,14 +76,20 @@ fn a_reactor_starts_with_4096_sources(rt: HostRuntime) -> Result<(), Fail> {
 
 /// The keys of a reactor that starts with a connection whose first call fails and one of which none does.
 fn start_two(alloc: Global) -> Result<Vec<Result<Key, ArmFault>>, Fail> {
-    let first_fails = FailingArm::new(1, vec![in alloc; 1]?);
-    let none_fails = FailingArm::new(2, Vec::new(alloc));
-    let ios = vec![in alloc; first_fails, none_fails]?;
+    let mut ios = Vec::new(alloc);
+    ios.push(FailingArm::new(1, vec![in alloc; 1]?))?;
+    ios.push(FailingArm::new(2, Vec::new(alloc)))?;
     match Shared::start(alloc, 1, MemWait::new(1), MemNotify::new(), ios) {
-        Ok(started) => {
-            let keys = keys_of(alloc, started.sources.as_slice());
-            drop(started);
-            Ok(keys?)
+        Ok(
+            Started {
+                shared,
+                member,
+                sources,
+            },
+        ) => {
+            drop(member);
+            drop(shared);
+            keys_of(alloc, sources)
         }
         Err(_) => Err(Fail::from("no reactor")),
     }

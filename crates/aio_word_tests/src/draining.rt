@@ -102,9 +102,11 @@ impl<'a> Drainer<'a> {
 
     /// Drains the queue.
     fn drain<R: Wait>(&mut self, rt: &R) {
-        if let Ok(count) = self.ops.drain(rt, &mut self.pass, &mut self.book) {
-            self.taken = self.taken.saturating_add(count);
-        }
+        let count = self
+            .ops
+            .drain(rt, &mut self.pass, &mut self.book)
+            .unwrap_or(0);
+        self.taken = self.taken.saturating_add(count);
     }
 
     /// Drains the queue once more. How many operations were taken in all, and how many timers are registered.

@@ -56,7 +56,7 @@ enum Act {
 }
 
 /// What comes of it.
-#[derive(Clone, Copy, Debug, PartialEq)]
+#[derive(Clone, Copy)]
 enum Came {
     /// Nothing was refused.
     Done,
@@ -68,6 +68,17 @@ enum Came {
     Timers(usize),
     /// Something else.
     Other,
+}
+
+/// What came, as it is compared: which it is, and its number.
+fn told(came: Came) -> (&'static str, usize) {
+    match came {
+        Came::Done => ("done", 0),
+        Came::Back => ("back", 0),
+        Came::Taken(count) => ("taken", count as usize),
+        Came::Timers(count) => ("timers", count),
+        Came::Other => ("other", 0),
+    }
 }
 
 /// What a push came to.
@@ -154,7 +165,7 @@ impl Drainer {
     /// Asserts that what the acts of a row come to is what stands beside each.
     fn plays<R: Wait + Abort>(&mut self, rt: &R, row: &Row) {
         for (act, came) in row.acts {
-            same_in(rt, row.shows, self.act(rt, *act), *came);
+            same_in(rt, row.shows, told(self.act(rt, *act)), told(*came));
         }
     }
 
@@ -216,23 +227,6 @@ const ROWS: &[Row] = &[
     },
 ];
 
-/// Asserts that what the acts of a row come to is what stands beside each.
-fn plays<R: Wait + Abort>(rt: &R, alloc: Global, row: &Row) -> Result<(), Fail> {
-    let mut drainer = Drainer::new(alloc, moment(rt, 30))?;
-    may_be_shared(&drainer.ops);
-    may_be_sent(&drainer.pass);
-    drainer.plays(rt, row);
-    Ok(())
-}
-
-#[test]
-fn each_operation_is_applied_once_in_its_order(rt: HostRuntime) -> Result<(), Fail> {
-    for row in ROWS {
-        plays(&rt, rt.alloc(), row)?;
-    }
-    Ok(())
-}
-
 /// The number of one more pass of a queue.
 fn next_number<R: Wait>(rt: &R, drainer: &mut Drainer) -> Option<u32> {
     match drainer.another(rt) {
@@ -247,13 +241,6 @@ fn numbers_passes<R: Wait + Abort>(rt: &R, drainer: &mut Drainer) {
     same(rt, next_number(rt, drainer), Some(1));
     same(rt, next_number(rt, drainer), Some(2));
     same(rt, drainer.pass.is_spent(), false);
-}
-
-#[test]
-fn passes_are_numbered_in_the_order_in_which_they_are_made(rt: HostRuntime) -> Result<(), Fail> {
-    let mut drainer = Drainer::new(rt.alloc(), moment(&rt, 30))?;
-    numbers_passes(&rt, &mut drainer);
-    Ok(())
 }
 
 /// Pushes it 400 times, on a thread of its own.
@@ -303,10 +290,57 @@ const ALL_OF_BOTH: Row = Row {
     ],
 };
 
+/// What is done with a new queue.
+#[derive(Clone, Copy)]
+enum Deed<'a> {
+    /// The acts of a row.
+    Play(&'a Row),
+    /// Further passes are made.
+    NumberPasses,
+    /// Two threads push, and then the queue is drained.
+    PushBeside,
+}
+
+/// Does this, and asserts what comes of it.
+fn at<R: Threads + Wait + Sync + Abort>(rt: &R, drainer: &mut Drainer, deed: Deed<'_>) {
+    match deed {
+        Deed::Play(row) => drainer.plays(rt, row),
+        Deed::NumberPasses => numbers_passes(rt, drainer),
+        Deed::PushBeside => {
+            same(rt, push_beside(rt, drainer), Ok((400, 400)));
+            drainer.plays(rt, &ALL_OF_BOTH);
+        }
+    }
+}
+
+/// The same with a new queue, which may be shared, and of which a pass may be sent.
+fn at_new<R: Threads + Wait + Sync + Abort>(
+    rt: &R,
+    alloc: Global,
+    deed: Deed<'_>,
+) -> Result<(), Fail> {
+    let mut drainer = Drainer::new(alloc, moment(rt, 30))?;
+    may_be_shared(&drainer.ops);
+    may_be_sent(&drainer.pass);
+    at(rt, &mut drainer, deed);
+    drop(drainer);
+    Ok(())
+}
+
+#[test]
+fn each_operation_is_applied_once_in_its_order(rt: HostRuntime) -> Result<(), Fail> {
+    for row in ROWS {
+        at_new(&rt, rt.alloc(), Deed::Play(row))?;
+    }
+    Ok(())
+}
+
+#[test]
+fn passes_are_numbered_in_the_order_in_which_they_are_made(rt: HostRuntime) -> Result<(), Fail> {
+    at_new(&rt, rt.alloc(), Deed::NumberPasses)
+}
+
 #[test]
 fn what_two_threads_push_is_drained_once(rt: HostRuntime) -> Result<(), Fail> {
-    let mut drainer = Drainer::new(rt.alloc(), moment(&rt, 30))?;
-    same(&rt, push_beside(&rt, &mut drainer), Ok((400, 400)));
-    drainer.plays(&rt, &ALL_OF_BOTH);
-    Ok(())
+    at_new(&rt, rt.alloc(), Deed::PushBeside)
 }

@@ -75,38 +75,6 @@ fn turn(turns: u32) {
     }
 }
 
-/// One thread takes the value while another gives it after so many turns. How often it was taken.
-fn take_beside_a_give<R: Threads + Wait + Sync>(
-    rt: &R,
-    alloc: Global,
-    turns: u32,
-) -> Result<u64, OutOfMemory> {
-    let (lock, first, second) = Lock::vacant(alloc)?;
-    let shared = &lock;
-    join(
-        rt,
-        move || -> ()
-            requires { second ≡ owner_of shared.now (second_owner []) }
-        { take_once(rt, shared, second) },
-        move || -> ()
-            requires { first ≡ owner_of shared.now (took_out [] [] (first_owner [])) }
-        {
-            turn(turns);
-            give_first(shared, first)
-        },
-    );
-    Ok(count_in(rt, &lock))
-}
-
-#[test]
-fn a_take_ends_by_one_give_whenever_that_comes(rt: HostRuntime) -> Result<(), Fail> {
-    for step in 0..100 {
-        let taken = take_beside_a_give(&rt, rt.alloc(), step * 300)?;
-        same(&rt, taken, 1);
-    }
-    Ok(())
-}
-
 /// Two visitors wait.
 fn visit_on_two<R: Threads + Wait + Sync>(rt: &R, lock: &Lock<Turns>) {
     join(rt, || visit_once(rt, lock), || visit_once(rt, lock));
@@ -125,11 +93,38 @@ fn wait_on_three<R: Threads + Wait + Sync>(rt: &R, lock: &Lock<Turns>, owner: Ow
     );
 }
 
-/// Three threads wait for the value, which a fourth gives after so many microseconds. How often it was taken.
+/// Who waits for the value, and what comes before it is given.
+#[derive(Clone, Copy)]
+enum Trial {
+    /// An owner waits, and so many turns come before.
+    One(u32),
+    /// An owner and two visitors wait, and so many microseconds come before.
+    Three(u64),
+}
+
+/// Waits for the value.
+fn wait_for_it<R: Threads + Wait + Sync>(rt: &R, lock: &Lock<Turns>, owner: Owner, trial: Trial)
+    requires { (owner ≡ owner_of lock.now (second_owner [])) × IsSync R.row }
+{
+    match trial {
+        Trial::One(_) => take_once(rt, lock, owner),
+        Trial::Three(_) => wait_on_three(rt, lock, owner),
+    }
+}
+
+/// What comes before the value is given.
+fn pause<R: Wait + Clock>(rt: &R, trial: Trial) {
+    match trial {
+        Trial::One(turns) => turn(turns),
+        Trial::Three(micros) => sleep(rt, Duration::from_micros(micros)),
+    }
+}
+
+/// Some wait for the value, which another thread gives after a while. How often it was taken.
 fn wait_beside_a_give<R: Threads + Wait + Clock + Sync>(
     rt: &R,
     alloc: Global,
-    pause: u64,
+    trial: Trial,
 ) -> Result<u64, OutOfMemory> {
     let (lock, first, second) = Lock::vacant(alloc)?;
     let shared = &lock;
@@ -137,22 +132,33 @@ fn wait_beside_a_give<R: Threads + Wait + Clock + Sync>(
         rt,
         move || -> ()
             requires { (second ≡ owner_of shared.now (second_owner [])) × IsSync R.row }
-        { wait_on_three(rt, shared, second) },
+        { wait_for_it(rt, shared, second, trial) },
         move || -> ()
             requires { first ≡ owner_of shared.now (took_out [] [] (first_owner [])) }
         {
-            sleep(rt, Duration::from_micros(pause));
+            pause(rt, trial);
             give_first(shared, first)
         },
     );
-    Ok(count_in(rt, &lock))
+    let taken = count_in(rt, &lock);
+    drop(lock);
+    Ok(taken)
+}
+
+#[test]
+fn a_take_ends_by_one_give_whenever_that_comes(rt: HostRuntime) -> Result<(), Fail> {
+    for step in 0..100 {
+        let taken = wait_beside_a_give(&rt, rt.alloc(), Trial::One(step * 300))?;
+        same(&rt, taken, 1);
+    }
+    Ok(())
 }
 
 // The longer the pause, the surer all three sleep when the one give comes. Each of them calls the next.
 #[test]
 fn three_that_wait_all_take_it_after_one_give(rt: HostRuntime) -> Result<(), Fail> {
     for step in 0..25 {
-        let taken = wait_beside_a_give(&rt, rt.alloc(), step * 400)?;
+        let taken = wait_beside_a_give(&rt, rt.alloc(), Trial::Three(step * 400))?;
         same(&rt, taken, 3);
     }
     Ok(())

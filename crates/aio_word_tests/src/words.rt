@@ -48,7 +48,7 @@ enum Trial {
 }
 
 /// What comes of it.
-#[derive(Clone, Copy, Debug, PartialEq)]
+#[derive(Clone, Copy)]
 enum Came {
     /// No wake failed, the two takes found these masks, and the notifier was called so often.
     Taken([u64; 2], u64),
@@ -70,8 +70,21 @@ enum Came {
     Other,
 }
 
-fn another<N: Notify>(notifier: &N) -> Result<N, OutOfMemory> {
-    notifier.twin()
+/// What came, as it is compared: which it is, and its numbers.
+fn told(came: Came) -> (&'static str, [u64; 6]) {
+    match came {
+        Came::Taken(masks, calls) => ("taken", [masks[0], masks[1], calls, 0, 0, 0]),
+        Came::Found(calls, mask) => ("found", [calls, mask, 0, 0, 0, 0]),
+        Came::Told(calls) => ("told", [calls[0], calls[1], calls[2], calls[3], 0, 0]),
+        Came::Untold(fault, mask) => ("untold", [fault.before, fault.after, mask, 0, 0, 0]),
+        Came::Begun(rounds, seen) => (
+            "begun",
+            [rounds[0], rounds[1], seen[0], seen[1], seen[2], seen[3]],
+        ),
+        Came::Parked(mask) => ("parked", [mask, 0, 0, 0, 0, 0]),
+        Came::Gathered(rounds) => ("gathered", [rounds, 0, 0, 0, 0, 0]),
+        Came::Other => ("other", [0; 6]),
+    }
 }
 
 /// Wakes these slots in order. Whether no call failed.
@@ -175,7 +188,7 @@ fn wake_untold<N: Notify + Drop>(
     requires parker { 0 < words.now.parkers }
     requires pass { Belongs words.now p.old }
 {
-    let Ok(mut twin) = another(notifier) else {
+    let Ok(mut twin) = notifier.twin() else {
         return Came::Other;
     };
     if !goes_to_wait(words, s) {
@@ -456,7 +469,8 @@ const ROWS: [Row; 8] = [
 
 /// Asserts what comes of it at new words of two parkers.
 fn plays<R: Threads + Wait + Sync + Abort>(rt: &R, alloc: Global, row: &Row) -> Result<(), Fail> {
-    same_in(rt, row.shows, try_anew(rt, alloc, row.trial)?, row.came);
+    let came = try_anew(rt, alloc, row.trial)?;
+    same_in(rt, row.shows, told(came), told(row.came));
     Ok(())
 }
 

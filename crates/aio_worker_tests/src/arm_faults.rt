@@ -17,8 +17,9 @@ use std::thread::Threads;
 /// Gives one event of a connection, and nothing after that.
 fn gives_once(alloc: Global, key: u32, on: Interest) -> Result<ScriptedWait, Fail> {
     let event = Event { key: Key(key), on };
-    let answer = WaitAnswer::Gives(vec![in alloc; event]?);
-    Ok(ScriptedWait::new(vec![in alloc; answer]?))
+    let mut answers = Vec::new(alloc);
+    answers.push(WaitAnswer::Gives(vec![in alloc; event]?))?;
+    Ok(ScriptedWait::new(answers))
 }
 
 /// Two pairs of one worker.

@@ -16,5 +16,5 @@ pub(crate) fn same_in<T: Debug + Drop + PartialEq>(
     found: T,
     wanted: T,
 ) {
-    assert_eq!(rt; found, wanted, "in the row: {row}");
+    same(rt, (row, found), (row, wanted));
 }

@@ -89,7 +89,7 @@ pub(crate) fn still_clock(alloc: Global) -> Result<MemClock, Fail> {
 }
 
 /// A port that hands out connections to these peers.
-fn port_of(alloc: Global, peers: &[Peer<'_>]) -> Result<MemPort, Fail> {
+pub(crate) fn port_of(alloc: Global, peers: &[Peer<'_>]) -> Result<MemPort, Fail> {
     let mut conns = Vec::new(alloc);
     for peer in peers {
         conns.push(peer.connection(alloc)?)?;

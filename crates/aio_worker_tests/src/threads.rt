@@ -4,9 +4,9 @@
 
 use crate::asserts::same;
 use crate::gates::{NotingGate, Until};
-use crate::rows::{ALONE, End, HALTS, Row, moment, plays, served, still_clock};
+use crate::rows::{ALONE, End, HALTS, Row, moment, plays, port_of, served, still_clock};
 use aio_base::{ArmFault, Gate, Key, Parts, Placement};
-use aio_conns::{ENDS, MemConn, MemPort, Peer, SILENT};
+use aio_conns::{ENDS, MemPort, Peer, SILENT};
 use aio_devices::{FailingWait, MemNotify, clock_until, fault_after};
 use aio_pairs::PairEnd;
 use aio_serve::{OpenGate, ServeFault, ThreadSpawner, serve};
@@ -267,13 +267,12 @@ fn a_worker_that_stops_for_a_fault_leaves_nobody_parked(rt: HostRuntime) -> Resu
     Ok(())
 }
 
-/// What two workers on threads come to over the connections of four pairs.
+/// What two workers on threads come to over a port with the connections of four pairs.
 fn served_over<R: Wait + Threads + Sync + Send + Copy>(
     rt: &R,
     alloc: Global,
-    conns: Vec<MemConn>,
+    mut port: MemPort,
 ) -> Result<Result<Vec<PairEnd>, ServeFault>, Fail> {
-    let mut port = MemPort::new(conns);
     let mut wait = FailingWait::new(8, Vec::new(alloc));
     let mut notify = MemNotify::new();
     let mut clock = still_clock(alloc)?;
@@ -288,21 +287,12 @@ fn served_over<R: Wait + Threads + Sync + Send + Copy>(
     Ok(serve(rt, alloc, parts, 2, 1000, 4))
 }
 
-/// Adds a pair of which side A is this peer, and side B sends nothing and ends.
-fn add(conns: &mut Vec<MemConn>, alloc: Global, peer: Peer<'_>) -> Result<(), Fail> {
-    conns.push(peer.connection(alloc)?)?;
-    conns.push(ENDS.connection(alloc)?)?;
-    Ok(())
-}
-
 /// The ends of four pairs over two workers, of which the second one's side A fails these calls.
 fn ends_with_a_failing_call<R: Wait + Threads + Sync + Send + Copy>(
     rt: &R,
     alloc: Global,
     fails: &[u64],
 ) -> Result<Vec<PairEnd>, Fail> {
-    let mut conns = Vec::new(alloc);
-    add(&mut conns, alloc, HALTS)?;
     let failing = Peer {
         first: b"ab",
         blocks: true,
@@ -310,10 +300,9 @@ fn ends_with_a_failing_call<R: Wait + Threads + Sync + Send + Copy>(
         fails,
         ..ENDS
     };
-    add(&mut conns, alloc, failing)?;
-    add(&mut conns, alloc, HALTS)?;
-    add(&mut conns, alloc, HALTS)?;
-    Ok(served_over(rt, alloc, conns)?.ok().ok_or("stopped")?)
+    let peers = [HALTS, ENDS, failing, ENDS, HALTS, ENDS, HALTS, ENDS];
+    let port = port_of(alloc, &peers)?;
+    Ok(served_over(rt, alloc, port)?.ok().ok_or("stopped")?)
 }
 
 /// The fault of an arm of the third connection.
