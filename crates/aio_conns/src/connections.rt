@@ -19,7 +19,6 @@ use std::marker::Model;
 /// It is prompt where no piece is that a read would block, it ends after them, and what it takes in all has
 /// no bound. It tells its interests, what is left to read and whether it ends then, and what was sent. A
 /// write that finds no memory for its bytes takes them all the same: what was sent is told no longer then.
-#[derive(Drop)]
 pub struct SureConn {
     giving: Giving,
     sending: Sending,
@@ -45,6 +44,17 @@ impl Model for SureConn {
       prompt = c.prompt;
       armed = c.armed;
     }) };
+}
+
+impl Drop for SureConn {
+    fn drop(self) {
+        let SureConn {
+            giving: _,
+            sending: _,
+            prompt: _,
+            armed: _,
+        } = self;
+    }
 }
 
 impl SureConn {
@@ -169,7 +179,6 @@ impl Conn for SureConn {
 
 /// A `SureConn` whose calls of all kinds are numbered from 1; those whose numbers stand in its script fail,
 /// and then give, take and arm nothing. It is sure where none stands there.
-#[derive(Drop)]
 pub struct MemConn {
     conn: SureConn,
     calls: Script,
@@ -181,6 +190,12 @@ impl Model for MemConn {
     ghost Value = { ScriptedConn };
 
     ghost view = { λ c. record { conn = c.conn; script = c.calls } };
+}
+
+impl Drop for MemConn {
+    fn drop(self) {
+        let MemConn { conn: _, calls: _ } = self;
+    }
 }
 
 impl MemConn {

@@ -17,7 +17,6 @@ const OWN_PORT: u16 = 4000;
 
 /// A port in memory, which hands its connections out in order and fails once none is left. Each port can be
 /// bound, and 4000 is in use where 0 is asked for.
-#[derive(Drop)]
 pub struct MemPort {
     waiting: IntoIter<MemConn, Global>,
     faults: u64,
@@ -30,6 +29,15 @@ impl Model for MemPort {
     ghost Value = { PortValue };
 
     ghost view = { λ p. record { waiting = into_iter_items p.waiting; faults = p.faults } };
+}
+
+impl Drop for MemPort {
+    fn drop(self) {
+        let MemPort {
+            waiting: _,
+            faults: _,
+        } = self;
+    }
 }
 
 impl MemPort {

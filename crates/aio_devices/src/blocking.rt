@@ -43,7 +43,6 @@ impl Inbox {
 /// A wait that was to look more often than `most_looks` times fails after so many: so where a wake is lost, a
 /// test fails in place of hanging. What other threads leave stands under a lock, so no contract tells which
 /// events a wait gives.
-#[derive(Drop)]
 pub struct BlockingWait<R: Wait> {
     rt: R,
     inbox: Arc<Mutex<Inbox>, Global>,
@@ -60,9 +59,20 @@ impl<R: Wait> Model for BlockingWait<R> {
     ghost view = { λ w. record { most_looks = w.most_looks; waits = w.waits; faults = w.faults } };
 }
 
+impl<R: Wait + Drop> Drop for BlockingWait<R> {
+    fn drop(self) {
+        let BlockingWait {
+            rt: _,
+            inbox: _,
+            most_looks: _,
+            waits: _,
+            faults: _,
+        } = self;
+    }
+}
+
 /// A notifier of a half that waits. It counts its calls, of which none ever fails; contracts see it as their
 /// number.
-#[derive(Drop)]
 pub struct BlockingNotify<R: Wait> {
     rt: R,
     inbox: Arc<Mutex<Inbox>, Global>,
@@ -75,6 +85,16 @@ impl<R: Wait> Model for BlockingNotify<R> {
     ghost Value = { ℕ };
 
     ghost view = { λ n. n.calls };
+}
+
+impl<R: Wait + Drop> Drop for BlockingNotify<R> {
+    fn drop(self) {
+        let BlockingNotify {
+            rt: _,
+            inbox: _,
+            calls: _,
+        } = self;
+    }
 }
 
 /// A half that has not waited yet, and its notifier, which was not called yet. A wait looks at most so many

@@ -22,7 +22,6 @@ use std::marker::Model;
 
 /// A clock that gives its moments in order, and then the last again and again. Its least moment is the
 /// first, and its greatest the last.
-#[derive(Drop)]
 pub struct MemClock {
     moments: Vec<Moment>,
     next: usize,
@@ -38,6 +37,15 @@ impl Model for MemClock {
     ghost view = { λ c. record { moments = c.moments.items; next = c.next } };
 
     ghost invariant = { λ c. (c.next < length c.moments.items) × IsNonDecreasing c.moments.items };
+}
+
+impl Drop for MemClock {
+    fn drop(self) {
+        let MemClock {
+            moments: _,
+            next: _,
+        } = self;
+    }
 }
 
 impl MemClock {

@@ -32,7 +32,6 @@ pub(crate) fn give(out: &mut Vec<Event>, events: &[Event], room: u32) -> u32
 
 /// A half of a poller of which each wait comes to the next answer of its script. After the last of them each
 /// wait gives no event.
-#[derive(Drop)]
 pub struct ScriptedWait {
     left: IntoIter<WaitAnswer, Global>,
     waits: u64,
@@ -46,6 +45,16 @@ impl Model for ScriptedWait {
     ghost Value = { AnswerWaits };
 
     ghost view = { λ w. record { left = into_iter_items w.left; waits = w.waits; faults = w.faults } };
+}
+
+impl Drop for ScriptedWait {
+    fn drop(self) {
+        let ScriptedWait {
+            left: _,
+            waits: _,
+            faults: _,
+        } = self;
+    }
 }
 
 impl ScriptedWait {

@@ -25,7 +25,6 @@ const PASSES: u32 = 1 << 24;
 /// A queue of at most 1,000 operations on registered timers, for any number of threads, each of which
 /// has a pass of its own. Contracts see which queue it is; what it holds no clause can say, since
 /// other threads may change it at any moment.
-#[derive(Drop)]
 pub struct Ops {
     queue: OpQueue,
 }
@@ -43,9 +42,14 @@ impl Model for Ops {
     ghost invariant = { λ ops. ruled_capacity ops.queue ≡ queue_limit };
 }
 
+impl Drop for Ops {
+    fn drop(self) {
+        let Ops { queue: _ } = self;
+    }
+}
+
 /// What one thread may do with a queue of operations, and what it did: the entries that it pushed and
 /// popped, and how often it found the queue full and empty. Those of a pass that is let go stay queued.
-#[derive(Drop)]
 pub struct OpPass {
     pass: Pass<Entry, Seat>,
     number: u32,
@@ -77,6 +81,19 @@ impl Model for OpPass {
         × (p.number < 2 ^ 24) × (p.splits ≤ 2 ^ 24)
         × (p.pass.me.0.client.number ≡ p.number) × (p.pass.me.0.client.splits ≡ p.splits)
         × KnowsItsPast (record { seat = p.pass.me.0.client; fulls = p.fulls; empties = p.empties }) };
+}
+
+impl Drop for OpPass {
+    fn drop(self) {
+        let OpPass {
+            pass: _,
+            number: _,
+            pushes: _,
+            fulls: _,
+            empties: _,
+            splits: _,
+        } = self;
+    }
 }
 
 /// Why no further pass was made.
