@@ -30,12 +30,16 @@ pub(crate) fn take_common<T: StepTaker>(line: &[u8], taker: &mut T) -> Option<T:
 {
     if let [a, b, c, d, b't', b' ', places @ ..] = line {
         if are_letters([*a, *b, *c, *d], *b"even") {
-            let step = event_step(places)?;
+            let Some(step) = event_step(places) else {
+                return None;
+            };
             return Some(hand(line, step, taker));
         }
     }
     if let [b'p', b'o', b'l', b'l', b' ', places @ ..] = line {
-        let step = poll_step(places)?;
+        let Some(step) = poll_step(places) else {
+            return None;
+        };
         return Some(hand(line, step, taker));
     }
     take_two_numbers(line, taker)
@@ -49,11 +53,15 @@ fn take_two_numbers<T: StepTaker>(line: &[u8], taker: &mut T) -> Option<T::Answe
         (λ answer. HandsStep T.takes taker.old line.now answer taker.new) }
 {
     if let Some([b' ', places @ ..]) = behind(line, *b"step") {
-        let (listener, waker) = number_and_waker(places)?;
+        let Some((listener, waker)) = number_and_waker(places) else {
+            return None;
+        };
         return Some(hand(line, Step::StepEar(listener, waker), taker));
     }
     if let Some([b' ', places @ ..]) = behind(line, *b"tick") {
-        let (timer, waker) = number_and_waker(places)?;
+        let Some((timer, waker)) = number_and_waker(places) else {
+            return None;
+        };
         return Some(hand(line, Step::Tick(timer, waker), taker));
     }
     take_rarer(line, taker)
@@ -93,8 +101,10 @@ fn take_with_places<T: StepTaker>(line: &[u8], taker: &mut T) -> Option<T::Answe
         (λ answer. HandsStep T.takes taker.old line.now answer taker.new) }
 {
     if let Some(places) = behind(line, *b"now ") {
-        let step = Step::Now(whole_moment(places)?);
-        return Some(hand(line, step, taker));
+        let Some(moment) = whole_moment(places) else {
+            return None;
+        };
+        return Some(hand(line, Step::Now(moment), taker));
     }
     if let Some(choice) = behind_word(line, *b"timer") {
         return take_timer(line, choice, taker);
@@ -103,12 +113,16 @@ fn take_with_places<T: StepTaker>(line: &[u8], taker: &mut T) -> Option<T::Answe
         return take_set(line, places, taker);
     }
     if let Some(limit) = behind_word(line, *b"begin") {
-        let step = begin_step(limit)?;
+        let Some(step) = begin_step(limit) else {
+            return None;
+        };
         return Some(hand(line, step, taker));
     }
     if let Some(places) = behind(line, *b"end ") {
-        let step = Step::End(whole_number(places)?);
-        return Some(hand(line, step, taker));
+        let Some(timer) = whole_number(places) else {
+            return None;
+        };
+        return Some(hand(line, Step::End(timer), taker));
     }
     take_rarest(line, taker)
 }
@@ -121,19 +135,29 @@ fn take_rarest<T: StepTaker>(line: &[u8], taker: &mut T) -> Option<T::Answer>
         (λ answer. HandsStep T.takes taker.old line.now answer taker.new) }
 {
     if let Some([b' ', places @ ..]) = behind(line, *b"drop") {
-        let step = Step::DropEar(whole_number(places)?);
-        return Some(hand(line, step, taker));
+        let Some(listener) = whole_number(places) else {
+            return None;
+        };
+        return Some(hand(line, Step::DropEar(listener), taker));
     }
     if let Some(places) = behind(line, *b"new ") {
-        let step = new_step(places)?;
+        let Some(step) = new_step(places) else {
+            return None;
+        };
         return Some(hand(line, step, taker));
     }
     if let Some(places) = behind(line, *b"del ") {
-        let step = Step::Del(Key(whole_number(places)?));
-        return Some(hand(line, step, taker));
+        let Some(key) = whole_number(places) else {
+            return None;
+        };
+        return Some(hand(line, Step::Del(Key(key)), taker));
     }
-    let kind = behind_word(line, *b"fault")?;
-    let step = fault_step(kind)?;
+    let Some(kind) = behind_word(line, *b"fault") else {
+        return None;
+    };
+    let Some(step) = fault_step(kind) else {
+        return None;
+    };
     Some(hand(line, step, taker))
 }
 
@@ -158,7 +182,7 @@ fn behind_word(text: &[u8], word: [u8; 5]) -> Option<&[u8]>
     ensures { IfSome result (λ rest. text.now ≡ word ++ (32 ∷ rest.now)) }
 {
     let [a, b, c, d, e] = word;
-    let [last, b' ', rest @ ..] = behind(text, [a, b, c, d])? else {
+    let Some([last, b' ', rest @ ..]) = behind(text, [a, b, c, d]) else {
         return None;
     };
     if *last != e {
@@ -178,11 +202,15 @@ fn take_timer<T: StepTaker>(line: &[u8], choice: &[u8], taker: &mut T) -> Option
         (λ answer. HandsStep T.takes taker.old line.now answer taker.new) }
 {
     if let [b'a', b't', b' ', places @ ..] = choice {
-        let step = Step::TimerAt(whole_moment(places)?);
-        return Some(hand(line, step, taker));
+        let Some(deadline) = whole_moment(places) else {
+            return None;
+        };
+        return Some(hand(line, Step::TimerAt(deadline), taker));
     }
     if let Some(places) = behind_word(choice, *b"every") {
-        let (first, period) = first_and_period(places)?;
+        let Some((first, period)) = first_and_period(places) else {
+            return None;
+        };
         return Some(hand(line, Step::TimerEvery(first, period), taker));
     }
     if let Some(b"r") = behind(choice, *b"neve") {
@@ -201,15 +229,22 @@ fn take_set<T: StepTaker>(line: &[u8], places: &[u8], taker: &mut T) -> Option<T
     ensures { MatchOption result (taker.new ≡ taker.old)
         (λ answer. HandsStep T.takes taker.old line.now answer taker.new) }
 {
-    let (timer, choice) = first_number(places)?;
+    let Some((timer, choice)) = first_number(places) else {
+        return None;
+    };
     if let [b'a', b't', b' ', places @ ..] = choice {
-        let step = Step::SetAt(timer, whole_moment(places)?);
-        return Some(hand(line, step, taker));
+        let Some(deadline) = whole_moment(places) else {
+            return None;
+        };
+        return Some(hand(line, Step::SetAt(timer, deadline), taker));
     }
-    let places = behind_word(choice, *b"every")?;
-    let (first, period) = first_and_period(places)?;
-    let step = Step::SetEvery(timer, first, period);
-    Some(hand(line, step, taker))
+    let Some(places) = behind_word(choice, *b"every") else {
+        return None;
+    };
+    let Some((first, period)) = first_and_period(places) else {
+        return None;
+    };
+    Some(hand(line, Step::SetEvery(timer, first, period), taker))
 }
 
 /// Hands the step that a line was read as to a taker.
@@ -229,9 +264,15 @@ fn poll_step(places: &[u8]) -> Option<Step>
     ensures read { IfSome result (λ s. poll_of (words_in places.now) ≡ Ok s) }
     ensures short { OnSome result (length places.now ≤ 22) }
 {
-    let (key, rest) = first_number(places)?;
-    let (direction, rest) = first_direction(rest)?;
-    let waker = whole_number(rest)?;
+    let Some((key, rest)) = first_number(places) else {
+        return None;
+    };
+    let Some((direction, rest)) = first_direction(rest) else {
+        return None;
+    };
+    let Some(waker) = whole_number(rest) else {
+        return None;
+    };
     Some(Step::Poll(Key(key), direction, Waker(waker)))
 }
 
@@ -241,7 +282,9 @@ fn event_step(places: &[u8]) -> Option<Step>
     ensures read { IfSome result (λ s. event_of (words_in places.now) ≡ Ok s) }
     ensures short { OnSome result (length places.now ≤ 12) }
 {
-    let (key, rest) = first_number(places)?;
+    let Some((key, rest)) = first_number(places) else {
+        return None;
+    };
     let on = match rest {
         b"r" => Interest::READ,
         b"w" => Interest::WRITE,
@@ -261,8 +304,12 @@ fn number_and_waker(places: &[u8]) -> Option<(u32, Waker)>
     ensures timer { IfSome result (λ r. tick_of (words_in places.now) ≡ Ok (Step.Tick r.0 r.1)) }
     ensures short { OnSome result (length places.now ≤ 20) }
 {
-    let (number, rest) = first_number(places)?;
-    let waker = whole_number(rest)?;
+    let Some((number, rest)) = first_number(places) else {
+        return None;
+    };
+    let Some(waker) = whole_number(rest) else {
+        return None;
+    };
     Some((number, Waker(waker)))
 }
 
@@ -272,7 +319,9 @@ fn new_step(places: &[u8]) -> Option<Step>
     ensures read { IfSome result (λ s. new_of (words_in places.now) ≡ Ok s) }
     ensures short { OnSome result (length places.now ≤ 11) }
 {
-    let (key, rest) = first_number(places)?;
+    let Some((key, rest)) = first_number(places) else {
+        return None;
+    };
     match rest {
         b"r" => Some(Step::New(Key(key), Dir::Read)),
         b"w" => Some(Step::New(Key(key), Dir::Write)),
@@ -288,7 +337,10 @@ fn begin_step(places: &[u8]) -> Option<Step>
 {
     match places {
         b"none" => Some(Step::Begin(None)),
-        _ => Some(Step::Begin(Some(whole_nanoseconds(places)?))),
+        _ => match whole_nanoseconds(places) {
+            Some(limit) => Some(Step::Begin(Some(limit))),
+            None => None,
+        },
     }
 }
 
@@ -314,8 +366,10 @@ fn first_number(text: &[u8]) -> Option<(u32, &[u8])>
         take_number last_number (words_in text.now) ≡ Ok (r.0, words_in r.1.now)) }
     ensures short { IfSome result (λ r. length text.now ≤ length r.1.now + 10) }
 {
-    let (number, rest) = few_digits(text, NUMBER_DIGITS)?;
-    Some((number as u32, rest))
+    match few_digits(text, NUMBER_DIGITS) {
+        Some((number, rest)) => Some((number as u32, rest)),
+        None => None,
+    }
 }
 
 /// The key, waker, listener or timer that is the one word of a text.
@@ -325,11 +379,10 @@ fn whole_number(text: &[u8]) -> Option<u32>
         take_number last_number (words_in text.now) ≡ Ok (n, [])) }
     ensures short { OnSome result (length text.now ≤ 10) }
 {
-    let (number, rest) = first_number(text)?;
-    if !rest.is_empty() {
-        return None;
+    match first_number(text) {
+        Some((number, [])) => Some(number),
+        _ => None,
     }
-    Some(number)
 }
 
 /// The nanoseconds that are the first word of a text, and what follows them.
@@ -351,11 +404,10 @@ fn whole_nanoseconds(text: &[u8]) -> Option<u64>
     ensures bound { IfSome result (λ n. n ≤ 10 ^ 18) }
     ensures short { OnSome result (length text.now ≤ 19) }
 {
-    let (nanoseconds, rest) = first_nanoseconds(text)?;
-    if !rest.is_empty() {
-        return None;
+    match first_nanoseconds(text) {
+        Some((nanoseconds, [])) => Some(nanoseconds),
+        _ => None,
     }
-    Some(nanoseconds)
 }
 
 /// The moment that is the one word of a text.
@@ -365,7 +417,10 @@ fn whole_moment(text: &[u8]) -> Option<Moment>
         take_number last_moment (words_in text.now) ≡ Ok (m, [])) }
     ensures short { OnSome result (length text.now ≤ 19) }
 {
-    Some(moment_at(whole_nanoseconds(text)?))
+    match whole_nanoseconds(text) {
+        Some(nanoseconds) => Some(moment_at(nanoseconds)),
+        None => None,
+    }
 }
 
 /// The moment and the period in nanoseconds that are the two words of a text.
@@ -377,12 +432,13 @@ fn first_and_period(text: &[u8]) -> Option<(Moment, u64)>
         → set_every_of timer (words_in text.now) ≡ Ok (Step.SetEvery timer r.0 r.1)) }
     ensures short { OnSome result (length text.now ≤ 38) }
 {
-    let (first, rest) = first_nanoseconds(text)?;
-    let period = whole_nanoseconds(rest)?;
-    if period == 0 {
+    let Some((first, rest)) = first_nanoseconds(text) else {
         return None;
+    };
+    match whole_nanoseconds(rest) {
+        Some(period) if period > 0 => Some((moment_at(first), period)),
+        _ => None,
     }
-    Some((moment_at(first), period))
 }
 
 /// The number of at most so many digits at the front of a text, up to a space or the end of the
