@@ -23,13 +23,20 @@ pub(crate) fn push_reply(
     ensures taken { OnOk result (wakes.new.items ≡ []) }
     ensures left { OnErr result (wakes.new.items ≡ wakes.old.items) }
 {
-    push_answer(answer, out)?;
+    match push_answer(answer, out) {
+        Ok(()) => {}
+        Err(error) => return Err(error),
+    }
     if wakes.is_empty() {
         return Ok(());
     }
-    push_wakes(wakes.as_slice(), out)?;
-    wakes.clear();
-    Ok(())
+    match push_wakes(wakes.as_slice(), out) {
+        Ok(()) => {
+            wakes.clear();
+            Ok(())
+        }
+        Err(error) => Err(error),
+    }
 }
 
 /// Writes one line for each wake.
@@ -153,8 +160,10 @@ fn push_begin(out: &mut Vec<u8>, number: u64, limit: Option<u64>) -> Result<(), 
     ensures pushes { Pushes out.old out.new (ended_line (codes "begin " ++ decimal number
         ++ codes " wait " ++ limit_text limit)) result }
 {
-    push_before(out, b"begin ", number)?;
-    push_wait(out, limit)
+    match push_before(out, b"begin ", number) {
+        Ok(()) => push_wait(out, limit),
+        Err(error) => Err(error),
+    }
 }
 
 /// Writes the end of that line: how long the round may wait.
@@ -176,6 +185,8 @@ fn push_handled(out: &mut Vec<u8>, key: Key, fault: bool) -> Result<(), AllocErr
     if !fault {
         return push_numbered(out, b"handled ", u64::from(key.0));
     }
-    push_before(out, b"handled ", u64::from(key.0))?;
-    out.extend_from_slice(b" fault arm\n")
+    match push_before(out, b"handled ", u64::from(key.0)) {
+        Ok(()) => out.extend_from_slice(b" fault arm\n"),
+        Err(error) => Err(error),
+    }
 }

@@ -256,53 +256,80 @@ fn read_places(command: Command, text: &[u8]) -> Result<Step, LineFault>
 fn read_del(text: &[u8]) -> Result<Step, LineFault>
     ensures { result ≡ del_of (words_in text.now) }
 {
-    let (key, rest) = take_number(text)?;
-    ended(Step::Del(Key(key)), rest)
+    match take_number(text) {
+        Ok((key, rest)) => ended(Step::Del(Key(key)), rest),
+        Err(fault) => Err(fault),
+    }
 }
 
 /// A line `poll K D W`, read behind its command.
 fn read_poll(text: &[u8]) -> Result<Step, LineFault>
     ensures { result ≡ poll_of (words_in text.now) }
 {
-    let (key, rest) = take_number(text)?;
-    let (direction, rest) = take_direction(rest)?;
-    let (waker, rest) = take_number(rest)?;
-    ended(Step::Poll(Key(key), direction, Waker(waker)), rest)
+    let (key, rest) = match take_number(text) {
+        Ok(taken) => taken,
+        Err(fault) => return Err(fault),
+    };
+    let (direction, rest) = match take_direction(rest) {
+        Ok(taken) => taken,
+        Err(fault) => return Err(fault),
+    };
+    match take_number(rest) {
+        Ok((waker, rest)) => ended(Step::Poll(Key(key), direction, Waker(waker)), rest),
+        Err(fault) => Err(fault),
+    }
 }
 
 /// A line `new K D`, read behind its command.
 fn read_new(text: &[u8]) -> Result<Step, LineFault>
     ensures { result ≡ new_of (words_in text.now) }
 {
-    let (key, rest) = take_number(text)?;
-    let (direction, rest) = take_direction(rest)?;
-    ended(Step::New(Key(key), direction), rest)
+    let (key, rest) = match take_number(text) {
+        Ok(taken) => taken,
+        Err(fault) => return Err(fault),
+    };
+    match take_direction(rest) {
+        Ok((direction, rest)) => ended(Step::New(Key(key), direction), rest),
+        Err(fault) => Err(fault),
+    }
 }
 
 /// A line `step N W`, read behind its command.
 fn read_listener_poll(text: &[u8]) -> Result<Step, LineFault>
     ensures { result ≡ listener_poll_of (words_in text.now) }
 {
-    let (listener, rest) = take_number(text)?;
-    let (waker, rest) = take_number(rest)?;
-    ended(Step::StepEar(listener, Waker(waker)), rest)
+    let (listener, rest) = match take_number(text) {
+        Ok(taken) => taken,
+        Err(fault) => return Err(fault),
+    };
+    match take_number(rest) {
+        Ok((waker, rest)) => ended(Step::StepEar(listener, Waker(waker)), rest),
+        Err(fault) => Err(fault),
+    }
 }
 
 /// A line `drop N`, read behind its command.
 fn read_drop(text: &[u8]) -> Result<Step, LineFault>
     ensures { result ≡ drop_of (words_in text.now) }
 {
-    let (listener, rest) = take_number(text)?;
-    ended(Step::DropEar(listener), rest)
+    match take_number(text) {
+        Ok((listener, rest)) => ended(Step::DropEar(listener), rest),
+        Err(fault) => Err(fault),
+    }
 }
 
 /// A line `tick N W`, read behind its command.
 fn read_tick(text: &[u8]) -> Result<Step, LineFault>
     ensures { result ≡ tick_of (words_in text.now) }
 {
-    let (timer, rest) = take_number(text)?;
-    let (waker, rest) = take_number(rest)?;
-    ended(Step::Tick(timer, Waker(waker)), rest)
+    let (timer, rest) = match take_number(text) {
+        Ok(taken) => taken,
+        Err(fault) => return Err(fault),
+    };
+    match take_number(rest) {
+        Ok((waker, rest)) => ended(Step::Tick(timer, Waker(waker)), rest),
+        Err(fault) => Err(fault),
+    }
 }
 
 /// A line `timer at T`, `timer every T P` or `timer never`, read behind its command.
@@ -327,24 +354,34 @@ fn read_timer(text: &[u8]) -> Result<Step, LineFault>
 fn read_timer_at(text: &[u8]) -> Result<Step, LineFault>
     ensures { result ≡ timer_at_of (words_in text.now) }
 {
-    let (moment, rest) = take_moment(text)?;
-    ended(Step::TimerAt(moment_at(moment)), rest)
+    match take_moment(text) {
+        Ok((moment, rest)) => ended(Step::TimerAt(moment_at(moment)), rest),
+        Err(fault) => Err(fault),
+    }
 }
 
 /// A line `timer every T P`, read behind its choice.
 fn read_timer_every(text: &[u8]) -> Result<Step, LineFault>
     ensures { result ≡ timer_every_of (words_in text.now) }
 {
-    let (moment, rest) = take_moment(text)?;
-    let (period, rest) = take_period(rest)?;
-    ended(Step::TimerEvery(moment_at(moment), period), rest)
+    let (moment, rest) = match take_moment(text) {
+        Ok(taken) => taken,
+        Err(fault) => return Err(fault),
+    };
+    match take_period(rest) {
+        Ok((period, rest)) => ended(Step::TimerEvery(moment_at(moment), period), rest),
+        Err(fault) => Err(fault),
+    }
 }
 
 /// A line `set N at T` or `set N every T P`, read behind its command.
 fn read_set(text: &[u8]) -> Result<Step, LineFault>
     ensures { result ≡ set_of (words_in text.now) }
 {
-    let (timer, rest) = take_number(text)?;
+    let (timer, rest) = match take_number(text) {
+        Ok(taken) => taken,
+        Err(fault) => return Err(fault),
+    };
     let Some((choice, rest)) = next_word(rest) else {
         return Err(LineFault::Count);
     };
@@ -361,41 +398,58 @@ fn read_set(text: &[u8]) -> Result<Step, LineFault>
 fn read_set_at(timer: u32, text: &[u8]) -> Result<Step, LineFault>
     ensures { result ≡ set_at_of timer (words_in text.now) }
 {
-    let (moment, rest) = take_moment(text)?;
-    ended(Step::SetAt(timer, moment_at(moment)), rest)
+    match take_moment(text) {
+        Ok((moment, rest)) => ended(Step::SetAt(timer, moment_at(moment)), rest),
+        Err(fault) => Err(fault),
+    }
 }
 
 /// A line `set N every T P`, read behind its choice.
 fn read_set_every(timer: u32, text: &[u8]) -> Result<Step, LineFault>
     ensures { result ≡ set_every_of timer (words_in text.now) }
 {
-    let (moment, rest) = take_moment(text)?;
-    let (period, rest) = take_period(rest)?;
-    ended(Step::SetEvery(timer, moment_at(moment), period), rest)
+    let (moment, rest) = match take_moment(text) {
+        Ok(taken) => taken,
+        Err(fault) => return Err(fault),
+    };
+    match take_period(rest) {
+        Ok((period, rest)) => ended(Step::SetEvery(timer, moment_at(moment), period), rest),
+        Err(fault) => Err(fault),
+    }
 }
 
 /// A line `end N`, read behind its command.
 fn read_end(text: &[u8]) -> Result<Step, LineFault>
     ensures { result ≡ end_of (words_in text.now) }
 {
-    let (timer, rest) = take_number(text)?;
-    ended(Step::End(timer), rest)
+    match take_number(text) {
+        Ok((timer, rest)) => ended(Step::End(timer), rest),
+        Err(fault) => Err(fault),
+    }
 }
 
 /// A line `now T`, read behind its command.
 fn read_now(text: &[u8]) -> Result<Step, LineFault>
     ensures { result ≡ now_of (words_in text.now) }
 {
-    let (moment, rest) = take_moment(text)?;
-    ended(Step::Now(moment_at(moment)), rest)
+    match take_moment(text) {
+        Ok((moment, rest)) => ended(Step::Now(moment_at(moment)), rest),
+        Err(fault) => Err(fault),
+    }
 }
 
 /// A line `event K F`, read behind its command.
 fn read_event(text: &[u8]) -> Result<Step, LineFault>
     ensures { result ≡ event_of (words_in text.now) }
 {
-    let (key, rest) = take_number(text)?;
-    let (on, rest) = take_flags(rest)?;
+    let (key, rest) = match take_number(text) {
+        Ok(taken) => taken,
+        Err(fault) => return Err(fault),
+    };
+    let (on, rest) = match take_flags(rest) {
+        Ok(taken) => taken,
+        Err(fault) => return Err(fault),
+    };
     let event = Event { key: Key(key), on };
     ended(Step::Note(event), rest)
 }
@@ -424,8 +478,10 @@ fn read_fault(text: &[u8]) -> Result<Step, LineFault>
 fn read_begin(text: &[u8]) -> Result<Step, LineFault>
     ensures { result ≡ begin_of (words_in text.now) }
 {
-    let (limit, rest) = take_limit(text)?;
-    ended(Step::Begin(limit), rest)
+    match take_limit(text) {
+        Ok((limit, rest)) => ended(Step::Begin(limit), rest),
+        Err(fault) => Err(fault),
+    }
 }
 
 /// The key, waker, listener or timer that a text's first word spells, and what follows it.
@@ -434,8 +490,10 @@ fn take_number(text: &[u8]) -> Result<(u32, &[u8]), LineFault>
         (λ r. take_number last_number (words_in text.now) ≡ Ok (r.0, words_in r.1.now))
         (λ f. take_number last_number (words_in text.now) ≡ Err f) }
 {
-    let (number, rest) = next_number(text, u64::from(u32::MAX))?;
-    Ok((number as u32, rest))
+    match next_number(text, u64::from(u32::MAX)) {
+        Ok((number, rest)) => Ok((number as u32, rest)),
+        Err(fault) => Err(fault),
+    }
 }
 
 /// The nanoseconds of a moment that a text's first word spells, and what follows it.
@@ -465,7 +523,10 @@ fn take_period(text: &[u8]) -> Result<(u64, &[u8]), LineFault>
         (λ r. take_period (words_in text.now) ≡ Ok (r.0, words_in r.1.now))
         (λ f. take_period (words_in text.now) ≡ Err f) }
 {
-    let (period, rest) = next_number(text, LAST_MOMENT)?;
+    let (period, rest) = match next_number(text, LAST_MOMENT) {
+        Ok(taken) => taken,
+        Err(fault) => return Err(fault),
+    };
     if period == 0 {
         return Err(LineFault::Number);
     }
@@ -498,7 +559,10 @@ fn take_flags(text: &[u8]) -> Result<(Interest, &[u8]), LineFault>
 {
     match next_word(text) {
         None => Err(LineFault::Count),
-        Some((word, rest)) => Ok((read_flags(word)?, rest)),
+        Some((word, rest)) => match read_flags(word) {
+            Ok(on) => Ok((on, rest)),
+            Err(fault) => Err(fault),
+        },
     }
 }
 
@@ -531,8 +595,10 @@ fn take_limit(text: &[u8]) -> Result<(Option<u64>, &[u8]), LineFault>
             if word_is(word, b"none") {
                 return Ok((None, rest));
             }
-            let (limit, rest) = take_moment(text)?;
-            Ok((Some(limit), rest))
+            match take_moment(text) {
+                Ok((limit, rest)) => Ok((Some(limit), rest)),
+                Err(fault) => Err(fault),
+            }
         }
     }
 }

@@ -50,8 +50,10 @@ fn push_poll(out: &mut Vec<u8>, key: Key, direction: Dir, waker: Waker) -> Resul
     ensures pushes { Pushes out.old out.new (ended_line (codes "poll " ++ decimal key.0 ++ codes " "
         ++ dir_text direction ++ codes " " ++ decimal waker.0)) result }
 {
-    push_before(out, b"poll ", u64::from(key.0))?;
-    push_poller(out, direction, waker)
+    match push_before(out, b"poll ", u64::from(key.0)) {
+        Ok(()) => push_poller(out, direction, waker),
+        Err(error) => Err(error),
+    }
 }
 
 /// Writes the end of the line of a poll: its direction and its waker.
@@ -70,7 +72,10 @@ fn push_new(out: &mut Vec<u8>, key: Key, direction: Dir) -> Result<(), AllocErro
     ensures pushes { Pushes out.old out.new (ended_line (codes "new " ++ decimal key.0 ++ codes " "
         ++ dir_text direction)) result }
 {
-    push_before(out, b"new ", u64::from(key.0))?;
+    match push_before(out, b"new ", u64::from(key.0)) {
+        Ok(()) => {}
+        Err(error) => return Err(error),
+    }
     out.extend_from_slice(match direction {
         Dir::Read => b" r\n",
         Dir::Write => b" w\n",
@@ -82,8 +87,10 @@ fn push_two(out: &mut Vec<u8>, words: &[u8], first: u64, second: u64) -> Result<
     ensures pushes { Pushes out.old out.new (ended_line (words.now ++ decimal first ++ codes " "
         ++ decimal second)) result }
 {
-    push_before(out, words, first)?;
-    push_numbered(out, b" ", second)
+    match push_before(out, words, first) {
+        Ok(()) => push_numbered(out, b" ", second),
+        Err(error) => Err(error),
+    }
 }
 
 /// Writes the line that sets a timer to a deadline.
@@ -91,8 +98,10 @@ fn push_set_at(out: &mut Vec<u8>, timer: u32, deadline: Moment) -> Result<(), Al
     ensures pushes { Pushes out.old out.new (ended_line (codes "set " ++ decimal timer
         ++ codes " at " ++ decimal deadline)) result }
 {
-    push_before(out, b"set ", u64::from(timer))?;
-    push_numbered(out, b" at ", deadline.get())
+    match push_before(out, b"set ", u64::from(timer)) {
+        Ok(()) => push_numbered(out, b" at ", deadline.get()),
+        Err(error) => Err(error),
+    }
 }
 
 /// Writes the line that sets a timer to a deadline and a period.
@@ -105,8 +114,10 @@ fn push_set_every(
     ensures pushes { Pushes out.old out.new (ended_line (codes "set " ++ decimal timer
         ++ codes " every " ++ decimal deadline ++ codes " " ++ decimal period)) result }
 {
-    push_before(out, b"set ", u64::from(timer))?;
-    push_two(out, b" every ", deadline.get(), period)
+    match push_before(out, b"set ", u64::from(timer)) {
+        Ok(()) => push_two(out, b" every ", deadline.get(), period),
+        Err(error) => Err(error),
+    }
 }
 
 /// Writes the line of an event.
@@ -114,7 +125,10 @@ fn push_event(out: &mut Vec<u8>, event: Event) -> Result<(), AllocError>
     ensures pushes { Pushes out.old out.new (ended_line (codes "event " ++ decimal event.key.0
         ++ codes " " ++ flags_text event.on)) result }
 {
-    push_before(out, b"event ", u64::from(event.key.0))?;
+    match push_before(out, b"event ", u64::from(event.key.0)) {
+        Ok(()) => {}
+        Err(error) => return Err(error),
+    }
     out.extend_from_slice(match (event.on.read, event.on.write) {
         (false, false) => b" -\n".as_slice(),
         (true, false) => b" r\n",

@@ -137,8 +137,10 @@ fn push_close<const N: usize>(
 pub(crate) fn push_before(out: &mut Vec<u8>, words: &[u8], number: u64) -> Result<(), AllocError>
     ensures pushes { Pushes out.old out.new (words.now ++ decimal number) result }
 {
-    out.extend_from_slice(words)?;
-    push_number(out, number)
+    match out.extend_from_slice(words) {
+        Ok(()) => push_number(out, number),
+        Err(error) => Err(error),
+    }
 }
 
 /// Writes a number in decimal digits.
