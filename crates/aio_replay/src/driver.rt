@@ -42,8 +42,12 @@ impl<A: Answerer + Drop> Driver<A> {
         ensures text { IfOk result (λ d. d.gathered.text.items ≡ []) }
         ensures answerer { IfOk result (λ d. d.gathered.answerer ≡ answerer) }
     {
-        let reader = LineReader::new(alloc)?;
-        let text = Vec::with_capacity(alloc, BLOCK + LINE_ROOM)?;
+        let Ok(reader) = LineReader::new(alloc) else {
+            return Err(AllocError);
+        };
+        let Ok(text) = Vec::with_capacity(alloc, BLOCK + LINE_ROOM) else {
+            return Err(AllocError);
+        };
         Ok(Driver {
             reader,
             gathered: Gathered { answerer, text },

@@ -36,10 +36,13 @@ impl FirstVersion {
         ensures stands { IfOk result (λ first. first_rules.stands first opening) }
         ensures within { IfOk result (first_rules.within 2) }
     {
-        Ok(FirstVersion {
-            replayer: Replayer::new(alloc)?,
-            wakes: Vec::new(alloc),
-        })
+        match Replayer::new(alloc) {
+            Ok(replayer) => Ok(FirstVersion {
+                replayer,
+                wakes: Vec::new(alloc),
+            }),
+            Err(error) => Err(error),
+        }
     }
 
     /// The core that ran the steps.
@@ -103,7 +106,9 @@ impl Gathered<FirstVersion> {
         requires range { IsInRange step.now }
         ensures { RunsStep self.old step.now result self.new }
     {
-        let answer = self.answerer.replayer.step(step, &mut self.answerer.wakes)?;
+        let Ok(answer) = self.answerer.replayer.step(step, &mut self.answerer.wakes) else {
+            return Err(AllocError);
+        };
         match write_reply(answer, &mut self.answerer.wakes, &mut self.text) {
             Ok(()) => Ok(()),
             Err(_) => Err(AllocError),
