@@ -91,8 +91,13 @@ fn named_stress(calls: &str, seed: &str) -> Option<Command>
         ((command : Command) → Names command (codes "stress" ∷ calls.now ∷ seed.now ∷ []) → ⊥)
         (λ command. Names command (codes "stress" ∷ calls.now ∷ seed.now ∷ [])) }
 {
-    let calls = number_up_to(calls, MOST_CALLS)? as u32;
-    let seed = number_up_to(seed, GREATEST_SEED)?;
+    let Some(calls) = number_up_to(calls, MOST_CALLS) else {
+        return None;
+    };
+    let Some(seed) = number_up_to(seed, GREATEST_SEED) else {
+        return None;
+    };
+    let calls = calls as u32;
     Some(Command::Stress { calls, seed })
 }
 

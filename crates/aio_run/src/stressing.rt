@@ -88,9 +88,17 @@ fn steps_of(cells: &[StressCell]) -> u64
 fn line_of(alloc: Global, made: u64, replayed: u64) -> Result<Vec<u8>, AllocError>
     ensures { IfOk result (λ line. line.items ≡ stress_line made replayed) }
 {
-    let mut line = Vec::with_capacity(alloc, LINE_ROOM)?;
-    push_count(&mut line, b"calls ", made)?;
-    push_count(&mut line, b" replayed ", replayed)?;
-    line.push(b'\n')?;
+    let Ok(mut line) = Vec::with_capacity(alloc, LINE_ROOM) else {
+        return Err(AllocError);
+    };
+    let Ok(()) = push_count(&mut line, b"calls ", made) else {
+        return Err(AllocError);
+    };
+    let Ok(()) = push_count(&mut line, b" replayed ", replayed) else {
+        return Err(AllocError);
+    };
+    let Ok(()) = line.push(b'\n') else {
+        return Err(AllocError);
+    };
     Ok(line)
 }

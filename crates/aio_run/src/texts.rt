@@ -55,7 +55,9 @@ pub(crate) fn write_trace<K: Sink>(
 fn header(alloc: Global) -> Result<Vec<u8>, AllocError>
     ensures { IfOk result (λ text. text.items ≡ ended_line header_text) }
 {
-    let mut text = Vec::with_capacity(alloc, BLOCK + LINE_ROOM)?;
+    let Ok(mut text) = Vec::with_capacity(alloc, BLOCK + LINE_ROOM) else {
+        return Err(AllocError);
+    };
     text.extend_from_slice(b"trace 1\n")?;
     Ok(text)
 }
@@ -109,14 +111,30 @@ pub(crate) fn write_summary<K: Sink>(
 fn line_of(alloc: Global, counts: &Summary) -> Result<Vec<u8>, AllocError>
     ensures { IfOk result (λ line. line.items ≡ ended_line (counts_line (counts_told counts.now))) }
 {
-    let mut line = Vec::with_capacity(alloc, LINE_ROOM)?;
-    push_count(&mut line, b"steps ", counts.steps)?;
-    push_count(&mut line, b" ready ", counts.ready)?;
-    push_count(&mut line, b" pending ", counts.pending)?;
-    push_count(&mut line, b" wakes ", counts.wakes)?;
-    push_count(&mut line, b" rounds ", counts.rounds)?;
-    push_count(&mut line, b" refused ", counts.refused)?;
-    line.push(b'\n')?;
+    let Ok(mut line) = Vec::with_capacity(alloc, LINE_ROOM) else {
+        return Err(AllocError);
+    };
+    let Ok(()) = push_count(&mut line, b"steps ", counts.steps) else {
+        return Err(AllocError);
+    };
+    let Ok(()) = push_count(&mut line, b" ready ", counts.ready) else {
+        return Err(AllocError);
+    };
+    let Ok(()) = push_count(&mut line, b" pending ", counts.pending) else {
+        return Err(AllocError);
+    };
+    let Ok(()) = push_count(&mut line, b" wakes ", counts.wakes) else {
+        return Err(AllocError);
+    };
+    let Ok(()) = push_count(&mut line, b" rounds ", counts.rounds) else {
+        return Err(AllocError);
+    };
+    let Ok(()) = push_count(&mut line, b" refused ", counts.refused) else {
+        return Err(AllocError);
+    };
+    let Ok(()) = line.push(b'\n') else {
+        return Err(AllocError);
+    };
     Ok(line)
 }
 
@@ -125,7 +143,9 @@ pub(crate) fn push_count(line: &mut Vec<u8>, word: &[u8], count: u64) -> Result<
     ensures { OnOk result (line.new.items ≡ line.old.items ++ (word.now ++ decimal count)) }
 {
     let mut digits = Buffer::new();
-    line.extend_from_slice(word)?;
+    let Ok(()) = line.extend_from_slice(word) else {
+        return Err(AllocError);
+    };
     line.extend_from_slice(digits.format(count).as_bytes())
 }
 
