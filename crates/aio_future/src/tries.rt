@@ -3,7 +3,7 @@
 ghost use Rattle.std.specs.Prelude.{◌≡◌, ◌<◌, ◌≤◌, length, take, None, Ok};
 ghost use Rattle.aio_base.specs.Connections.{ReadTells, WriteTells};
 ghost use Rattle.aio_base.specs.declared.outcomes.Poll.TheVariants.{Ready, Pending};
-ghost use Rattle.aio_future.specs.Tries.{FaultsWithin, IsReadAnswer, IsWaitAnswer, IsWriteAnswer, MovesWithin, Polls, SpendsReadiness, TriesNow, TriesThenWaits, WaitsFor, answer_so_far, bytes_over, fault_counts, read_call, write_call};
+ghost use Rattle.aio_future.specs.Tries.{FaultsWithin, IsReadAnswer, IsWaitAnswer, IsWriteAnswer, MovesWithin, Polls, SpendsReadiness, TriesNow, TriesThenWaits, WaitsFor, answer_so_far, bytes_over, end_by_poll, fault_counts, read_call, write_call};
 
 use crate::tried::{Tried, TryFault};
 use aio_base::{Arm, Conn, CountFault, Did, Dir, Failed, Poll, Waker};
@@ -77,6 +77,14 @@ fn wait_for<C: Conn>(cell: &mut SourceCell<C>, dir: Dir, ticker: u64, w: Waker) 
     ensures spends { result ≡ None → SpendsReadiness dir cell.old.state cell.new.state }
 {
     let polled = cell.state.poll_dir(&mut cell.io, dir, w, ticker);
+    end_by_poll(polled)
+}
+
+/// How a call whose last try was blocked ends by this poll. `None` where the direction was ready.
+#[inline(always)]
+fn end_by_poll(polled: Polled) -> Option<Tried>
+    ensures { result ≡ end_by_poll polled.answer polled.replaced }
+{
     match polled.answer {
         Poll::Ready(Ok(())) => None,
         Poll::Ready(Err(fault)) => Some(Tried {
