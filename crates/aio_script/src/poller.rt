@@ -16,7 +16,7 @@ const KEYS: usize = 4096;
 
 /// What the next calls are told to answer: a failure of the next call of a kind, and an interrupt
 /// of the next wait that does not fail.
-#[derive(Clone, Copy, Debug, PartialEq, Eq)]
+#[derive(Clone, Copy)]
 pub(crate) struct Due {
     pub add: bool,
     pub arm: bool,
