@@ -1,6 +1,6 @@
 -- What one more step of a history leaves in its source.
-use Rattle.std.proofs.Common.{◌≡◌, ℕ, ◌≤◌, Bool, true, false, not, ◌&&◌, ◌||◌, nat_lt, if◌then◌else◌, List, [], ◌∷◌, ◌++◌, length, max, reverse, refl, sym, ap, ◌∙◌, subst, arith}
-use Rattle.std.specs.Prelude.{Option, Some, None, option_to_list, is_some, Result, Ok, Err, IsErr, cond}
+use Rattle.std.proofs.Common.{◌≡◌, ℕ, ◌+◌, ◌<◌, ◌≤◌, Fits, w32, Bool, true, false, not, ◌&&◌, ◌||◌, nat_lt, if◌then◌else◌, List, [], ◌∷◌, ◌++◌, length, max, reverse, refl, sym, ap, ◌∙◌, subst, arith}
+use Rattle.std.specs.Prelude.{Option, Some, None, option_to_list, is_some, Result, Ok, Err, IsErr, OnOk, is_err, cond}
 use Rattle.std.proofs.Common.{length-append}
 use Rattle.std.specs.List.{list_any, list_all}
 use Rattle.std.proofs.lemmas.Bool.Decides.{nat_tests}
@@ -219,6 +219,11 @@ poll_ready past s dir w ticker e =
     subst (λ (ds : DirectionValues). (polling (record { key = s.key; directions = ds; asked = s.asked; broken = s.broken }) dir w ticker).ready ≡ is_ready_after past dir) (sym e)
     (ready_core past s.key s.asked s.broken dir w ticker)
 
+-- what a call ensures where it is known not to have failed
+pub where_done : {E P : Type 0} (answer : Result (Unit {0}) E) → is_err answer ≡ false → OnOk answer P → P
+where_done (Ok done) ok holds = holds
+where_done (Err e) ok holds = cc
+
 abbrev answer_if : Bool → Poll (Unit {0})
 answer_if ready = if ready then Ready tt else Pending
 
@@ -297,6 +302,29 @@ taken_core past on round =
 pub taken_count : (past : List CellStep) (s : SourceValue) (on : Interest) (round : ℕ) → s.directions ≡ directions_left past
     → length (taken_along on round directions s.directions) ≡ waiters_among on past
 taken_count past s on round e = ap (λ ds. length (taken_along on round directions ds)) e ∙ taken_core past on round
+
+-- what an event took, into an empty list, is as much as the history says
+pub counted : (past : List CellStep) (s : SourceValue) (on : Interest) (round n : ℕ) (cleared reserved now : List Waker) → s.directions ≡ directions_left past
+    → cleared ≡ [] → reserved ≡ cleared → now ≡ reserved ++ taken_along on round directions s.directions → n ≡ length now → n ≡ waiters_among on past
+counted past s on round n cleared reserved now left none same taken count =
+    count ∙ ap length (taken ∙ ap (λ (l : List Waker). l ++ taken_along on round directions s.directions) (same ∙ none)) ∙ taken_count past s on round left
+
+at_most_one : (held : Bool) → cond held 1 0 ≤ 1
+at_most_one true = omega arith
+at_most_one false = omega arith
+
+pub has_room : (len found capacity : ℕ) → len + 2 ≤ capacity → found ≤ 2 → len + found ≤ capacity
+has_room len found capacity room few = omega arith
+
+pub has_place : (len capacity : ℕ) → len + 1 ≤ capacity → len < capacity
+has_place len capacity room = omega arith
+
+pub fits_few : (n count : ℕ) → n ≡ count → count ≤ 2 → Fits w32 n
+fits_few n count is few = omega arith
+
+pub at_most_two : (past : List CellStep) (on : Interest) → waiters_among on past ≤ 2
+at_most_two past on =
+    omega (arith, at_most_one (on.write && is_some (waiter_of past Write)), at_most_one (on.read && is_some (waiter_of past Read)))
 
 one_held : (waiter : Option Waker) → length (option_to_list waiter ++ []) ≤ 1
 one_held None = omega arith
