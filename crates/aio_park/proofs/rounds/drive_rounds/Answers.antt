@@ -48,3 +48,6 @@ returns-in-Err-clause-fails g c = record {
   fails = fails_earlier g.N.Faults.fault_count c.args.shared.now.words.parkers c.args.shared.now.sure_of_arms (until (g.C.Clock.latest c.drive_round.new.clock) (start_of g.C.Clock.bounds g.C.Clock.latest g.W.EventWait.wait_step c.args.clock.now)) (g.C.Clock.bounds c.loop.clock) (g.C.Clock.latest c.loop.clock) c.loop.cell c.drive_round.new.cell c.loop.m c.drive_round.new.m c.in-Err.fault
       c.loop.invariant.keeps.bounds c.loop.invariant.keeps.latest c.in-Err.ensures.fails;
 }
+
+pub returns-clause-rounds : goal.returns-clause-rounds
+returns-clause-rounds g c = search rules

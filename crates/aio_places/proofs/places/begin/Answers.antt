@@ -1,4 +1,4 @@
-use Rattle.std.proofs.Common.{◌≡◌, [], length, sym, subst, arith}
+use Rattle.std.proofs.Common.{◌≡◌, [], length, sym, subst, arith, rules}
 use Rattle.std.specs.List.{AllByRecursion}
 use Rattle.aio_shared.specs.Members.{SharedValue}
 use Rattle.aio_places.specs.Places.{AllStandFor, HasJoined}
@@ -39,3 +39,9 @@ returns-clause-places g c =
     all_stand_for g.A.Arm.arm_step g.A.Arm.rest g.A.Faults.fault_count g.A.Faults.is_sure g.A.Tells.telling g.met.A.Conn.rest_is_laid_out
     g.A.Tells.left_is_bounded c.in-Ok-start.started.shared.words.identity [] begun.0 c.args.conns.items c.in-Ok-start.started.sources.items
     c.in_ok-places.places.items begun.1 c.in_ok-places.ensures
+
+pub returns-clause-parkers : goal.returns-clause-parkers
+returns-clause-parkers g c = search rules
+
+pub returns-in_err-places-clause-parkers : goal.returns-in_err-places-clause-parkers
+returns-in_err-places-clause-parkers g c = search rules

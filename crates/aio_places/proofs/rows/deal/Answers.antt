@@ -1,4 +1,4 @@
-use Rattle.std.proofs.Common.{◌≡◌, ◌+◌, [], ◌∷◌, ◌++◌, length, sym, ap, ◌∙◌, subst, append-nil, append_assoc, arith}
+use Rattle.std.proofs.Common.{◌≡◌, ◌+◌, [], ◌∷◌, ◌++◌, length, sym, ap, ◌∙◌, subst, append-nil, append_assoc, arith, rules}
 use Rattle.aio_places.specs.Dealing.{HaveShares}
 use Rattle.aio_places.proofs.rows.deal.Goals as goal
 
@@ -26,3 +26,9 @@ loop-last-preserved g c =
       shares = subst (λ total. HaveShares total c.args.count 0 new) more (subst (λ count. HaveShares (length kept.dealt + 1) count 0 new) rows
           (put.shares (length kept.dealt) (subst (λ count. HaveShares (length kept.dealt) count 0 c.loop-last.rows) (sym kept.rows) kept.shares)));
     }
+
+pub put_first-requires : goal.put_first-requires
+put_first-requires g c = search rules
+
+pub returns-clause-rows : goal.returns-clause-rows
+returns-clause-rows g c = search rules

@@ -12,3 +12,9 @@ loop-made-preserved c = record {
   room = search rules;
   space = search rules;
 }
+
+pub returns-clause-first : goal.returns-clause-first
+returns-clause-first c = search rules
+
+pub returns-clause-second : goal.returns-clause-second
+returns-clause-second c = search rules

@@ -1,4 +1,4 @@
-use Rattle.std.proofs.Common.{ap, ◌∙◌}
+use Rattle.std.proofs.Common.{ap, ◌∙◌, rules}
 use Rattle.aio_replay.specs.declared.version.FirstVersion.{FirstVersion}
 use Rattle.aio_replay.proofs.FirstVersion.{core_on_the_way, core_stands, stopped_part, whole_says}
 use Rattle.aio_replay.proofs.trace.replay.Goals as goal
@@ -39,3 +39,12 @@ returns-in-Write-Err-Failed-clause-core g c = λ bytes told.
 
 pub returns-in_default-2-clause-replays : goal.returns-in_default-2-clause-replays
 returns-in_default-2-clause-replays g c = λ bytes told. stopped_part _ bytes _ _ _ (c.in-Stopped.ensures.ends bytes told).says
+
+pub returns-in-Read-default-clause-counts : goal.returns-in-Read-default-clause-counts
+returns-in-Read-default-clause-counts g c = search rules
+
+pub returns-in-Read-default-clause-none : goal.returns-in-Read-default-clause-none
+returns-in-Read-default-clause-none g c = search rules
+
+pub returns-in-Read-default-clause-taken : goal.returns-in-Read-default-clause-taken
+returns-in-Read-default-clause-taken g c = search rules

@@ -1,4 +1,4 @@
-use Rattle.std.proofs.Common.{map, string_bytes, take, refl, ◌∙◌}
+use Rattle.std.proofs.Common.{map, string_bytes, take, refl, ◌∙◌, rules}
 use Rattle.aio_base.specs.Trace.{trace_of}
 use Rattle.aio_laws.proofs.runs.BetweenSteps.{stands_after}
 use Rattle.aio_run.proofs.Naming.{one_command}
@@ -48,3 +48,6 @@ returns-clause-ran g c = λ command names.
           rw (same, w.why-is, w.input-is, w.out-is, w.devices-is) (w.run_stress-why.ensures.writes, refl, w.run_stress-why.ensures.spawner)
       | in-None w ↦ absurd (w.in-None.ensures command names)
     ]
+
+pub returns-clause-usage : goal.returns-clause-usage
+returns-clause-usage g c = search rules

@@ -1,4 +1,4 @@
-use Rattle.std.proofs.Common.{List, sym, subst, le_refl, le_trans, arith}
+use Rattle.std.proofs.Common.{List, sym, subst, le_refl, le_trans, arith, rules}
 use Rattle.aio_serve.specs.Accepted.{HandedOut}
 use Rattle.aio_serve.proofs.Handed.{none_handed, none_more, one_handed}
 use Rattle.aio_serve.proofs.accepting.accept_all.Goals as goal
@@ -30,3 +30,6 @@ returns-in-Err-clause-handed g c = (
   none_more (g.P.Port.waiting c.args.port.now) (g.P.Port.waiting c.loop-accepted.port) (g.P.Port.waiting c.accept.new.self) c.loop-accepted.conns.items _ c.loop-accepted.invariant.handed c.in-Err.ensures.next,
   omega (arith, c.loop-accepted.conns.ok, c.loop-accepted.invariant.count, c.loop-accepted.auto._accepted-end),
 )
+
+pub returns-in-Err-clause-cause : goal.returns-in-Err-clause-cause
+returns-in-Err-clause-cause g c = search rules

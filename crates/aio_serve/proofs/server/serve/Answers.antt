@@ -1,4 +1,4 @@
-use Rattle.std.proofs.Common.{◌≡◌, ◌*◌, List, Result, Vec, length, refl, sym, subst, arith}
+use Rattle.std.proofs.Common.{◌≡◌, ◌*◌, List, Result, Vec, length, refl, sym, subst, arith, rules}
 use Rattle.std.specs.Prelude.{IfErr, IfOk, IfSome, OnOk}
 use Rattle.std.specs.List.{AllZip}
 use Rattle.std.specs.declared.alloc.Global.{Global}
@@ -109,3 +109,6 @@ returns-clause-cause g c =
           subst promised (sym w.result-is) (subst (HasServeCause before after wait_sure lent.is_sure) (sym w.fault_of.ensures)
           (worker_cause before after wait_sure lent.is_sure fault stops))
     ]
+
+pub returns-in_default-workers_of-clause-handed : goal.returns-in_default-workers_of-clause-handed
+returns-in_default-workers_of-clause-handed g c = search rules

@@ -21,3 +21,6 @@ returns-in-Some-Gives-clause-added c =
     subst (λ (left : List WaitAnswer). ComesTo left room (Ok (Given c.give.result)) (take room events)) (sym left)
     (ap (λ n. Ok (Given n)) (sym counted), refl) in
     (take room events, joined, (counted, omega (arith, c.give.ensures.count)), search rules)
+
+pub returns-in-Some-Interrupted-clause-waits : goal.returns-in-Some-Interrupted-clause-waits
+returns-in-Some-Interrupted-clause-waits c = search rules

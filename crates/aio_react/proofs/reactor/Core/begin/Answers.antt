@@ -1,4 +1,4 @@
-use Rattle.std.proofs.Common.{◌≡◌, ◌+◌, Some, true, false}
+use Rattle.std.proofs.Common.{◌≡◌, ◌+◌, Some, true, false, rules}
 use Rattle.aio_base.specs.Devices.{PollerStep}
 use Rattle.aio_react.specs.Cores.{CoreValue}
 use Rattle.aio_react.proofs.BeginMeets.{begin_done, locked_meets}
@@ -21,3 +21,6 @@ returns-in-Ok-clause-meets g c =
     rw (← c.self.view_is)
     (begin_done (PollerStep g.P.Arm.arm_step g.P.EventWait.wait_step) g.P.Arm.interests i.poller core c.args.now c.args.given
     c.in-Some.number c.in-Ok.limit c.begin.new.book.entries c.begin.new.self idle number c.in-Ok.ensures.limit c.in-Ok.ensures.book c.in-Ok.ensures.round)
+
+pub returns-in-Err-clause-refused : goal.returns-in-Err-clause-refused
+returns-in-Err-clause-refused g c = search rules

@@ -1,4 +1,4 @@
-use Rattle.std.proofs.Common.{◌∙◌, List, ◌++◌, drop, None, Some, option_map, slice_get, refl, sym, ap}
+use Rattle.std.proofs.Common.{◌∙◌, List, ◌++◌, drop, None, Some, option_map, slice_get, refl, sym, ap, rules}
 use Rattle.std.proofs.lemmas.List.{drop-drop}
 use Rattle.aio_base.specs.declared.names.Event.{Event}
 use Rattle.aio_base.specs.declared.names.Waker.{Waker}
@@ -67,3 +67,6 @@ returns-in-Err-handle-clause-round g c =
       fault = i.fault;
     } in
     rw (← c.self.view_is, on) (c.keep.ensures ∙ handled_is r _ _ wakers _ (Some c.in-Err-handle.fault) (sym (drop-drop 1 i.done i.events.items)) taken refl)
+
+pub returns-in-Err-clause-refused : goal.returns-in-Err-clause-refused
+returns-in-Err-clause-refused g c = search rules

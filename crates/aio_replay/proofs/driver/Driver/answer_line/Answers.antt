@@ -1,4 +1,4 @@
-use Rattle.std.proofs.Common.{◌≡◌, Err, ap, sym, ◌∙◌, arith, subst}
+use Rattle.std.proofs.Common.{◌≡◌, Err, ap, sym, ◌∙◌, arith, subst, rules}
 use Rattle.aio_replay.specs.Answering.{Replied}
 use Rattle.aio_replay.specs.Steps.{Finishes, LacksMemory}
 use Rattle.aio_replay.proofs.DrivingLemmas.{Sends-all}
@@ -45,3 +45,9 @@ returns-in-Err-clause-goes_on g c = λ input told first taken.
     (subst (λ bytes. Replied r (r.language.line s.state bytes) c.args.self.now.gathered.text.items c.answer.new.gathered.text.items c.answer.new.gathered.answerer) c.line.ensures.value
     (c.in-Ok.ensures.answers s.state s.stands)))
     (leaves_more _ _ _ _ (omega (arith, c.requires.limit)) taken.held_few) (rw c.refused_by.ensures c.in-Err.ensures.written)
+
+pub returns-in-Err-Refused-clause-refused : goal.returns-in-Err-Refused-clause-refused
+returns-in-Err-Refused-clause-refused g c = search rules
+
+pub returns-in-Err-Refused-clause-reads : goal.returns-in-Err-Refused-clause-reads
+returns-in-Err-Refused-clause-reads g c = search rules

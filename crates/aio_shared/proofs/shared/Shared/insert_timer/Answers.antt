@@ -1,4 +1,4 @@
-use Rattle.std.proofs.Common.{◌≡◌, refl, sym, ap, subst, arith}
+use Rattle.std.proofs.Common.{◌≡◌, refl, sym, ap, subst, arith, rules}
 use Rattle.aio_react.specs.Hosts.{next_id}
 use Rattle.aio_rules.specs.declared.seats.SeatView.{SeatView}
 use Rattle.aio_words.specs.Calls.{notify_steps}
@@ -35,3 +35,6 @@ returns-in-Ok-clause-later g c =
       ids = omega arith;
       notifier = told.faults.cause.later;
     })
+
+pub returns-in-Err-clause-inserts : goal.returns-in-Err-clause-inserts
+returns-in-Err-clause-inserts g c = search rules

@@ -1,0 +1,12 @@
+use Rattle.std.proofs.Common.{arith}
+use Rattle.std.proofs.lemmas.Grind.{common_steps}
+use Rattle.aio_c.proofs.answers.poll_code.Goals as goal
+
+pub returns-in-Pending : goal.returns-in-Pending
+returns-in-Pending c = grind (arith, common_steps)
+
+pub returns-in-Ready-Ok : goal.returns-in-Ready-Ok
+returns-in-Ready-Ok c = grind (arith, common_steps)
+
+pub returns-in-Ready-Err : goal.returns-in-Ready-Err
+returns-in-Ready-Err c = grind (arith, common_steps)

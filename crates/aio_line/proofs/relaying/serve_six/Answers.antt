@@ -1,0 +1,8 @@
+use Rattle.std.proofs.Common.{rules}
+use Rattle.aio_line.proofs.relaying.serve_six.Goals as goal
+
+pub returns-clause-ends : goal.returns-clause-ends
+returns-clause-ends g c = search rules
+
+pub returns-clause-cause : goal.returns-clause-cause
+returns-clause-cause g c = search rules
