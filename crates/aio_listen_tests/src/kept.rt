@@ -25,7 +25,7 @@ pub(crate) enum Act {
 }
 
 /// What comes of it.
-#[derive(Clone, Copy, Debug, PartialEq)]
+#[derive(Clone, Copy)]
 pub(crate) enum Came {
     /// It is done.
     Done,
@@ -39,6 +39,18 @@ pub(crate) enum Came {
     Drained([u32; 4]),
     /// Something else.
     Other,
+}
+
+/// What came, as it is compared: which it is, its numbers, and the wakers.
+fn told(came: Came) -> (&'static str, [u64; 3], [u32; 4]) {
+    match came {
+        Came::Done => ("done", [0; 3], [0; 4]),
+        Came::Gone => ("gone", [0; 3], [0; 4]),
+        Came::Is(so) => ("is", [so as u64, 0, 0], [0; 4]),
+        Came::Counts(count, waiting, none) => ("counts", [count, waiting, none as u64], [0; 4]),
+        Came::Drained(wakers) => ("drained", [0; 3], wakers),
+        Came::Other => ("other", [0; 3], [0; 4]),
+    }
 }
 
 /// Has a listener wait. Whether it was there.
@@ -77,9 +89,8 @@ pub(crate) struct Kept {
 /// The first four of these, with zeros behind them.
 fn first_four(wakers: &[u32]) -> [u32; 4] {
     let mut four = [0; 4];
-    for (to, waker) in four.iter_mut().zip(wakers.iter()) {
-        *to = *waker;
-    }
+    let count = wakers.len().min(4);
+    four[..count].copy_from_slice(&wakers[..count]);
     four
 }
 
@@ -173,7 +184,7 @@ impl Kept {
     /// Asserts that what these acts come to is what stands beside each.
     pub(crate) fn plays(&mut self, rt: &impl Abort, rows: &[(Act, Came)]) {
         for (act, came) in rows {
-            same(rt, self.act(*act), *came);
+            same(rt, told(self.act(*act)), told(*came));
         }
     }
 }

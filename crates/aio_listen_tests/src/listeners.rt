@@ -8,7 +8,6 @@ use crate::kept::{Act, Came, Kept};
 use aio_listen::{Listeners, Ticket};
 use std::alloc::Global;
 use std::process::Abort;
-use std::test::Fail;
 
 /// Asserts that what these acts with a new list come to is what stands beside each.
 fn plays(rt: &impl Abort, alloc: Global, rows: &[(Act, Came)]) -> Kept {
@@ -151,7 +150,7 @@ fn listeners_that_wait_among_stale_ones_are_drained_in_order(rt: HostRuntime) {
 /// Asserts that none of these is a listener of the list.
 fn holds_none(rt: &impl Abort, listeners: &Listeners<u32>, tickets: &[Ticket]) {
     for ticket in tickets {
-        assert!(rt; !listeners.holds(*ticket), "a listener has {ticket:?}");
+        same(rt, (*ticket, listeners.holds(*ticket)), (*ticket, false));
     }
 }
 

@@ -1,7 +1,7 @@
 //! The poller in memory, as the rows of a table use it. The calls of its traits are made through the bounds.
 
-use crate::asserts::same;
-use aio_base::{Event, Failed, Interest, Key, OutOfMemory, Poller, Waited, Which};
+use crate::asserts::{MEMORY, same};
+use aio_base::{Event, Failed, Interest, Key, Poller, Waited, Which};
 use aio_script::ScriptPoller;
 use std::alloc::Global;
 use std::process::Abort;
@@ -32,7 +32,7 @@ pub(crate) enum Act {
 }
 
 /// What comes of it.
-#[derive(Clone, Copy, Debug, PartialEq)]
+#[derive(Clone, Copy)]
 pub(crate) enum Came {
     /// Nothing failed.
     Done,
@@ -50,6 +50,20 @@ pub(crate) enum Came {
     Counts(u64, u64),
     /// Something else.
     Other,
+}
+
+/// What came, as it is compared: which it is, its numbers, and what is armed.
+fn told(came: Came) -> (&'static str, [u64; 2], Option<Interest>) {
+    match came {
+        Came::Done => ("done", [0; 2], None),
+        Came::Failed => ("failed", [0; 2], None),
+        Came::Given(count) => ("given", [count as u64, 0], None),
+        Came::Interrupted => ("interrupted", [0; 2], None),
+        Came::Is(on) => ("is", [0; 2], Some(on)),
+        Came::Number(number) => ("number", [number as u64, 0], None),
+        Came::Counts(faults, waits) => ("counts", [faults, waits], None),
+        Came::Other => ("other", [0; 2], None),
+    }
 }
 
 /// A poller, and the events that it gave.
@@ -93,14 +107,10 @@ fn call<P: Poller>(poller: &mut P, out: &mut Vec<Event>, act: Act) -> Came {
 
 impl Polled {
     /// A new poller, and room for eight events.
-    pub(crate) fn new(alloc: Global) -> Result<Polled, OutOfMemory> {
-        let Ok(out) = Vec::with_capacity(alloc, 8) else {
-            return Err(OutOfMemory);
-        };
-        Ok(Polled {
-            poller: ScriptPoller::new(alloc)?,
-            out,
-        })
+    pub(crate) fn new(rt: &impl Abort, alloc: Global) -> Polled {
+        let out = Vec::with_capacity(alloc, 8).expect(rt, MEMORY);
+        let poller = ScriptPoller::new(alloc).expect(rt, MEMORY);
+        Polled { poller, out }
     }
 
     /// Notes an event.
@@ -115,7 +125,7 @@ impl Polled {
     pub(crate) fn give_times(&mut self, event: Event, times: u32) -> u32 {
         let mut noted: u32 = 0;
         for _ in 0..times {
-            if self.give(event) == Came::Done {
+            if let Came::Done = self.give(event) {
                 noted = noted.saturating_add(1);
             }
         }
@@ -143,7 +153,7 @@ impl Polled {
     /// Asserts that what these acts come to is what stands beside each.
     pub(crate) fn plays(&mut self, rt: &impl Abort, rows: &[(Act, Came)]) {
         for (act, came) in rows {
-            same(rt, self.act(*act), *came);
+            same(rt, told(self.act(*act)), told(*came));
         }
     }
 }

@@ -1,10 +1,10 @@
 //! A source whose calls are lent an arm, as the rows of a table use it.
 
 use crate::arms::Told;
-use crate::asserts::same;
+use crate::asserts::{MEMORY, same};
 use aio_base::{Arm, ArmFault, Dir, Event, Interest, Key, Poll, Waker};
 use aio_source::{ListenRefusal, Listened, Polled, SourceState};
-use std::alloc::{AllocError, Global};
+use std::alloc::Global;
 use std::process::Abort;
 
 /// The key of the source.
@@ -40,7 +40,7 @@ pub(crate) enum Act {
 }
 
 /// What comes of it.
-#[derive(Clone, Copy, Debug, PartialEq)]
+#[derive(Clone, Copy)]
 pub(crate) enum Came {
     /// Nothing is answered, or nothing failed.
     Done,
@@ -64,6 +64,26 @@ pub(crate) enum Came {
     Count(usize),
     /// Something else.
     Other,
+}
+
+/// What came, as it is compared: which it is, its numbers, its directions, and what a poll answered.
+fn told(came: Came) -> (&'static str, [u64; 3], Option<Interest>, Option<Polled>) {
+    match came {
+        Came::Done => ("done", [0; 3], None, None),
+        Came::Polled(polled) => ("polled", [0; 3], None, Some(polled)),
+        Came::Listened(begun, last) => ("listened", [begun, last, 0], None, None),
+        Came::Gone => ("gone", [0; 3], None, None),
+        Came::Failed(fault) => {
+            let key = fault.key.0 as u64;
+            ("failed", [key, fault.before, fault.after], None, None)
+        }
+        Came::Armed(arms, last) => ("armed", [arms, 0, 0], Some(last), None),
+        Came::Asked(on, broken) => ("asked", [broken as u64, 0, 0], Some(on), None),
+        Came::Looked(waiting, tick) => ("looked", [waiting, tick, 0], None, None),
+        Came::Is(so) => ("is", [so as u64, 0, 0], None, None),
+        Came::Count(count) => ("count", [count as u64, 0, 0], None, None),
+        Came::Other => ("other", [0; 3], None, None),
+    }
 }
 
 /// A poll waits, and replaces nobody.
@@ -179,14 +199,14 @@ fn unlisten(source: &mut SourceState, listened: Listened) -> Came {
 
 impl<A: Told + Drop> Polling<A> {
     /// A new source over this arm, and room for eight wakers.
-    pub(crate) fn new(alloc: Global, arm: A) -> Result<Polling<A>, AllocError> {
-        let taken = Vec::with_capacity(alloc, 8)?;
-        Ok(Polling {
+    pub(crate) fn new(rt: &impl Abort, alloc: Global, arm: A) -> Polling<A> {
+        let taken = Vec::with_capacity(alloc, 8).expect(rt, MEMORY);
+        Polling {
             source: SourceState::new(alloc, KEY),
             arm,
             listened: Vec::new(alloc),
             taken,
-        })
+        }
     }
 
     /// Polls for a new listener.
@@ -272,7 +292,7 @@ impl<A: Told + Drop> Polling<A> {
     /// Asserts that what these acts come to is what stands beside each.
     pub(crate) fn plays(&mut self, rt: &impl Abort, rows: &[(Act, Came)]) {
         for (act, came) in rows {
-            same(rt, self.act(*act), *came);
+            same(rt, told(self.act(*act)), told(*came));
         }
     }
 }

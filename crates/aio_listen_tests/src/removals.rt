@@ -1,25 +1,23 @@
 //! Listeners that leave a list in each order, and many that come and go: those that are left are drained in the
 //! order in which they came.
 
-use crate::asserts::{same, same_in};
+use crate::asserts::{MEMORY, same};
 use crate::kept::{Kept, set_there};
 use aio_listen::Ticket;
-use std::alloc::{AllocError, Global};
+use std::alloc::Global;
 use std::process::Abort;
-use std::test::Fail;
 
 /// Listeners that are left, each with its number.
 type Left = Vec<(u32, Ticket)>;
 
 /// Four listeners come to a list in which nobody is, and have the numbers 1 to 4.
-fn come(alloc: Global, kept: &mut Kept) -> Result<Left, AllocError> {
-    let mut left = Vec::with_capacity(alloc, 4)?;
+fn come(rt: &impl Abort, alloc: Global, kept: &mut Kept) -> Left {
+    let mut left = Vec::new(alloc);
     for number in 1..5_u32 {
-        if let Some(ticket) = kept.add() {
-            left.push((number, ticket))?;
-        }
+        let ticket = kept.add().expect(rt, MEMORY);
+        left.push((number, ticket)).expect(rt, MEMORY);
     }
-    Ok(left)
+    left
 }
 
 /// Has each listener that is left wait with its number for a waker. How many were there.
@@ -35,8 +33,15 @@ fn wait_each(kept: &mut Kept, left: &[(u32, Ticket)]) -> u64 {
 
 /// Whether these are the numbers of those who are left.
 fn are(wakers: &[u32], left: &[(u32, Ticket)]) -> bool {
-    let same = wakers.iter().zip(left.iter()).all(|(w, l)| *w == l.0);
-    same && wakers.len() == left.len()
+    if wakers.len() != left.len() {
+        return false;
+    }
+    for place in 0..left.len() {
+        if wakers[place] != left[place].0 {
+            return false;
+        }
+    }
+    true
 }
 
 /// Whether a drain gives the wakers of all who are left, in this order.
@@ -92,58 +97,39 @@ fn leave_each(rt: &impl Abort, kept: &mut Kept, left: &mut Left, order: usize, d
         } else {
             leave_waiting(kept, left, place)
         };
-        same_in(rt, place, has_left, true);
+        same(rt, (place, has_left), (place, true));
     }
 }
 
 /// The same of a new list.
-fn leave_all(
-    rt: &impl Abort,
-    alloc: Global,
-    order: usize,
-    drained: bool,
-) -> Result<Kept, AllocError> {
+fn leave_all(rt: &impl Abort, alloc: Global, order: usize, drained: bool) -> Kept {
     let mut kept = Kept::new(alloc);
-    match come(alloc, &mut kept) {
-        Ok(mut left) => {
-            leave_each(rt, &mut kept, &mut left, order, drained);
-            drop(left);
-            Ok(kept)
-        }
-        Err(fault) => {
-            drop(kept);
-            Err(fault)
-        }
-    }
+    let mut left = come(rt, alloc, &mut kept);
+    leave_each(rt, &mut kept, &mut left, order, drained);
+    kept
 }
 
 #[test]
-fn listeners_that_leave_in_any_order_leave_the_others_in_theirs(
-    rt: HostRuntime,
-) -> Result<(), Fail> {
+fn listeners_that_leave_in_any_order_leave_the_others_in_theirs(rt: HostRuntime) {
     for order in 0..24_usize {
-        leave_all(&rt, rt.alloc(), order, true)?;
+        leave_all(&rt, rt.alloc(), order, true);
     }
-    Ok(())
 }
 
 /// Asserts that who comes to a list that all have left is alone there.
 fn is_alone(rt: &impl Abort, kept: &mut Kept) {
     same(rt, kept.give(5), true);
     same(rt, kept.listeners.count(), 1);
-    match kept.drain() {
-        Ok(wakers) => same(rt, wakers.as_slice(), [5].as_slice()),
-        Err(_) => same(rt, "no memory", "memory"),
-    }
+    let wakers = kept.drain().expect(rt, MEMORY);
+    same(rt, wakers.as_slice(), [5].as_slice());
 }
 
 #[test]
-fn listener_that_comes_after_all_were_removed_is_alone(rt: HostRuntime) -> Result<(), Fail> {
+fn listener_that_comes_after_all_were_removed_is_alone(rt: HostRuntime) {
     for order in 0..24_usize {
-        let mut kept = leave_all(&rt, rt.alloc(), order, false)?;
+        let mut kept = leave_all(&rt, rt.alloc(), order, false);
         is_alone(&rt, &mut kept);
     }
-    Ok(())
 }
 
 /// Listeners with these numbers come and wait. How many did.
@@ -200,21 +186,17 @@ fn first_other(wakers: &[u32]) -> Option<usize> {
 
 /// Many listeners come, every second of them leaves, and others come: asserts that the wakers of the others are
 /// drained in order.
-fn come_and_go(rt: &impl Abort, kept: &mut Kept) -> Result<(), Fail> {
+fn come_and_go(rt: &impl Abort, kept: &mut Kept) {
     same(rt, come_many(kept, 0, 20_000), 20_000);
     same(rt, leave_every_second(kept, 20_000), 10_000);
     same(rt, come_many(kept, 20_000, 30_000), 10_000);
-    let wakers = kept.drain()?;
+    let wakers = kept.drain().expect(rt, MEMORY);
     same(rt, wakers.len(), 20_000);
     same(rt, first_other(wakers.as_slice()), None);
-    drop(wakers);
-    Ok(())
 }
 
 #[test]
-fn many_listeners_come_and_go(rt: HostRuntime) -> Result<(), Fail> {
+fn many_listeners_come_and_go(rt: HostRuntime) {
     let mut kept = Kept::new(rt.alloc());
-    let came = come_and_go(&rt, &mut kept);
-    drop(kept);
-    came
+    come_and_go(&rt, &mut kept);
 }

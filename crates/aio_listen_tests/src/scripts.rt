@@ -11,7 +11,6 @@ use aio_base::{Event, Interest, Key, Moment, Which};
 use aio_script::{Back, ScriptClock};
 use std::alloc::Global;
 use std::process::Abort;
-use std::test::Fail;
 
 const READABLE: Event = Event {
     key: Key(3),
@@ -42,18 +41,11 @@ const OUTSIDE: Event = Event {
 
 /// Asserts that what these acts with a new poller come to is what stands beside each, which events it gives in
 /// all, and which it still has noted then.
-fn plays(
-    rt: &impl Abort,
-    alloc: Global,
-    rows: &[(Act, Came)],
-    given: &[Event],
-    noted: &[Event],
-) -> Result<(), Fail> {
-    let mut polled = Polled::new(alloc)?;
+fn plays(rt: &impl Abort, alloc: Global, rows: &[(Act, Came)], given: &[Event], noted: &[Event]) {
+    let mut polled = Polled::new(rt, alloc);
     polled.plays(rt, rows);
     same(rt, polled.out.as_slice(), given);
     same(rt, polled.poller.noted(), noted);
-    Ok(())
 }
 
 const IN_ORDER: [(Act, Came); 9] = [
@@ -69,8 +61,8 @@ const IN_ORDER: [(Act, Came); 9] = [
 ];
 
 #[test]
-fn events_come_in_order_and_clear_their_keys(rt: HostRuntime) -> Result<(), Fail> {
-    plays(&rt, rt.alloc(), &IN_ORDER, &[READABLE, WRITABLE], &[EMPTY])
+fn events_come_in_order_and_clear_their_keys(rt: HostRuntime) {
+    plays(&rt, rt.alloc(), &IN_ORDER, &[READABLE, WRITABLE], &[EMPTY]);
 }
 
 const STRANGERS: [(Act, Came); 6] = [
@@ -83,16 +75,15 @@ const STRANGERS: [(Act, Came); 6] = [
 ];
 
 #[test]
-fn strangers_are_given_too(rt: HostRuntime) -> Result<(), Fail> {
-    plays(&rt, rt.alloc(), &STRANGERS, &[STRANGER, OUTSIDE], &[])
+fn strangers_are_given_too(rt: HostRuntime) {
+    plays(&rt, rt.alloc(), &STRANGERS, &[STRANGER, OUTSIDE], &[]);
 }
 
 #[test]
-fn events_are_noted_while_memory_is_left(rt: HostRuntime) -> Result<(), Fail> {
-    let mut polled = Polled::new(rt.alloc())?;
+fn events_are_noted_while_memory_is_left(rt: HostRuntime) {
+    let mut polled = Polled::new(&rt, rt.alloc());
     same(&rt, polled.give_times(READABLE, 5_000), 5_000);
     polled.plays(&rt, &[(Left, Number(5_000))]);
-    Ok(())
 }
 
 const FAILS_ONCE: [(Act, Came); 22] = [
@@ -121,8 +112,8 @@ const FAILS_ONCE: [(Act, Came); 22] = [
 ];
 
 #[test]
-fn told_twice_fails_once(rt: HostRuntime) -> Result<(), Fail> {
-    plays(&rt, rt.alloc(), &FAILS_ONCE, &[READABLE], &[])
+fn told_twice_fails_once(rt: HostRuntime) {
+    plays(&rt, rt.alloc(), &FAILS_ONCE, &[READABLE], &[]);
 }
 
 const INTERRUPTS_ONCE: [(Act, Came); 9] = [
@@ -138,8 +129,8 @@ const INTERRUPTS_ONCE: [(Act, Came); 9] = [
 ];
 
 #[test]
-fn an_interrupt_waits_for_a_wait_that_does_not_fail(rt: HostRuntime) -> Result<(), Fail> {
-    plays(&rt, rt.alloc(), &INTERRUPTS_ONCE, &[READABLE], &[])
+fn an_interrupt_waits_for_a_wait_that_does_not_fail(rt: HostRuntime) {
+    plays(&rt, rt.alloc(), &INTERRUPTS_ONCE, &[READABLE], &[]);
 }
 
 /// Every kind of call of a poller once.
@@ -153,19 +144,18 @@ const EVERY_CALL: [(Act, Came); 6] = [
 ];
 
 #[test]
-fn calls_through_the_bound(rt: HostRuntime) -> Result<(), Fail> {
-    plays(&rt, rt.alloc(), &EVERY_CALL, &[READABLE], &[])
+fn calls_through_the_bound(rt: HostRuntime) {
+    plays(&rt, rt.alloc(), &EVERY_CALL, &[READABLE], &[]);
 }
 
 #[test]
-fn a_clock_goes_on_or_stays_and_never_back(rt: HostRuntime) -> Result<(), Fail> {
-    let four = Moment::new(4).ok_or("no moment")?;
-    let five = Moment::new(5).ok_or("no moment")?;
+fn a_clock_goes_on_or_stays_and_never_back(rt: HostRuntime) {
+    let four = Moment::new(4).expect(&rt, "a moment");
+    let five = Moment::new(5).expect(&rt, "a moment");
     let mut clock = ScriptClock::new();
     same(&rt, clock.now().get(), 0);
     same(&rt, clock.set(five), Ok(()));
     same(&rt, clock.set(five), Ok(()));
     same(&rt, clock.set(four), Err(Back(five)));
     same(&rt, clock.now(), five);
-    Ok(())
 }

@@ -2,7 +2,7 @@
 //! an arm that counts and over the poller in memory, and how they follow one another.
 
 use crate::arms::{CountingArm, Told};
-use crate::asserts::same;
+use crate::asserts::{MEMORY, same};
 use crate::polling::Act::{
     Arms, Asked, FailNext, Handle, Holds, Listen, ListenAgain, Look, Poll, ReadySince, Taken,
     Unlisten,
@@ -16,7 +16,6 @@ use aio_script::ScriptPoller;
 use aio_source::{SourceCell, SourceState};
 use std::alloc::Global;
 use std::process::Abort;
-use std::test::Fail;
 
 /// Asserts that what these acts come to over this arm is what stands beside each, and which wakers they took.
 fn plays<A: Told + Drop>(
@@ -25,11 +24,10 @@ fn plays<A: Told + Drop>(
     arm: A,
     rows: &[(Act, Came)],
     taken: &[Waker],
-) -> Result<(), Fail> {
-    let mut polling = Polling::new(alloc, arm)?;
+) {
+    let mut polling = Polling::new(rt, alloc, arm);
     polling.plays(rt, rows);
     same(rt, polling.taken.as_slice(), taken);
-    Ok(())
 }
 
 const WAITS_FOR_A_LATER_ROUND: [(Act, Came); 17] = [
@@ -53,9 +51,9 @@ const WAITS_FOR_A_LATER_ROUND: [(Act, Came); 17] = [
 ];
 
 #[test]
-fn polls_wait_for_an_event_of_a_later_round(rt: HostRuntime) -> Result<(), Fail> {
+fn polls_wait_for_an_event_of_a_later_round(rt: HostRuntime) {
     let rows = &WAITS_FOR_A_LATER_ROUND;
-    plays(&rt, rt.alloc(), CountingArm::new(), rows, &[Waker(2)])
+    plays(&rt, rt.alloc(), CountingArm::new(), rows, &[Waker(2)]);
 }
 
 const ARMS_WHAT_STILL_WAITS: [(Act, Came); 12] = [
@@ -74,10 +72,10 @@ const ARMS_WHAT_STILL_WAITS: [(Act, Came); 12] = [
 ];
 
 #[test]
-fn an_event_arms_what_still_waits(rt: HostRuntime) -> Result<(), Fail> {
+fn an_event_arms_what_still_waits(rt: HostRuntime) {
     let rows = &ARMS_WHAT_STILL_WAITS;
     let taken = [Waker(2), Waker(1)];
-    plays(&rt, rt.alloc(), CountingArm::new(), rows, &taken)
+    plays(&rt, rt.alloc(), CountingArm::new(), rows, &taken);
 }
 
 const LISTENS: [(Act, Came); 13] = [
@@ -97,9 +95,9 @@ const LISTENS: [(Act, Came); 13] = [
 ];
 
 #[test]
-fn listeners_stay_ready(rt: HostRuntime) -> Result<(), Fail> {
+fn listeners_stay_ready(rt: HostRuntime) {
     let taken = [Waker(1), Waker(14), Waker(13)];
-    plays(&rt, rt.alloc(), CountingArm::new(), &LISTENS, &taken)
+    plays(&rt, rt.alloc(), CountingArm::new(), &LISTENS, &taken);
 }
 
 const TELLS_A_FAILED_ARM: [(Act, Came); 14] = [
@@ -120,9 +118,9 @@ const TELLS_A_FAILED_ARM: [(Act, Came); 14] = [
 ];
 
 #[test]
-fn a_failed_arm_is_told_and_made_again(rt: HostRuntime) -> Result<(), Fail> {
+fn a_failed_arm_is_told_and_made_again(rt: HostRuntime) {
     let rows = &TELLS_A_FAILED_ARM;
-    plays(&rt, rt.alloc(), CountingArm::new(), rows, &[Waker(1)])
+    plays(&rt, rt.alloc(), CountingArm::new(), rows, &[Waker(1)]);
 }
 
 // An event of no direction takes nobody, and arms what still waits. One of a later round takes the waker; one
@@ -142,15 +140,15 @@ const LISTENS_TO_THE_POLLER: [(Act, Came); 11] = [
 ];
 
 #[test]
-fn listeners_are_armed_and_stay_ready(rt: HostRuntime) -> Result<(), Fail> {
-    let poller = ScriptPoller::new(rt.alloc())?;
+fn listeners_are_armed_and_stay_ready(rt: HostRuntime) {
+    let poller = ScriptPoller::new(rt.alloc()).expect(&rt, MEMORY);
     plays(
         &rt,
         rt.alloc(),
         poller,
         &LISTENS_TO_THE_POLLER,
         &[Waker(11)],
-    )
+    );
 }
 
 const FAILS_BY_THE_POLLER: [(Act, Came); 6] = [
@@ -163,9 +161,9 @@ const FAILS_BY_THE_POLLER: [(Act, Came); 6] = [
 ];
 
 #[test]
-fn a_failed_arm_keeps_the_taken_wakers(rt: HostRuntime) -> Result<(), Fail> {
-    let poller = ScriptPoller::new(rt.alloc())?;
-    plays(&rt, rt.alloc(), poller, &FAILS_BY_THE_POLLER, &[Waker(1)])
+fn a_failed_arm_keeps_the_taken_wakers(rt: HostRuntime) {
+    let poller = ScriptPoller::new(rt.alloc()).expect(&rt, MEMORY);
+    plays(&rt, rt.alloc(), poller, &FAILS_BY_THE_POLLER, &[Waker(1)]);
 }
 
 /// Takes what several threads may share, and lets it go.
