@@ -41,13 +41,7 @@ const FAILS_AT_ITS_SECOND_CALL: &[Written] = &[
 ];
 
 /// Asserts what comes of bytes that are written at once, and what the sink holds then.
-fn writes_so(
-    rt: &impl Abort,
-    sink: &mut MemSink,
-    bytes: &[u8],
-    answer: Result<(), SinkRefusal>,
-    held: &[u8],
-) {
+fn writes_so(rt: &impl Abort, sink: &mut MemSink, (bytes, answer, held): Written) {
     let wrote = write_all(sink, bytes);
     same(rt, (wrote, sink.bytes()), (answer, held));
 }
@@ -56,8 +50,8 @@ fn writes_so(
 fn a_scripted_sink_fails_at_its_second_call_alone(rt: HostRuntime) {
     let fails = [2].to_vec(rt.alloc()).expect(&rt, MEMORY);
     let mut sink = MemSink::new(rt.alloc(), fails);
-    for (bytes, answer, held) in FAILS_AT_ITS_SECOND_CALL {
-        writes_so(&rt, &mut sink, bytes, *answer, held);
+    for written in FAILS_AT_ITS_SECOND_CALL {
+        writes_so(&rt, &mut sink, *written);
     }
     same(&rt, sink.faults(), 1);
 }

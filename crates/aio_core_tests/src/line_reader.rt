@@ -219,58 +219,100 @@ fn finds(rt: &impl Abort, reader: &mut LineReader, wanted: (bool, &[u8], usize))
     same(rt, (found, reader.line(), reader.ahead_len()), wanted);
 }
 
-/// What is found after one read, one after the other.
-const SEVERAL_LINES: &[(bool, &[u8], usize)] = &[
-    (true, b"a", 4),
-    (true, b"bb", 1),
-    (false, b"", 1),
-];
-
-#[test]
-fn finds_several_lines_of_one_read(rt: HostRuntime) {
-    let mut reader = reader_of(&rt, rt.alloc());
-    reads(
-        &rt,
-        &mut reader,
-        &mut source_of(b"a\nbb\nc", 300),
-        (Ok(6), 6),
-    );
-    for wanted in SEVERAL_LINES {
-        finds(&rt, &mut reader, *wanted);
-    }
-}
-
 /// Asserts what is found without a read, and the line that it is.
 fn finds_ahead(rt: &impl Abort, reader: &mut LineReader, wanted: (Option<Next>, &[u8])) {
     let found = reader.next_ahead();
     same(rt, (found, reader.line()), wanted);
 }
 
+/// What is done with a reader and its source, and what comes of it.
+#[derive(Clone, Copy)]
+enum Act {
+    /// Reads, where there is room: what that comes to, and how many bytes lie ahead then.
+    Read(Result<usize, Failed>, usize),
+    /// Has the next read fail.
+    FailNext,
+    /// Counts the faults of the source.
+    Faults(u64),
+    /// Finds a line, or none: whether it did, the line, and how many bytes lie ahead then.
+    Find(bool, &'static [u8], usize),
+    /// Finds what is there without a read: what it is, and the line.
+    Ahead(Option<Next>, &'static [u8]),
+    /// Finds what there is behind the last read.
+    Last(Next),
+    /// Looks at the line.
+    Line(&'static [u8]),
+    /// Takes the rest: the line that it is, and how many bytes lie ahead then.
+    Rest(&'static [u8], usize),
+}
+
+/// Does this, and asserts what comes of it.
+fn comes_to(rt: &impl Abort, reader: &mut LineReader, source: &mut Pieces<'_>, act: Act) {
+    match act {
+        Act::Read(answer, ahead) => reads(rt, reader, source, (answer, ahead)),
+        Act::FailNext => source.fails = true,
+        Act::Faults(count) => same(rt, source.faults(), count),
+        Act::Find(is_found, line, ahead) => finds(rt, reader, (is_found, line, ahead)),
+        Act::Ahead(next, line) => finds_ahead(rt, reader, (next, line)),
+        Act::Last(next) => same(rt, reader.last(), next),
+        Act::Line(line) => same(rt, reader.line(), line),
+        Act::Rest(line, ahead) => {
+            reader.take_rest();
+            same(rt, (reader.line(), reader.ahead_len()), (line, ahead));
+        }
+    }
+}
+
+/// Asserts what these acts come to with a new reader, one after the other.
+fn plays(rt: &impl Abort, alloc: Global, source: &mut Pieces<'_>, acts: &[Act]) {
+    let mut reader = reader_of(rt, alloc);
+    for act in acts {
+        comes_to(rt, &mut reader, source, *act);
+    }
+}
+
+const SEVERAL_LINES: &[Act] = &[
+    Act::Read(Ok(6), 6),
+    Act::Find(true, b"a", 4),
+    Act::Find(true, b"bb", 1),
+    Act::Find(false, b"", 1),
+];
+
+#[test]
+fn finds_several_lines_of_one_read(rt: HostRuntime) {
+    let mut source = source_of(b"a\nbb\nc", 300);
+    plays(&rt, rt.alloc(), &mut source, SEVERAL_LINES);
+}
+
+const FOUND_NEXT: &[Act] = &[
+    Act::Ahead(None, b""),
+    Act::Read(Ok(4), 4),
+    Act::Ahead(Some(Next::Line), b"a"),
+    Act::Ahead(None, b""),
+    Act::Read(Ok(0), 2),
+    Act::Last(Next::Line),
+    Act::Line(b"bb"),
+    Act::Last(Next::End),
+];
+
 #[test]
 fn tells_what_is_found_next(rt: HostRuntime) {
     let mut source = source_of(b"a\nbb", 300);
-    let mut reader = reader_of(&rt, rt.alloc());
-    finds_ahead(&rt, &mut reader, (None, b""));
-    reads(&rt, &mut reader, &mut source, (Ok(4), 4));
-    finds_ahead(&rt, &mut reader, (Some(Next::Line), b"a"));
-    finds_ahead(&rt, &mut reader, (None, b""));
-    reads(&rt, &mut reader, &mut source, (Ok(0), 2));
-    let last = reader.last();
-    same(&rt, (last, reader.line()), (Next::Line, b"bb".as_slice()));
-    same(&rt, reader.last(), Next::End);
+    plays(&rt, rt.alloc(), &mut source, FOUND_NEXT);
 }
+
+const OVER_A_FAILED_READ: &[Act] = &[
+    Act::Read(Ok(5), 5),
+    Act::Find(true, b"one", 1),
+    Act::FailNext,
+    Act::Read(Err(Failed), 1),
+    Act::Faults(1),
+    Act::Read(Ok(2), 3),
+    Act::Rest(b"two", 0),
+];
 
 #[test]
 fn keeps_what_lies_ahead_over_a_failed_read(rt: HostRuntime) {
     let mut source = source_of(b"one\ntwo", 5);
-    let mut reader = reader_of(&rt, rt.alloc());
-    reads(&rt, &mut reader, &mut source, (Ok(5), 5));
-    finds(&rt, &mut reader, (true, b"one", 1));
-    source.fails = true;
-    reads(&rt, &mut reader, &mut source, (Err(Failed), 1));
-    same(&rt, source.faults(), 1);
-    reads(&rt, &mut reader, &mut source, (Ok(2), 3));
-    reader.take_rest();
-    let rest = (reader.line(), reader.ahead_len());
-    same(&rt, rest, (b"two".as_slice(), 0));
+    plays(&rt, rt.alloc(), &mut source, OVER_A_FAILED_READ);
 }

@@ -81,7 +81,9 @@ fn read_again(alloc: Global, step: &Step) -> Option<Result<Step, LineFault>> {
 
 /// Asserts that a step is written as this line, with a line feed.
 fn is_written(rt: &impl Abort, alloc: Global, line: &str, step: &Step) {
-    assert!(rt; is_in_range(step), "{line}");
+    let has_one = is_in_range(step);
+    same_in(rt, line, has_one, true);
+    assert!(rt; has_one);
     let mut out = Vec::new(alloc);
     write_line(step, &mut out).expect(rt, MEMORY);
     same(rt, out.split_last(), Some((&b'\n', line.as_bytes())));
