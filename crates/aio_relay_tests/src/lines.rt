@@ -1,6 +1,6 @@
 //! What a pair passes on: whole lines alone, in order and each once, whatever the connections take at a time.
 
-use crate::asserts::same;
+use crate::asserts::{MEMORY, same};
 use crate::hosts::{ListHost, Trouble};
 use crate::peers::{TORN, sure_connection};
 use crate::relays::Act::{At, Length, Sent, Timers, Woken};
@@ -10,9 +10,8 @@ use aio_base::{Cx, Moment, Poll, Task};
 use aio_conns::{ENDS, Peer, SureConn};
 use aio_react::Host;
 use aio_relay::{MemEnd, Pair, PairEnd, Side};
-use std::alloc::{AllocError, Global};
+use std::alloc::Global;
 use std::process::Abort;
-use std::test::Fail;
 
 /// Bytes that are one too few for the longest line with its line feed.
 const LONG: &[u8] = &[b'a'; 4095];
@@ -145,29 +144,23 @@ const ROWS: &[Row<'static>] = &[
 ];
 
 #[test]
-fn whole_lines_are_passed_on_in_order_and_once(rt: HostRuntime) -> Result<(), Fail> {
-    plays_each(&rt, rt.alloc(), ROWS)
+fn whole_lines_are_passed_on_in_order_and_once(rt: HostRuntime) {
+    plays_each(&rt, rt.alloc(), ROWS);
 }
 
 /// A block of bytes: the longest line, lines of ten bytes, and the front of another.
-fn block(alloc: Global) -> Result<Vec<u8>, AllocError> {
-    let mut bytes = LONG.to_vec(alloc)?;
-    bytes.push(b'\n')?;
+fn block(rt: &impl Abort, alloc: Global) -> Vec<u8> {
+    let mut bytes = LONG.to_vec(alloc).expect(rt, MEMORY);
+    bytes.push(b'\n').expect(rt, MEMORY);
     for _line in 0..6143 {
-        bytes.extend_from_slice(b"123456789\n")?;
+        bytes.extend_from_slice(b"123456789\n").expect(rt, MEMORY);
     }
-    bytes.extend_from_slice(b"1234567890")?;
-    Ok(bytes)
+    bytes.extend_from_slice(b"1234567890").expect(rt, MEMORY);
+    bytes
 }
 
 /// Makes a pair over what sides A and B send, and asserts that what these acts come to is what stands beside each.
-fn plays_over(
-    rt: &impl Abort,
-    alloc: Global,
-    a: &[u8],
-    b: &[u8],
-    acts: &[(Act, Came)],
-) -> Result<(), Fail> {
+fn plays_over(rt: &impl Abort, alloc: Global, a: &[u8], b: &[u8], acts: &[(Act, Came)]) {
     let row = Row {
         shows: "bytes that come with one read",
         a: Peer { first: a, ..ENDS },
@@ -175,7 +168,7 @@ fn plays_over(
         acts,
         ..QUIET
     };
-    plays(rt, alloc, &row)
+    plays(rt, alloc, &row);
 }
 
 const ARE_PASSED_ON: [(Act, Came); 5] = [
@@ -187,30 +180,26 @@ const ARE_PASSED_ON: [(Act, Came); 5] = [
 ];
 
 #[test]
-fn lines_that_come_with_one_read_are_passed_on(rt: HostRuntime) -> Result<(), Fail> {
-    let block = block(rt.alloc())?;
-    let passed = plays_over(&rt, rt.alloc(), block.as_slice(), b"", &ARE_PASSED_ON);
-    drop(block);
-    passed
+fn lines_that_come_with_one_read_are_passed_on(rt: HostRuntime) {
+    let block = block(&rt, rt.alloc());
+    plays_over(&rt, rt.alloc(), block.as_slice(), b"", &ARE_PASSED_ON);
 }
 
 /// Two lines, of which the line feed of the second comes too late.
-fn late(alloc: Global) -> Result<Vec<u8>, AllocError> {
-    let mut bytes = b"x\n".to_vec(alloc)?;
-    bytes.extend_from_slice(ENDLESS)?;
-    bytes.push(b'\n')?;
-    Ok(bytes)
+fn late(rt: &impl Abort, alloc: Global) -> Vec<u8> {
+    let mut bytes = b"x\n".to_vec(alloc).expect(rt, MEMORY);
+    bytes.extend_from_slice(ENDLESS).expect(rt, MEMORY);
+    bytes.push(b'\n').expect(rt, MEMORY);
+    bytes
 }
 
 const IS_TOO_LONG: [(Act, Came); 1] = [(At(0), TooLong(Side::B, 4098))];
 
 // Both lines come with one read, and a line feed in the next place comes too late.
 #[test]
-fn the_place_of_a_long_line_counts_from_the_first_byte(rt: HostRuntime) -> Result<(), Fail> {
-    let late = late(rt.alloc())?;
-    let came = plays_over(&rt, rt.alloc(), b"", late.as_slice(), &IS_TOO_LONG);
-    drop(late);
-    came
+fn the_place_of_a_long_line_counts_from_the_first_byte(rt: HostRuntime) {
+    let late = late(&rt, rt.alloc());
+    plays_over(&rt, rt.alloc(), b"", late.as_slice(), &IS_TOO_LONG);
 }
 
 /// Polls a task until it ends, ten times at most.
@@ -234,15 +223,10 @@ pub(crate) fn poll_to_end<H: Host, T: Task<H>>(
 }
 
 /// A pair of which no call of a connection fails, over those of the first row.
-fn sure_pair(alloc: Global, start: Moment) -> Result<Pair<MemEnd<SureConn>>, Fail> {
-    let a = sure_connection(alloc, &TORN)?;
-    match sure_connection(alloc, &ENDS) {
-        Ok(b) => pair_of(alloc, (a, b), 1000, start),
-        Err(fail) => {
-            drop(a);
-            Err(fail)
-        }
-    }
+fn sure_pair(rt: &impl Abort, alloc: Global, start: Moment) -> Pair<MemEnd<SureConn>> {
+    let a = sure_connection(rt, alloc, &TORN);
+    let b = sure_connection(rt, alloc, &ENDS);
+    pair_of(rt, alloc, (a, b), 1000, start)
 }
 
 /// Asserts that the connections of a pair were sent these texts.
@@ -250,17 +234,13 @@ fn hands_back(rt: &impl Abort, pair: Pair<MemEnd<SureConn>>, to_a: &str, to_b: &
     let (a, b) = pair.into_ends();
     same(rt, a.cell.io.sent(), to_a.as_bytes());
     same(rt, b.cell.io.sent(), to_b.as_bytes());
-    drop(a);
-    drop(b);
 }
 
 #[test]
-fn a_pair_hands_its_connections_back(rt: HostRuntime) -> Result<(), Fail> {
-    let mut pair = sure_pair(rt.alloc(), moment(&rt, 0))?;
+fn a_pair_hands_its_connections_back(rt: HostRuntime) {
+    let mut pair = sure_pair(&rt, rt.alloc(), moment(&rt, 0));
     let mut host = ListHost::new(rt.alloc(), Trouble::Nothing);
     let end = poll_to_end(&mut pair, &mut host, moment(&rt, 0));
     same(&rt, end, Some(PairEnd::Ended { to_a: 0, to_b: 3 }));
-    drop(host);
     hands_back(&rt, pair, "", "ab\n");
-    Ok(())
 }

@@ -3,7 +3,7 @@
 
 ghost use Rattle.std.specs.Prelude.{◌<◌};
 
-use crate::asserts::same;
+use crate::asserts::{MEMORY, same};
 use crate::listening::Act::{Close, Event, IsHeld, IsLeft, Listen, Poll, Serial};
 use crate::listening::Came::{Is, Number, Tried};
 use crate::relays::end_of;
@@ -17,7 +17,6 @@ use aio_source::{Listened, SourceCell};
 use std::alloc::Global;
 use std::mem;
 use std::process::Abort;
-use std::test::Fail;
 
 /// What is done with a listener of the read direction, and with its source.
 #[derive(Clone, Copy)]
@@ -39,7 +38,7 @@ enum Act {
 }
 
 /// What comes of it.
-#[derive(Clone, Copy, Debug, PartialEq)]
+#[derive(Clone, Copy)]
 enum Came {
     /// What a poll or an event comes to.
     Tried(tries::Came),
@@ -49,6 +48,16 @@ enum Came {
     Number(u64),
     /// There is no listener.
     Nothing,
+}
+
+/// What came, as it is compared.
+fn told(came: Came) -> tries::Told {
+    match came {
+        Tried(came) => tries::told(came),
+        Is(so) => ("is", so as u64, None, None),
+        Number(number) => ("number", number, None, None),
+        Came::Nothing => ("nothing", 0, None, None),
+    }
 }
 
 /// A source with a listener, and what that remembers of its first poll.
@@ -94,17 +103,17 @@ fn close(ready: Ready, cell: &mut SourceCell<MemConn>) -> bool {
 
 impl Heard {
     /// A new source with this key, over a connection that stays silent. Its listener was not polled.
-    fn new(alloc: Global, key: u32) -> Result<Heard, Fail>
+    fn new(rt: &impl Abort, alloc: Global, key: u32) -> Heard
         requires { key < 4096 }
     {
-        let taken = Vec::with_capacity(alloc, 8)?;
-        let io = SILENT.connection(alloc)?;
-        Ok(Heard {
+        let taken = Vec::with_capacity(alloc, 8).expect(rt, MEMORY);
+        let io = SILENT.connection(alloc).expect(rt, MEMORY);
+        Heard {
             end: end_of(alloc, Key(key), io),
             ready: Ready::new(Dir::Read),
             kept: None,
             taken,
-        })
+        }
     }
 
     /// Polls a new listener, and keeps it.
@@ -154,7 +163,7 @@ impl Heard {
     /// Asserts that what these acts come to is what stands beside each.
     fn plays(&mut self, rt: &impl Abort, rows: &[(Act, Came)]) {
         for (act, came) in rows {
-            same(rt, self.act(*act), *came);
+            same(rt, told(self.act(*act)), told(*came));
         }
     }
 }
@@ -171,13 +180,9 @@ const IS_CLOSED: [(Act, Came); 7] = [
 ];
 
 #[test]
-fn a_listener_is_ready_after_an_event_and_none_is_left_once_it_is_closed(
-    rt: HostRuntime,
-) -> Result<(), Fail> {
-    let mut heard = Heard::new(rt.alloc(), 3)?;
+fn a_listener_is_ready_after_an_event_and_none_is_left_once_it_is_closed(rt: HostRuntime) {
+    let mut heard = Heard::new(&rt, rt.alloc(), 3);
     heard.plays(&rt, &IS_CLOSED);
-    drop(heard);
-    Ok(())
 }
 
 const STANDS_THERE: [(Act, Came); 3] = [
@@ -192,18 +197,14 @@ fn is_held_by(heard: &Heard, other: &mut Heard) -> bool {
 }
 
 /// Asserts that the listener of a source does not stand in another one.
-fn stands_in_no_other(rt: &impl Abort, alloc: Global, heard: &Heard) -> Result<(), Fail> {
-    let mut other = Heard::new(alloc, 4)?;
+fn stands_in_no_other(rt: &impl Abort, alloc: Global, heard: &Heard) {
+    let mut other = Heard::new(rt, alloc, 4);
     same(rt, is_held_by(heard, &mut other), false);
-    drop(other);
-    Ok(())
 }
 
 #[test]
-fn a_listener_stands_in_the_source_that_it_was_polled_over(rt: HostRuntime) -> Result<(), Fail> {
-    let mut heard = Heard::new(rt.alloc(), 3)?;
+fn a_listener_stands_in_the_source_that_it_was_polled_over(rt: HostRuntime) {
+    let mut heard = Heard::new(&rt, rt.alloc(), 3);
     heard.plays(&rt, &STANDS_THERE);
-    let stands = stands_in_no_other(&rt, rt.alloc(), &heard);
-    drop(heard);
-    stands
+    stands_in_no_other(&rt, rt.alloc(), &heard);
 }

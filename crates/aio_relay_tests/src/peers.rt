@@ -1,11 +1,12 @@
 //! Connections in memory of the tests.
 
-ghost use Rattle.std.specs.Prelude.{◌^◌, ◌<◌, IfOk};
+ghost use Rattle.std.specs.Prelude.{◌^◌, ◌<◌};
 ghost use Rattle.aio_conns.specs.Given.{total_bytes};
 
+use crate::asserts::MEMORY;
 use aio_conns::{ENDS, Peer, Piece, SureConn};
 use std::alloc::Global;
-use std::test::Fail;
+use std::process::Abort;
 
 /// Sends a line in two pieces, and then the front of another.
 pub(crate) const TORN: Peer<'static> = Peer {
@@ -16,21 +17,21 @@ pub(crate) const TORN: Peer<'static> = Peer {
 };
 
 /// What a peer sends, piece by piece, between which a read is blocked where it is asked for.
-fn pieces(alloc: Global, peer: &Peer<'_>) -> Result<Vec<Piece>, Fail>
-    ensures { IfOk result (λ pieces. total_bytes pieces.items < 2 ^ 64) }
+fn pieces(rt: &impl Abort, alloc: Global, peer: &Peer<'_>) -> Vec<Piece>
+    ensures { total_bytes result.items < 2 ^ 64 }
 {
-    let first = Piece::Bytes(peer.first.to_vec(alloc)?);
-    let last = Piece::Bytes(peer.last.to_vec(alloc)?);
+    let first = Piece::Bytes(peer.first.to_vec(alloc).expect(rt, MEMORY));
+    let last = Piece::Bytes(peer.last.to_vec(alloc).expect(rt, MEMORY));
     if peer.blocks {
-        Ok(vec![in alloc; first, Piece::Block, last]?)
+        vec![in alloc; first, Piece::Block, last].expect(rt, MEMORY)
     } else {
-        Ok(vec![in alloc; first, last]?)
+        vec![in alloc; first, last].expect(rt, MEMORY)
     }
 }
 
 /// A connection to a peer of which no call fails.
-pub(crate) fn sure_connection(alloc: Global, peer: &Peer<'_>) -> Result<SureConn, Fail> {
-    let pieces = pieces(alloc, peer)?;
+pub(crate) fn sure_connection(rt: &impl Abort, alloc: Global, peer: &Peer<'_>) -> SureConn {
+    let pieces = pieces(rt, alloc, peer);
     let at_once = peer.at_once.max(1);
-    Ok(SureConn::new(alloc, pieces, peer.ends, at_once, peer.room)?)
+    SureConn::new(alloc, pieces, peer.ends, at_once, peer.room).expect(rt, MEMORY)
 }

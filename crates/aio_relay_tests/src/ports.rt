@@ -1,12 +1,11 @@
 //! What no clause says of a port in memory: which connection comes when.
 
-use crate::asserts::same;
+use crate::asserts::{MEMORY, same};
 use aio_base::{Conn, Did, Failed, Faults, Port};
 use aio_conns::{ENDS, MemConn, MemPort, Peer};
 use std::alloc::Global;
 use std::process::Abort;
 use std::sync::Wait;
-use std::test::Fail;
 
 /// The first byte that a connection gives.
 fn first_byte<C: Conn>(conn: &mut C) -> Option<u8> {
@@ -30,21 +29,21 @@ where
 }
 
 /// A connection that gives this text.
-fn giving(alloc: Global, text: &str) -> Result<MemConn, Fail> {
+fn giving(rt: &impl Abort, alloc: Global, text: &str) -> MemConn {
     let peer = Peer {
         last: text.as_bytes(),
         ..ENDS
     };
-    Ok(peer.connection(alloc)?)
+    peer.connection(alloc).expect(rt, MEMORY)
 }
 
 /// A port of connections that give these texts.
-fn port_of(alloc: Global, texts: &[&str]) -> Result<MemPort, Fail> {
+fn port_of(rt: &impl Abort, alloc: Global, texts: &[&str]) -> MemPort {
     let mut conns = Vec::new(alloc);
     for text in texts {
-        conns.push(giving(alloc, text)?)?;
+        conns.push(giving(rt, alloc, text)).expect(rt, MEMORY);
     }
-    Ok(MemPort::new(conns))
+    MemPort::new(conns)
 }
 
 /// Asserts that a port has a number of its own where none is asked for, and else the one that is.
@@ -71,10 +70,8 @@ where
 }
 
 #[test]
-fn a_port_hands_its_three_connections_out_in_order(rt: HostRuntime) -> Result<(), Fail> {
-    let mut port = port_of(rt.alloc(), &["a", "b", "c"])?;
+fn a_port_hands_its_three_connections_out_in_order(rt: HostRuntime) {
+    let mut port = port_of(&rt, rt.alloc(), &["a", "b", "c"]);
     is_bound(&rt, &mut port);
     hands_out_three(&rt, &mut port);
-    drop(port);
-    Ok(())
 }

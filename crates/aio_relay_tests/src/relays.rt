@@ -2,7 +2,7 @@
 
 ghost use Rattle.std.specs.Prelude.{◌<◌};
 
-use crate::asserts::same_in;
+use crate::asserts::{MEMORY, same_in};
 use crate::hosts::{ListHost, Trouble};
 use aio_base::{Conn, CountFault, Cx, Key, Moment, Poll, Task};
 use aio_conns::{MemConn, Peer, SILENT};
@@ -12,7 +12,6 @@ use aio_relay::{MemEnd, Pair, PairEnd, Side};
 use aio_source::{SourceCell, SourceState};
 use std::alloc::Global;
 use std::process::Abort;
-use std::test::Fail;
 
 /// A pair that is to be made, what is done with it, and what comes of each act.
 #[derive(Clone, Copy)]
@@ -62,7 +61,7 @@ pub(crate) enum Act {
 }
 
 /// What comes of it.
-#[derive(Clone, Copy, Debug, PartialEq)]
+#[derive(Clone, Copy)]
 pub(crate) enum Came {
     /// The pair waits.
     Waits,
@@ -88,6 +87,23 @@ pub(crate) enum Came {
     Is(bool),
 }
 
+/// What came, as it is compared: which it is, its numbers, its side, and the call that failed.
+fn told(came: Came) -> (&'static str, [u64; 2], Option<Side>, Option<TryFault>) {
+    match came {
+        Came::Waits => ("waits", [0; 2], None, None),
+        Came::Idles(last, now) => ("idles", [last, now], None, None),
+        Came::Ended(to_a, to_b) => ("ended", [to_a, to_b], None, None),
+        Came::TooLong(side, at) => ("too long", [at, 0], Some(side), None),
+        Came::Fails(fault) => ("fails", [0; 2], None, Some(fault)),
+        Came::NotifyFails(fault) => ("notify fails", [fault.before, fault.after], None, None),
+        Came::NoMemory => ("no memory", [0; 2], None, None),
+        Came::One(at, waker) => ("one", [at, waker as u64], None, None),
+        Came::Count(count) => ("count", [count as u64, 0], None, None),
+        Came::Slots(slots) => ("slots", [slots, 0], None, None),
+        Came::Is(so) => ("is", [so as u64, 0], None, None),
+    }
+}
+
 /// An end over a new source of a connection.
 pub(crate) fn end_of<C>(alloc: Global, key: Key, io: C) -> MemEnd<C>
     requires { key.0 < 4096 }
@@ -108,36 +124,41 @@ pub(crate) struct Relay {
 /// The longest idle time.
 const LONGEST_IDLE: u64 = 1_000_000_000_000_000_000;
 
-/// Both connections of a pair, where both were made.
-pub(crate) fn both<C: Drop, F: Drop>(a: Result<C, F>, b: Result<C, F>) -> Result<(C, C), F> {
-    Ok((a?, b?))
-}
-
 /// A pair over two connections, which have the keys 0 and 1. Its idle time is 1 to 10^18.
 pub(crate) fn pair_of<C: Conn + Drop>(
+    rt: &impl Abort,
     alloc: Global,
     sides: (C, C),
     idle: u64,
     start: Moment,
-) -> Result<Pair<MemEnd<C>>, Fail> {
+) -> Pair<MemEnd<C>> {
     let a = end_of(alloc, Key(0), sides.0);
     let b = end_of(alloc, Key(1), sides.1);
-    match Pair::new(alloc, a, b, idle.clamp(1, LONGEST_IDLE), start) {
-        Ok(pair) => Ok(pair),
-        Err(ends) => {
-            drop(ends);
-            Err(Fail::from("there is no pair"))
-        }
-    }
+    let pair = Pair::new(alloc, a, b, idle.clamp(1, LONGEST_IDLE), start).ok();
+    pair.expect(rt, MEMORY)
+}
+
+/// The same over connections to these peers, of which calls may fail.
+pub(crate) fn pair_over(
+    rt: &impl Abort,
+    alloc: Global,
+    (a, b): (&Peer<'_>, &Peer<'_>),
+    idle: u64,
+    start: Moment,
+) -> Pair<MemEnd<MemConn>> {
+    let a = a.connection(alloc).expect(rt, MEMORY);
+    let b = b.connection(alloc).expect(rt, MEMORY);
+    pair_of(rt, alloc, (a, b), idle, start)
 }
 
 impl Relay {
     /// The pair of a row, with a new host.
-    fn new(alloc: Global, row: &Row<'_>, start: Moment) -> Result<Relay, Fail> {
-        let sides = both(row.a.connection(alloc), row.b.connection(alloc))?;
-        let pair = pair_of(alloc, sides, row.idle, start)?;
-        let host = ListHost::new(alloc, row.trouble);
-        Ok(Relay { host, pair })
+    fn new(rt: &impl Abort, alloc: Global, row: &Row<'_>) -> Relay {
+        let start = moment(rt, row.start);
+        Relay {
+            pair: pair_over(rt, alloc, (&row.a, &row.b), row.idle, start),
+            host: ListHost::new(alloc, row.trouble),
+        }
     }
 
     /// Polls the pair.
@@ -178,7 +199,7 @@ impl Relay {
     /// Asserts that what these acts come to is what stands beside each.
     fn plays(&mut self, rt: &impl Abort, row: &Row<'_>) {
         for (act, came) in row.acts {
-            same_in(rt, row.shows, self.act(rt, *act), *came);
+            same_in(rt, row.shows, told(self.act(rt, *act)), told(*came));
         }
     }
 }
@@ -211,17 +232,14 @@ pub(crate) fn moment(rt: &impl Abort, nanoseconds: u64) -> Moment {
 }
 
 /// Makes the pair of a row, and asserts that what its acts come to is what stands beside each.
-pub(crate) fn plays(rt: &impl Abort, alloc: Global, row: &Row<'_>) -> Result<(), Fail> {
-    let mut relay = Relay::new(alloc, row, moment(rt, row.start))?;
+pub(crate) fn plays(rt: &impl Abort, alloc: Global, row: &Row<'_>) {
+    let mut relay = Relay::new(rt, alloc, row);
     relay.plays(rt, row);
-    drop(relay);
-    Ok(())
 }
 
 /// The same of each row of a table.
-pub(crate) fn plays_each(rt: &impl Abort, alloc: Global, rows: &[Row<'_>]) -> Result<(), Fail> {
+pub(crate) fn plays_each(rt: &impl Abort, alloc: Global, rows: &[Row<'_>]) {
     for row in rows {
-        plays(rt, alloc, row)?;
+        plays(rt, alloc, row);
     }
-    Ok(())
 }

@@ -1,6 +1,6 @@
 //! What no clause says of a timer on a host in memory: that its calls succeed with ample memory, and go together.
 
-use crate::asserts::same;
+use crate::asserts::{MEMORY, same};
 use crate::hosts::{ListHost, Trouble};
 use crate::relays::moment;
 use aio_base::Waker;
@@ -9,7 +9,6 @@ use aio_react::{Core, TimerHost};
 use aio_script::ScriptPoller;
 use std::alloc::Global;
 use std::process::Abort;
-use std::test::Fail;
 
 /// Polls a timer at a moment with waker 1, through the bound alone.
 fn poll_at<H: TimerHost>(
@@ -42,21 +41,16 @@ fn is_set_anew<H: TimerHost>(rt: &impl Abort, host: &mut H) {
 }
 
 /// A core over the poller in memory.
-fn new_core(alloc: Global) -> Result<Core<ScriptPoller>, Fail> {
-    match Core::new(alloc, ScriptPoller::new(alloc)?) {
-        Ok(core) => Ok(core),
-        Err(_) => Err(Fail::from("there is no memory")),
-    }
+fn new_core(rt: &impl Abort, alloc: Global) -> Core<ScriptPoller> {
+    let poller = ScriptPoller::new(alloc).expect(rt, MEMORY);
+    Core::new(alloc, poller).ok().expect(rt, MEMORY)
 }
 
 #[test]
-fn a_timer_that_is_set_anew_fires_for_each_period(rt: HostRuntime) -> Result<(), Fail> {
+fn a_timer_that_is_set_anew_fires_for_each_period(rt: HostRuntime) {
     let mut host = ListHost::new(rt.alloc(), Trouble::Nothing);
     is_set_anew(&rt, &mut host);
     same(&rt, host.timers(), 0);
     drop(host);
-    let mut core = new_core(rt.alloc())?;
-    is_set_anew(&rt, &mut core);
-    drop(core);
-    Ok(())
+    is_set_anew(&rt, &mut new_core(&rt, rt.alloc()));
 }
