@@ -7,6 +7,9 @@ use aio_base::Moment;
 use std::fmt::Debug;
 use std::process::Abort;
 
+/// What a test needs that allocates.
+pub(crate) const MEMORY: &str = "memory is left";
+
 /// Asserts that what was found is what was wanted.
 pub(crate) fn same<T: Debug + Drop + PartialEq>(rt: &impl Abort, found: T, wanted: T) {
     assert_eq!(rt; found, wanted);
@@ -19,7 +22,7 @@ pub(crate) fn same_in<T: Debug + Drop + PartialEq>(
     found: T,
     wanted: T,
 ) {
-    assert_eq!(rt; found, wanted, "in the row: {row}");
+    same(rt, (row, found), (row, wanted));
 }
 
 /// The moment so many nanoseconds after the clock's start.

@@ -6,11 +6,10 @@ use crate::cores::Act::{
     Add, Begin, Finish, Give, Handle, Insert, Listen, React, Step, Ticker, Wait, Woken,
 };
 use crate::cores::Came::{Begun, Done, Ended, Key, Number, Pending, Reacted, Refused, Woke};
-use crate::cores::{Act, Came, Row, comes_of, new_core, plays, plays_anew};
+use crate::cores::{Act, Came, Row, comes_of, new_core, plays, plays_anew, told};
 use aio_base::{Dir, Waited};
 use aio_react::{Core, CoreRefusal};
 use aio_script::ScriptPoller;
-use std::test::Fail;
 
 /// Rounds of a new core.
 const ROWS: &[Row] = &[
@@ -43,11 +42,10 @@ const ROWS: &[Row] = &[
 ];
 
 #[test]
-fn rounds_of_a_core_wake_what_is_due(rt: HostRuntime) -> Result<(), Fail> {
+fn rounds_of_a_core_wake_what_is_due(rt: HostRuntime) {
     for row in ROWS {
-        plays_anew(&rt, rt.alloc(), row)?;
+        plays_anew(&rt, rt.alloc(), row);
     }
-    Ok(())
 }
 
 /// Has so many listeners of the source wait for its read direction. How many do.
@@ -64,7 +62,7 @@ fn listen_times(core: &mut Core<ScriptPoller>, times: u32) -> usize {
 /// Has one more listener of the source wait. Whether it does.
 fn listen_and_wait(core: &mut Core<ScriptPoller>) -> bool {
     match comes_of(core, Listen(0, Dir::Read)) {
-        Number(listener) => comes_of(core, Step(listener, 3)) == Pending(None),
+        Number(listener) => matches!(comes_of(core, Step(listener, 3)), Pending(None)),
         _ => false,
     }
 }
@@ -89,12 +87,14 @@ const ALL_ARE_WOKEN: [(Act, Came); 2] = [(Woken, Woke(3_000, Some(3))), (Ticker,
 /// A round takes more wakers than it has room for. Where there is no memory for them, its event stays in
 /// hand, and goes on from there. Whether memory was there, the run of the test decides.
 #[test]
-fn an_event_without_memory_is_handled_later(rt: HostRuntime) -> Result<(), Fail> {
-    let mut core = new_core(rt.alloc())?;
+fn an_event_without_memory_is_handled_later(rt: HostRuntime) {
+    let mut core = new_core(&rt, rt.alloc());
     plays(&rt, &mut core, &IS_NOTED);
     same(&rt, listen_times(&mut core, 3_000), 3_000);
-    same(&rt, react_to_the_end(&mut core, 10), Ended(None));
+    same(
+        &rt,
+        told(react_to_the_end(&mut core, 10)),
+        told(Ended(None)),
+    );
     plays(&rt, &mut core, &ALL_ARE_WOKEN);
-    drop(core);
-    Ok(())
 }

@@ -1,7 +1,7 @@
 //! A core over the poller in memory, as the rows of a table use it. Each call goes through the bound of the
 //! poller alone.
 
-use crate::asserts::{same, same_in};
+use crate::asserts::{MEMORY, same, same_in};
 use crate::hosts::insert;
 use aio_base::{
     ArmFault, Dir, Event, EventWait, Interest, Key, Moment, Poll, Poller, Waited, Waker, Which,
@@ -10,7 +10,6 @@ use aio_react::{Core, CoreRefusal, RoundFault, TimerHost};
 use aio_script::ScriptPoller;
 use std::alloc::Global;
 use std::process::Abort;
-use std::test::Fail;
 
 /// What is done with a core. Moments and limits are in nanoseconds.
 #[derive(Clone, Copy)]
@@ -54,7 +53,7 @@ pub(crate) enum Act {
 }
 
 /// What comes of it.
-#[derive(Clone, Copy, Debug, PartialEq)]
+#[derive(Clone, Copy)]
 pub(crate) enum Came {
     /// Nothing failed.
     Done,
@@ -82,6 +81,37 @@ pub(crate) enum Came {
     Refused(CoreRefusal),
     /// Something else.
     Other,
+}
+
+/// Which it is that came, its numbers, its limit and its waker, and what failed or was refused.
+pub(crate) type Told = (
+    &'static str,
+    [u64; 2],
+    (Option<u64>, Option<u32>),
+    Result<Option<RoundFault>, CoreRefusal>,
+);
+
+/// What came, as it is compared.
+pub(crate) fn told(came: Came) -> Told {
+    let none = (None, None);
+    match came {
+        Came::Done => ("done", [0; 2], none, Ok(None)),
+        Came::Key(key) => ("key", [key as u64, 0], none, Ok(None)),
+        Came::Is(so) => ("is", [so as u64, 0], none, Ok(None)),
+        Came::Number(number) => ("number", [number, 0], none, Ok(None)),
+        Came::Pending(waker) => ("pending", [0; 2], (None, waker), Ok(None)),
+        Came::Unarmed(fault) => ("unarmed", [0; 2], none, Ok(Some(RoundFault::Arm(fault)))),
+        Came::Begun(number, limit) => ("begun", [number, 0], (limit, None), Ok(None)),
+        Came::Waited(Waited::Given(count)) => ("given", [count as u64, 0], none, Ok(None)),
+        Came::Waited(Waited::Interrupted) => ("interrupted", [0; 2], none, Ok(None)),
+        Came::Ended(fault) => ("ended", [0; 2], none, Ok(fault)),
+        Came::Reacted(number, events, fault) => {
+            ("reacted", [number, events as u64], none, Ok(fault))
+        }
+        Came::Woke(count, first) => ("woke", [count as u64, 0], (None, first), Ok(None)),
+        Came::Refused(refusal) => ("refused", [0; 2], none, Err(refusal)),
+        Came::Other => ("other", [0; 2], none, Ok(None)),
+    }
 }
 
 /// What a call without an answer of its own comes to.
@@ -256,17 +286,15 @@ pub(crate) fn comes_of(core: &mut Core<ScriptPoller>, act: Act) -> Came {
 }
 
 /// A core over a poller that has no event.
-pub(crate) fn new_core(alloc: Global) -> Result<Core<ScriptPoller>, Fail> {
-    match Core::new(alloc, ScriptPoller::new(alloc)?) {
-        Ok(core) => Ok(core),
-        Err(_) => Err(Fail::from("there is no memory")),
-    }
+pub(crate) fn new_core(rt: &impl Abort, alloc: Global) -> Core<ScriptPoller> {
+    let poller = ScriptPoller::new(alloc).expect(rt, MEMORY);
+    Core::new(alloc, poller).ok().expect(rt, MEMORY)
 }
 
 /// Asserts that what these acts come to is what stands beside each.
 pub(crate) fn plays(rt: &impl Abort, core: &mut Core<ScriptPoller>, rows: &[(Act, Came)]) {
     for (act, came) in rows {
-        same(rt, comes_of(core, *act), *came);
+        same(rt, told(comes_of(core, *act)), told(*came));
     }
 }
 
@@ -279,11 +307,9 @@ pub(crate) struct Row {
 }
 
 /// Asserts that what the acts of a row come to is what stands beside each.
-pub(crate) fn plays_anew(rt: &impl Abort, alloc: Global, row: &Row) -> Result<(), Fail> {
-    let mut core = new_core(alloc)?;
+pub(crate) fn plays_anew(rt: &impl Abort, alloc: Global, row: &Row) {
+    let mut core = new_core(rt, alloc);
     for (act, came) in row.acts {
-        same_in(rt, row.shows, comes_of(&mut core, *act), *came);
+        same_in(rt, row.shows, told(comes_of(&mut core, *act)), told(*came));
     }
-    drop(core);
-    Ok(())
 }

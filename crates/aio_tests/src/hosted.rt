@@ -33,7 +33,7 @@ pub(crate) enum Act {
 }
 
 /// What comes of it.
-#[derive(Clone, Copy, Debug, PartialEq)]
+#[derive(Clone, Copy)]
 pub(crate) enum Came {
     /// Nothing failed.
     Done,
@@ -58,6 +58,23 @@ pub(crate) enum Came {
     Count(u64),
     /// Something else.
     Other,
+}
+
+/// What came, as it is compared: which it is, its numbers, and the moment that may be there.
+fn told(came: Came) -> (&'static str, [u64; 3], Option<u64>) {
+    match came {
+        Came::Done => ("done", [0; 3], None),
+        Came::Pending => ("pending", [0; 3], None),
+        Came::Ready(at) => ("ready", [at, 0, 0], None),
+        Came::NoMemory => ("no memory", [0; 3], None),
+        Came::IdsSpent => ("ids spent", [0; 3], None),
+        Came::Untold(fired, before, after) => ("untold", [before, after, 0], fired),
+        Came::Only(at, waker, id) => ("only", [at, waker as u64, id], None),
+        Came::Nothing => ("nothing", [0; 3], None),
+        Came::Looked(deadline, fires) => ("looked", [fires as u64, 0, 0], deadline),
+        Came::Count(count) => ("count", [count, 0, 0], None),
+        Came::Other => ("other", [0; 3], None),
+    }
 }
 
 /// A timer and its host.
@@ -164,7 +181,7 @@ impl Hosted {
     /// Asserts that what these acts come to is what stands beside each.
     pub(crate) fn plays(&mut self, rt: &impl Abort, shows: &str, rows: &[(Act, Came)]) {
         for (act, came) in rows {
-            same_in(rt, shows, self.act(*act), *came);
+            same_in(rt, shows, told(self.act(*act)), told(*came));
         }
     }
 }

@@ -4,17 +4,16 @@
 ghost use Rattle.std.specs.Prelude.{◌≡◌, false, IsErr};
 ghost use Rattle.aio_base.specs.Devices.{HasCause};
 
-use crate::asserts::same_in;
+use crate::asserts::{MEMORY, same_in};
 use crate::cores::Act::{Add, Del, Poll, React, Woken};
 use crate::cores::Came::{Done, Key as Added, Pending, Reacted, Refused, Unarmed, Woke};
-use crate::cores::{Act, Came, act_at, act_on, woken};
+use crate::cores::{Act, Came, act_at, act_on, told, woken};
 use aio_base::{
     Arm, ArmFault, CountFault, Event, EventWait, Failed, Faults, Interest, Key, Poller, Waited,
 };
 use aio_react::{Core, CoreRefusal, RoundFault};
 use std::alloc::Global;
 use std::process::Abort;
-use std::test::Fail;
 
 /// What each wait gives: events of keys that no source can have, of no direction, of one for which
 /// nobody waits, and the same event twice.
@@ -262,11 +261,10 @@ fn wanted(place: usize, usual: Came, others: &[(usize, Came)]) -> Came {
 }
 
 /// A core over a poller of which the call of this number fails.
-fn core_over(alloc: Global, fails: u64) -> Result<Core<Hostile>, Fail> {
-    match Core::new(alloc, Hostile::new(fails)) {
-        Ok(core) => Ok(core),
-        Err(_) => Err(Fail::from("there is no memory")),
-    }
+fn core_over(rt: &impl Abort, alloc: Global, fails: u64) -> Core<Hostile> {
+    Core::new(alloc, Hostile::new(fails))
+        .ok()
+        .expect(rt, MEMORY)
 }
 
 /// Asserts what the acts of a row come to, and those afterwards.
@@ -274,24 +272,27 @@ fn plays(rt: &impl Abort, core: &mut Core<Hostile>, fails: u64, others: &[(usize
     for (place, (act, usual)) in USUAL.iter().enumerate() {
         let came = comes_of(core, *act);
         let wanted = wanted(place, *usual, others);
-        same_in(rt, "while a call fails", (fails, came), (fails, wanted));
+        same_in(
+            rt,
+            "while a call fails",
+            (fails, told(came)),
+            (fails, told(wanted)),
+        );
     }
     for (act, came) in AFTERWARDS {
         same_in(
             rt,
             "afterwards",
-            (fails, comes_of(core, act)),
-            (fails, came),
+            (fails, told(comes_of(core, act))),
+            (fails, told(came)),
         );
     }
 }
 
 #[test]
-fn a_core_goes_on_whichever_call_of_a_hostile_poller_fails(rt: HostRuntime) -> Result<(), Fail> {
+fn a_core_goes_on_whichever_call_of_a_hostile_poller_fails(rt: HostRuntime) {
     for (fails, others) in ROWS {
-        let mut core = core_over(rt.alloc(), *fails)?;
+        let mut core = core_over(&rt, rt.alloc(), *fails);
         plays(&rt, &mut core, *fails, others);
-        drop(core);
     }
-    Ok(())
 }

@@ -6,7 +6,6 @@ use crate::cores::Came::{Done, Is, Key, Number, Pending, Refused, Unarmed};
 use crate::cores::{Row, plays_anew};
 use aio_base::{ArmFault, Dir};
 use aio_react::CoreRefusal::{InUse, NoListener, NoSource};
-use std::test::Fail;
 
 /// The first fault of the poller, in an arm.
 const FIRST: ArmFault = ArmFault {
@@ -104,9 +103,8 @@ const ROWS: &[Row] = &[
 ];
 
 #[test]
-fn sources_and_listeners_of_a_core_come_and_go(rt: HostRuntime) -> Result<(), Fail> {
+fn sources_and_listeners_of_a_core_come_and_go(rt: HostRuntime) {
     for row in ROWS {
-        plays_anew(&rt, rt.alloc(), row)?;
+        plays_anew(&rt, rt.alloc(), row);
     }
-    Ok(())
 }

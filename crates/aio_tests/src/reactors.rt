@@ -8,7 +8,6 @@ use crate::cores::{Act, Came, new_core, plays};
 use crate::hosts::insert_two;
 use aio_base::{TimerId, Waker};
 use aio_react::CoreRefusal;
-use std::test::Fail;
 
 const HAS_NOTHING: [(Act, Came); 5] = [
     (Live(0), Is(false)),
@@ -25,12 +24,10 @@ const WAKES_THE_SECOND: [(Act, Came); 2] = [
 ];
 
 #[test]
-fn a_new_core_has_nothing_and_hosts_timers(rt: HostRuntime) -> Result<(), Fail> {
-    let mut core = new_core(rt.alloc())?;
+fn a_new_core_has_nothing_and_hosts_timers(rt: HostRuntime) {
+    let mut core = new_core(&rt, rt.alloc());
     plays(&rt, &mut core, &HAS_NOTHING);
     let ids = insert_two(&mut core, moment(&rt, 10), Waker(1), Waker(2));
     same(&rt, ids, Some((TimerId(1), TimerId(2))));
     plays(&rt, &mut core, &WAKES_THE_SECOND);
-    drop(core);
-    Ok(())
 }

@@ -3,7 +3,7 @@
 
 ghost use Rattle.std.specs.Prelude.{◌≡◌, [], true};
 
-use crate::asserts::same;
+use crate::asserts::{MEMORY, same};
 use crate::rounds::Act::{
     Begin, Fault, Finish, Given, Idle, Insert, Peek, Serve, Timers, Waiting, Woken,
 };
@@ -16,9 +16,8 @@ use aio_devices::{FailingArm, ScriptedWait, WaitAnswer};
 use aio_react::{Round, RoundFault};
 use aio_source::SourceState;
 use aio_timers::{TimerBook, TimerOp};
-use std::alloc::{AllocError, Global};
+use std::alloc::Global;
 use std::process::Abort;
-use std::test::Fail;
 
 /// What is done with a round. Moments and limits are in nanoseconds.
 #[derive(Clone, Copy)]
@@ -48,7 +47,7 @@ enum Act {
 }
 
 /// What comes of it.
-#[derive(Clone, Copy, Debug, PartialEq)]
+#[derive(Clone, Copy)]
 enum Came {
     /// Nothing failed.
     Done,
@@ -70,6 +69,35 @@ enum Came {
     Woke(usize, Option<u32>, Option<u32>),
     /// Something else.
     Other,
+}
+
+/// Which it is that came, its number and its limit, its wakers, and what the wait answered or failed.
+type Told = (
+    &'static str,
+    (usize, Option<u64>),
+    [Option<u32>; 2],
+    (Option<Waited>, Option<RoundFault>),
+);
+
+/// What came, as it is compared.
+fn told(came: Came) -> Told {
+    let (no, nobody, quiet) = ((0, None), [None, None], (None, None));
+    match came {
+        Came::Done => ("done", no, nobody, quiet),
+        Came::Begun(limit) => ("begun", (0, limit), nobody, quiet),
+        Came::Answered(waited) => ("answered", no, nobody, (Some(waited), None)),
+        Came::Failed(fault) => ("failed", no, nobody, (None, Some(RoundFault::Wait(fault)))),
+        Came::Handled(waited, None) => ("handled", no, nobody, (Some(waited), None)),
+        Came::Handled(waited, Some(fault)) => {
+            let fault = RoundFault::Arm(fault);
+            ("handled", no, nobody, (Some(waited), Some(fault)))
+        }
+        Came::Ended(fault) => ("ended", no, nobody, (None, fault)),
+        Came::Is(so) => ("is", (so as usize, None), nobody, quiet),
+        Came::Number(number) => ("number", (number, None), nobody, quiet),
+        Came::Woke(count, first, last) => ("woke", (count, None), [first, last], quiet),
+        Came::Other => ("other", no, nobody, quiet),
+    }
 }
 
 /// What a wait is to answer.
@@ -149,63 +177,36 @@ struct Lending {
     arm: FailingArm,
 }
 
-/// Two values, where both were made.
-fn both<A: Drop, B: Drop, F: Drop>(a: Result<A, F>, b: Result<B, F>) -> Result<(A, B), F> {
-    Ok((a?, b?))
-}
-
 /// An idle round over a wait with these answers, and a source that two tasks wait for. Each of them polled,
 /// which armed the source; the arms with the numbers in `fails` fail.
-fn make_lending(
-    rt: &impl Abort,
-    alloc: Global,
-    answers: &[Answer],
-    fails: &[u64],
-) -> Result<Lending, Fail> {
-    let (wait, mut arm) = both(wait_of(alloc, answers), arm_of(alloc, fails))?;
-    let source = waited_for(rt, alloc, &mut arm);
-    let Ok(round) = Round::new(alloc) else {
-        drop(wait);
-        drop(source);
-        drop(arm);
-        return Err(Fail::from("there is no memory"));
-    };
-    Ok(Lending {
-        round,
+fn make_lending(rt: &impl Abort, alloc: Global, answers: &[Answer], fails: &[u64]) -> Lending {
+    let mut arm = FailingArm::new(0, fails.to_vec(alloc).expect(rt, MEMORY));
+    Lending {
+        round: Round::new(alloc).expect(rt, MEMORY),
         book: TimerBook::new(alloc),
-        wait,
-        source,
+        wait: wait_of(rt, alloc, answers),
+        source: waited_for(rt, alloc, &mut arm),
         arm,
-    })
-}
-
-/// A wait that gives one event.
-fn gives(alloc: Global, event: Event) -> Result<WaitAnswer, AllocError> {
-    Ok(WaitAnswer::Gives(vec![in alloc; event]?))
+    }
 }
 
 /// What a wait is to answer, for the device.
-fn answer_of(alloc: Global, answer: Answer) -> Result<WaitAnswer, AllocError> {
+fn answer_of(rt: &impl Abort, alloc: Global, answer: Answer) -> WaitAnswer {
     match answer {
-        Answer::Gives(event) => gives(alloc, event),
-        Answer::GivesNone => Ok(WaitAnswer::Gives(Vec::new(alloc))),
-        Answer::Interrupted => Ok(WaitAnswer::Interrupted),
-        Answer::Fails => Ok(WaitAnswer::Fails),
+        Answer::Gives(event) => WaitAnswer::Gives(vec![in alloc; event].expect(rt, MEMORY)),
+        Answer::GivesNone => WaitAnswer::Gives(Vec::new(alloc)),
+        Answer::Interrupted => WaitAnswer::Interrupted,
+        Answer::Fails => WaitAnswer::Fails,
     }
 }
 
 /// A wait that gives these answers.
-fn wait_of(alloc: Global, answers: &[Answer]) -> Result<ScriptedWait, AllocError> {
+fn wait_of(rt: &impl Abort, alloc: Global, answers: &[Answer]) -> ScriptedWait {
     let mut told = Vec::new(alloc);
     for answer in answers {
-        told.push(answer_of(alloc, *answer)?)?;
+        told.push(answer_of(rt, alloc, *answer)).expect(rt, MEMORY);
     }
-    Ok(ScriptedWait::new(told))
-}
-
-/// A connection whose arms with these numbers fail.
-fn arm_of(alloc: Global, fails: &[u64]) -> Result<FailingArm, AllocError> {
-    Ok(FailingArm::new(0, fails.to_vec(alloc)?))
+    ScriptedWait::new(told)
 }
 
 /// What a wait and the handling of its event come to.
@@ -310,24 +311,16 @@ impl Lending {
     /// Asserts that what these acts come to is what stands beside each.
     fn plays(&mut self, rt: &impl Abort, rows: &[(Act, Came)]) {
         for (act, came) in rows {
-            same(rt, self.act(*act), *came);
+            same(rt, told(self.act(*act)), told(*came));
         }
     }
 }
 
 /// Asserts that what these acts come to is what stands beside each, with a round over a wait that gives these
 /// answers, and over a source of which the arms with these numbers fail.
-fn plays(
-    rt: &impl Abort,
-    alloc: Global,
-    answers: &[Answer],
-    fails: &[u64],
-    rows: &[(Act, Came)],
-) -> Result<(), Fail> {
-    let mut lending = make_lending(rt, alloc, answers, fails)?;
+fn plays(rt: &impl Abort, alloc: Global, answers: &[Answer], fails: &[u64], rows: &[(Act, Came)]) {
+    let mut lending = make_lending(rt, alloc, answers, fails);
     lending.plays(rt, rows);
-    drop(lending);
-    Ok(())
 }
 
 const WAKES_BOTH: [(Act, Came); 13] = [
@@ -347,14 +340,14 @@ const WAKES_BOTH: [(Act, Came); 13] = [
 ];
 
 #[test]
-fn a_round_wakes_what_it_took(rt: HostRuntime) -> Result<(), Fail> {
+fn a_round_wakes_what_it_took(rt: HostRuntime) {
     plays(
         &rt,
         rt.alloc(),
         &[Answer::Gives(READABLE)],
         &[],
         &WAKES_BOTH,
-    )
+    );
 }
 
 /// The first fault of the wait.
@@ -382,8 +375,8 @@ const FIRST_STAYS: [(Act, Came); 6] = [
 ];
 
 #[test]
-fn the_first_fault_of_a_round_stays(rt: HostRuntime) -> Result<(), Fail> {
-    plays(&rt, rt.alloc(), &FAILS_TWICE, &[3], &FIRST_STAYS)
+fn the_first_fault_of_a_round_stays(rt: HostRuntime) {
+    plays(&rt, rt.alloc(), &FAILS_TWICE, &[3], &FIRST_STAYS);
 }
 
 const FINDS_THE_TIMER: [(Act, Came); 7] = [
@@ -423,30 +416,29 @@ const LEAVES_IT_AFTER_AN_EVENT: [(Act, Came); 7] = [
 ];
 
 #[test]
-fn only_a_wait_that_gave_no_event_asks_for_a_second_pass(rt: HostRuntime) -> Result<(), Fail> {
+fn only_a_wait_that_gave_no_event_asks_for_a_second_pass(rt: HostRuntime) {
     let (alloc, none) = (rt.alloc(), &[]);
-    plays(&rt, alloc, &[Answer::GivesNone], none, &FINDS_THE_TIMER)?;
+    plays(&rt, alloc, &[Answer::GivesNone], none, &FINDS_THE_TIMER);
     plays(
         &rt,
         alloc,
         &[Answer::Interrupted],
         none,
         &LEAVES_IT_INTERRUPTED,
-    )?;
+    );
     plays(
         &rt,
         alloc,
         &[Answer::Gives(STRAY)],
         none,
         &LEAVES_IT_AFTER_AN_EVENT,
-    )
+    );
 }
 
 /// Takes what a lock may hold, and lets it go.
 fn send_away<T: Send + Drop>(_value: T) {}
 
 #[test]
-fn a_round_may_go_to_another_thread(rt: HostRuntime) -> Result<(), Fail> {
-    send_away(Round::new(rt.alloc())?);
-    Ok(())
+fn a_round_may_go_to_another_thread(rt: HostRuntime) {
+    send_away(Round::new(rt.alloc()).expect(&rt, MEMORY));
 }
