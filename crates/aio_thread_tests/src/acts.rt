@@ -48,7 +48,7 @@ pub(crate) enum Act {
 }
 
 /// What comes of it.
-#[derive(Clone, Copy, Debug, PartialEq)]
+#[derive(Clone, Copy)]
 pub(crate) enum Came {
     /// Nothing failed.
     Done,
@@ -63,6 +63,18 @@ pub(crate) enum Came {
     Failed(BlockFault),
     /// Something else.
     Other,
+}
+
+/// What came, as it is compared: which it is, its number, and what a round met.
+pub(crate) fn told(came: Came) -> (&'static str, u64, Option<BlockFault>) {
+    match came {
+        Came::Done => ("done", 0, None),
+        Came::Ended(number) => ("ended", number, None),
+        Came::Events(events) => ("events", events, None),
+        Came::Mask(mask) => ("mask", mask, None),
+        Came::Failed(fault) => ("failed", 0, Some(fault)),
+        Came::Other => ("other", 0, None),
+    }
 }
 
 /// What it came to whether nothing failed.

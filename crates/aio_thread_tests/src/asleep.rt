@@ -11,7 +11,6 @@ use aio_base::Dir;
 use std::alloc::Global;
 use std::process::Abort;
 use std::sync::Wait;
-use std::test::Fail;
 use std::thread::Threads;
 
 /// How often both tables are carried out, each time with the second thread a turn later.
@@ -26,9 +25,9 @@ fn plays<R: Threads + Wait + Sync + Abort>(
     rows: &[(Act, Came)],
     rows_of_other: &[(Act, Came)],
     late: u32,
-) -> Result<(), Fail> {
-    let clocks = still_clocks(rt, alloc, (0, moments.0), (0, moments.1))?;
-    play_blocking(rt, alloc, 2, clocks, (rows, rows_of_other), late)
+) {
+    let clocks = still_clocks(rt, alloc, (0, moments.0), (0, moments.1));
+    play_blocking(rt, alloc, 2, clocks, (rows, rows_of_other), late);
 }
 
 /// Two threads carry out these tables at once, again and again. Their clocks stand still at these moments.
@@ -38,11 +37,10 @@ fn play_each_time<R: Threads + Wait + Sync + Abort>(
     moments: (u64, u64),
     rows: &[(Act, Came)],
     rows_of_other: &[(Act, Came)],
-) -> Result<(), Fail> {
+) {
     for late in 0..TIMES {
-        plays(rt, alloc, moments, rows, rows_of_other, late)?;
+        plays(rt, alloc, moments, rows, rows_of_other, late);
     }
-    Ok(())
 }
 
 const RESTS_FOR_5: [(Act, Came); 1] = [(Rest(1 << 5), Ended(1 << 5))];
@@ -50,8 +48,8 @@ const RESTS_FOR_5: [(Act, Came); 1] = [(Rest(1 << 5), Ended(1 << 5))];
 const WAKES_5: [(Act, Came); 2] = [(Follow, Done), (Wake(5), Done)];
 
 #[test]
-fn a_wake_of_another_thread_ends_a_sleep(rt: HostRuntime) -> Result<(), Fail> {
-    play_each_time(&rt, rt.alloc(), (5, 5), &RESTS_FOR_5, &WAKES_5)
+fn a_wake_of_another_thread_ends_a_sleep(rt: HostRuntime) {
+    play_each_time(&rt, rt.alloc(), (5, 5), &RESTS_FOR_5, &WAKES_5);
 }
 
 const RESTS_FOR_3: [(Act, Came); 1] = [(Rest(1 << 3), Ended(1 << 3))];
@@ -59,8 +57,8 @@ const RESTS_FOR_3: [(Act, Came); 1] = [(Rest(1 << 3), Ended(1 << 3))];
 const TIMER_WAKES_3: [(Act, Came); 2] = [(Follow, Done), (SetTimer(5, 3), Done)];
 
 #[test]
-fn a_timer_of_another_thread_ends_a_sleep(rt: HostRuntime) -> Result<(), Fail> {
-    play_each_time(&rt, rt.alloc(), (5, 5), &RESTS_FOR_3, &TIMER_WAKES_3)
+fn a_timer_of_another_thread_ends_a_sleep(rt: HostRuntime) {
+    play_each_time(&rt, rt.alloc(), (5, 5), &RESTS_FOR_3, &TIMER_WAKES_3);
 }
 
 const RESTS_BEFORE_A_LATE_TIMER: [(Act, Came); 2] = [
@@ -69,9 +67,9 @@ const RESTS_BEFORE_A_LATE_TIMER: [(Act, Came); 2] = [
 ];
 
 #[test]
-fn an_earlier_timer_of_another_thread_shortens_a_sleep(rt: HostRuntime) -> Result<(), Fail> {
+fn an_earlier_timer_of_another_thread_shortens_a_sleep(rt: HostRuntime) {
     let rows = &RESTS_BEFORE_A_LATE_TIMER;
-    play_each_time(&rt, rt.alloc(), (5, 5), rows, &TIMER_WAKES_3)
+    play_each_time(&rt, rt.alloc(), (5, 5), rows, &TIMER_WAKES_3);
 }
 
 const RESTS_FOR_0: [(Act, Came); 1] = [(Rest(1), Ended(1))];
@@ -83,9 +81,9 @@ const RESTS_FOR_63: [(Act, Came); 1] = [(Rest(1 << 63), Ended(1 << 63))];
 const WAKES_ALL: [(Act, Came); 2] = [(Follow, Done), (WakeAll, Done)];
 
 #[test]
-fn a_thread_that_hands_over_ends_the_sleep_of_another(rt: HostRuntime) -> Result<(), Fail> {
-    play_each_time(&rt, rt.alloc(), (5, 5), &RESTS_FOR_0, &HANDS_OVER)?;
-    play_each_time(&rt, rt.alloc(), (5, 5), &RESTS_FOR_63, &WAKES_ALL)
+fn a_thread_that_hands_over_ends_the_sleep_of_another(rt: HostRuntime) {
+    play_each_time(&rt, rt.alloc(), (5, 5), &RESTS_FOR_0, &HANDS_OVER);
+    play_each_time(&rt, rt.alloc(), (5, 5), &RESTS_FOR_63, &WAKES_ALL);
 }
 
 /// A key, and the direction that is polled there.
@@ -97,13 +95,12 @@ const SOURCES: [(u32, Dir); 4] = [
 ];
 
 #[test]
-fn an_event_ends_a_sleep(rt: HostRuntime) -> Result<(), Fail> {
+fn an_event_ends_a_sleep(rt: HostRuntime) {
     for (key, dir) in SOURCES {
         let rests = [(Poll(key, dir, 9), Done), (Rest(1 << 9), Ended(1 << 9))];
         let gives = [(Follow, Done), (Give(key, dir), Done)];
-        plays(&rt, rt.alloc(), (5, 5), &rests, &gives, key)?;
+        plays(&rt, rt.alloc(), (5, 5), &rests, &gives, key);
     }
-    Ok(())
 }
 
 const DRIVES: [(Act, Came); 2] = [(Drive(1), Events(0)), (HandOver, Done)];
@@ -115,8 +112,8 @@ const RESTS_FOR_A_TIMER: [(Act, Came); 3] = [
 ];
 
 #[test]
-fn a_driver_is_told_of_a_timer_of_another_thread(rt: HostRuntime) -> Result<(), Fail> {
-    play_each_time(&rt, rt.alloc(), (5, 5), &DRIVES, &RESTS_FOR_A_TIMER)
+fn a_driver_is_told_of_a_timer_of_another_thread(rt: HostRuntime) {
+    play_each_time(&rt, rt.alloc(), (5, 5), &DRIVES, &RESTS_FOR_A_TIMER);
 }
 
 // The driver begins once the other has polled.
@@ -127,7 +124,7 @@ const DRIVES_AN_EVENT: [(Act, Came); 3] = [
 ];
 
 #[test]
-fn a_source_of_one_thread_is_served_by_the_rounds_of_another(rt: HostRuntime) -> Result<(), Fail> {
+fn a_source_of_one_thread_is_served_by_the_rounds_of_another(rt: HostRuntime) {
     for (key, dir) in SOURCES {
         let rests = [
             (Poll(key, dir, 64 + 9), Done),
@@ -136,9 +133,8 @@ fn a_source_of_one_thread_is_served_by_the_rounds_of_another(rt: HostRuntime) ->
             (Give(key, dir), Done),
             (Rest(1 << 9), Ended(1 << 9)),
         ];
-        plays(&rt, rt.alloc(), (5, 5), &DRIVES_AN_EVENT, &rests, 0)?;
+        plays(&rt, rt.alloc(), (5, 5), &DRIVES_AN_EVENT, &rests, 0);
     }
-    Ok(())
 }
 
 const DRIVES_TWICE: [(Act, Came); 2] = [(Drive(2), Events(0)), (HandOver, Done)];
@@ -151,7 +147,7 @@ const PARKS_FOR_A_TIMER: [(Act, Came); 3] = [
 ];
 
 #[test]
-fn a_thread_that_stops_hands_over_to_one_that_is_parked(rt: HostRuntime) -> Result<(), Fail> {
+fn a_thread_that_stops_hands_over_to_one_that_is_parked(rt: HostRuntime) {
     let moments = (5, 20_000);
-    play_each_time(&rt, rt.alloc(), moments, &DRIVES_TWICE, &PARKS_FOR_A_TIMER)
+    play_each_time(&rt, rt.alloc(), moments, &DRIVES_TWICE, &PARKS_FOR_A_TIMER);
 }

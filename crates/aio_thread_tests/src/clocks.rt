@@ -1,12 +1,11 @@
 //! A clock that several threads share, and clocks that stand still in the end.
 
-use crate::asserts::moment;
+use crate::asserts::{MEMORY, moment};
 use aio_base::{Clock, Moment, OutOfMemory};
 use aio_devices::{MemClock, clock_until};
 use std::alloc::Global;
 use std::process::Abort;
 use std::sync::{Arc, Mutex, Wait};
-use std::test::Fail;
 
 /// A clock that several threads share: each look is one nanosecond after the one before.
 #[derive(Drop)]
@@ -54,15 +53,15 @@ impl<R: Wait + Copy> Clock for SharedClock<R> {
 }
 
 /// Two clocks that agree, and begin at this moment.
-pub(crate) fn shared_clocks<R: Wait + Copy>(
+pub(crate) fn shared_clocks<R: Wait + Copy + Abort>(
     rt: R,
     alloc: Global,
     last: Moment,
-) -> Result<(SharedClock<R>, SharedClock<R>), Fail> {
-    let time = Arc::new(alloc, Mutex::new(last.get()))?;
+) -> (SharedClock<R>, SharedClock<R>) {
+    let time = Arc::new(alloc, Mutex::new(last.get())).expect(&rt, MEMORY);
     let one = SharedClock { rt, time, last };
-    let other = one.twin()?;
-    Ok((one, other))
+    let other = one.twin().expect(&rt, MEMORY);
+    (one, other)
 }
 
 /// Two clocks, each of which stands at 0 for so many looks, and then at this moment.
@@ -71,8 +70,9 @@ pub(crate) fn still_clocks(
     alloc: Global,
     times: (usize, u64),
     times_of_other: (usize, u64),
-) -> Result<(MemClock, MemClock), Fail> {
-    let clock = clock_until(alloc, times.0, moment(rt, times.1))?;
-    let clock_of_other = clock_until(alloc, times_of_other.0, moment(rt, times_of_other.1))?;
-    Ok((clock, clock_of_other))
+) -> (MemClock, MemClock) {
+    let (at, at_of_other) = (moment(rt, times.1), moment(rt, times_of_other.1));
+    let clock = clock_until(alloc, times.0, at).expect(rt, MEMORY);
+    let clock_of_other = clock_until(alloc, times_of_other.0, at_of_other).expect(rt, MEMORY);
+    (clock, clock_of_other)
 }

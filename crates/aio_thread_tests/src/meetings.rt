@@ -12,7 +12,6 @@ use crate::teams::{play_blocking, play_instant};
 use std::alloc::Global;
 use std::process::Abort;
 use std::sync::Wait;
-use std::test::Fail;
 use std::thread::Threads;
 
 /// So many threads carry out these tables at the same time: over devices that answer at once, and then over
@@ -23,20 +22,20 @@ pub(crate) fn plays<R: Threads + Wait + Sync + Abort>(
     threads: u32,
     rows: &[(Act, Came)],
     rows_of_others: &[(Act, Came)],
-) -> Result<(), Fail>
+)
     requires { (1 ≤ threads) × (threads ≤ 16) }
 {
     let tables = (rows, rows_of_others);
     let start = moment(rt, 0);
-    play_instant(rt, alloc, threads, shared_clocks(rt, alloc, start)?, tables)?;
+    play_instant(rt, alloc, threads, shared_clocks(rt, alloc, start), tables);
     play_blocking(
         rt,
         alloc,
         threads,
-        shared_clocks(rt, alloc, start)?,
+        shared_clocks(rt, alloc, start),
         tables,
         0,
-    )
+    );
 }
 
 const MEETS_THE_OTHER: [(Act, Came); 2] = [(Meet(1, 100), Ended(0)), (HandOver, Done)];
@@ -45,8 +44,8 @@ const MEETS_THE_FIRST: [(Act, Came); 2] = [(Meet(0, 100), Ended(0)), (HandOver, 
 
 // No timer ends a wait: each one that lasts is ended by the other's wake alone.
 #[test]
-fn two_threads_meet_a_hundred_times_without_a_timer(rt: HostRuntime) -> Result<(), Fail> {
-    plays(&rt, rt.alloc(), 2, &MEETS_THE_OTHER, &MEETS_THE_FIRST)
+fn two_threads_meet_a_hundred_times_without_a_timer(rt: HostRuntime) {
+    plays(&rt, rt.alloc(), 2, &MEETS_THE_OTHER, &MEETS_THE_FIRST);
 }
 
 const WAITS_FOR_THE_OTHER: [(Act, Came); 2] = [(MeetLater(1, 100), Ended(0)), (HandOver, Done)];
@@ -54,12 +53,12 @@ const WAITS_FOR_THE_OTHER: [(Act, Came); 2] = [(MeetLater(1, 100), Ended(0)), (H
 const WAITS_FOR_THE_FIRST: [(Act, Came); 2] = [(MeetLater(0, 100), Ended(0)), (HandOver, Done)];
 
 #[test]
-fn two_threads_wait_for_each_other_a_hundred_times(rt: HostRuntime) -> Result<(), Fail> {
+fn two_threads_wait_for_each_other_a_hundred_times(rt: HostRuntime) {
     plays(
         &rt,
         rt.alloc(),
         2,
         &WAITS_FOR_THE_OTHER,
         &WAITS_FOR_THE_FIRST,
-    )
+    );
 }

@@ -9,7 +9,6 @@ use crate::teams::{play_blocking, play_instant};
 use std::alloc::Global;
 use std::process::Abort;
 use std::sync::Wait;
-use std::test::Fail;
 use std::thread::Threads;
 
 /// Two threads carry out these tables at the same time: over devices that answer at once, and then over such
@@ -20,13 +19,13 @@ fn plays<R: Threads + Wait + Sync + Abort>(
     looks: (usize, usize),
     rows: &[(Act, Came)],
     rows_of_other: &[(Act, Came)],
-) -> Result<(), Fail> {
+) {
     let tables = (rows, rows_of_other);
     let (times, times_of_other) = ((looks.0, 5), (looks.1, 5));
-    let clocks = still_clocks(rt, alloc, times, times_of_other)?;
-    play_instant(rt, alloc, 2, clocks, tables)?;
-    let clocks = still_clocks(rt, alloc, times, times_of_other)?;
-    play_blocking(rt, alloc, 2, clocks, tables, 0)
+    let clocks = still_clocks(rt, alloc, times, times_of_other);
+    play_instant(rt, alloc, 2, clocks, tables);
+    let clocks = still_clocks(rt, alloc, times, times_of_other);
+    play_blocking(rt, alloc, 2, clocks, tables, 0);
 }
 
 // It has the reactor lock until the other wakes it.
@@ -35,8 +34,8 @@ const REACTS_FOR_BOTH: [(Act, Came); 1] = [(Rest(1 << 7), Ended(1 << 7))];
 const SLEEPS_AND_WAKES: [(Act, Came); 3] = [(Follow, Done), (Sleep(5), Ended(5)), (Wake(7), Done)];
 
 #[test]
-fn a_parked_thread_is_served_by_the_rounds_of_another(rt: HostRuntime) -> Result<(), Fail> {
-    plays(&rt, rt.alloc(), (0, 1), &REACTS_FOR_BOTH, &SLEEPS_AND_WAKES)
+fn a_parked_thread_is_served_by_the_rounds_of_another(rt: HostRuntime) {
+    plays(&rt, rt.alloc(), (0, 1), &REACTS_FOR_BOTH, &SLEEPS_AND_WAKES);
 }
 
 // It hands over only where the other has taken the mask that it woke: else both wakes would be in one.
@@ -53,9 +52,9 @@ const SLEEPS_ONCE_IT_IS_HELD: [(Act, Came); 3] = [
 ];
 
 #[test]
-fn a_parked_thread_reacts_by_itself_once_it_is_woken(rt: HostRuntime) -> Result<(), Fail> {
+fn a_parked_thread_reacts_by_itself_once_it_is_woken(rt: HostRuntime) {
     let (rows, rows_of_other) = (&HOLDS_THE_CELL, &SLEEPS_ONCE_IT_IS_HELD);
-    plays(&rt, rt.alloc(), (0, 2), rows, rows_of_other)
+    plays(&rt, rt.alloc(), (0, 2), rows, rows_of_other);
 }
 
 // By its clock the timer of the other is never due: it ends before.
@@ -64,6 +63,6 @@ const ENDS_FIRST: [(Act, Came); 2] = [(WakeItself(3), Ended(3)), (HandOver, Done
 const SLEEPS: [(Act, Came); 1] = [(Sleep(5), Ended(5))];
 
 #[test]
-fn a_thread_that_ends_wakes_the_other_which_goes_on(rt: HostRuntime) -> Result<(), Fail> {
-    plays(&rt, rt.alloc(), (1000, 3), &ENDS_FIRST, &SLEEPS)
+fn a_thread_that_ends_wakes_the_other_which_goes_on(rt: HostRuntime) {
+    plays(&rt, rt.alloc(), (1000, 3), &ENDS_FIRST, &SLEEPS);
 }

@@ -1,6 +1,6 @@
 //! A thread that carries out the acts of a table beside others.
 
-use crate::acts::{Act, Came, done, driven, ended, fired};
+use crate::acts::{Act, Came, done, driven, ended, fired, told};
 use crate::asserts::same;
 use crate::tasks::{Meets, Rests, WakesItself};
 use aio_base::{Clock, Dir, Event, EventWait, Interest, Key, Moment, Notify, Poll, Task, Waker};
@@ -65,7 +65,10 @@ fn sleep_in_turn<R: Wait + Copy, N: Notify, W: EventWait, C: Clock>(
     thread: &mut Sleeper<R, N, W, C>,
 ) -> Came {
     let at = u64::from(thread.parker) + 1;
-    done(sleep(thread, at) == Came::Ended(at))
+    match sleep(thread, at) {
+        Came::Ended(moment) => done(moment == at),
+        _ => Came::Other,
+    }
 }
 
 /// Makes so many rounds.
@@ -257,7 +260,7 @@ impl<R: Wait + Copy + Abort, N: Notify, W: EventWait, C: Clock> Player<'_, R, N,
     pub(crate) fn plays(&mut self, rows: &[(Act, Came)]) {
         let rt = self.thread.host.rt;
         for (act, came) in rows {
-            same(&rt, self.act(*act), *came);
+            same(&rt, told(self.act(*act)), told(*came));
         }
     }
 
