@@ -5,21 +5,33 @@ ghost use Rattle.aio_shared.specs.Cells.{IsIdle};
 ghost use Rattle.aio_shared.specs.Members.{IsMemberOf};
 ghost use Rattle.aio_shared.specs.OneCell.{IsCellOf};
 
-use aio_base::{Arm, Clock, EventWait, Moment, Notify, OutOfMemory};
+use crate::asserts::MEMORY;
+use aio_base::{Arm, Clock, EventWait, Moment, Notify};
 use aio_devices::{MemClock, clock_at};
 use aio_shared::{InsertFault, Member, ReactFault, ReactedIn, RoundCell, Shared, SourceRef};
 use std::alloc::Global;
+use std::process::Abort;
 use std::sync::Wait;
 
-/// A clock that stands at 5 ns.
-fn clock(alloc: Global) -> Result<MemClock, OutOfMemory> {
-    let Some(now) = Moment::new(5) else {
-        return Err(OutOfMemory);
-    };
-    match clock_at(alloc, now) {
-        Ok(clock) => Ok(clock),
-        Err(_) => Err(OutOfMemory),
+/// A new reactor for one parker over this wait, and its first member, with this notifier.
+pub(crate) fn new_reactor<A: Arm + Drop, N: Notify + Drop, W: EventWait + Drop>(
+    rt: &impl Abort,
+    alloc: Global,
+    wait: W,
+    notifier: N,
+) -> (Shared<A, W>, Member<N, W>)
+    ensures { IsMemberOf result.0 result.1 }
+{
+    match Shared::new(alloc, 1, wait, notifier) {
+        Ok(made) => made,
+        Err(_) => rt.panic(MEMORY),
     }
+}
+
+/// A clock that stands at 5 ns.
+fn clock(rt: &impl Abort, alloc: Global) -> MemClock {
+    let now = Moment::new(5).expect(rt, "a moment");
+    clock_at(alloc, now).expect(rt, MEMORY)
 }
 
 /// Reacts by the round cell, which the thread has. Of what that promises it tells what the cell needs to be given
@@ -45,7 +57,7 @@ fn react_by<R: Wait, N: Notify, C: Clock, A: Arm, W: EventWait>(
 
 /// Takes the round cell as soon as it is there, reacts with this limit by a clock that stands still, and gives the
 /// cell back.
-pub(crate) fn react<R: Wait, N: Notify, A: Arm, W: EventWait>(
+pub(crate) fn react<R: Wait + Abort, N: Notify, A: Arm, W: EventWait>(
     rt: &R,
     alloc: Global,
     shared: &Shared<A, W>,
@@ -55,9 +67,7 @@ pub(crate) fn react<R: Wait, N: Notify, A: Arm, W: EventWait>(
     requires { IsMemberOf shared.now m.old }
     ensures { IsMemberOf shared.now m.new }
 {
-    let Ok(mut clock) = clock(alloc) else {
-        return Err(ReactFault::OutOfMemory);
-    };
+    let mut clock = clock(rt, alloc);
     let mut cell = shared.take_round(rt, m);
     let answer = react_by(rt, shared, m, &mut cell, &mut clock, limit);
     shared.give_round(rt, m, cell);

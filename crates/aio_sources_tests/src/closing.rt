@@ -4,16 +4,16 @@
 ghost use Rattle.std.specs.Prelude.{◌≡◌, false, IfSome};
 ghost use Rattle.aio_shared.specs.Members.{IsMemberOf};
 
-use crate::asserts::same;
-use crate::calls::{insert, join_and_close, react};
+use crate::asserts::{MEMORY, same};
+use crate::calls::{insert, join_and_close, new_reactor, react};
 use crate::sources::{Deed, Sure, SureMember, at_new};
 use aio_base::{Arm, Dir, Failed, Faults, Interest, Key, Waker};
 use aio_devices::{MemNotify, MemWait, SureArm};
 use aio_shared::{ReactFault, ReactedIn, Shared, SourceRef};
 use aio_source::SourceCell;
-use std::alloc::{AllocError, Global};
+use std::alloc::Global;
+use std::process::Abort;
 use std::sync::{Mutex, Wait};
-use std::test::Fail;
 use std::thread::{Threads, join, yield_now};
 
 /// What a poller is asked for, at the place of each key.
@@ -24,11 +24,11 @@ struct Interests {
 
 impl Interests {
     /// Nothing is asked for any key of so many.
-    fn none(alloc: Global, keys: usize) -> Result<Interests, AllocError> {
-        let of_keys = vec![in alloc; Interest::NONE; keys]?;
-        Ok(Interests {
+    fn none(rt: &impl Abort, alloc: Global, keys: usize) -> Interests {
+        let of_keys = vec![in alloc; Interest::NONE; keys].expect(rt, MEMORY);
+        Interests {
             of_keys: Mutex::new(of_keys),
-        })
+        }
     }
 
     fn set<R: Wait>(&self, rt: &R, key: Key, on: Interest) {
@@ -43,8 +43,13 @@ impl Interests {
     /// For how many keys something is asked.
     fn count<R: Wait>(&self, rt: &R) -> usize {
         let guard = self.of_keys.lock(rt);
-        let all = &*guard;
-        all.iter().filter(|on| **on != Interest::NONE).count()
+        let mut count: usize = 0;
+        for on in &*guard {
+            if *on != Interest::NONE {
+                count = count.saturating_add(1);
+            }
+        }
+        count
     }
 }
 
@@ -181,30 +186,23 @@ fn go_beside_those_that_stay<'a, R: Threads + Wait + Sync>(
 }
 
 /// The same in a new reactor.
-fn go_in_new<'a, R: Threads + Wait + Sync>(
+fn go_in_new<'a, R: Threads + Wait + Sync + Abort>(
     rt: &'a R,
     alloc: Global,
     interests: &'a Interests,
-) -> Result<(u32, u32), Fail> {
-    match Shared::new(alloc, 1, MemWait::new(1), MemNotify::new()) {
-        Ok((shared, member)) => {
-            let came = go_beside_those_that_stay(rt, &shared, interests);
-            drop(member);
-            drop(shared);
-            Ok(came)
-        }
-        Err(_) => Err(Fail::from("no reactor")),
-    }
+) -> (u32, u32) {
+    let (shared, member) = new_reactor(rt, alloc, MemWait::new(1), MemNotify::new());
+    let came = go_beside_those_that_stay(rt, &shared, interests);
+    drop(member);
+    drop(shared);
+    came
 }
 
 #[test]
-fn a_source_that_stays_is_armed_though_others_go(rt: HostRuntime) -> Result<(), Fail> {
-    let interests = Interests::none(rt.alloc(), 4096)?;
+fn a_source_that_stays_is_armed_though_others_go(rt: HostRuntime) {
+    let interests = Interests::none(&rt, rt.alloc(), 4096);
     let came = go_in_new(&rt, rt.alloc(), &interests);
-    same(&rt, interests.count(&rt), 3000);
-    drop(interests);
-    same(&rt, came?, (300, 3000));
-    Ok(())
+    same(&rt, (interests.count(&rt), came), (3000, (300, 3000)));
 }
 
 /// So many sources come and go. How many they were.
@@ -227,7 +225,13 @@ fn events_in(answer: Result<ReactedIn, ReactFault>) -> u32 {
 }
 
 /// Makes so many rounds. How many events they handled.
-fn react_times<R: Wait>(rt: &R, alloc: Global, shared: &Sure, m: &mut SureMember, times: u32) -> u32
+fn react_times<R: Wait + Abort>(
+    rt: &R,
+    alloc: Global,
+    shared: &Sure,
+    m: &mut SureMember,
+    times: u32,
+) -> u32
     requires { IsMemberOf shared.now m.old }
 {
     let mut events: u32 = 0;
@@ -239,7 +243,7 @@ fn react_times<R: Wait>(rt: &R, alloc: Global, shared: &Sure, m: &mut SureMember
 }
 
 /// The sources of one thread come and go, while another makes rounds that name their key: how many of each.
-pub(crate) fn close_beside_rounds<R: Threads + Wait + Sync>(
+pub(crate) fn close_beside_rounds<R: Threads + Wait + Sync + Abort>(
     rt: &R,
     alloc: Global,
     shared: &Sure,
@@ -257,6 +261,6 @@ pub(crate) fn close_beside_rounds<R: Threads + Wait + Sync>(
 }
 
 #[test]
-fn sources_are_closed_beside_rounds_that_visit_them(rt: HostRuntime) -> Result<(), Fail> {
-    at_new(&rt, rt.alloc(), Deed::CloseBesideRounds)
+fn sources_are_closed_beside_rounds_that_visit_them(rt: HostRuntime) {
+    at_new(&rt, rt.alloc(), Deed::CloseBesideRounds);
 }

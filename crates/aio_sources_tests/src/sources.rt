@@ -1,10 +1,10 @@
 //! What no clause says of sources: that calls succeed with ample memory, and which refusals come.
 
-ghost use Rattle.std.specs.Prelude.{◌≡◌, false, IfOk};
+ghost use Rattle.std.specs.Prelude.{◌≡◌, false};
 ghost use Rattle.aio_shared.specs.Members.{IsMemberOf};
 
-use crate::asserts::{may_be_sent, may_be_shared, same};
-use crate::calls::insert;
+use crate::asserts::{MEMORY, ROOM, may_be_sent, may_be_shared, same};
+use crate::calls::{insert, new_reactor};
 use crate::closing::close_beside_rounds;
 use aio_base::{Arm, CountFault, EventWait, Key};
 use aio_devices::{FailingArm, MemNotify, MemWait, SureArm, fault_after};
@@ -12,7 +12,6 @@ use aio_shared::{InsertFault, Member, Shared, SourceRef};
 use std::alloc::Global;
 use std::process::Abort;
 use std::sync::Wait;
-use std::test::Fail;
 use std::thread::Threads;
 
 /// A reactor whose connections never fail, and whose waits give an event of key 0.
@@ -27,16 +26,16 @@ fn join_as<A: Arm + Drop, W: EventWait, R: Wait + Abort>(
     shared: &Shared<A, W>,
     io: A,
     key: u32,
-) -> Result<SourceRef<A>, InsertFault>
-    ensures belongs { IfOk result (λ s. s.words ≡ shared.now.words.identity) }
-    ensures outside { IfOk result (λ s. s.inside ≡ false) }
+) -> SourceRef<A>
+    ensures belongs { result.words ≡ shared.now.words.identity }
+    ensures outside { result.inside ≡ false }
 {
     match insert(rt, shared, io) {
         Ok(token) => {
             same(rt, token.key(), Key(key));
-            Ok(token)
+            token
         }
-        Err((_, fault)) => Err(fault),
+        Err(_) => rt.panic(ROOM),
     }
 }
 
@@ -54,12 +53,11 @@ fn close_as<A: Arm + Drop, W: EventWait, R: Wait + Abort>(
 }
 
 /// A source joins and leaves. Both may go to other threads.
-fn join_and_leave<R: Wait + Abort>(rt: &R, shared: &Sure) -> Result<(), InsertFault> {
+fn join_and_leave<R: Wait + Abort>(rt: &R, shared: &Sure) {
     may_be_shared::<Sure>();
     may_be_sent::<SourceRef<SureArm>>();
-    let token = join_as(rt, shared, SureArm::new(7), 0)?;
+    let token = join_as(rt, shared, SureArm::new(7), 0);
     close_as(rt, shared, token, Ok(()));
-    Ok(())
 }
 
 /// The key of one more source. Its token is let go, and the source stays.
@@ -74,15 +72,19 @@ fn next_key<R: Wait>(rt: &R, shared: &Sure) -> Option<Key> {
     }
 }
 
+/// Asserts that one more source joins under this key.
+fn next_as<R: Wait + Abort>(rt: &R, shared: &Sure, key: u32) {
+    same(rt, next_key(rt, shared), Some(Key(key)));
+}
+
 /// Sources join, one leaves, and more join: each under the least free key.
-fn fill_a_gap<R: Wait + Abort>(rt: &R, shared: &Sure) -> Result<(), InsertFault> {
-    same(rt, next_key(rt, shared), Some(Key(0)));
-    let second = join_as(rt, shared, SureArm::new(1), 1)?;
-    same(rt, next_key(rt, shared), Some(Key(2)));
+fn fill_a_gap<R: Wait + Abort>(rt: &R, shared: &Sure) {
+    next_as(rt, shared, 0);
+    let second = join_as(rt, shared, SureArm::new(1), 1);
+    next_as(rt, shared, 2);
     close_as(rt, shared, second, Ok(()));
-    same(rt, next_key(rt, shared), Some(Key(1)));
-    same(rt, next_key(rt, shared), Some(Key(3)));
-    Ok(())
+    next_as(rt, shared, 1);
+    next_as(rt, shared, 3);
 }
 
 /// So many connections join, or as many as there is room for. How many did. Their tokens are let go.
@@ -99,22 +101,18 @@ fn insert_times<R: Wait>(rt: &R, shared: &Sure, times: u32) -> u32 {
 /// Asserts that a reactor has no room for one more source: a connection comes back.
 pub(crate) fn assert_full<R: Wait + Abort>(rt: &R, shared: &Sure) {
     match insert(rt, shared, SureArm::new(9)) {
-        Ok(token) => {
-            drop(token);
-            assert!(rt; false)
-        }
+        Ok(_) => rt.panic("a source joined"),
         Err(refused) => same(rt, refused, (SureArm::new(9), InsertFault::Full)),
     }
 }
 
 /// As many sources join as there may be; then one has to leave before another one joins.
-fn fill_the_table<R: Wait + Abort>(rt: &R, shared: &Sure) -> Result<(), InsertFault> {
+fn fill_the_table<R: Wait + Abort>(rt: &R, shared: &Sure) {
     same(rt, insert_times(rt, shared, 4095), 4095);
-    let token = join_as(rt, shared, SureArm::new(5), 4095)?;
+    let token = join_as(rt, shared, SureArm::new(5), 4095);
     assert_full(rt, shared);
     close_as(rt, shared, token, Ok(()));
-    same(rt, next_key(rt, shared), Some(Key(4095)));
-    Ok(())
+    next_as(rt, shared, 4095);
 }
 
 /// What is done with the sources of a new reactor.
@@ -137,7 +135,7 @@ fn at<R: Threads + Wait + Sync + Abort>(
     shared: &Sure,
     m: &mut SureMember,
     deed: Deed,
-) -> Result<(), InsertFault>
+)
     requires { IsMemberOf shared.now m.old }
 {
     match deed {
@@ -146,62 +144,48 @@ fn at<R: Threads + Wait + Sync + Abort>(
         Deed::FillTheTable => fill_the_table(rt, shared),
         Deed::CloseBesideRounds => {
             same(rt, close_beside_rounds(rt, alloc, shared, m), (500, 500));
-            Ok(())
         }
     }
 }
 
 /// Does this at a new reactor, and asserts what comes of it.
-pub(crate) fn at_new<R: Threads + Wait + Sync + Abort>(
-    rt: &R,
-    alloc: Global,
-    deed: Deed,
-) -> Result<(), Fail> {
-    match Shared::new(alloc, 1, MemWait::new(1), MemNotify::new()) {
-        Ok((shared, mut member)) => {
-            let done = at(rt, alloc, &shared, &mut member, deed);
-            drop(member);
-            drop(shared);
-            Ok(done?)
-        }
-        Err(_) => Err(Fail::from("no reactor")),
-    }
+pub(crate) fn at_new<R: Threads + Wait + Sync + Abort>(rt: &R, alloc: Global, deed: Deed) {
+    let (shared, mut member) = new_reactor(rt, alloc, MemWait::new(1), MemNotify::new());
+    at(rt, alloc, &shared, &mut member, deed);
+    drop(member);
+    drop(shared);
 }
 
 #[test]
-fn a_source_joins_and_leaves(rt: HostRuntime) -> Result<(), Fail> {
-    at_new(&rt, rt.alloc(), Deed::JoinAndLeave)
+fn a_source_joins_and_leaves(rt: HostRuntime) {
+    at_new(&rt, rt.alloc(), Deed::JoinAndLeave);
 }
 
 #[test]
-fn a_new_source_has_the_least_free_key(rt: HostRuntime) -> Result<(), Fail> {
-    at_new(&rt, rt.alloc(), Deed::FillAGap)
+fn a_new_source_has_the_least_free_key(rt: HostRuntime) {
+    at_new(&rt, rt.alloc(), Deed::FillAGap);
 }
 
 #[test]
-fn a_full_table_hands_the_connection_back(rt: HostRuntime) -> Result<(), Fail> {
-    at_new(&rt, rt.alloc(), Deed::FillTheTable)
+fn a_full_table_hands_the_connection_back(rt: HostRuntime) {
+    at_new(&rt, rt.alloc(), Deed::FillTheTable);
 }
 
 /// Asserts that the first call of a connection fails, which comes back.
 fn assert_fails<R: Wait + Abort>(rt: &R, shared: &Shared<FailingArm, MemWait>, io: FailingArm) {
     let number = io.number();
     match insert(rt, shared, io) {
-        Ok(token) => {
-            drop(token);
-            assert!(rt; false)
-        }
+        Ok(_) => rt.panic("a source joined"),
         Err((back, fault)) => {
-            same(rt, back.number(), number);
-            drop(back);
-            same(rt, fault, InsertFault::AddFault(fault_after(0)));
+            let wanted = InsertFault::AddFault(fault_after(0));
+            same(rt, (back.number(), fault), (number, wanted));
         }
     }
 }
 
 /// A connection of this number, of which this call fails and no other.
-fn fails_at(alloc: Global, number: u64, call: u64) -> Result<FailingArm, Fail> {
-    Ok(FailingArm::new(number, vec![in alloc; call]?))
+fn fails_at(rt: &impl Abort, alloc: Global, number: u64, call: u64) -> FailingArm {
+    FailingArm::new(number, vec![in alloc; call].expect(rt, MEMORY))
 }
 
 /// Asserts that a connection joins under key 0, and what its closing answers.
@@ -211,10 +195,8 @@ fn assert_closes<R: Wait + Abort>(
     io: FailingArm,
     answer: Result<(), CountFault>,
 ) {
-    match join_as(rt, shared, io, 0) {
-        Ok(token) => close_as(rt, shared, token, answer),
-        Err(_) => assert!(rt; false),
-    }
+    let token = join_as(rt, shared, io, 0);
+    close_as(rt, shared, token, answer);
 }
 
 /// Asserts that a connection whose add or whose remove fails leaves key 0 to the next one.
@@ -234,31 +216,21 @@ fn leaves_the_key<R: Wait + Abort>(
 }
 
 /// The same in a new reactor, where this call of the first connection fails, and no call of the next one.
-fn leaves_the_first_key<R: Wait + Abort>(
-    rt: &R,
-    alloc: Global,
-    number: u64,
-    call: u64,
-) -> Result<(), Fail> {
-    let io = fails_at(alloc, number, call)?;
-    match Shared::new(alloc, 1, MemWait::new(1), MemNotify::new()) {
-        Ok((shared, member)) => {
-            let next = FailingArm::new(7, Vec::new(alloc));
-            leaves_the_key(rt, &shared, io, next, call > 1);
-            drop(member);
-            drop(shared);
-            Ok(())
-        }
-        Err(_) => Err(Fail::from("no reactor")),
-    }
+fn leaves_the_first_key<R: Wait + Abort>(rt: &R, alloc: Global, number: u64, call: u64) {
+    let io = fails_at(rt, alloc, number, call);
+    let next = FailingArm::new(7, Vec::new(alloc));
+    let (shared, member) = new_reactor(rt, alloc, MemWait::new(1), MemNotify::new());
+    leaves_the_key(rt, &shared, io, next, call > 1);
+    drop(member);
+    drop(shared);
 }
 
 #[test]
-fn a_failed_add_is_told_and_leaves_the_key_free(rt: HostRuntime) -> Result<(), Fail> {
-    leaves_the_first_key(&rt, rt.alloc(), 5, 1)
+fn a_failed_add_is_told_and_leaves_the_key_free(rt: HostRuntime) {
+    leaves_the_first_key(&rt, rt.alloc(), 5, 1);
 }
 
 #[test]
-fn a_failed_remove_is_told_and_leaves_the_key_free(rt: HostRuntime) -> Result<(), Fail> {
-    leaves_the_first_key(&rt, rt.alloc(), 6, 2)
+fn a_failed_remove_is_told_and_leaves_the_key_free(rt: HostRuntime) {
+    leaves_the_first_key(&rt, rt.alloc(), 6, 2);
 }

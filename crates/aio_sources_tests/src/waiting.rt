@@ -1,17 +1,16 @@
 //! What no clause says of a thread that waits in a round: that it leaves the table of sources to the other threads
 //! as long as its wait lasts.
 
-ghost use Rattle.std.specs.Prelude.{IfOk};
 ghost use Rattle.aio_shared.specs.Members.{IsMemberOf};
 
-use crate::asserts::same;
-use crate::calls::{join_and_close, react};
+use crate::asserts::{MEMORY, same};
+use crate::calls::{join_and_close, new_reactor, react};
 use aio_base::Notify;
 use aio_devices::{BlockingNotify, BlockingWait, SureArm, blocking_pair};
 use aio_shared::{Member, ReactFault, ReactedIn, Shared};
 use std::alloc::Global;
+use std::process::Abort;
 use std::sync::Wait;
-use std::test::Fail;
 use std::thread::{Threads, join, sleep};
 use std::time::{Clock, Duration};
 
@@ -38,22 +37,20 @@ fn use_the_table<R: Wait + Clock + Copy>(
 type Waiter<R> = Member<BlockingNotify<R>, BlockingWait<R>>;
 
 /// Such a reactor, its member, and a notifier for another thread.
-fn blocking<R: Wait + Copy>(
+fn blocking<R: Wait + Abort + Copy>(
     rt: R,
     alloc: Global,
-) -> Result<(Blocking<R>, Waiter<R>, BlockingNotify<R>), Fail>
-    ensures { IfOk result (λ made. IsMemberOf made.0 made.1) }
+) -> (Blocking<R>, Waiter<R>, BlockingNotify<R>)
+    ensures { IsMemberOf result.0 result.1 }
 {
-    let (wait, notifier) = blocking_pair(rt, alloc, MOST_LOOKS)?;
-    let of_other = notifier.twin()?;
-    match Shared::new(alloc, 1, wait, notifier) {
-        Ok((shared, member)) => Ok((shared, member, of_other)),
-        Err(_) => Err(Fail::from("no reactor")),
-    }
+    let (wait, notifier) = blocking_pair(rt, alloc, MOST_LOOKS).expect(&rt, MEMORY);
+    let of_other = notifier.twin().expect(&rt, MEMORY);
+    let (shared, member) = new_reactor(&rt, alloc, wait, notifier);
+    (shared, member, of_other)
 }
 
 /// One thread makes a round without a limit, and another one uses the table after so many microseconds.
-fn wait_beside_a_use<'a, R: Threads + Wait + Clock + Sync>(
+fn wait_beside_a_use<'a, R: Threads + Wait + Clock + Sync + Abort>(
     rt: &'a R,
     alloc: Global,
     shared: &Blocking<&'a R>,
@@ -73,14 +70,13 @@ fn wait_beside_a_use<'a, R: Threads + Wait + Clock + Sync>(
 }
 
 /// The same in a new reactor.
-fn wait_in_new<R: Threads + Wait + Clock + Sync>(
+fn wait_in_new<R: Threads + Wait + Clock + Sync + Abort>(
     rt: &R,
     alloc: Global,
     pause: u64,
-) -> Result<(Result<ReactedIn, ReactFault>, bool), Fail> {
-    let (shared, mut member, mut of_other) = blocking(rt, alloc)?;
-    let came = wait_beside_a_use(rt, alloc, &shared, &mut member, &mut of_other, pause);
-    Ok(came)
+) -> (Result<ReactedIn, ReactFault>, bool) {
+    let (shared, mut member, mut of_other) = blocking(rt, alloc);
+    wait_beside_a_use(rt, alloc, &shared, &mut member, &mut of_other, pause)
 }
 
 /// What a round without events and timers answers.
@@ -92,10 +88,9 @@ const NOTHING_CAME: ReactedIn = ReactedIn {
 
 // The longer the pause, the surer the round waits by then.
 #[test]
-fn sources_join_and_leave_while_a_thread_waits(rt: HostRuntime) -> Result<(), Fail> {
+fn sources_join_and_leave_while_a_thread_waits(rt: HostRuntime) {
     for step in 0..12 {
-        let came = wait_in_new(&rt, rt.alloc(), step * 500)?;
+        let came = wait_in_new(&rt, rt.alloc(), step * 500);
         same(&rt, came, (Ok(NOTHING_CAME), true));
     }
-    Ok(())
 }
