@@ -1,25 +1,23 @@
 //! What no clause says of workers after the fault of an arm in a round: that they go on, and that each slot of
 //! each of them is woken, so that their pairs are polled again without an event.
 
-use crate::asserts::same;
+use crate::asserts::{MEMORY, same};
 use crate::gates::{NotingGate, Until};
-use crate::rows::{ALONE, End, HALTS, Row, moment, plays, still_clock};
+use crate::rows::{ALONE, End, HALTS, Row, STILL, clock_to, plays};
 use aio_base::{Event, EventWait, Interest, Key, Placement};
 use aio_conns::{ENDS, Peer, SILENT};
-use aio_devices::{ScriptedWait, WaitAnswer, clock_until};
+use aio_devices::{ScriptedWait, WaitAnswer};
 use aio_serve::OpenGate;
 use std::alloc::Global;
 use std::process::Abort;
-use std::sync::Wait;
-use std::test::Fail;
-use std::thread::Threads;
 
 /// Gives one event of a connection, and nothing after that.
-fn gives_once(alloc: Global, key: u32, on: Interest) -> Result<ScriptedWait, Fail> {
+fn gives_once(rt: &impl Abort, alloc: Global, key: u32, on: Interest) -> ScriptedWait {
     let event = Event { key: Key(key), on };
+    let events = vec![in alloc; event].expect(rt, MEMORY);
     let mut answers = Vec::new(alloc);
-    answers.push(WaitAnswer::Gives(vec![in alloc; event]?))?;
-    Ok(ScriptedWait::new(answers))
+    answers.push(WaitAnswer::Gives(events)).expect(rt, MEMORY);
+    ScriptedWait::new(answers)
 }
 
 /// Two pairs of one worker.
@@ -48,22 +46,14 @@ const OF_ONE_WORKER: Row<'static> = Row {
     ..ALONE
 };
 
-/// How often the worker waited. Its clock comes to the idle time once it was looked at a thousand times.
-fn waits_of_one<R: Wait + Threads + Sync + Send + Copy + Abort>(
-    rt: &R,
-    alloc: Global,
-) -> Result<u64, Fail> {
-    let mut wait = gives_once(alloc, 0, Interest::READ)?;
-    let mut clock = clock_until(alloc, 1000, moment(1000)?)?;
-    let devices = (&mut wait, &mut clock, &mut OpenGate);
-    plays(rt, alloc, &OF_ONE_WORKER, devices)?;
-    Ok(wait.waits())
-}
-
+// The worker waits once. Its clock comes to the idle time once it was looked at a thousand times.
 #[test]
-fn a_worker_goes_on_with_each_pair_after_the_fault_of_an_arm(rt: HostRuntime) -> Result<(), Fail> {
-    same(&rt, waits_of_one(&&rt, rt.alloc())?, 1);
-    Ok(())
+fn a_worker_goes_on_with_each_pair_after_the_fault_of_an_arm(rt: HostRuntime) {
+    let mut wait = gives_once(&rt, rt.alloc(), 0, Interest::READ);
+    let mut clock = clock_to(&rt, rt.alloc(), (1000, 1000));
+    let devices = (&mut wait, &mut clock, &mut OpenGate);
+    plays(&&rt, rt.alloc(), &OF_ONE_WORKER, devices);
+    same(&rt, wait.waits(), 1);
 }
 
 /// Six pairs of two workers, of which each has three.
@@ -120,23 +110,14 @@ const OF_TWO_WORKERS: Row<'static> = Row {
 /// its end: so it is the first that makes the round.
 const IN_TURN: &[(u32, Until)] = &[(1, Until::Begun(6)), (6, Until::Ended(1))];
 
-/// Asserts it. The pairs that were held and let go, as bits.
-fn let_go_of_two<R: Wait + Threads + Sync + Send + Copy + Abort>(
-    rt: &R,
-    alloc: Global,
-) -> Result<u32, Fail> {
-    let mut wait = gives_once(alloc, 6, Interest::WRITE)?;
-    let mut gate = NotingGate::new(IN_TURN);
-    let devices = (&mut wait, &mut still_clock(alloc)?, &mut gate);
-    plays(rt, alloc, &OF_TWO_WORKERS, devices)?;
-    Ok(gate.let_go())
-}
-
-// No time passes: a pair that was not woken would never end.
+// No time passes: a pair that was not woken would never end. The gate tells the pairs that it held and let go, as
+// bits.
 #[test]
-fn each_slot_of_each_worker_is_woken_after_the_fault_of_an_arm(
-    rt: HostRuntime,
-) -> Result<(), Fail> {
-    same(&rt, let_go_of_two(&&rt, rt.alloc())?, 1 << 1 | 1 << 6);
-    Ok(())
+fn each_slot_of_each_worker_is_woken_after_the_fault_of_an_arm(rt: HostRuntime) {
+    let mut wait = gives_once(&rt, rt.alloc(), 6, Interest::WRITE);
+    let mut clock = clock_to(&rt, rt.alloc(), STILL);
+    let mut gate = NotingGate::new(IN_TURN);
+    let devices = (&mut wait, &mut clock, &mut gate);
+    plays(&&rt, rt.alloc(), &OF_TWO_WORKERS, devices);
+    same(&rt, gate.let_go(), 1 << 1 | 1 << 6);
 }

@@ -38,11 +38,6 @@ fn note(pairs: &AtomicU32, pair: u32) {
     pairs.fetch_or(bit(pair), Ordering::SeqCst);
 }
 
-/// Whether the bit of a pair is set.
-fn is_noted(pairs: &AtomicU32, pair: u32) -> bool {
-    pairs.load(Ordering::SeqCst) & bit(pair) != 0
-}
-
 impl NotingGate {
     /// A gate that was not called yet, and holds these pairs until another one has come so far.
     pub(crate) fn new(holds: &'static [(u32, Until)]) -> NotingGate {
@@ -65,18 +60,14 @@ impl NotingGate {
         self.let_go.load(Ordering::SeqCst)
     }
 
-    /// Whether another pair has come so far.
-    fn has_come(&self, until: Until) -> bool {
-        match until {
-            Until::Begun(pair) => is_noted(&self.begun, pair),
-            Until::Ended(pair) => is_noted(&self.ended, pair),
-        }
-    }
-
     /// Holds a pair until another has come so far. Whether that came.
     fn wait_until(&self, until: Until) -> bool {
+        let (pairs, pair) = match until {
+            Until::Begun(pair) => (&self.begun, pair),
+            Until::Ended(pair) => (&self.ended, pair),
+        };
         for _ in 0..MOST_LOOKS {
-            if self.has_come(until) {
+            if pairs.load(Ordering::SeqCst) & bit(pair) != 0 {
                 return true;
             }
             yield_now();

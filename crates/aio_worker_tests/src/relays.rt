@@ -5,10 +5,11 @@ use crate::asserts::same;
 use crate::clients::{Seen, joined, pass_a_line};
 use aio_bytes::StdSink;
 use aio_line::{Kit, RelayOrder, RelayStop, SixDevices, relay};
-use aio_mio::{MioRefusal, RealClock, mio_parts};
+use aio_mio::{RealClock, mio_parts};
 use aio_serve::{CallerSpawner, OpenGate};
 use std::alloc::Global;
 use std::net::{Net, TcpListener, TcpStream};
+use std::process::Abort;
 use std::sync::Wait;
 use std::thread::{Threads, join};
 use std::time::Clock;
@@ -23,12 +24,12 @@ const ONE_PAIR: RelayOrder = RelayOrder {
 };
 
 // Runs a relay over sockets that writes its text to a stream, which ends with it.
-fn relay_to<R: Wait + Threads + Net + Clock + Sync + Send + Copy>(
+fn relay_to<R: Wait + Threads + Net + Clock + Sync + Send + Copy + Abort>(
     rt: &R,
     alloc: Global,
     text: TcpStream,
-) -> Result<Result<(), RelayStop>, MioRefusal> {
-    let (port, wait, notify) = mio_parts(alloc, rt)?;
+) -> Result<(), RelayStop> {
+    let (port, wait, notify) = mio_parts(alloc, rt).expect(rt, "the devices are made");
     let mut kit = Kit {
         devices: SixDevices {
             port,
@@ -40,11 +41,10 @@ fn relay_to<R: Wait + Threads + Net + Clock + Sync + Send + Copy>(
         },
     };
     let mut out = StdSink::new(text);
-    Ok(relay(rt, alloc, &mut out, &mut kit, ONE_PAIR))
+    relay(rt, alloc, &mut out, &mut kit, ONE_PAIR)
 }
 
-// Runs a relay, and beside it clients that read its text and pass a line. What both come to;
-// `None` where the text has nowhere to go.
+// Runs a relay, and beside it clients that read its text and pass a line. What both come to.
 fn relay_a_line<
     R: Wait
         + Threads
@@ -52,21 +52,21 @@ fn relay_a_line<
         + Clock
         + Sync
         + Send
-        + Copy,
->(rt: &R, alloc: Global) -> Option<(Result<Result<(), RelayStop>, MioRefusal>, Option<Seen>)> {
-    let (written, read) = joined(rt)?;
-    Some(join(
+        + Copy
+        + Abort,
+>(rt: &R, alloc: Global) -> (Result<(), RelayStop>, Seen) {
+    let (written, read) = joined(rt);
+    join(
         rt,
         move || relay_to(rt, alloc, written),
         move || pass_a_line(rt, alloc, read),
-    ))
+    )
 }
 
 #[test]
 fn a_line_goes_from_one_client_to_the_other(rt: HostRuntime) {
-    let (stopped, seen) = relay_a_line(&rt, rt.alloc()).expect(&rt, "a connection");
-    same(&rt, stopped, Ok(Ok(())));
-    let seen = seen.expect(&rt, "a port and two clients");
+    let (stopped, seen) = relay_a_line(&rt, rt.alloc());
+    same(&rt, stopped, Ok(()));
     same(&rt, (seen.sent, seen.came), (true, Some(*b"ab\n")));
     same(&rt, seen.text.as_str(), "pair 1 ended 0 3\n");
 }

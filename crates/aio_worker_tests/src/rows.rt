@@ -1,17 +1,16 @@
 //! A server over connections in memory, as the rows of a table tell it.
 
-ghost use Rattle.std.specs.Prelude.{◌≡◌, IfOk};
+ghost use Rattle.std.specs.Prelude.{◌≡◌};
 
-use crate::asserts::same_in;
-use aio_base::{ArmFault, EventWait, Gate, Key, Moment, Parts, Placement, Spawner};
+use crate::asserts::{MEMORY, same_in};
+use aio_base::{ArmFault, CountFault, EventWait, Gate, Key, Moment, Parts, Placement, Spawner};
 use aio_conns::{ENDS, MemPort, Peer};
-use aio_devices::{MemClock, MemNotify, clock_at, fault_after};
+use aio_devices::{FailingWait, MemClock, MemNotify, clock_until, fault_after};
 use aio_pairs::{PairEnd, Side};
 use aio_serve::{ServeFault, serve};
 use std::alloc::Global;
 use std::process::Abort;
 use std::sync::Wait;
-use std::test::Fail;
 use std::thread::Threads;
 
 /// What a server is asked for, and what comes of it.
@@ -64,6 +63,12 @@ pub(crate) const HALTS: Peer<'static> = Peer {
     ..ENDS
 };
 
+/// The first fault of a device.
+pub(crate) const FIRST: CountFault = CountFault {
+    before: 0,
+    after: 1,
+};
+
 /// Jobs run where a row says.
 #[derive(Drop)]
 struct Chosen {
@@ -77,36 +82,44 @@ impl Spawner for Chosen {
 }
 
 /// The moment so many nanoseconds after the clock's start.
-pub(crate) fn moment(nanoseconds: u64) -> Result<Moment, Fail>
-    ensures { IfOk result (λ moment. moment ≡ nanoseconds) }
+pub(crate) fn moment(rt: &impl Abort, nanoseconds: u64) -> Moment
+    ensures { result ≡ nanoseconds }
 {
-    Ok(Moment::new(nanoseconds).ok_or("no moment")?)
+    Moment::new(nanoseconds).expect(rt, "the moment is at most 10^18")
 }
 
-/// A clock that stands at 0.
-pub(crate) fn still_clock(alloc: Global) -> Result<MemClock, Fail> {
-    Ok(clock_at(alloc, moment(0)?)?)
+/// A clock that stands at 0 for so many looks, and then at this moment.
+pub(crate) fn clock_to(rt: &impl Abort, alloc: Global, (looks, at): (usize, u64)) -> MemClock {
+    clock_until(alloc, looks, moment(rt, at)).expect(rt, MEMORY)
 }
+
+/// Of a clock that stands still, at 0.
+pub(crate) const STILL: (usize, u64) = (0, 0);
 
 /// A port that hands out connections to these peers.
-pub(crate) fn port_of(alloc: Global, peers: &[Peer<'_>]) -> Result<MemPort, Fail> {
+pub(crate) fn port_of(rt: &impl Abort, alloc: Global, peers: &[Peer<'_>]) -> MemPort {
     let mut conns = Vec::new(alloc);
     for peer in peers {
-        conns.push(peer.connection(alloc)?)?;
+        let conn = peer.connection(alloc).expect(rt, MEMORY);
+        conns.push(conn).expect(rt, MEMORY);
     }
-    Ok(MemPort::new(conns))
+    MemPort::new(conns)
 }
 
 /// What the server of a row comes to over this wait, clock and gate.
-pub(crate) fn served<R: Wait + Threads + Sync + Send + Copy, W: EventWait + Send, G: Gate + Sync>(
+pub(crate) fn served<
+    R: Wait + Threads + Sync + Send + Copy + Abort,
+    W: EventWait + Send,
+    G: Gate + Sync,
+>(
     rt: &R,
     alloc: Global,
     row: &Row<'_>,
     devices: (&mut W, &mut MemClock, &mut G),
-) -> Result<Result<Vec<PairEnd>, ServeFault>, Fail> {
+) -> Result<Vec<PairEnd>, ServeFault> {
     let (wait, clock, gate) = devices;
     let parts = Parts {
-        port: &mut port_of(alloc, row.peers)?,
+        port: &mut port_of(rt, alloc, row.peers),
         wait,
         notify: &mut MemNotify::new(),
         clock,
@@ -117,16 +130,16 @@ pub(crate) fn served<R: Wait + Threads + Sync + Send + Copy, W: EventWait + Send
     };
     let pairs = (row.peers.len() / 2).clamp(1, 64) as u32;
     let workers = row.workers.clamp(1, 16);
-    Ok(serve(rt, alloc, parts, workers, row.idle.clamp(1, 1000), pairs))
+    serve(rt, alloc, parts, workers, row.idle.clamp(1, 1000), pairs)
 }
 
 /// An end, as the server tells it.
-fn told(end: End) -> Result<PairEnd, Fail> {
-    Ok(match end {
+fn told(rt: &impl Abort, end: End) -> PairEnd {
+    match end {
         End::Ended(to_b) => PairEnd::Ended { to_a: 0, to_b },
         End::Idle(last, now) => PairEnd::Idle {
-            last: moment(last)?,
-            now: moment(now)?,
+            last: moment(rt, last),
+            now: moment(rt, now),
         },
         End::TooLong(at) => PairEnd::TooLong { side: Side::A, at },
         End::ReadFault(before) => PairEnd::ReadFault(fault_after(before)),
@@ -135,35 +148,39 @@ fn told(end: End) -> Result<PairEnd, Fail> {
             before: 0,
             after: 1,
         }),
-    })
+    }
 }
 
 /// The ends of a row.
-fn wanted(alloc: Global, ends: &[End]) -> Result<Vec<PairEnd>, Fail> {
+fn wanted(rt: &impl Abort, alloc: Global, ends: &[End]) -> Vec<PairEnd> {
     let mut wanted = Vec::new(alloc);
     for end in ends {
-        wanted.push(told(*end)?)?;
+        wanted.push(told(rt, *end)).expect(rt, MEMORY);
     }
-    Ok(wanted)
+    wanted
 }
 
-/// Asserts that the pairs of a row come to its ends over this wait, clock and gate. Where memory runs
-/// out, that is the answer, and nothing is compared.
+/// Asserts that the pairs of a row come to its ends over this wait, clock and gate.
 pub(crate) fn plays<
     R: Wait + Threads + Sync + Send + Copy + Abort,
     W: EventWait + Send,
     G: Gate + Sync,
->(
+>(rt: &R, alloc: Global, row: &Row<'_>, devices: (&mut W, &mut MemClock, &mut G)) {
+    let wanted = wanted(rt, alloc, row.ends);
+    same_in(rt, row.shows, served(rt, alloc, row, devices), Ok(wanted));
+}
+
+/// The same over a wait that gives events of so many keys, 1,024 at most, and a clock that stands still. How often
+/// the server waited.
+pub(crate) fn waits_of<R: Wait + Threads + Sync + Send + Copy + Abort, G: Gate + Sync>(
     rt: &R,
     alloc: Global,
     row: &Row<'_>,
-    devices: (&mut W, &mut MemClock, &mut G),
-) -> Result<(), Fail> {
-    match served(rt, alloc, row, devices)? {
-        Err(ServeFault::OutOfMemory) => Err(Fail::from("memory ran out")),
-        ends => {
-            same_in(rt, row.shows, ends, Ok(wanted(alloc, row.ends)?));
-            Ok(())
-        }
-    }
+    keys: u32,
+    gate: &mut G,
+) -> u64 {
+    let mut wait = FailingWait::new(keys.min(1024), Vec::new(alloc));
+    let mut clock = clock_to(rt, alloc, STILL);
+    plays(rt, alloc, row, (&mut wait, &mut clock, gate));
+    wait.waits()
 }

@@ -1,18 +1,14 @@
 //! What no clause says of a server: that it serves its pairs side by side to their ends, and that
 //! it waits by the wait that it was lent.
 
-use crate::asserts::same;
+use crate::asserts::{MEMORY, same};
 use crate::gates::NotingGate;
-use crate::rows::{ALONE, End, HALTS, Row, moment, plays, still_clock};
-use aio_base::EventWait;
+use crate::rows::{ALONE, End, HALTS, Row, moment, plays, waits_of};
 use aio_conns::{ENDS, Peer};
 use aio_devices::{FailingWait, MemClock};
 use aio_serve::OpenGate;
 use std::alloc::Global;
 use std::process::Abort;
-use std::sync::Wait;
-use std::test::Fail;
-use std::thread::Threads;
 
 /// Sends a line at once, and ends.
 const PROMPT: Peer<'static> = Peer {
@@ -48,25 +44,11 @@ const ROWS: &[Row<'static>] = &[
     },
 ];
 
-/// Asserts what the pairs of a row come to, over a wait that gives events of four keys and a clock that stands
-/// still. How often the server waited.
-fn waits_of<R: Wait + Threads + Sync + Send + Copy + Abort>(
-    rt: &R,
-    alloc: Global,
-    row: &Row<'_>,
-    gate: &mut NotingGate,
-) -> Result<u64, Fail> {
-    let mut wait = FailingWait::new(4, Vec::new(alloc));
-    plays(rt, alloc, row, (&mut wait, &mut still_clock(alloc)?, gate))?;
-    Ok(wait.waits())
-}
-
 #[test]
-fn a_failing_connection_ends_its_pair(rt: HostRuntime) -> Result<(), Fail> {
+fn a_failing_connection_ends_its_pair(rt: HostRuntime) {
     for row in ROWS {
-        waits_of(&&rt, rt.alloc(), row, &mut NotingGate::new(&[]))?;
+        waits_of(&&rt, rt.alloc(), row, 4, &mut NotingGate::new(&[]));
     }
-    Ok(())
 }
 
 const TWO_PAIRS: Row<'static> = Row {
@@ -88,10 +70,9 @@ const TWO_PAIRS: Row<'static> = Row {
 };
 
 #[test]
-fn a_server_waits_by_the_wait_that_it_was_lent(rt: HostRuntime) -> Result<(), Fail> {
-    let waits = waits_of(&&rt, rt.alloc(), &TWO_PAIRS, &mut NotingGate::new(&[]))?;
+fn a_server_waits_by_the_wait_that_it_was_lent(rt: HostRuntime) {
+    let waits = waits_of(&&rt, rt.alloc(), &TWO_PAIRS, 4, &mut NotingGate::new(&[]));
     same(&rt, waits > 0, true);
-    Ok(())
 }
 
 const HALTS_FIRST: Row<'static> = Row {
@@ -103,11 +84,10 @@ const HALTS_FIRST: Row<'static> = Row {
 
 // The gate is told of pair 2 before pair 1.
 #[test]
-fn a_pair_that_halts_does_not_hold_up_the_next(rt: HostRuntime) -> Result<(), Fail> {
+fn a_pair_that_halts_does_not_hold_up_the_next(rt: HostRuntime) {
     let mut gate = NotingGate::new(&[]);
-    waits_of(&&rt, rt.alloc(), &HALTS_FIRST, &mut gate)?;
+    waits_of(&&rt, rt.alloc(), &HALTS_FIRST, 4, &mut gate);
     same(&rt, gate.ended_pairs(), 21);
-    Ok(())
 }
 
 const ALL_TO_GIVE: Row<'static> = Row {
@@ -119,15 +99,15 @@ const ALL_TO_GIVE: Row<'static> = Row {
 };
 
 /// A clock that gives three moments.
-fn leaping_clock(alloc: Global) -> Result<MemClock, Fail> {
-    let moments = vec![in alloc; moment(0)?, moment(1000)?, moment(2000)?]?;
-    Ok(MemClock::new(moments))
+fn leaping_clock(rt: &impl Abort, alloc: Global) -> MemClock {
+    let (first, second, third) = (moment(rt, 0), moment(rt, 1000), moment(rt, 2000));
+    MemClock::new(vec![in alloc; first, second, third].expect(rt, MEMORY))
 }
 
 #[test]
-fn a_pair_with_all_to_give_ends_whatever_the_clock_does(rt: HostRuntime) -> Result<(), Fail> {
+fn a_pair_with_all_to_give_ends_whatever_the_clock_does(rt: HostRuntime) {
     let mut wait = FailingWait::new(2, Vec::new(rt.alloc()));
-    let mut clock = leaping_clock(rt.alloc())?;
+    let mut clock = leaping_clock(&rt, rt.alloc());
     let devices = (&mut wait, &mut clock, &mut OpenGate);
-    plays(&&rt, rt.alloc(), &ALL_TO_GIVE, devices)
+    plays(&&rt, rt.alloc(), &ALL_TO_GIVE, devices);
 }

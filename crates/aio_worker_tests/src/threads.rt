@@ -2,18 +2,19 @@
 //! and that whoever ends, or stops for a fault, leaves no other one parked for good. Where that went
 //! wrong the tests would not end.
 
-use crate::asserts::same;
+use crate::asserts::{MEMORY, same};
 use crate::gates::{NotingGate, Until};
-use crate::rows::{ALONE, End, HALTS, Row, moment, plays, port_of, served, still_clock};
-use aio_base::{ArmFault, Gate, Key, Parts, Placement};
-use aio_conns::{ENDS, MemPort, Peer, SILENT};
-use aio_devices::{FailingWait, MemNotify, clock_until, fault_after};
+use crate::rows::{
+    ALONE, End, FIRST, HALTS, Row, STILL, clock_to, plays, port_of, served, waits_of,
+};
+use aio_base::{ArmFault, Key, Parts, Placement};
+use aio_conns::{ENDS, Peer, SILENT};
+use aio_devices::{FailingWait, MemNotify};
 use aio_pairs::PairEnd;
 use aio_serve::{OpenGate, ServeFault, ThreadSpawner, serve};
 use std::alloc::Global;
 use std::process::Abort;
 use std::sync::Wait;
-use std::test::Fail;
 use std::thread::Threads;
 
 /// Two workers on threads.
@@ -23,18 +24,6 @@ const TWO: Row<'static> = Row {
     ..ALONE
 };
 
-/// Asserts what the pairs of a row come to, over a wait that gives events of each key and a clock that stands
-/// still, with this gate.
-fn plays_with<R: Wait + Threads + Sync + Send + Copy + Abort, G: Gate + Sync>(
-    rt: &R,
-    alloc: Global,
-    row: &Row<'_>,
-    gate: &mut G,
-) -> Result<(), Fail> {
-    let mut wait = FailingWait::new(14, Vec::new(alloc));
-    plays(rt, alloc, row, (&mut wait, &mut still_clock(alloc)?, gate))
-}
-
 const SIDE_BY_SIDE: Row<'static> = Row {
     shows: "pairs of two workers are served side by side",
     peers: &[HALTS, ENDS, HALTS, ENDS],
@@ -43,11 +32,10 @@ const SIDE_BY_SIDE: Row<'static> = Row {
 };
 
 #[test]
-fn pairs_of_two_workers_are_served_side_by_side(rt: HostRuntime) -> Result<(), Fail> {
+fn pairs_of_two_workers_are_served_side_by_side(rt: HostRuntime) {
     let mut gate = NotingGate::new(&[(1, Until::Ended(2))]);
-    plays_with(&&rt, rt.alloc(), &SIDE_BY_SIDE, &mut gate)?;
+    waits_of(&&rt, rt.alloc(), &SIDE_BY_SIDE, 14, &mut gate);
     same(&rt, (gate.let_go(), gate.ended_pairs()), (1 << 1, 21));
-    Ok(())
 }
 
 /// Seven pairs, of which the third sends a line that is too long, the sixth fails its first read, and each
@@ -166,11 +154,10 @@ const ROWS: &[Row<'static>] = &[
 ];
 
 #[test]
-fn ends_stand_in_the_order_of_the_pairs_whoever_serves_them(rt: HostRuntime) -> Result<(), Fail> {
+fn ends_stand_in_the_order_of_the_pairs_whoever_serves_them(rt: HostRuntime) {
     for row in ROWS {
-        plays_with(&&rt, rt.alloc(), row, &mut OpenGate)?;
+        waits_of(&&rt, rt.alloc(), row, 14, &mut OpenGate);
     }
-    Ok(())
 }
 
 /// Pair 1 ends at its first poll, the others after rounds.
@@ -201,11 +188,10 @@ const UNEVEN: Row<'static> = Row {
 };
 
 #[test]
-fn a_worker_that_ends_leaves_nobody_parked(rt: HostRuntime) -> Result<(), Fail> {
+fn a_worker_that_ends_leaves_nobody_parked(rt: HostRuntime) {
     for _time in 0..200 {
-        plays_with(&&rt, rt.alloc(), &UNEVEN, &mut OpenGate)?;
+        waits_of(&&rt, rt.alloc(), &UNEVEN, 14, &mut OpenGate);
     }
-    Ok(())
 }
 
 /// No event ever comes for pair 2: only the time that passes ends it.
@@ -216,28 +202,16 @@ const IDLE_AT_LAST: Row<'static> = Row {
     ..TWO
 };
 
-/// Over a wait that gives events of the connections of pair 1 alone, and a clock that comes to the idle time once
-/// it was looked at a thousand times.
-fn idles_at_last<R: Wait + Threads + Sync + Send + Copy + Abort>(
-    rt: &R,
-    alloc: Global,
-) -> Result<(), Fail> {
-    let mut wait = FailingWait::new(2, Vec::new(alloc));
-    let mut clock = clock_until(alloc, 1000, moment(1000)?)?;
-    plays(
-        rt,
-        alloc,
-        &IDLE_AT_LAST,
-        (&mut wait, &mut clock, &mut OpenGate),
-    )
-}
-
+// Over a wait that gives events of the connections of pair 1 alone, and a clock that comes to the idle time once
+// it was looked at a thousand times.
 #[test]
-fn a_worker_that_ends_leaves_time_to_the_others(rt: HostRuntime) -> Result<(), Fail> {
+fn a_worker_that_ends_leaves_time_to_the_others(rt: HostRuntime) {
     for _time in 0..20 {
-        idles_at_last(&&rt, rt.alloc())?;
+        let mut wait = FailingWait::new(2, Vec::new(rt.alloc()));
+        let mut clock = clock_to(&rt, rt.alloc(), (1000, 1000));
+        let devices = (&mut wait, &mut clock, &mut OpenGate);
+        plays(&&rt, rt.alloc(), &IDLE_AT_LAST, devices);
     }
-    Ok(())
 }
 
 /// Three pairs that send nothing and never end, each of another worker.
@@ -247,52 +221,28 @@ const NOTHING_COMES: Row<'static> = Row {
     ..TWO
 };
 
-/// What they come to over a wait that fails.
-fn stopped<R: Wait + Threads + Sync + Send + Copy>(
-    rt: &R,
-    alloc: Global,
-) -> Result<Result<Vec<PairEnd>, ServeFault>, Fail> {
-    let fails = [1, 2, 3, 4, 5, 6].to_vec(alloc)?;
+/// Whether they stop over a wait that fails, for its fault.
+fn stops<R: Wait + Threads + Sync + Send + Copy + Abort>(rt: &R, alloc: Global) -> bool {
+    let fails = [1, 2, 3, 4, 5, 6].to_vec(alloc).expect(rt, MEMORY);
     let mut wait = FailingWait::new(6, fails);
-    let devices = (&mut wait, &mut still_clock(alloc)?, &mut OpenGate);
-    served(rt, alloc, &NOTHING_COMES, devices)
+    let devices = (&mut wait, &mut clock_to(rt, alloc, STILL), &mut OpenGate);
+    let stopped = served(rt, alloc, &NOTHING_COMES, devices);
+    matches!(stopped, Err(ServeFault::Wait(_)))
 }
 
 #[test]
-fn a_worker_that_stops_for_a_fault_leaves_nobody_parked(rt: HostRuntime) -> Result<(), Fail> {
+fn a_worker_that_stops_for_a_fault_leaves_nobody_parked(rt: HostRuntime) {
     for _time in 0..100 {
-        let stopped = stopped(&&rt, rt.alloc())?;
-        same(&rt, matches!(stopped, Err(ServeFault::Wait(_))), true);
+        same(&rt, stops(&&rt, rt.alloc()), true);
     }
-    Ok(())
 }
 
-/// What two workers on threads come to over a port with the connections of four pairs.
-fn served_over<R: Wait + Threads + Sync + Send + Copy>(
-    rt: &R,
-    alloc: Global,
-    mut port: MemPort,
-) -> Result<Result<Vec<PairEnd>, ServeFault>, Fail> {
-    let mut wait = FailingWait::new(8, Vec::new(alloc));
-    let mut notify = MemNotify::new();
-    let mut clock = still_clock(alloc)?;
-    let parts = Parts {
-        port: &mut port,
-        wait: &mut wait,
-        notify: &mut notify,
-        clock: &mut clock,
-        gate: &mut OpenGate,
-        spawner: &mut ThreadSpawner,
-    };
-    Ok(serve(rt, alloc, parts, 2, 1000, 4))
-}
-
-/// The ends of four pairs over two workers, of which the second one's side A fails these calls.
-fn ends_with_a_failing_call<R: Wait + Threads + Sync + Send + Copy>(
+/// The ends of four pairs over two workers on threads, of which the second one's side A fails these calls.
+fn ends_with_a_failing_call<R: Wait + Threads + Sync + Send + Copy + Abort>(
     rt: &R,
     alloc: Global,
     fails: &[u64],
-) -> Result<Vec<PairEnd>, Fail> {
+) -> Vec<PairEnd> {
     let failing = Peer {
         first: b"ab",
         blocks: true,
@@ -301,39 +251,47 @@ fn ends_with_a_failing_call<R: Wait + Threads + Sync + Send + Copy>(
         ..ENDS
     };
     let peers = [HALTS, ENDS, failing, ENDS, HALTS, ENDS, HALTS, ENDS];
-    let port = port_of(alloc, &peers)?;
-    Ok(served_over(rt, alloc, port)?.ok().ok_or("stopped")?)
+    let parts = Parts {
+        port: &mut port_of(rt, alloc, &peers),
+        wait: &mut FailingWait::new(8, Vec::new(alloc)),
+        notify: &mut MemNotify::new(),
+        clock: &mut clock_to(rt, alloc, STILL),
+        gate: &mut OpenGate,
+        spawner: &mut ThreadSpawner,
+    };
+    serve(rt, alloc, parts, 2, 1000, 4).expect(rt, "the pairs come to their ends")
 }
 
-/// The fault of an arm of the third connection.
-const THIRD_ARM: ArmFault = ArmFault {
-    key: Key(2),
-    before: 0,
-    after: 1,
-};
-
-/// Whether a pair ended by what a failing call of its side A can bring about.
-fn is_of_a_failing_call(end: &PairEnd) -> bool {
-    *end == PairEnd::ReadFault(fault_after(0))
-        || *end == PairEnd::ArmFault(THIRD_ARM)
-        || *end == PairEnd::WriteFault(fault_after(0))
-        || *end == ended()
-}
+/// What a failing call of its side A can bring a pair to.
+const OF_A_FAILING_CALL: [PairEnd; 4] = [
+    PairEnd::ReadFault(FIRST),
+    PairEnd::ArmFault(ArmFault {
+        key: Key(2),
+        before: 0,
+        after: 1,
+    }),
+    PairEnd::WriteFault(FIRST),
+    ENDED,
+];
 
 /// The end of the other pairs.
-fn ended() -> PairEnd {
-    PairEnd::Ended { to_a: 0, to_b: 3 }
+const ENDED: PairEnd = PairEnd::Ended { to_a: 0, to_b: 3 };
+
+/// The ends of the other three of four pairs, and whether a failing call can bring about that of the second.
+fn of_four(ends: &[PairEnd]) -> Option<([PairEnd; 3], bool)> {
+    match ends {
+        [first, second, third, fourth] => {
+            let may_be = OF_A_FAILING_CALL.contains(second);
+            Some(([*first, *third, *fourth], may_be))
+        }
+        _ => None,
+    }
 }
 
 #[test]
-fn a_failing_call_ends_its_own_pair_at_most(rt: HostRuntime) -> Result<(), Fail> {
+fn a_failing_call_ends_its_own_pair_at_most(rt: HostRuntime) {
     for number in 1..13 {
-        let ends = ends_with_a_failing_call(&&rt, rt.alloc(), &[number])?;
-        let [first, second, third, fourth] = ends.as_slice() else {
-            return Err(Fail::from("not four ends"));
-        };
-        same(&rt, is_of_a_failing_call(second), true);
-        same(&rt, [*first, *third, *fourth], [ended(); 3]);
+        let ends = ends_with_a_failing_call(&&rt, rt.alloc(), &[number]);
+        same(&rt, of_four(&ends), Some(([ENDED; 3], true)));
     }
-    Ok(())
 }
