@@ -2,13 +2,13 @@
 
 ghost use Rattle.std.specs.Prelude.{◌≡◌};
 
-use crate::asserts::same;
+use crate::asserts::{MEMORY, same};
 use aio_base::{Gate, Job, Spawner};
 use aio_places::{CallerSpawner, OpenGate, ThreadSpawner};
 use std::alloc::Global;
+use std::process::Abort;
 use std::sync::Wait;
 use std::sync::atomic::{AtomicU32, Ordering};
-use std::test::Fail;
 use std::thread::{Threads, yield_now};
 
 /// A job that ends with its number, once others had so many turns.
@@ -34,25 +34,27 @@ impl Job for Numbered {
 }
 
 /// Jobs of these numbers. The earlier ones take longer.
-fn jobs(alloc: Global, numbers: &[u64]) -> Result<Vec<Numbered>, Fail> {
+fn jobs(rt: &impl Abort, alloc: Global, numbers: &[u64]) -> Vec<Numbered> {
     let mut jobs = Vec::new(alloc);
     let mut turns: usize = 1000;
     for number in numbers {
         turns = turns.saturating_sub(50);
         let number = *number;
-        jobs.push(Numbered { number, turns })?;
+        jobs.push(Numbered { number, turns }).expect(rt, MEMORY);
     }
-    Ok(jobs)
+    jobs
 }
 
-/// The ends of jobs of these numbers.
-fn ends<S: Spawner, R: Wait + Threads + Sync + Send + Copy>(
+/// Asserts that jobs of these numbers end with them, in their order.
+fn end_in_order<S: Spawner, R: Wait + Threads + Sync + Send + Copy + Abort>(
     spawner: &mut S,
     alloc: Global,
     rt: &R,
     numbers: &[u64],
-) -> Result<Vec<u64>, Fail> {
-    Ok(spawner.run_all(alloc, rt, jobs(alloc, numbers)?)?)
+) {
+    let jobs = jobs(rt, alloc, numbers);
+    let ends = spawner.run_all(alloc, rt, jobs).expect(rt, MEMORY);
+    same(rt, ends.as_slice(), numbers);
 }
 
 /// The numbers of no job, of three, and of sixteen.
@@ -63,14 +65,11 @@ const NUMBERS: &[&[u64]] = &[
 ];
 
 #[test]
-fn the_ends_of_jobs_stand_in_their_order(rt: HostRuntime) -> Result<(), Fail> {
+fn the_ends_of_jobs_stand_in_their_order(rt: HostRuntime) {
     for numbers in NUMBERS {
-        let on_the_caller = ends(&mut CallerSpawner, rt.alloc(), &&rt, numbers)?;
-        let on_threads = ends(&mut ThreadSpawner, rt.alloc(), &&rt, numbers)?;
-        same(&rt, on_the_caller.as_slice(), *numbers);
-        same(&rt, on_threads.as_slice(), *numbers);
+        end_in_order(&mut CallerSpawner, rt.alloc(), &&rt, numbers);
+        end_in_order(&mut ThreadSpawner, rt.alloc(), &&rt, numbers);
     }
-    Ok(())
 }
 
 /// How often a job looks at the flag of another.
@@ -102,50 +101,34 @@ impl Job for Meeting<'_> {
     }
 }
 
-/// Two jobs that wait for each other by these flags.
-fn meetings<'a>(
-    alloc: Global,
-    one: &'a AtomicU32,
-    two: &'a AtomicU32,
-) -> Result<Vec<Meeting<'a>>, Fail> {
-    let mut jobs = Vec::new(alloc);
-    jobs.push(Meeting {
-        own: one,
-        other: two,
-    })?;
-    jobs.push(Meeting {
-        own: two,
-        other: one,
-    })?;
-    Ok(jobs)
-}
-
-/// What two such jobs come to.
-fn meet<S: Spawner, R: Wait + Threads + Sync + Send + Copy>(
+/// What two jobs come to that wait for each other.
+fn meet<S: Spawner, R: Wait + Threads + Sync + Send + Copy + Abort>(
     spawner: &mut S,
     alloc: Global,
     rt: &R,
-) -> Result<Vec<bool>, Fail> {
-    let (one, two) = (AtomicU32::new(0), AtomicU32::new(0));
-    Ok(spawner.run_all(alloc, rt, meetings(alloc, &one, &two)?)?)
+) -> Vec<bool> {
+    let (one, two) = (&AtomicU32::new(0), &AtomicU32::new(0));
+    let first = Meeting {
+        own: one,
+        other: two,
+    };
+    let second = Meeting {
+        own: two,
+        other: one,
+    };
+    let jobs = vec![in alloc; first, second].expect(rt, MEMORY);
+    spawner.run_all(alloc, rt, jobs).expect(rt, MEMORY)
 }
 
 #[test]
-fn two_jobs_on_threads_run_side_by_side(rt: HostRuntime) -> Result<(), Fail> {
-    let met = meet(&mut ThreadSpawner, rt.alloc(), &&rt)?;
+fn two_jobs_on_threads_run_side_by_side(rt: HostRuntime) {
+    let met = meet(&mut ThreadSpawner, rt.alloc(), &&rt);
     same(&rt, met.as_slice(), [true, true].as_slice());
-    Ok(())
-}
-
-/// Whether a gate lets a pair go on.
-fn lets_go_on<G: Gate, R: Wait + Threads + Sync + Send + Copy>(gate: &G, rt: &R) -> bool {
-    let goes_on = gate.hold(rt, 1);
-    gate.passed(1);
-    goes_on
 }
 
 #[test]
-fn an_open_gate_holds_nothing(rt: HostRuntime) -> Result<(), Fail> {
-    same(&rt, lets_go_on(&OpenGate, &&rt), true);
-    Ok(())
+fn an_open_gate_holds_nothing(rt: HostRuntime) {
+    let goes_on = OpenGate.hold(&&rt, 1);
+    OpenGate.passed(1);
+    same(&rt, goes_on, true);
 }

@@ -1,13 +1,13 @@
 //! Moments of a test.
 
-ghost use Rattle.std.specs.Prelude.{◌≡◌, IfOk};
+ghost use Rattle.std.specs.Prelude.{◌≡◌};
 
 use aio_base::Moment;
-use std::test::Fail;
+use std::process::Abort;
 
 /// The moment so many nanoseconds after the clock's start.
-pub(crate) fn moment(nanoseconds: u64) -> Result<Moment, Fail>
-    ensures { IfOk result (λ moment. moment ≡ nanoseconds) }
+pub(crate) fn moment(rt: &impl Abort, nanoseconds: u64) -> Moment
+    ensures { result ≡ nanoseconds }
 {
-    Ok(Moment::new(nanoseconds).ok_or("no moment")?)
+    Moment::new(nanoseconds).expect(rt, "the moment is at most 10^18")
 }

@@ -1,7 +1,7 @@
 //! What no clause says of a pair over the sources of a shared reactor: that a thread which blocks on it
 //! serves it to its end.
 
-use crate::asserts::same;
+use crate::asserts::{MEMORY, same};
 use crate::moments::moment;
 use aio_base::{Arm, Clock, EventWait, Key, Notify, Task};
 use aio_conns::{ENDS, MemConn, Peer, SILENT};
@@ -13,7 +13,6 @@ use aio_shared::Inside;
 use std::alloc::Global;
 use std::process::Abort;
 use std::sync::{Arc, Wait};
-use std::test::Fail;
 
 /// A thread of a reactor of its own, whose sources have connections in memory.
 pub(crate) type Server<R> = Thread<R, MemNotify, MemConn, MemWait, MemClock>;
@@ -25,13 +24,9 @@ pub(crate) type End = SourceEnd<MemConn, MemWait>;
 pub(crate) const IDLE: u64 = 1000;
 
 /// A thread whose clock stands at 0 for so many looks, and then at the idle time.
-pub(crate) fn server<R: Wait + Copy + Abort>(
-    rt: R,
-    alloc: Global,
-    looks: usize,
-) -> Result<Server<R>, Fail> {
-    let clock = clock_until(alloc, looks, moment(IDLE)?)?;
-    Ok(Thread::new(alloc, rt, 1, MemWait::new(2), MemNotify::new(), clock)?)
+pub(crate) fn server<R: Wait + Copy + Abort>(rt: R, alloc: Global, looks: usize) -> Server<R> {
+    let clock = clock_until(alloc, looks, moment(&rt, IDLE)).expect(&rt, MEMORY);
+    Thread::new(alloc, rt, 1, MemWait::new(2), MemNotify::new(), clock).expect(&rt, MEMORY)
 }
 
 /// What the other ends of the connections of sides A and B do.
@@ -53,78 +48,49 @@ pub(crate) const HALTING: Sides = [
 ];
 
 /// An end over a new source of the thread's reactor, with a connection to this peer.
-pub(crate) fn end_over<R: Wait + Copy>(
+pub(crate) fn end_over<R: Wait + Copy + Abort>(
     server: &Server<R>,
     alloc: Global,
     peer: &Peer<'_>,
-) -> Result<End, Fail> {
-    let shared = Arc::try_clone(&server.host.shared)?;
-    let Ok(conn) = peer.connection(alloc) else {
-        drop(shared);
-        return Err(Fail::from("no connection"));
-    };
+) -> End {
+    let rt = server.host.rt;
+    let shared = Arc::try_clone(&server.host.shared).expect(&rt, MEMORY);
+    let conn = peer.connection(alloc).expect(&rt, MEMORY);
     match server.host.insert_source(conn) {
-        Ok(token) => Ok(SourceEnd::new(shared, token)),
-        Err(refused) => {
-            drop(shared);
-            drop(refused);
-            Err(Fail::from("no source"))
-        }
+        Ok(token) => SourceEnd::new(shared, token),
+        Err(_) => rt.panic("the reactor takes the source"),
     }
 }
 
 /// Ends over two connections.
-pub(crate) fn ends_over<R: Wait + Copy>(
+pub(crate) fn ends_over<R: Wait + Copy + Abort>(
     server: &Server<R>,
     alloc: Global,
     sides: &Sides,
-) -> Result<(End, End), Fail> {
+) -> (End, End) {
     let [a, b] = sides;
-    let a = end_over(server, alloc, a)?;
-    let b = end_over(server, alloc, b)?;
-    Ok((a, b))
+    let a = end_over(server, alloc, a);
+    (a, end_over(server, alloc, b))
 }
 
 /// A pair of these ends.
-fn pair_of(alloc: Global, ends: (End, End)) -> Result<Pair<End>, Fail> {
-    let start = moment(0)?;
-    let (a, b) = ends;
-    match Pair::new(alloc, a, b, IDLE, start) {
-        Ok(pair) => Ok(pair),
-        Err(_) => Err(Fail::from("no pair")),
-    }
+fn pair_of(rt: &impl Abort, alloc: Global, (a, b): (End, End)) -> Pair<End> {
+    let pair = Pair::new(alloc, a, b, IDLE, moment(rt, 0));
+    pair.ok().expect(rt, MEMORY)
 }
 
 /// Polls a task to its end by a thread. It is over all types, since what `run` promises is long where they are known.
 pub(crate) fn end_of<
-    R: Wait + Copy,
+    R: Wait + Copy + Abort,
     N: Notify,
     A: Arm,
     W: EventWait,
     C: Clock,
     T: Task<Inside<R, N, A, W>>,
->(thread: &mut Thread<R, N, A, W, C>, task: &mut T) -> Result<T::Output, Fail> {
-    match thread.run(task) {
-        Ok(end) => Ok(end),
-        Err(_) => Err(Fail::from("no end")),
-    }
-}
-
-/// Serves a pair to its end. Its end, and its side B.
-fn served<R: Wait + Copy>(
-    server: &mut Server<R>,
-    mut pair: Pair<End>,
-) -> Result<(PairEnd, End), Fail> {
-    let end = end_of(server, &mut pair);
-    let (a, b) = pair.into_ends();
-    drop(a);
-    match end {
-        Ok(end) => Ok((end, b)),
-        Err(fail) => {
-            drop(b);
-            Err(fail)
-        }
-    }
+>(thread: &mut Thread<R, N, A, W, C>, task: &mut T) -> T::Output {
+    thread
+        .run(task)
+        .expect(&thread.host.rt, "the task comes to its end")
 }
 
 /// Whether a connection was sent just this text.
@@ -142,16 +108,17 @@ fn was_sent<R: Wait + Copy>(server: &Server<R>, end: End, text: &str) -> bool {
 }
 
 /// Serves a pair over two connections. Its end, and whether side B was sent this text.
-fn relayed<R: Wait + Copy>(
+fn relayed<R: Wait + Copy + Abort>(
     server: &mut Server<R>,
     alloc: Global,
     sides: &Sides,
     text: &str,
-) -> Result<(PairEnd, bool), Fail> {
-    let ends = ends_over(server, alloc, sides)?;
-    let pair = pair_of(alloc, ends)?;
-    let (end, b) = served(server, pair)?;
-    Ok((end, was_sent(server, b, text)))
+) -> (PairEnd, bool) {
+    let ends = ends_over(server, alloc, sides);
+    let mut pair = pair_of(&server.host.rt, alloc, ends);
+    let end = end_of(server, &mut pair);
+    let (_a, b) = pair.into_ends();
+    (end, was_sent(server, b, text))
 }
 
 /// The same by a new thread, whose clock comes to the idle time after so many looks.
@@ -161,18 +128,15 @@ fn relayed_by_new<R: Wait + Copy + Abort>(
     looks: usize,
     sides: &Sides,
     text: &str,
-) -> Result<(PairEnd, bool), Fail> {
-    let mut server = server(rt, alloc, looks)?;
-    let found = relayed(&mut server, alloc, sides, text);
-    drop(server);
-    found
+) -> (PairEnd, bool) {
+    let mut server = server(rt, alloc, looks);
+    relayed(&mut server, alloc, sides, text)
 }
 
 #[test]
-fn a_thread_serves_a_pair_to_its_end(rt: HostRuntime) -> Result<(), Fail> {
-    let found = relayed_by_new(&rt, rt.alloc(), 1000, &HALTING, "ab\n")?;
+fn a_thread_serves_a_pair_to_its_end(rt: HostRuntime) {
+    let found = relayed_by_new(&rt, rt.alloc(), 1000, &HALTING, "ab\n");
     same(&rt, found, (PairEnd::Ended { to_a: 0, to_b: 3 }, true));
-    Ok(())
 }
 
 /// Side A sends a line, and nothing comes after that.
@@ -186,40 +150,30 @@ const FALLS_SILENT: Sides = [
 ];
 
 #[test]
-fn a_pair_over_silent_connections_ends_idle(rt: HostRuntime) -> Result<(), Fail> {
-    let found = relayed_by_new(&rt, rt.alloc(), 20, &FALLS_SILENT, "x\n")?;
-    let last = moment(0)?;
-    let now = moment(IDLE)?;
+fn a_pair_over_silent_connections_ends_idle(rt: HostRuntime) {
+    let found = relayed_by_new(&rt, rt.alloc(), 20, &FALLS_SILENT, "x\n");
+    let last = moment(&rt, 0);
+    let now = moment(&rt, IDLE);
     same(&rt, found, (PairEnd::Idle { last, now }, true));
-    Ok(())
 }
 
 /// The key of a new source of a thread's reactor, which stays in it.
-pub(crate) fn next_key<R: Wait + Copy>(server: &Server<R>, alloc: Global) -> Result<Key, Fail> {
-    let end = end_over(server, alloc, &ENDS)?;
-    Ok(end.into_token().key())
+pub(crate) fn next_key<R: Wait + Copy + Abort>(server: &Server<R>, alloc: Global) -> Key {
+    let end = end_over(server, alloc, &ENDS);
+    end.into_token().key()
 }
 
-/// The keys of a source that joins beside another, and of one that joins once that other was closed.
-fn keys_beside<R: Wait + Copy>(server: &Server<R>, alloc: Global) -> Result<(Key, Key), Fail> {
-    let closed = end_over(server, alloc, &ENDS)?;
-    let beside = next_key(server, alloc)?;
-    if closed.close(&server.host.rt).is_err() {
-        return Err(Fail::from("not closed"));
-    }
-    Ok((beside, next_key(server, alloc)?))
-}
-
-/// The same at a new thread.
-fn keys_at_new<R: Wait + Copy + Abort>(rt: R, alloc: Global) -> Result<(Key, Key), Fail> {
-    let server = server(rt, alloc, 1)?;
-    let keys = keys_beside(&server, alloc);
-    drop(server);
-    keys
+/// The keys of a source that joins the reactor of a new thread beside another, and of one that joins once that
+/// other was closed.
+fn keys_beside<R: Wait + Copy + Abort>(rt: R, alloc: Global) -> (Key, Key) {
+    let server = server(rt, alloc, 1);
+    let closed = end_over(&server, alloc, &ENDS);
+    let beside = next_key(&server, alloc);
+    closed.close(&rt).expect(&rt, "the source is closed");
+    (beside, next_key(&server, alloc))
 }
 
 #[test]
-fn the_key_of_an_end_that_was_closed_is_free_again(rt: HostRuntime) -> Result<(), Fail> {
-    same(&rt, keys_at_new(&rt, rt.alloc())?, (Key(1), Key(0)));
-    Ok(())
+fn the_key_of_an_end_that_was_closed_is_free_again(rt: HostRuntime) {
+    same(&rt, keys_beside(&rt, rt.alloc()), (Key(1), Key(0)));
 }
