@@ -3,14 +3,13 @@
 
 ghost use Rattle.std.specs.Prelude.{◌≡◌};
 
-use crate::asserts::{moment, same};
+use crate::asserts::{MEMORY, moment, same};
 use aio_base::{Moment, TimerId, Waker};
-use aio_ops::{OpPass, Ops, PassRefusal};
+use aio_ops::{OpPass, Ops};
 use aio_timers::{TimerBook, TimerOp};
 use std::alloc::Global;
 use std::process::Abort;
 use std::sync::Wait;
-use std::test::Fail;
 use std::thread::{Threads, join};
 
 /// A thread that pushes operations on timers with one deadline.
@@ -24,17 +23,12 @@ struct Pusher<'a> {
 
 impl<'a> Pusher<'a> {
     /// A thread by one more pass.
-    fn new<R: Wait>(
-        rt: &R,
-        ops: &'a Ops,
-        pass: &mut OpPass,
-        at: Moment,
-    ) -> Result<Pusher<'a>, PassRefusal>
+    fn new<R: Wait + Abort>(rt: &R, ops: &'a Ops, pass: &mut OpPass, at: Moment) -> Pusher<'a>
         requires { (pass.old.queue ≡ ops.now) × (pass.old.number ≡ 0) }
         ensures { (pass.new.queue ≡ pass.old.queue) × (pass.new.number ≡ 0) }
     {
-        let pass = ops.pass(rt, pass)?;
-        Ok(Pusher { ops, pass, at })
+        let pass = ops.pass(rt, pass).expect(rt, "a pass");
+        Pusher { ops, pass, at }
     }
 
     /// Registers a timer. One where the queue took the operation, else none.
@@ -165,41 +159,33 @@ fn remove_beside_drains<'a, R: Threads + Wait + Sync>(
 fn insert_in_new<R: Threads + Wait + Sync + Abort>(
     rt: &R,
     alloc: Global,
-) -> Result<((u32, u32), (u32, usize)), Fail> {
-    let (ops, mut pass) = Ops::new(alloc)?;
-    let one = Pusher::new(rt, &ops, &mut pass, moment(rt, 30))?;
-    let other = Pusher::new(rt, &ops, &mut pass, moment(rt, 40))?;
+) -> ((u32, u32), (u32, usize)) {
+    let (ops, mut pass) = Ops::new(alloc).expect(rt, MEMORY);
+    let one = Pusher::new(rt, &ops, &mut pass, moment(rt, 30));
+    let other = Pusher::new(rt, &ops, &mut pass, moment(rt, 40));
     let drainer = Drainer::new(alloc, &ops, pass);
     let (pushed, drainer) = insert_beside_drains(rt, one, other, drainer);
-    Ok((pushed, drainer.ends(rt)))
+    (pushed, drainer.ends(rt))
 }
 
 #[test]
-fn each_operation_of_two_threads_is_applied_once(rt: HostRuntime) -> Result<(), Fail> {
-    same(
-        &rt,
-        insert_in_new(&rt, rt.alloc())?,
-        ((400, 400), (800, 800)),
-    );
-    Ok(())
+fn each_operation_of_two_threads_is_applied_once(rt: HostRuntime) {
+    let done = insert_in_new(&rt, rt.alloc());
+    same(&rt, done, ((400, 400), (800, 800)));
 }
 
 /// The same of one thread that registers and unregisters a timer.
-fn remove_in_new<R: Threads + Wait + Sync + Abort>(
-    rt: &R,
-    alloc: Global,
-) -> Result<(u32, (u32, usize)), Fail> {
-    let (ops, mut pass) = Ops::new(alloc)?;
-    let pusher = Pusher::new(rt, &ops, &mut pass, moment(rt, 30))?;
+fn remove_in_new<R: Threads + Wait + Sync + Abort>(rt: &R, alloc: Global) -> (u32, (u32, usize)) {
+    let (ops, mut pass) = Ops::new(alloc).expect(rt, MEMORY);
+    let pusher = Pusher::new(rt, &ops, &mut pass, moment(rt, 30));
     let drainer = Drainer::new(alloc, &ops, pass);
     let (pushed, drainer) = remove_beside_drains(rt, pusher, drainer);
-    Ok((pushed, drainer.ends(rt)))
+    (pushed, drainer.ends(rt))
 }
 
 #[test]
-fn a_timer_that_one_pass_removed_is_out_of_the_book(rt: HostRuntime) -> Result<(), Fail> {
-    same(&rt, remove_in_new(&rt, rt.alloc())?, (1000, (1000, 0)));
-    Ok(())
+fn a_timer_that_one_pass_removed_is_out_of_the_book(rt: HostRuntime) {
+    same(&rt, remove_in_new(&rt, rt.alloc()), (1000, (1000, 0)));
 }
 
 /// Registers a timer, unregisters it and registers another one, and lets the pass go. How many operations the
@@ -211,15 +197,14 @@ fn push_and_leave<R: Wait>(rt: &R, mut pusher: Pusher) -> u32 {
 
 /// How many of these a new queue took, how many operations were drained after that, and how many timers were
 /// registered then.
-fn leave_in_new<R: Wait + Abort>(rt: &R, alloc: Global) -> Result<(u32, (u32, usize)), Fail> {
-    let (ops, mut pass) = Ops::new(alloc)?;
-    let pusher = Pusher::new(rt, &ops, &mut pass, moment(rt, 30))?;
+fn leave_in_new<R: Wait + Abort>(rt: &R, alloc: Global) -> (u32, (u32, usize)) {
+    let (ops, mut pass) = Ops::new(alloc).expect(rt, MEMORY);
+    let pusher = Pusher::new(rt, &ops, &mut pass, moment(rt, 30));
     let pushed = push_and_leave(rt, pusher);
-    Ok((pushed, Drainer::new(alloc, &ops, pass).ends(rt)))
+    (pushed, Drainer::new(alloc, &ops, pass).ends(rt))
 }
 
 #[test]
-fn what_a_pass_leaves_behind_is_applied_in_its_order(rt: HostRuntime) -> Result<(), Fail> {
-    same(&rt, leave_in_new(&rt, rt.alloc())?, (3, (3, 1)));
-    Ok(())
+fn what_a_pass_leaves_behind_is_applied_in_its_order(rt: HostRuntime) {
+    same(&rt, leave_in_new(&rt, rt.alloc()), (3, (3, 1)));
 }

@@ -1,18 +1,17 @@
 //! What no clause says: that owners, visits and joins go together, and that two owners fill their lists at once
 //! while others visit.
 
-ghost use Rattle.std.specs.Prelude.{◌≡◌, ◌∷◌, [], IfOk, OnOk};
+ghost use Rattle.std.specs.Prelude.{◌≡◌, ◌++◌, ◌∷◌, []};
 ghost use Rattle.std.specs.List.{range_with_len};
 ghost use Rattle.aio_rules.specs.SharedLock.{first_owner, second_owner};
 ghost use Rattle.aio_lock.specs.Tokens.{owner_of};
 
-use crate::asserts::{may_be_sent, may_be_shared, same};
-use aio_base::{Noted, OutOfMemory};
+use crate::asserts::{MEMORY, may_be_sent, may_be_shared, same};
+use aio_base::Noted;
 use aio_lock::{Lock, Owner};
 use std::alloc::Global;
 use std::process::Abort;
 use std::sync::Wait;
-use std::test::Fail;
 use std::thread::{Threads, join};
 
 /// Two lists, each of which is the note of its number.
@@ -40,40 +39,11 @@ impl Lists {
     }
 }
 
-/// Owner 0 takes the lists, adds a number to list 0, and gives them back.
-fn add_to_zero<R: Wait>(
-    rt: &R,
-    lock: &Lock<Lists>,
-    owner: &mut Owner,
-    number: u64,
-) -> Result<(), OutOfMemory>
-    requires { owner.old ≡ owner_of lock.now (first_owner []) }
-    ensures { OnOk result (owner.new ≡ owner_of lock.now (first_owner (number ∷ []))) }
+/// Adds a number to a list.
+fn add(rt: &impl Abort, list: &mut Vec<u64>, number: u64)
+    ensures { list.new.items ≡ list.old.items ++ number ∷ [] }
 {
-    let mut lists = lock.take(rt, owner);
-    if lists.zero.push(number).is_err() {
-        return Err(OutOfMemory);
-    }
-    lock.give(owner, lists);
-    Ok(())
-}
-
-/// The same of owner 1 and list 1.
-fn add_to_one<R: Wait>(
-    rt: &R,
-    lock: &Lock<Lists>,
-    owner: &mut Owner,
-    number: u64,
-) -> Result<(), OutOfMemory>
-    requires { owner.old ≡ owner_of lock.now (second_owner []) }
-    ensures { OnOk result (owner.new ≡ owner_of lock.now (second_owner (number ∷ []))) }
-{
-    let mut lists = lock.take(rt, owner);
-    if lists.one.push(number).is_err() {
-        return Err(OutOfMemory);
-    }
-    lock.give(owner, lists);
-    Ok(())
+    list.push(number).expect(rt, MEMORY);
 }
 
 /// Takes the value out for a visit, and puts it back.
@@ -84,28 +54,73 @@ fn visit_once<R: Wait>(rt: &R, lock: &Lock<Lists>) {
     lock.leave(visit, lists);
 }
 
-/// Has each owner of a lock add one number to its list, visits the lock after both, and takes the lists by both
-/// owners together.
-fn add_and_join<R: Wait>(
+/// Adds so many numbers from `first` on to list 0, by a take for each, with a visit after each. Whether it always
+/// found as many as it had added.
+#[tactic(auto, using(crate::proofs::Numbers::one_more))]
+fn fill_zero<R: Wait + Abort>(
     rt: &R,
     lock: &Lock<Lists>,
-    mut zero: Owner,
-    mut one: Owner,
-) -> Result<Lists, OutOfMemory>
+    mut owner: Owner,
+    first: u32,
+    times: u32,
+) -> (Owner, bool)
+    requires { owner ≡ owner_of lock.now (first_owner []) }
+    ensures { result.0 ≡ owner_of lock.now (first_owner (range_with_len first times)) }
+{
+    let mut kept = true;
+    let mut done = 0;
+    while done < times {
+        let mut lists = lock.take(rt, &mut owner);
+        kept = kept && lists.zero.len() == done as usize;
+        add(rt, &mut lists.zero, first as u64 + done as u64);
+        lock.give(&mut owner, lists);
+        done += 1;
+        visit_once(rt, lock);
+    }
+    (owner, kept)
+}
+
+/// The same of list 1.
+#[tactic(auto, using(crate::proofs::Numbers::one_more))]
+fn fill_one<R: Wait + Abort>(
+    rt: &R,
+    lock: &Lock<Lists>,
+    mut owner: Owner,
+    first: u32,
+    times: u32,
+) -> (Owner, bool)
+    requires { owner ≡ owner_of lock.now (second_owner []) }
+    ensures { result.0 ≡ owner_of lock.now (second_owner (range_with_len first times)) }
+{
+    let mut kept = true;
+    let mut done = 0;
+    while done < times {
+        let mut lists = lock.take(rt, &mut owner);
+        kept = kept && lists.one.len() == done as usize;
+        add(rt, &mut lists.one, first as u64 + done as u64);
+        lock.give(&mut owner, lists);
+        done += 1;
+        visit_once(rt, lock);
+    }
+    (owner, kept)
+}
+
+/// Has each owner of a lock add one number to its list, with a visit after each, and takes the lists by both
+/// owners together.
+fn add_and_join<R: Wait + Abort>(rt: &R, lock: &Lock<Lists>, zero: Owner, one: Owner) -> Lists
     requires zero { zero ≡ owner_of lock.now (first_owner []) }
     requires one { one ≡ owner_of lock.now (second_owner []) }
 {
-    add_to_zero(rt, lock, &mut zero, 7)?;
-    add_to_one(rt, lock, &mut one, 8)?;
-    visit_once(rt, lock);
+    let (mut zero, _) = fill_zero(rt, lock, zero, 7, 1);
+    let (one, _) = fill_one(rt, lock, one, 8, 1);
     lock.join(&mut zero, one);
     may_be_sent(&zero);
-    Ok(lock.take(rt, &mut zero))
+    lock.take(rt, &mut zero)
 }
 
 /// The same with a new lock of empty lists.
-fn add_to_new<R: Wait>(rt: &R, alloc: Global) -> Result<Lists, OutOfMemory> {
-    let (lock, mut zero, one) = Lock::vacant(alloc)?;
+fn add_to_new<R: Wait + Abort>(rt: &R, alloc: Global) -> Lists {
+    let (lock, mut zero, one) = Lock::vacant(alloc).expect(rt, MEMORY);
     lock.give(&mut zero, Lists::empty(alloc));
     add_and_join(rt, &lock, zero, one)
 }
@@ -117,125 +132,60 @@ fn assert_lists(rt: &impl Abort, lists: &Lists, zero: &[u64], one: &[u64]) {
 }
 
 #[test]
-fn each_owner_knows_its_list_and_a_visit_changes_none(rt: HostRuntime) -> Result<(), Fail> {
-    let lists = add_to_new(&rt, rt.alloc())?;
+fn each_owner_knows_its_list_and_a_visit_changes_none(rt: HostRuntime) {
+    let lists = add_to_new(&rt, rt.alloc());
     assert_lists(&rt, &lists, &[7], &[8]);
-    Ok(())
-}
-
-/// Adds so many numbers from `first` on to list 0, by a take for each, with a visit after each. Whether it always
-/// found as many as it had added.
-#[tactic(auto, using(crate::proofs::Numbers::one_more))]
-fn fill_zero<R: Wait>(
-    rt: &R,
-    lock: &Lock<Lists>,
-    mut owner: Owner,
-    first: u32,
-    times: u32,
-) -> Result<(Owner, bool), OutOfMemory>
-    requires { owner ≡ owner_of lock.now (first_owner []) }
-    ensures { IfOk result (λ end.
-        end.0 ≡ owner_of lock.now (first_owner (range_with_len first times))) }
-{
-    let mut kept = true;
-    let mut done = 0;
-    while done < times {
-        let mut lists = lock.take(rt, &mut owner);
-        kept = kept && lists.zero.len() == done as usize;
-        let pushed = lists.zero.push(first as u64 + done as u64);
-        lock.give(&mut owner, lists);
-        if pushed.is_err() {
-            return Err(OutOfMemory);
-        }
-        done += 1;
-        visit_once(rt, lock);
-    }
-    Ok((owner, kept))
-}
-
-/// The same of list 1.
-#[tactic(auto, using(crate::proofs::Numbers::one_more))]
-fn fill_one<R: Wait>(
-    rt: &R,
-    lock: &Lock<Lists>,
-    mut owner: Owner,
-    first: u32,
-    times: u32,
-) -> Result<(Owner, bool), OutOfMemory>
-    requires { owner ≡ owner_of lock.now (second_owner []) }
-    ensures { IfOk result (λ end.
-        end.0 ≡ owner_of lock.now (second_owner (range_with_len first times))) }
-{
-    let mut kept = true;
-    let mut done = 0;
-    while done < times {
-        let mut lists = lock.take(rt, &mut owner);
-        kept = kept && lists.one.len() == done as usize;
-        let pushed = lists.one.push(first as u64 + done as u64);
-        lock.give(&mut owner, lists);
-        if pushed.is_err() {
-            return Err(OutOfMemory);
-        }
-        done += 1;
-        visit_once(rt, lock);
-    }
-    Ok((owner, kept))
 }
 
 /// Two threads add 300 numbers each at once, from 0 and from 1,000 on. That both lists are whole at the end is a
 /// clause.
-fn fill_beside<R: Threads + Wait + Sync>(
+fn fill_beside<R: Threads + Wait + Sync + Abort>(
     rt: &R,
     shared: &Lock<Lists>,
     zero: Owner,
     one: Owner,
-) -> Result<(Lists, bool), OutOfMemory>
+) -> (Lists, bool)
     requires zero { zero ≡ owner_of shared.now (first_owner []) }
     requires one { one ≡ owner_of shared.now (second_owner []) }
-    ensures zero { IfOk result (λ end. end.0.zero.items ≡ range_with_len 0 300) }
-    ensures one { IfOk result (λ end. end.0.one.items ≡ range_with_len 1000 300) }
+    ensures zero { result.0.zero.items ≡ range_with_len 0 300 }
+    ensures one { result.0.one.items ≡ range_with_len 1000 300 }
 {
-    let (filled_zero, filled_one) = join(
+    let ((mut both, zero_kept), (one, one_kept)) = join(
         rt,
-        move || -> Result<(Owner, bool), OutOfMemory>
+        move || -> (Owner, bool)
             requires { zero ≡ owner_of shared.now (first_owner []) }
-            ensures { IfOk result (λ end. end.0
-                ≡ owner_of shared.entry.now (first_owner (range_with_len 0 300))) }
+            ensures { result.0 ≡ owner_of shared.entry.now (first_owner (range_with_len 0 300)) }
         { fill_zero(rt, shared, zero, 0, 300) },
-        move || -> Result<(Owner, bool), OutOfMemory>
+        move || -> (Owner, bool)
             requires { one ≡ owner_of shared.now (second_owner []) }
-            ensures { IfOk result (λ end. end.0
-                ≡ owner_of shared.entry.now (second_owner (range_with_len 1000 300))) }
+            ensures { result.0 ≡ owner_of shared.entry.now (second_owner (range_with_len 1000 300)) }
         { fill_one(rt, shared, one, 1000, 300) },
     );
-    let (mut both, zero_kept) = filled_zero?;
-    let (one, one_kept) = filled_one?;
     shared.join(&mut both, one);
-    Ok((shared.take(rt, &mut both), zero_kept && one_kept))
+    (shared.take(rt, &mut both), zero_kept && one_kept)
 }
 
 /// The same with a new lock of empty lists.
-fn fill_new<R: Threads + Wait + Sync>(rt: &R, alloc: Global) -> Result<(Lists, bool), OutOfMemory> {
-    let (lock, mut zero, one) = Lock::vacant(alloc)?;
+fn fill_new<R: Threads + Wait + Sync + Abort>(rt: &R, alloc: Global) -> (Lists, bool) {
+    let (lock, mut zero, one) = Lock::vacant(alloc).expect(rt, MEMORY);
     lock.give(&mut zero, Lists::empty(alloc));
     fill_beside(rt, &lock, zero, one)
 }
 
 /// So many numbers from `first` on.
-fn numbers(alloc: Global, first: u64, times: u64) -> Result<Vec<u64>, Fail> {
+fn numbers(rt: &impl Abort, alloc: Global, first: u64, times: u64) -> Vec<u64> {
     let mut all = Vec::new(alloc);
     for number in 0..times {
-        all.push(first.saturating_add(number))?;
+        add(rt, &mut all, first.saturating_add(number));
     }
-    Ok(all)
+    all
 }
 
 #[test]
-fn two_owners_each_find_their_300_numbers_in_order(rt: HostRuntime) -> Result<(), Fail> {
-    let zero = numbers(rt.alloc(), 0, 300)?;
-    let one = numbers(rt.alloc(), 1000, 300)?;
-    let (lists, kept) = fill_new(&rt, rt.alloc())?;
+fn two_owners_each_find_their_300_numbers_in_order(rt: HostRuntime) {
+    let zero = numbers(&rt, rt.alloc(), 0, 300);
+    let one = numbers(&rt, rt.alloc(), 1000, 300);
+    let (lists, kept) = fill_new(&rt, rt.alloc());
     same(&rt, kept, true);
     assert_lists(&rt, &lists, zero.as_slice(), one.as_slice());
-    Ok(())
 }

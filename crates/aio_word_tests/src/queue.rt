@@ -1,15 +1,14 @@
 //! What no clause says: that calls succeed while there is room, and the queue on two threads.
 
-ghost use Rattle.std.specs.Prelude.{◌≡◌, IfOk};
+ghost use Rattle.std.specs.Prelude.{◌≡◌};
 
-use crate::asserts::{may_be_sent, may_be_shared, moment, same, same_in};
+use crate::asserts::{MEMORY, may_be_sent, may_be_shared, moment, same, same_in};
 use aio_base::{Moment, OutOfMemory, TimerId, Waker};
-use aio_ops::{OpPass, Ops, PassRefusal};
+use aio_ops::{OpPass, Ops};
 use aio_timers::{TimerBook, TimerOp};
 use std::alloc::Global;
 use std::process::Abort;
 use std::sync::Wait;
-use std::test::Fail;
 use std::thread::{Threads, join};
 
 /// Registers a timer.
@@ -134,14 +133,14 @@ fn drain_into<R: Wait>(rt: &R, ops: &Ops, p: &mut OpPass, book: &mut TimerBook) 
 
 impl Drainer {
     /// A new queue, and an empty book.
-    fn new(alloc: Global, at: Moment) -> Result<Drainer, OutOfMemory> {
-        let (ops, pass) = Ops::new(alloc)?;
-        Ok(Drainer {
+    fn new(rt: &impl Abort, alloc: Global, at: Moment) -> Drainer {
+        let (ops, pass) = Ops::new(alloc).expect(rt, MEMORY);
+        Drainer {
             ops,
             pass,
             book: TimerBook::new(alloc),
             at,
-        })
+        }
     }
 
     /// Does this.
@@ -170,11 +169,11 @@ impl Drainer {
     }
 
     /// A pass for another thread.
-    fn another<R: Wait>(&mut self, rt: &R) -> Result<OpPass, PassRefusal>
+    fn another<R: Wait + Abort>(&mut self, rt: &R) -> OpPass
         ensures ops { self.new.ops ≡ self.old.ops }
-        ensures belongs { IfOk result (λ p. p.queue ≡ self.new.ops) }
+        ensures belongs { result.queue ≡ self.new.ops }
     {
-        self.ops.pass(rt, &mut self.pass)
+        self.ops.pass(rt, &mut self.pass).expect(rt, "a pass")
     }
 }
 
@@ -228,18 +227,15 @@ const ROWS: &[Row] = &[
 ];
 
 /// The number of one more pass of a queue.
-fn next_number<R: Wait>(rt: &R, drainer: &mut Drainer) -> Option<u32> {
-    match drainer.another(rt) {
-        Ok(pass) => Some(pass.number()),
-        Err(_) => None,
-    }
+fn next_number<R: Wait + Abort>(rt: &R, drainer: &mut Drainer) -> u32 {
+    drainer.another(rt).number()
 }
 
 /// Asserts the numbers of the first three passes of a queue, and that a further one can be made.
 fn numbers_passes<R: Wait + Abort>(rt: &R, drainer: &mut Drainer) {
     same(rt, drainer.pass.number(), 0);
-    same(rt, next_number(rt, drainer), Some(1));
-    same(rt, next_number(rt, drainer), Some(2));
+    same(rt, next_number(rt, drainer), 1);
+    same(rt, next_number(rt, drainer), 2);
     same(rt, drainer.pass.is_spent(), false);
 }
 
@@ -273,13 +269,10 @@ fn push_on_two_threads<R: Threads + Wait + Sync>(
 }
 
 /// The same by two passes of this queue.
-fn push_beside<R: Threads + Wait + Sync>(
-    rt: &R,
-    drainer: &mut Drainer,
-) -> Result<(u32, u32), PassRefusal> {
-    let one = drainer.another(rt)?;
-    let other = drainer.another(rt)?;
-    Ok(push_on_two_threads(rt, &drainer.ops, one, other, drainer.at))
+fn push_beside<R: Threads + Wait + Sync + Abort>(rt: &R, drainer: &mut Drainer) -> (u32, u32) {
+    let one = drainer.another(rt);
+    let other = drainer.another(rt);
+    push_on_two_threads(rt, &drainer.ops, one, other, drainer.at)
 }
 
 const ALL_OF_BOTH: Row = Row {
@@ -307,40 +300,34 @@ fn at<R: Threads + Wait + Sync + Abort>(rt: &R, drainer: &mut Drainer, deed: Dee
         Deed::Play(row) => drainer.plays(rt, row),
         Deed::NumberPasses => numbers_passes(rt, drainer),
         Deed::PushBeside => {
-            same(rt, push_beside(rt, drainer), Ok((400, 400)));
+            same(rt, push_beside(rt, drainer), (400, 400));
             drainer.plays(rt, &ALL_OF_BOTH);
         }
     }
 }
 
 /// The same with a new queue, which may be shared, and of which a pass may be sent.
-fn at_new<R: Threads + Wait + Sync + Abort>(
-    rt: &R,
-    alloc: Global,
-    deed: Deed<'_>,
-) -> Result<(), Fail> {
-    let mut drainer = Drainer::new(alloc, moment(rt, 30))?;
+fn at_new<R: Threads + Wait + Sync + Abort>(rt: &R, alloc: Global, deed: Deed<'_>) {
+    let mut drainer = Drainer::new(rt, alloc, moment(rt, 30));
     may_be_shared(&drainer.ops);
     may_be_sent(&drainer.pass);
     at(rt, &mut drainer, deed);
     drop(drainer);
-    Ok(())
 }
 
 #[test]
-fn each_operation_is_applied_once_in_its_order(rt: HostRuntime) -> Result<(), Fail> {
+fn each_operation_is_applied_once_in_its_order(rt: HostRuntime) {
     for row in ROWS {
-        at_new(&rt, rt.alloc(), Deed::Play(row))?;
+        at_new(&rt, rt.alloc(), Deed::Play(row));
     }
-    Ok(())
 }
 
 #[test]
-fn passes_are_numbered_in_the_order_in_which_they_are_made(rt: HostRuntime) -> Result<(), Fail> {
-    at_new(&rt, rt.alloc(), Deed::NumberPasses)
+fn passes_are_numbered_in_the_order_in_which_they_are_made(rt: HostRuntime) {
+    at_new(&rt, rt.alloc(), Deed::NumberPasses);
 }
 
 #[test]
-fn what_two_threads_push_is_drained_once(rt: HostRuntime) -> Result<(), Fail> {
-    at_new(&rt, rt.alloc(), Deed::PushBeside)
+fn what_two_threads_push_is_drained_once(rt: HostRuntime) {
+    at_new(&rt, rt.alloc(), Deed::PushBeside);
 }

@@ -6,13 +6,13 @@ ghost use Rattle.std.specs.Thread.{IsSync};
 ghost use Rattle.aio_rules.specs.SharedLock.{first_owner, second_owner, took_out};
 ghost use Rattle.aio_lock.specs.Tokens.{owner_of};
 
-use crate::asserts::same;
-use aio_base::{Noted, OutOfMemory};
+use crate::asserts::{MEMORY, same};
+use aio_base::Noted;
 use aio_lock::{Lock, Owner};
 use std::alloc::Global;
+use std::process::Abort;
 use std::sync::Wait;
 use std::sync::atomic::{AtomicU64, Ordering};
-use std::test::Fail;
 use std::thread::{Threads, join, sleep};
 use std::time::{Clock, Duration};
 
@@ -121,12 +121,12 @@ fn pause<R: Wait + Clock>(rt: &R, trial: Trial) {
 }
 
 /// Some wait for the value, which another thread gives after a while. How often it was taken.
-fn wait_beside_a_give<R: Threads + Wait + Clock + Sync>(
+fn wait_beside_a_give<R: Threads + Wait + Clock + Sync + Abort>(
     rt: &R,
     alloc: Global,
     trial: Trial,
-) -> Result<u64, OutOfMemory> {
-    let (lock, first, second) = Lock::vacant(alloc)?;
+) -> u64 {
+    let (lock, first, second) = Lock::vacant(alloc).expect(rt, MEMORY);
     let shared = &lock;
     join(
         rt,
@@ -142,24 +142,22 @@ fn wait_beside_a_give<R: Threads + Wait + Clock + Sync>(
     );
     let taken = count_in(rt, &lock);
     drop(lock);
-    Ok(taken)
+    taken
 }
 
 #[test]
-fn a_take_ends_by_one_give_whenever_that_comes(rt: HostRuntime) -> Result<(), Fail> {
+fn a_take_ends_by_one_give_whenever_that_comes(rt: HostRuntime) {
     for step in 0..100 {
-        let taken = wait_beside_a_give(&rt, rt.alloc(), Trial::One(step * 300))?;
+        let taken = wait_beside_a_give(&rt, rt.alloc(), Trial::One(step * 300));
         same(&rt, taken, 1);
     }
-    Ok(())
 }
 
 // The longer the pause, the surer all three sleep when the one give comes. Each of them calls the next.
 #[test]
-fn three_that_wait_all_take_it_after_one_give(rt: HostRuntime) -> Result<(), Fail> {
+fn three_that_wait_all_take_it_after_one_give(rt: HostRuntime) {
     for step in 0..25 {
-        let taken = wait_beside_a_give(&rt, rt.alloc(), Trial::Three(step * 400))?;
+        let taken = wait_beside_a_give(&rt, rt.alloc(), Trial::Three(step * 400));
         same(&rt, taken, 3);
     }
-    Ok(())
 }

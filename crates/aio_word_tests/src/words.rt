@@ -5,15 +5,14 @@ ghost use Rattle.std.specs.Thread.{IsSync};
 ghost use Rattle.aio_rules.specs.declared.seats.Mode.TheVariants as mode;
 ghost use Rattle.aio_words.specs.Seats.{Belongs};
 
-use crate::asserts::{may_be_sent, may_be_shared, same, same_in};
-use aio_base::{CountFault, Notify, OutOfMemory, Waker};
+use crate::asserts::{MEMORY, may_be_sent, may_be_shared, same, same_in};
+use aio_base::{CountFault, Notify, Waker};
 use aio_devices::{FailingNotify, MemNotify};
 use aio_words::{Pass, RoundSeat, Words};
 use std::alloc::Global;
 use std::process::Abort;
 use std::sync::Wait;
 use std::sync::atomic::{AtomicU64, Ordering};
-use std::test::Fail;
 use std::thread;
 use std::thread::{Threads, join};
 
@@ -71,19 +70,16 @@ enum Came {
 }
 
 /// What came, as it is compared: which it is, and its numbers.
-fn told(came: Came) -> (&'static str, [u64; 6]) {
+fn told(came: Came) -> (&'static str, [u64; 2], [u64; 4]) {
     match came {
-        Came::Taken(masks, calls) => ("taken", [masks[0], masks[1], calls, 0, 0, 0]),
-        Came::Found(calls, mask) => ("found", [calls, mask, 0, 0, 0, 0]),
-        Came::Told(calls) => ("told", [calls[0], calls[1], calls[2], calls[3], 0, 0]),
-        Came::Untold(fault, mask) => ("untold", [fault.before, fault.after, mask, 0, 0, 0]),
-        Came::Begun(rounds, seen) => (
-            "begun",
-            [rounds[0], rounds[1], seen[0], seen[1], seen[2], seen[3]],
-        ),
-        Came::Parked(mask) => ("parked", [mask, 0, 0, 0, 0, 0]),
-        Came::Gathered(rounds) => ("gathered", [rounds, 0, 0, 0, 0, 0]),
-        Came::Other => ("other", [0; 6]),
+        Came::Taken(masks, calls) => ("taken", masks, [calls, 0, 0, 0]),
+        Came::Found(calls, mask) => ("found", [calls, mask], [0; 4]),
+        Came::Told(calls) => ("told", [0; 2], calls),
+        Came::Untold(fault, mask) => ("untold", [fault.before, fault.after], [mask, 0, 0, 0]),
+        Came::Begun(rounds, seen) => ("begun", rounds, seen),
+        Came::Parked(mask) => ("parked", [mask, 0], [0; 4]),
+        Came::Gathered(rounds) => ("gathered", [rounds, 0], [0; 4]),
+        Came::Other => ("other", [0; 2], [0; 4]),
     }
 }
 
@@ -405,16 +401,12 @@ fn tried<R: Threads + Wait + Sync>(
 }
 
 /// Does this at new words of two parkers.
-fn try_anew<R: Threads + Wait + Sync>(
-    rt: &R,
-    alloc: Global,
-    trial: Trial,
-) -> Result<Came, OutOfMemory> {
-    let (words, mut seat, mut pass) = Words::new(alloc, 2)?;
+fn try_anew<R: Threads + Wait + Sync + Abort>(rt: &R, alloc: Global, trial: Trial) -> Came {
+    let (words, mut seat, mut pass) = Words::new(alloc, 2).expect(rt, MEMORY);
     may_be_shared(&words);
     may_be_sent(&seat);
     may_be_sent(&pass);
-    Ok(tried(rt, &words, &mut seat, &mut pass, trial))
+    tried(rt, &words, &mut seat, &mut pass, trial)
 }
 
 /// What is tried at new words of two parkers, and what comes of it.
@@ -468,30 +460,27 @@ const ROWS: [Row; 8] = [
 ];
 
 /// Asserts what comes of it at new words of two parkers.
-fn plays<R: Threads + Wait + Sync + Abort>(rt: &R, alloc: Global, row: &Row) -> Result<(), Fail> {
-    let came = try_anew(rt, alloc, row.trial)?;
+fn plays<R: Threads + Wait + Sync + Abort>(rt: &R, alloc: Global, row: &Row) {
+    let came = try_anew(rt, alloc, row.trial);
     same_in(rt, row.shows, told(came), told(row.came));
-    Ok(())
 }
 
 #[test]
-fn wakes_come_once_to_waits_and_parks(rt: HostRuntime) -> Result<(), Fail> {
+fn wakes_come_once_to_waits_and_parks(rt: HostRuntime) {
     for row in &ROWS {
-        plays(&rt, rt.alloc(), row)?;
+        plays(&rt, rt.alloc(), row);
     }
-    Ok(())
 }
 
 /// What the wakes of slots 0 and 63 of the one parker and of a slot behind it leave in new words.
-fn woken_at_one(alloc: Global) -> Result<(bool, u64), OutOfMemory> {
-    let (words, _seat, mut pass) = Words::new(alloc, 1)?;
+fn woken_at_one(rt: &impl Abort, alloc: Global) -> (bool, u64) {
+    let (words, _seat, mut pass) = Words::new(alloc, 1).expect(rt, MEMORY);
     let mut notifier = MemNotify::new();
     let told = wake_each(&words, &mut pass, &[0, 64, 63], &mut notifier);
-    Ok((told, words.take(&mut pass, 0)))
+    (told, words.take(&mut pass, 0))
 }
 
 #[test]
-fn words_of_one_parker_have_64_slots(rt: HostRuntime) -> Result<(), Fail> {
-    same(&rt, woken_at_one(rt.alloc())?, (true, 1 | 1 << 63));
-    Ok(())
+fn words_of_one_parker_have_64_slots(rt: HostRuntime) {
+    same(&rt, woken_at_one(&rt, rt.alloc()), (true, 1 | 1 << 63));
 }
