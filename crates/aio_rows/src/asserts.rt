@@ -13,11 +13,11 @@ pub(crate) fn same<T: Debug + Drop + PartialEq>(rt: &impl Abort, found: T, wante
 }
 
 /// Asserts the same of one row of a table, which is told where the two differ.
-pub(crate) fn same_in<T: Debug + Drop + PartialEq, U: Debug + Drop>(
+pub(crate) fn same_in<T: Debug + Drop + PartialEq, U: Copy + Debug + PartialEq>(
     rt: &impl Abort,
     row: U,
     found: T,
     wanted: T,
 ) {
-    assert_eq!(rt; found, wanted, "in the row {row:?}");
+    same(rt, (row, found), (row, wanted));
 }

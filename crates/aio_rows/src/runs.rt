@@ -145,7 +145,12 @@ fn texts_of(rt: &impl Abort, alloc: Global, words: &[&str]) -> Vec<String> {
 pub(crate) type Wrote<'a> = (&'a [u8], &'a [u8], u8);
 
 /// Asserts what a call wrote and told, and its exit status, naming what it was a call of where they differ.
-pub(crate) fn assert_ran<T: Debug + Drop>(rt: &impl Abort, ran: &Ran, wanted: Wrote<'_>, of: T) {
+pub(crate) fn assert_ran<T: Copy + Debug + PartialEq>(
+    rt: &impl Abort,
+    ran: &Ran,
+    wanted: Wrote<'_>,
+    of: T,
+) {
     let wrote = (ran.out.bytes(), ran.err.bytes(), ran.status.exit);
     same_in(rt, of, wrote, wanted);
 }
