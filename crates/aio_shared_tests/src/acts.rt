@@ -1,8 +1,10 @@
 //! What a thread does with a reactor, and what comes of it, as the rows of a table say both.
 
+use crate::asserts::same_in;
 use aio_base::{CountFault, Dir, OutOfMemory, Poll, TimerId};
 use aio_react::InsertRefusal;
 use aio_shared::{PollFault, ReactFault, ReactedIn};
+use std::process::Abort;
 
 /// What polls of a source answer.
 pub(crate) type Answer = Poll<Result<(), PollFault>>;
@@ -47,7 +49,7 @@ pub(crate) enum Act {
 }
 
 /// What comes of it.
-#[derive(Clone, Copy, Debug, PartialEq)]
+#[derive(Clone, Copy)]
 pub(crate) enum Came {
     /// A timer was registered under this id.
     Id(u64),
@@ -75,9 +77,40 @@ pub(crate) enum Came {
     Other,
 }
 
+/// Which it is that came, its numbers, and what failed or was refused.
+pub(crate) type Told = (&'static str, [u64; 3], Option<ReactFault>);
+
+/// What came, as it is compared.
+pub(crate) fn told(came: Came) -> Told {
+    match came {
+        Came::Id(id) => ("id", [id, 0, 0], None),
+        Came::Refused(InsertRefusal::OutOfMemory) => {
+            ("refused", [0; 3], Some(ReactFault::OutOfMemory))
+        }
+        Came::Refused(InsertRefusal::Notify { id, fault }) => {
+            ("refused", [id.0, 0, 0], Some(ReactFault::Notify(fault)))
+        }
+        Came::Done => ("done", [0; 3], None),
+        Came::Rounds(rounds) => ("rounds", [rounds, 0, 0], None),
+        Came::Times(times) => ("times", [times as u64, 0, 0], None),
+        Came::Pending => ("pending", [0; 3], None),
+        Came::Replaced(PollFault::Arm(fault)) => {
+            ("replaced", [0; 3], Some(ReactFault::Arm(fault)))
+        }
+        Came::Replaced(PollFault::Notify(fault)) => {
+            ("replaced", [0; 3], Some(ReactFault::Notify(fault)))
+        }
+        Came::Round(events, woken) => ("round", [events as u64, woken, 0], None),
+        Came::Failed(fault) => ("failed", [0; 3], Some(fault)),
+        Came::Mask(mask) => ("mask", [mask, 0, 0], None),
+        Came::Cell(waits, idle, rounds) => ("cell", [waits, idle as u64, rounds], None),
+        Came::Other => ("other", [0; 3], None),
+    }
+}
+
 impl Came {
     /// Whether memory ran out in an act of which this was wanted: it says so, or fewer of its calls came.
-    pub(crate) fn falls_short(self, wanted: Came) -> bool {
+    fn falls_short(self, wanted: Came) -> bool {
         match self {
             Came::Failed(ReactFault::OutOfMemory) => true,
             Came::Refused(InsertRefusal::OutOfMemory) => true,
@@ -88,6 +121,15 @@ impl Came {
             _ => false,
         }
     }
+}
+
+/// Asserts that what came in a row of a table is what was wanted. Where memory ran out, that is what the test ends
+/// with, and nothing is compared.
+pub(crate) fn comes_in(rt: &impl Abort, row: &str, came: Came, wanted: Came) {
+    if came.falls_short(wanted) {
+        rt.panic("memory ran out, or an act gave up early");
+    }
+    same_in(rt, row, told(came), told(wanted));
 }
 
 /// A thread with a source of its own in a new reactor: what it does, and what comes of each act.

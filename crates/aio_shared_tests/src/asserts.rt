@@ -4,6 +4,12 @@
 use std::fmt::Debug;
 use std::process::Abort;
 
+/// What a test needs that allocates.
+pub(crate) const MEMORY: &str = "memory is left";
+
+/// What a test needs whose sources join.
+pub(crate) const ROOM: &str = "there is room and memory for a source";
+
 /// Asserts that what was found is what was wanted.
 pub(crate) fn same<T: Debug + Drop + PartialEq>(rt: &impl Abort, found: T, wanted: T) {
     assert_eq!(rt; found, wanted);
@@ -16,7 +22,7 @@ pub(crate) fn same_in<T: Debug + Drop + PartialEq>(
     found: T,
     wanted: T,
 ) {
-    assert_eq!(rt; found, wanted, "in the row: {row}");
+    same(rt, (row, found), (row, wanted));
 }
 
 /// Takes a type of which threads may share a value.

@@ -5,16 +5,16 @@
 use crate::acts::Act::{InsertTimes, Listen, Look, Poll, React, ReactAgain, Take};
 use crate::acts::Came::{Cell, Mask, Pending, Round, Times};
 use crate::acts::Row;
-use crate::owners::plays;
+use crate::owners::{plays_each, plays_over};
 use crate::scripts::{give, one_by_one};
 use aio_base::{Dir, Interest};
-use aio_devices::{MemNotify, MemWait, ScriptedWait, SureArm};
+use aio_devices::ScriptedWait;
 use std::alloc::Global;
-use std::test::Fail;
+use std::process::Abort;
 
 /// The first key of each round, of how many keys there are events, and in which directions: three floods of
 /// keys which no source has, and then the first source.
-const FLOODS: [(u32, u32, Interest); 4] = [
+const FLOODS: &[(u32, u32, Interest)] = &[
     (1, 1024, Interest::BOTH),
     (4096, 1024, Interest::BOTH),
     (u32::MAX - 1023, 1024, Interest::BOTH),
@@ -22,12 +22,12 @@ const FLOODS: [(u32, u32, Interest); 4] = [
 ];
 
 /// A wait that gives these events.
-fn floods(alloc: Global) -> Result<ScriptedWait, Fail> {
+fn floods(rt: &impl Abort, alloc: Global) -> ScriptedWait {
     let mut answers = Vec::new(alloc);
     for (first, count, on) in FLOODS {
-        give(alloc, &mut answers, first, count, on)?;
+        give(rt, alloc, &mut answers, (*first, *count), *on);
     }
-    Ok(ScriptedWait::new(answers))
+    ScriptedWait::new(answers)
 }
 
 const AFTER_FLOODS: Row = Row {
@@ -46,9 +46,9 @@ const AFTER_FLOODS: Row = Row {
 };
 
 #[test]
-fn an_event_after_three_floods_of_strangers_wakes_its_task(rt: HostRuntime) -> Result<(), Fail> {
-    let devices = (MemNotify::new(), SureArm::new(7), floods(rt.alloc())?);
-    plays(&rt, rt.alloc(), devices, &AFTER_FLOODS)
+fn an_event_after_three_floods_of_strangers_wakes_its_task(rt: HostRuntime) {
+    let wait = floods(&rt, rt.alloc());
+    plays_over(&rt, rt.alloc(), wait, &AFTER_FLOODS);
 }
 
 // Whether memory is there for the waker, the run of the test decides.
@@ -64,10 +64,9 @@ const IN_HAND: Row = Row {
 };
 
 #[test]
-fn one_event_in_hand_is_handled_by_this_call_or_the_next(rt: HostRuntime) -> Result<(), Fail> {
-    let wait = one_by_one(rt.alloc(), &[0], Interest::READ)?;
-    let devices = (MemNotify::new(), SureArm::new(7), wait);
-    plays(&rt, rt.alloc(), devices, &IN_HAND)
+fn one_event_in_hand_is_handled_by_this_call_or_the_next(rt: HostRuntime) {
+    let wait = one_by_one(&rt, rt.alloc(), &[0], Interest::READ);
+    plays_over(&rt, rt.alloc(), wait, &IN_HAND);
 }
 
 /// More timers and more listeners than a number of 16 bits counts.
@@ -95,15 +94,6 @@ const MANY: &[Row] = &[
 ];
 
 #[test]
-fn timers_and_listeners_are_as_many_as_memory_holds(rt: HostRuntime) -> Result<(), Fail> {
-    for row in MANY {
-        let wait = MemWait::new(row.keys.min(1024));
-        plays(
-            &rt,
-            rt.alloc(),
-            (MemNotify::new(), SureArm::new(7), wait),
-            row,
-        )?;
-    }
-    Ok(())
+fn timers_and_listeners_are_as_many_as_memory_holds(rt: HostRuntime) {
+    plays_each(&rt, rt.alloc(), MANY);
 }

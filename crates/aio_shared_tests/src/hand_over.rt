@@ -10,12 +10,12 @@ use crate::acts::FIRST_FAULT;
 use crate::asserts::same;
 use crate::hosts::enter_inside;
 use crate::seats::{unblock_first, waits_for_first};
-use aio_base::{Arm, CountFault, EventWait, Notify, OutOfMemory};
+use aio_base::{Arm, CountFault, EventWait, Notify};
 use aio_devices::{FailingNotify, MemWait, SureArm};
 use aio_shared::{Inside, Member, RoundCell, Shared};
 use std::alloc::Global;
+use std::process::Abort;
 use std::sync::Wait;
-use std::test::Fail;
 
 /// A way into a reactor whose notifier fails.
 type Untold<R> = Inside<R, FailingNotify, SureArm, MemWait>;
@@ -88,24 +88,20 @@ fn found<R: Wait, N: Notify, A: Arm, W: EventWait>(
 }
 
 /// The same in a new reactor of three parkers.
-fn found_in_new<R: Wait + Copy>(
+fn found_in_new<R: Wait + Abort + Copy>(
     rt: R,
     alloc: Global,
-) -> Result<([[u64; 3]; 3], Option<Result<(), CountFault>>), OutOfMemory> {
+) -> ([[u64; 3]; 3], Option<Result<(), CountFault>>) {
     let devices = (MemWait::new(0), FailingNotify::new());
-    let mut host: Untold<R> = enter_inside(rt, alloc, 3, devices)?;
+    let mut host: Untold<R> = enter_inside(rt, alloc, 3, devices);
     let found = found(&mut host);
     drop(host);
-    Ok(found)
+    found
 }
 
 #[test]
-fn a_thread_wakes_the_other_parkers_or_all_slots_though_it_cannot_tell(
-    rt: HostRuntime,
-) -> Result<(), Fail> {
-    let (masks, told) = found_in_new(&rt, rt.alloc())?;
+fn a_thread_wakes_the_other_parkers_or_all_slots_though_it_cannot_tell(rt: HostRuntime) {
     let wanted = [[1, 0, 1], [u64::MAX; 3], [u64::MAX; 3]];
-    same(&rt, masks.as_slice(), wanted.as_slice());
-    same(&rt, told, Some(Err(FIRST_FAULT)));
-    Ok(())
+    let found = found_in_new(&rt, rt.alloc());
+    same(&rt, found, (wanted, Some(Err(FIRST_FAULT))));
 }

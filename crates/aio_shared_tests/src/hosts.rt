@@ -1,15 +1,17 @@
 //! A thread's way into a reactor, as these tests use it.
 
-ghost use Rattle.std.specs.Prelude.{◌≡◌, ◌<◌, ◌≤◌, IfOk};
+ghost use Rattle.std.specs.Prelude.{◌≡◌, ◌<◌, ◌≤◌};
 ghost use Rattle.aio_shared.specs.Cells.{IsIdle};
 ghost use Rattle.aio_shared.specs.OneCell.{IsCellOf};
 
 use crate::acts::{Came, resumed};
+use crate::asserts::MEMORY;
 use aio_base::{Arm, CountFault, EventWait, Moment, Notify, OutOfMemory, TimerId, Waker};
 use aio_devices::{MemClock, MemNotify, SureArm, clock_at};
 use aio_react::{Host, InsertRefusal, TimerHost};
 use aio_shared::{Inside, ReactFault, ReactedIn, RoundCell, Shared};
 use std::alloc::Global;
+use std::process::Abort;
 use std::sync::{Arc, Wait};
 
 /// A thread's way into a reactor that has a parker, and its clock.
@@ -26,82 +28,70 @@ pub(crate) struct Caller<R: Wait, N: Notify, A: Arm, W: EventWait> {
 pub(crate) type Quiet<R, W> = Caller<R, MemNotify, SureArm, W>;
 
 /// A clock that stands at so many nanoseconds.
-fn clock(alloc: Global, now: u64) -> Result<MemClock, OutOfMemory> {
-    let Some(now) = Moment::new(now) else {
-        return Err(OutOfMemory);
-    };
-    match clock_at(alloc, now) {
-        Ok(clock) => Ok(clock),
-        Err(_) => Err(OutOfMemory),
-    }
+fn clock(rt: &impl Abort, alloc: Global, now: u64) -> MemClock {
+    let now = Moment::new(now).expect(rt, "a moment");
+    clock_at(alloc, now).expect(rt, MEMORY)
 }
 
 /// The first way into a new reactor of so many parkers over this wait, with this notifier.
-pub(crate) fn enter_inside<R: Wait + Copy, N: Notify + Drop, A: Arm + Drop, W: EventWait + Drop>(
-    rt: R,
-    alloc: Global,
-    parkers: u32,
-    devices: (W, N),
-) -> Result<Inside<R, N, A, W>, OutOfMemory>
+pub(crate) fn enter_inside<
+    R: Wait + Abort + Copy,
+    N: Notify + Drop,
+    A: Arm + Drop,
+    W: EventWait + Drop,
+>(rt: R, alloc: Global, parkers: u32, devices: (W, N)) -> Inside<R, N, A, W>
     requires { (1 ≤ parkers) × (parkers ≤ 16) }
-    ensures number { IfOk result (λ host. host.member.ops.number ≡ 0) }
-    ensures parkers { IfOk result (λ host. host.shared.words.parkers ≡ parkers) }
+    ensures number { result.member.ops.number ≡ 0 }
+    ensures parkers { result.shared.words.parkers ≡ parkers }
 {
     let (wait, notifier) = devices;
-    let Ok((shared, member)) = Shared::new(alloc, parkers, wait, notifier) else {
-        return Err(OutOfMemory);
-    };
-    let Ok(shared) = Arc::new(alloc, shared) else {
-        drop(member);
-        return Err(OutOfMemory);
-    };
-    Ok(Inside { rt, shared, member })
+    match Shared::new(alloc, parkers, wait, notifier) {
+        Ok((shared, member)) => match Arc::new(alloc, shared) {
+            Ok(shared) => Inside { rt, shared, member },
+            Err(_) => rt.panic(MEMORY),
+        },
+        Err(_) => rt.panic(MEMORY),
+    }
 }
 
 /// The same with a clock at this moment.
-pub(crate) fn enter<R: Wait + Copy, N: Notify + Drop, A: Arm + Drop, W: EventWait + Drop>(
+pub(crate) fn enter<R: Wait + Abort + Copy, N: Notify + Drop, A: Arm + Drop, W: EventWait + Drop>(
     rt: R,
     alloc: Global,
     parkers: u32,
     devices: (W, N),
     now: u64,
-) -> Result<Caller<R, N, A, W>, OutOfMemory>
+) -> Caller<R, N, A, W>
     requires { (1 ≤ parkers) × (parkers ≤ 16) }
-    ensures number { IfOk result (λ made. made.host.member.ops.number ≡ 0) }
-    ensures parkers { IfOk result (λ made. made.host.shared.words.parkers ≡ parkers) }
+    ensures number { result.host.member.ops.number ≡ 0 }
+    ensures parkers { result.host.shared.words.parkers ≡ parkers }
 {
-    let host = enter_inside(rt, alloc, parkers, devices)?;
-    let Ok(clock) = clock(alloc, now) else {
-        drop(host);
-        return Err(OutOfMemory);
-    };
-    Ok(Caller { host, clock })
+    let clock = clock(&rt, alloc, now);
+    let host = enter_inside(rt, alloc, parkers, devices);
+    Caller { host, clock }
 }
 
 /// The way of another thread into the same reactor, by the first one, with a clock at this moment.
-pub(crate) fn another<R: Wait + Copy, N: Notify + Drop, A: Arm + Drop, W: EventWait + Drop>(
+pub(crate) fn another<R: Wait + Abort + Copy, N: Notify + Drop, A: Arm + Drop, W: EventWait + Drop>(
     first: &mut Caller<R, N, A, W>,
     alloc: Global,
     now: u64,
-) -> Result<Caller<R, N, A, W>, OutOfMemory>
+) -> Caller<R, N, A, W>
     requires { first.old.host.member.ops.number ≡ 0 }
     ensures { first.new.host.member.ops.number ≡ 0 }
 {
-    let clock = clock(alloc, now)?;
     let rt = first.host.rt;
+    let clock = clock(&rt, alloc, now);
     let Ok(member) = first.host.shared.member(&rt, &mut first.host.member) else {
-        drop(clock);
-        return Err(OutOfMemory);
+        rt.panic(MEMORY)
     };
     let Ok(shared) = Arc::try_clone(&first.host.shared) else {
-        drop(member);
-        drop(clock);
-        return Err(OutOfMemory);
+        rt.panic(MEMORY)
     };
-    Ok(Caller {
+    Caller {
         host: Inside { rt, shared, member },
         clock,
-    })
+    }
 }
 
 /// Registers a timer, where an id is left. Where none is, the answer is that of a host without memory.

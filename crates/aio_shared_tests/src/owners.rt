@@ -2,19 +2,18 @@
 
 ghost use Rattle.std.specs.Prelude.{◌≡◌, ◌<◌, false};
 
-use crate::acts::{Act, Came, Row, inserted, polled, removed, woken};
-use crate::asserts::same_in;
+use crate::acts::{Act, Came, Row, comes_in, inserted, polled, removed, woken};
+use crate::asserts::ROOM;
 use crate::hosts::{Caller, count_and_wake, enter, insert, insert_times, remove};
 use crate::seats::{act_by_cell, act_on_words, poll_while_blocking};
 use aio_base::{Arm, Dir, EventWait, Notify, Waker};
-use aio_devices::SureArm;
+use aio_devices::{MemNotify, MemWait, SureArm};
 use aio_react::Host;
-use aio_shared::{InsertFault, Inside, SourceRef};
+use aio_shared::{Inside, SourceRef};
 use aio_source::{Polled, SourceCell};
 use std::alloc::Global;
 use std::process::Abort;
 use std::sync::Wait;
-use std::test::Fail;
 
 /// A caller with the token of a source of its own, which is outside.
 #[derive(Drop)]
@@ -64,35 +63,30 @@ impl<R: Wait, N: Notify, A: Arm, W: EventWait> Caller<R, N, A, W> {
     /// Asserts that what the acts of a row come to is what stands beside each.
     pub(crate) fn plays(&mut self, rt: &impl Abort, row: &Row) {
         for (act, came) in row.acts {
-            same_in(rt, row.shows, self.act(*act), *came);
+            comes_in(rt, row.shows, self.act(*act), *came);
         }
     }
 }
 
-impl<R: Wait + Copy, N: Notify + Drop, A: Arm + Drop, W: EventWait + Drop> Owner<R, N, A, W> {
+impl<R: Wait + Abort, N: Notify + Drop, A: Arm + Drop, W: EventWait + Drop> Owner<R, N, A, W> {
     /// Inserts a connection.
-    pub(crate) fn new(caller: Caller<R, N, A, W>, io: A) -> Result<Owner<R, N, A, W>, InsertFault> {
+    pub(crate) fn new(caller: Caller<R, N, A, W>, io: A) -> Owner<R, N, A, W> {
         match caller.host.insert_source(io) {
-            Ok(source) => Ok(Owner { caller, source }),
-            Err((io, fault)) => {
-                drop(io);
-                drop(caller);
-                Err(fault)
-            }
+            Ok(source) => Owner { caller, source },
+            Err(_) => caller.host.rt.panic(ROOM),
         }
     }
 }
 
 /// A thread with a source of its own in a new reactor over these devices, with a clock at this moment.
-pub(crate) fn owner_over<R: Wait + Copy, N: Notify + Drop, A: Arm + Drop, W: EventWait + Drop>(
-    rt: R,
-    alloc: Global,
-    devices: (N, A, W),
-    now: u64,
-) -> Result<Owner<R, N, A, W>, Fail> {
+pub(crate) fn owner_over<
+    R: Wait + Abort + Copy,
+    N: Notify + Drop,
+    A: Arm + Drop,
+    W: EventWait + Drop,
+>(rt: R, alloc: Global, devices: (N, A, W), now: u64) -> Owner<R, N, A, W> {
     let (notifier, io, wait) = devices;
-    let caller = enter(rt, alloc, 1, (wait, notifier), now)?;
-    Ok(Owner::new(caller, io)?)
+    Owner::new(enter(rt, alloc, 1, (wait, notifier), now), io)
 }
 
 /// Listens to the read direction of a source so many times, with waker 3. How often it did.
@@ -145,17 +139,11 @@ impl<R: Wait, N: Notify, A: Arm, W: EventWait> Owner<R, N, A, W> {
         }
     }
 
-    /// Asserts that what the acts of a row come to is what stands beside each. Where memory runs out, that
-    /// is the answer, and nothing is compared.
-    pub(crate) fn plays(&mut self, rt: &impl Abort, row: &Row) -> Result<(), Fail> {
-        for (act, wanted) in row.acts {
-            let came = self.act(*act);
-            if came.falls_short(*wanted) {
-                return Err(Fail::from("memory ran out, or an act gave up early"));
-            }
-            same_in(rt, row.shows, came, *wanted);
+    /// Asserts that what the acts of a row come to is what stands beside each.
+    pub(crate) fn plays(&mut self, rt: &impl Abort, row: &Row) {
+        for (act, came) in row.acts {
+            comes_in(rt, row.shows, self.act(*act), *came);
         }
-        Ok(())
     }
 }
 
@@ -166,11 +154,27 @@ pub(crate) fn plays<R: Wait + Abort, N: Notify + Drop, A: Arm + Drop, W: EventWa
     alloc: Global,
     devices: (N, A, W),
     row: &Row,
-) -> Result<(), Fail> {
-    let mut owner = owner_over(rt, alloc, devices, row.now)?;
-    let played = owner.plays(rt, row);
+) {
+    let mut owner = owner_over(rt, alloc, devices, row.now);
+    owner.plays(rt, row);
     drop(owner);
-    played
+}
+
+/// The same over this wait, with a notifier and a connection that never fail.
+pub(crate) fn plays_over<R: Wait + Abort, W: EventWait + Drop>(
+    rt: &R,
+    alloc: Global,
+    wait: W,
+    row: &Row,
+) {
+    plays(rt, alloc, (MemNotify::new(), SureArm::new(7), wait), row);
+}
+
+/// The same for each row, over a wait that gives events of the row's keys.
+pub(crate) fn plays_each<R: Wait + Abort>(rt: &R, alloc: Global, rows: &[Row]) {
+    for row in rows {
+        plays_over(rt, alloc, MemWait::new(row.keys.min(1024)), row);
+    }
 }
 
 impl<R: Wait, N: Notify, W: EventWait> Owner<R, N, SureArm, W> {

@@ -11,11 +11,11 @@ use crate::acts::Came::{
     Cell, Done, Failed, Id, Mask, Pending, Refused, Replaced, Round, Rounds, Times,
 };
 use crate::acts::{Came, FIRST_FAULT, Row};
-use crate::asserts::same;
+use crate::asserts::{MEMORY, same};
 use crate::hosts::{Caller, Quiet, another, enter};
-use crate::owners::plays;
+use crate::owners::{plays, plays_each, plays_over};
 use crate::scripts::one_by_one;
-use aio_base::{ArmFault, CountFault, Dir, Interest, Key, OutOfMemory, TimerId};
+use aio_base::{ArmFault, CountFault, Dir, Interest, Key, TimerId};
 use aio_conns::SureConn;
 use aio_devices::{
     FailingArm, FailingNotify, FailingWait, MemNotify, MemWait, ScriptedWait, SureArm, WaitAnswer,
@@ -25,7 +25,6 @@ use aio_shared::{PollFault, ReactFault};
 use std::alloc::Global;
 use std::process::Abort;
 use std::sync::Wait;
-use std::test::Fail;
 
 /// Threads over devices that never fail.
 const ROWS: &[Row] = &[
@@ -134,65 +133,56 @@ const ROWS: &[Row] = &[
 ];
 
 #[test]
-fn calls_of_a_thread_succeed_and_go_together(rt: HostRuntime) -> Result<(), Fail> {
-    for row in ROWS {
-        let devices = (
-            MemNotify::new(),
-            SureArm::new(7),
-            MemWait::new(row.keys.min(1024)),
-        );
-        plays(&rt, rt.alloc(), devices, row)?;
-    }
-    Ok(())
+fn calls_of_a_thread_succeed_and_go_together(rt: HostRuntime) {
+    plays_each(&rt, rt.alloc(), ROWS);
 }
 
 /// A connection that sends nothing and ends, and never fails.
-fn conn(alloc: Global) -> Result<SureConn, OutOfMemory> {
-    SureConn::new(alloc, Vec::new(alloc), true, 4096, u32::MAX)
+fn conn(rt: &impl Abort, alloc: Global) -> SureConn {
+    SureConn::new(alloc, Vec::new(alloc), true, 4096, u32::MAX).expect(rt, MEMORY)
 }
 
 #[test]
-fn they_do_so_over_connections_too(rt: HostRuntime) -> Result<(), Fail> {
+fn they_do_so_over_connections_too(rt: HostRuntime) {
     for row in ROWS {
-        let devices = (
-            MemNotify::new(),
-            conn(rt.alloc())?,
-            MemWait::new(row.keys.min(1024)),
-        );
-        plays(&rt, rt.alloc(), devices, row)?;
+        let conn = conn(&rt, rt.alloc());
+        let wait = MemWait::new(row.keys.min(1024));
+        plays(&rt, rt.alloc(), (MemNotify::new(), conn, wait), row);
     }
-    Ok(())
 }
 
 /// Makes a member for another thread; a connection joins the reactor, and leaves it again. Its key, where nothing
 /// was refused.
-fn join_and_leave<R: Wait + Copy>(
+fn join_and_leave<R: Wait + Abort + Copy>(
     first: &mut Caller<R, MemNotify, SureConn, MemWait>,
     alloc: Global,
 ) -> Option<Key>
     requires { first.old.host.member.ops.number ≡ 0 }
 {
-    drop(another(first, alloc, 5).ok()?);
-    let io = conn(alloc).ok()?;
+    drop(another(first, alloc, 5));
     let host = &first.host;
-    let token = host.insert_source(io).ok()?;
+    let io = conn(&host.rt, alloc);
+    let Ok(token) = host.insert_source(io) else {
+        return None;
+    };
     let key = token.key();
-    host.shared.close_source(&host.rt, token).ok()?;
-    Some(key)
+    match host.shared.close_source(&host.rt, token) {
+        Ok(()) => Some(key),
+        Err(_) => None,
+    }
 }
 
 /// The same in a new reactor of connections.
-fn join_a_new_one<R: Wait + Copy>(rt: R, alloc: Global) -> Result<Option<Key>, OutOfMemory> {
-    let mut first = enter(rt, alloc, 1, (MemWait::new(0), MemNotify::new()), 5)?;
+fn join_a_new_one<R: Wait + Abort + Copy>(rt: R, alloc: Global) -> Option<Key> {
+    let mut first = enter(rt, alloc, 1, (MemWait::new(0), MemNotify::new()), 5);
     let key = join_and_leave(&mut first, alloc);
     drop(first);
-    Ok(key)
+    key
 }
 
 #[test]
-fn a_member_is_made_and_a_connection_joins_and_leaves(rt: HostRuntime) -> Result<(), Fail> {
-    same(&rt, join_a_new_one(&rt, rt.alloc())?, Some(Key(0)));
-    Ok(())
+fn a_member_is_made_and_a_connection_joins_and_leaves(rt: HostRuntime) {
+    same(&rt, join_a_new_one(&rt, rt.alloc()), Some(Key(0)));
 }
 
 /// The second fault of a device.
@@ -244,12 +234,11 @@ const UNTOLD_ROWS: &[Row] = &[
 ];
 
 #[test]
-fn a_failing_notifier_is_told_and_nothing_is_lost(rt: HostRuntime) -> Result<(), Fail> {
+fn a_failing_notifier_is_told_and_nothing_is_lost(rt: HostRuntime) {
     for row in UNTOLD_ROWS {
         let devices = (FailingNotify::new(), SureArm::new(7), MemWait::new(0));
-        plays(&rt, rt.alloc(), devices, row)?;
+        plays(&rt, rt.alloc(), devices, row);
     }
-    Ok(())
 }
 
 const FIRST_IDS: Row = Row {
@@ -274,32 +263,26 @@ const NEXT_IDS: Row = Row {
 };
 
 /// Asserts the ids of timers that two members of a reactor register in turn.
-fn insert_by_two<R: Wait + Abort>(
-    rt: &R,
-    alloc: Global,
-    first: &mut Quiet<&R, MemWait>,
-) -> Result<(), Fail>
+fn insert_by_two<R: Wait + Abort>(rt: &R, alloc: Global, first: &mut Quiet<&R, MemWait>)
     requires { first.old.host.member.ops.number ≡ 0 }
 {
-    let mut second = another(first, alloc, 5)?;
+    let mut second = another(first, alloc, 5);
     first.plays(rt, &FIRST_IDS);
     second.plays(rt, &OTHER_IDS);
     first.plays(rt, &NEXT_IDS);
     drop(second);
-    Ok(())
 }
 
 /// The same in a new reactor.
-fn insert_in_new<R: Wait + Abort>(rt: &R, alloc: Global) -> Result<(), Fail> {
-    let mut first = enter(rt, alloc, 1, (MemWait::new(0), MemNotify::new()), 5)?;
-    let inserted = insert_by_two(rt, alloc, &mut first);
+fn insert_in_new<R: Wait + Abort>(rt: &R, alloc: Global) {
+    let mut first = enter(rt, alloc, 1, (MemWait::new(0), MemNotify::new()), 5);
+    insert_by_two(rt, alloc, &mut first);
     drop(first);
-    inserted
 }
 
 #[test]
-fn a_member_comes_beside_the_first_and_draws_other_ids(rt: HostRuntime) -> Result<(), Fail> {
-    insert_in_new(&rt, rt.alloc())
+fn a_member_comes_beside_the_first_and_draws_other_ids(rt: HostRuntime) {
+    insert_in_new(&rt, rt.alloc());
 }
 
 const WAIT_FAILS_TWICE: Row = Row {
@@ -315,10 +298,14 @@ const WAIT_FAILS_TWICE: Row = Row {
 };
 
 #[test]
-fn a_failed_wait_is_told_and_the_due_timer_woken(rt: HostRuntime) -> Result<(), Fail> {
-    let wait = FailingWait::new(0, vec![in rt.alloc(); 1, 2]?);
-    let devices = (MemNotify::new(), SureArm::new(7), wait);
-    plays(&rt, rt.alloc(), devices, &WAIT_FAILS_TWICE)
+fn a_failed_wait_is_told_and_the_due_timer_woken(rt: HostRuntime) {
+    let fails = vec![in rt.alloc(); 1, 2].expect(&rt, MEMORY);
+    plays_over(
+        &rt,
+        rt.alloc(),
+        FailingWait::new(0, fails),
+        &WAIT_FAILS_TWICE,
+    );
 }
 
 const INTERRUPTED: Row = Row {
@@ -329,10 +316,9 @@ const INTERRUPTED: Row = Row {
 };
 
 #[test]
-fn an_interrupted_wait_is_no_fault(rt: HostRuntime) -> Result<(), Fail> {
-    let wait = ScriptedWait::new(vec![in rt.alloc(); WaitAnswer::Interrupted]?);
-    let devices = (MemNotify::new(), SureArm::new(7), wait);
-    plays(&rt, rt.alloc(), devices, &INTERRUPTED)
+fn an_interrupted_wait_is_no_fault(rt: HostRuntime) {
+    let answers = vec![in rt.alloc(); WaitAnswer::Interrupted].expect(&rt, MEMORY);
+    plays_over(&rt, rt.alloc(), ScriptedWait::new(answers), &INTERRUPTED);
 }
 
 const ARM_FAILS: Row = Row {
@@ -355,9 +341,9 @@ const ARM_FAILS: Row = Row {
 };
 
 #[test]
-fn a_failed_arm_is_told_and_the_taken_are_woken(rt: HostRuntime) -> Result<(), Fail> {
-    let io = FailingArm::new(5, vec![in rt.alloc(); 4]?);
-    let wait = one_by_one(rt.alloc(), &[0], Interest::READ)?;
-    let devices = (MemNotify::new(), io, wait);
-    plays(&rt, rt.alloc(), devices, &ARM_FAILS)
+fn a_failed_arm_is_told_and_the_taken_are_woken(rt: HostRuntime) {
+    let fails = vec![in rt.alloc(); 4].expect(&rt, MEMORY);
+    let wait = one_by_one(&rt, rt.alloc(), &[0], Interest::READ);
+    let devices = (MemNotify::new(), FailingArm::new(5, fails), wait);
+    plays(&rt, rt.alloc(), devices, &ARM_FAILS);
 }

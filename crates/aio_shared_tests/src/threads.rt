@@ -5,8 +5,8 @@ ghost use Rattle.std.specs.Prelude.{◌≡◌};
 
 use crate::acts::Act::{Insert, InsertAndRemove, InsertTimes, React};
 use crate::acts::Came::Round;
-use crate::acts::{Act, Came};
-use crate::asserts::same;
+use crate::acts::{Act, Came, told};
+use crate::asserts::{MEMORY, same};
 use crate::hosts::{Quiet, another, enter};
 use crate::owners::Owner;
 use crate::scripts::give;
@@ -14,8 +14,8 @@ use aio_base::{Interest, Poll};
 use aio_devices::{MemNotify, ScriptedWait, SureArm};
 use aio_source::Polled;
 use std::alloc::Global;
+use std::process::Abort;
 use std::sync::Wait;
-use std::test::Fail;
 use std::thread::{Threads, map_vec};
 
 /// What each of several threads does beside the others.
@@ -125,80 +125,76 @@ fn do_job<R: Wait>(owner: &mut Poller<R>, job: Job) -> Tally {
 }
 
 /// A thread's job with a source of its own, which it leaves in the table.
-fn work<R: Wait + Copy>(worker: Worker<R>) -> Tally {
+fn work<R: Wait + Abort + Copy>(worker: Worker<R>) -> Tally {
     let Worker { caller, job } = worker;
-    let Ok(mut owner) = Owner::new(caller, SureArm::new(FIRST_NUMBER)) else {
-        return NOTHING;
-    };
+    let mut owner = Owner::new(caller, SureArm::new(FIRST_NUMBER));
     let tally = do_job(&mut owner, job);
     drop(owner);
     tally
 }
 
 /// So many more threads, each with this job and a clock at 5.
-fn workers<R: Wait + Copy>(
+fn workers<R: Wait + Abort + Copy>(
     alloc: Global,
     first: &mut Quiet<R, ScriptedWait>,
     threads: u32,
     job: Job,
-) -> Result<Vec<Worker<R>>, Fail>
+) -> Vec<Worker<R>>
     requires { first.old.host.member.ops.number ≡ 0 }
 {
+    let rt = first.host.rt;
     let mut workers = Vec::new(alloc);
     for _ in 0..threads {
-        let caller = another(first, alloc, 5)?;
-        workers.push(Worker { caller, job })?;
+        let caller = another(first, alloc, 5);
+        workers.push(Worker { caller, job }).expect(&rt, MEMORY);
     }
-    Ok(workers)
+    workers
 }
 
 /// What these threads come to together, all at the same time.
-fn work_together<R: Threads + Wait + Sync>(
-    rt: &R,
-    workers: Vec<Worker<&R>>,
-) -> Result<Tally, Fail> {
-    let tallies = map_vec(rt, workers, &work)?;
+fn work_together<R: Threads + Wait + Sync + Abort>(rt: &R, workers: Vec<Worker<&R>>) -> Tally {
+    let tallies = map_vec(rt, workers, &work).expect(rt, MEMORY);
     let mut sum = NOTHING;
     for tally in &tallies {
         sum = sum.and(*tally);
     }
-    Ok(sum)
+    sum
 }
 
 /// What so many more threads with this job come to together, and then two rounds of the first.
-fn work_beside<R: Threads + Wait + Sync>(
+fn work_beside<R: Threads + Wait + Sync + Abort>(
     rt: &R,
     alloc: Global,
     first: &mut Quiet<&R, ScriptedWait>,
     threads: u32,
     job: Job,
-) -> Result<(Tally, (Came, Came)), Fail>
+) -> (Tally, (Came, Came))
     requires { first.old.host.member.ops.number ≡ 0 }
 {
-    let workers = workers(alloc, first, threads, job)?;
-    let tally = work_together(rt, workers)?;
-    Ok((tally, (first.act(React), first.act(React))))
+    let workers = workers(alloc, first, threads, job);
+    let tally = work_together(rt, workers);
+    (tally, (first.act(React), first.act(React)))
 }
 
 /// Four keys, two in each of so many pairs of rounds.
-fn keys_in_turn(alloc: Global, pairs: u32) -> Result<ScriptedWait, Fail> {
+fn keys_in_turn(rt: &impl Abort, alloc: Global, pairs: u32) -> ScriptedWait {
     let mut answers = Vec::new(alloc);
     for round in 0..pairs.saturating_mul(2) {
-        give(alloc, &mut answers, round % 2 * 2, 2, Interest::BOTH)?;
+        give(rt, alloc, &mut answers, (round % 2 * 2, 2), Interest::BOTH);
     }
-    Ok(ScriptedWait::new(answers))
+    ScriptedWait::new(answers)
 }
 
 /// The same in a new reactor with a clock at 10, whose rounds give an event of each of four keys in turn.
-fn work_in_new<R: Threads + Wait + Sync>(
+fn work_in_new<R: Threads + Wait + Sync + Abort>(
     rt: &R,
     alloc: Global,
     pairs: u32,
     threads: u32,
     job: Job,
-) -> Result<(Tally, (Came, Came)), Fail> {
-    let wait = keys_in_turn(alloc, pairs)?;
-    let mut first = enter(rt, alloc, 1, (wait, MemNotify::new()), 10)?;
+) -> (Tally, (Came, Came)) {
+    let wait = keys_in_turn(rt, alloc, pairs);
+    let mut first = enter(rt, alloc, 1, (wait, MemNotify::new()), 10);
     let worked = work_beside(rt, alloc, &mut first, threads, job);
     drop(first);
     worked
@@ -206,38 +202,34 @@ fn work_in_new<R: Threads + Wait + Sync>(
 
 /// What two threads do with timers beside each other, how often both of them did, and how many timers fire
 /// in the next round.
-const ON_TWO_THREADS: [(Act, u64, u64); 3] = [
+const ON_TWO_THREADS: &[(Act, u64, u64)] = &[
     (InsertTimes(5, 800), 1600, 1600),
     (InsertTimes(5, 600), 1200, 1200),
     (InsertAndRemove(4, 600), 1200, 0),
 ];
 
 #[test]
-fn each_timer_of_two_threads_fires_once_unless_it_was_taken_out(
-    rt: HostRuntime,
-) -> Result<(), Fail> {
+fn each_timer_of_two_threads_fires_once_unless_it_was_taken_out(rt: HostRuntime) {
     for (act, times, fire) in ON_TWO_THREADS {
-        let (tally, rounds) = work_in_new(&rt, rt.alloc(), 0, 2, Job::Once(act))?;
-        same(&rt, tally.stored, times);
-        same(&rt, rounds, (Round(0, fire), Round(0, 0)));
+        let (tally, rounds) = work_in_new(&rt, rt.alloc(), 0, 2, Job::Once(*act));
+        same(
+            &rt,
+            (tally.stored, told(rounds.0), told(rounds.1)),
+            (*times, told(Round(0, *fire)), told(Round(0, 0))),
+        );
     }
-    Ok(())
 }
 
 #[test]
-fn a_token_knows_its_connection_beside_rounds(rt: HostRuntime) -> Result<(), Fail> {
-    let (tally, _) = work_in_new(&rt, rt.alloc(), 300, 2, Job::Turns(200))?;
-    same(&rt, tally.known, 400);
-    same(&rt, tally.came <= tally.stored, true);
-    Ok(())
+fn a_token_knows_its_connection_beside_rounds(rt: HostRuntime) {
+    let (tally, _) = work_in_new(&rt, rt.alloc(), 300, 2, Job::Turns(200));
+    same(&rt, (tally.known, tally.came <= tally.stored), (400, true));
 }
 
 // Each waker came that was stored, and there were more than 400.
 #[test]
-fn each_waker_of_four_threads_comes_once(rt: HostRuntime) -> Result<(), Fail> {
-    let (tally, rounds) = work_in_new(&rt, rt.alloc(), 300, 4, Job::Turns(100))?;
+fn each_waker_of_four_threads_comes_once(rt: HostRuntime) {
+    let (tally, rounds) = work_in_new(&rt, rt.alloc(), 300, 4, Job::Turns(100));
     let all = tally.and(tally_of(rounds.0)).and(tally_of(rounds.1));
-    same(&rt, all.came, all.stored);
-    same(&rt, all.stored > 400, true);
-    Ok(())
+    same(&rt, (all.came, all.stored > 400), (all.stored, true));
 }
