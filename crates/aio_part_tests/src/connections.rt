@@ -13,6 +13,7 @@ use aio_base::{Did, Failed, Interest};
 use aio_mio::MioConn;
 use std::mem;
 use std::process::Abort;
+use std::test::Fail;
 
 const AN_END: Row = Row {
     shows: "an end that came with the last bytes",
@@ -28,8 +29,8 @@ const AN_END: Row = Row {
 };
 
 #[test]
-fn an_end_that_came_with_the_last_bytes_is_read(rt: HostRuntime) {
-    plays(&rt, rt.alloc(), &AN_END);
+fn an_end_that_came_with_the_last_bytes_is_read(rt: HostRuntime) -> Result<(), Fail> {
+    plays(&rt, rt.alloc(), &AN_END)
 }
 
 const MANY_BYTES: Row = Row {
@@ -47,8 +48,8 @@ const MANY_BYTES: Row = Row {
 };
 
 #[test]
-fn many_bytes_are_all_there_is_until_a_new_event(rt: HostRuntime) {
-    plays(&rt, rt.alloc(), &MANY_BYTES);
+fn many_bytes_are_all_there_is_until_a_new_event(rt: HostRuntime) -> Result<(), Fail> {
+    plays(&rt, rt.alloc(), &MANY_BYTES)
 }
 
 const AN_END_BEHIND: Row = Row {
@@ -66,8 +67,8 @@ const AN_END_BEHIND: Row = Row {
 };
 
 #[test]
-fn an_end_behind_many_bytes_is_read_without_a_further_event(rt: HostRuntime) {
-    plays(&rt, rt.alloc(), &AN_END_BEHIND);
+fn an_end_behind_many_bytes_is_read_without_a_further_event(rt: HostRuntime) -> Result<(), Fail> {
+    plays(&rt, rt.alloc(), &AN_END_BEHIND)
 }
 
 /// Half a piece came, and the client has not read what came to it.
@@ -92,9 +93,9 @@ fn is_reset(rt: &impl Abort, conn: &mut MioConn) {
 
 #[test]
 fn a_reset_behind_many_bytes_fails_the_next_read(rt: HostRuntime) {
-    let mut j = connected(&rt, rt.alloc());
+    let mut j = connected(&rt, rt.alloc()).expect(&rt, "a connection");
     plays_with(&rt, rt.alloc(), &mut j, &NOT_READ);
-    let other = client_of(&rt, j.used);
+    let other = client_of(&rt, j.used).expect(&rt, "another client");
     // A client that goes without having read what came to it resets the connection.
     drop(mem::replace(&mut j.client, other));
     is_reset(&rt, &mut j.conn);
@@ -112,6 +113,6 @@ const A_BLOCKED_WRITE: Row = Row {
 };
 
 #[test]
-fn a_blocked_write_goes_on_after_its_event(rt: HostRuntime) {
-    plays(&rt, rt.alloc(), &A_BLOCKED_WRITE);
+fn a_blocked_write_goes_on_after_its_event(rt: HostRuntime) -> Result<(), Fail> {
+    plays(&rt, rt.alloc(), &A_BLOCKED_WRITE)
 }

@@ -7,7 +7,6 @@ use aio_mio::{MioConn, MioNotify, MioPort, MioWait, mio_parts};
 use std::alloc::Global;
 use std::io::{Read, Write};
 use std::net::{Ipv4Addr, Net, SocketAddr, TcpStream};
-use std::process::Abort;
 use std::sync::Wait;
 
 /// Ten seconds in nanoseconds, after which a wait for what should come gives up.
@@ -26,33 +25,41 @@ pub(crate) struct Joined<R: Net + Copy> {
 }
 
 /// A client of the port in use.
-pub(crate) fn client_of<R: Net<Stream = TcpStream> + Abort>(rt: &R, used: u16) -> TcpStream {
-    let address = SocketAddr::from((Ipv4Addr::LOCALHOST, used));
-    TcpStream::connect(rt, address).expect(rt, "a client")
+pub(crate) fn client_of<R: Net<Stream = TcpStream>>(rt: &R, used: u16) -> Option<TcpStream> {
+    TcpStream::connect(rt, SocketAddr::from((Ipv4Addr::LOCALHOST, used))).ok()
 }
 
-/// The next connection of a port.
-pub(crate) fn accepted<R: Net + Copy + Wait + Abort>(rt: &R, port: &mut MioPort<R>) -> MioConn {
-    port.accept(rt).expect(rt, "a connection")
+/// Binds a port: a connection of it, its client, and the port in use.
+fn join<R: Net<Stream = TcpStream> + Copy + Wait>(
+    rt: &R,
+    port: &mut MioPort<R>,
+) -> Option<(MioConn, TcpStream, u16)> {
+    let used = port.bind(0).ok()?;
+    let client = client_of(rt, used)?;
+    let conn = port.accept(rt).ok()?;
+    Some((conn, client, used))
 }
 
-/// A connection whose key is not told yet.
-pub(crate) fn connected<R: Net<Stream = TcpStream> + Copy + Wait + Abort>(
+/// A connection whose key is not told yet. `None` where the system refused or memory ran out.
+pub(crate) fn connected<R: Net<Stream = TcpStream> + Copy + Wait>(
     rt: &R,
     alloc: Global,
-) -> Joined<R> {
-    let (mut port, wait, notify) = mio_parts(alloc, rt).expect(rt, "devices");
-    let used = port.bind(0).expect(rt, "a port");
-    let client = client_of(rt, used);
-    let conn = accepted(rt, &mut port);
-    Joined {
+) -> Option<Joined<R>> {
+    let (mut port, wait, notify) = mio_parts(alloc, rt).ok()?;
+    let Some((conn, client, used)) = join(rt, &mut port) else {
+        drop(port);
+        drop(wait);
+        drop(notify);
+        return None;
+    };
+    Some(Joined {
         port,
         wait,
         notify,
         conn,
         client,
         used,
-    }
+    })
 }
 
 /// One wait with room for one event: the event, where it gave one.

@@ -16,6 +16,7 @@ use std::alloc::Global;
 use std::net::{Net, Shutdown, TcpStream};
 use std::process::Abort;
 use std::sync;
+use std::test::Fail;
 
 /// What is done.
 #[derive(Clone, Copy)]
@@ -65,7 +66,7 @@ pub(crate) enum Act {
 }
 
 /// What comes of it.
-#[derive(Clone, Copy)]
+#[derive(Clone, Copy, Debug, PartialEq)]
 pub(crate) enum Came {
     /// Nothing failed.
     Done,
@@ -85,21 +86,6 @@ pub(crate) enum Came {
     Number(u64),
     /// Something else.
     Other,
-}
-
-/// What came, as it is compared: which it is, its numbers, and the directions of an event.
-fn told(came: Came) -> (&'static str, [u64; 2], Option<Interest>) {
-    match came {
-        Done => ("done", [0; 2], None),
-        Event(key, on) => ("event", [key as u64, 0], Some(on)),
-        Nothing => ("nothing", [0; 2], None),
-        Went(count, first) => ("went", [count as u64, first as u64], None),
-        Wrote(count) => ("wrote", [count as u64, 0], None),
-        Blocked => ("blocked", [0; 2], None),
-        Got(byte) => ("got", [byte as u64, 0], None),
-        Number(number) => ("number", [number, 0], None),
-        Came::Other => ("other", [0; 2], None),
-    }
 }
 
 /// What a call without an answer of its own comes to.
@@ -202,7 +188,7 @@ pub(crate) fn plays_with<R: Net + Copy>(
     row: &Row,
 ) {
     for (act, came) in row.acts {
-        same_in(rt, row.shows, told(comes_of(j, alloc, *act)), told(*came));
+        same_in(rt, row.shows, comes_of(j, alloc, *act), *came);
     }
 }
 
@@ -211,10 +197,13 @@ pub(crate) fn plays<R: Net<Stream = TcpStream> + Copy + sync::Wait + Abort>(
     rt: &R,
     alloc: Global,
     row: &Row,
-) {
-    let mut j = connected(rt, alloc);
+) -> Result<(), Fail> {
+    let Some(mut j) = connected(rt, alloc) else {
+        return Err(Fail::from("no connection"));
+    };
     plays_with(rt, alloc, &mut j, row);
     drop(j);
+    Ok(())
 }
 
 /// Waits, and notifies between them.
@@ -267,10 +256,11 @@ const WAITS: &[Row] = &[
 ];
 
 #[test]
-fn a_wait_gives_each_event_and_ends_by_a_notify_or_its_limit(rt: HostRuntime) {
+fn a_wait_gives_each_event_and_ends_by_a_notify_or_its_limit(rt: HostRuntime) -> Result<(), Fail> {
     for row in WAITS {
-        plays(&rt, rt.alloc(), row);
+        plays(&rt, rt.alloc(), row)?;
     }
+    Ok(())
 }
 
 /// Arms, reads and writes.
@@ -351,8 +341,9 @@ const CONNECTIONS: &[Row] = &[
 ];
 
 #[test]
-fn a_connection_tells_what_is_armed_and_hands_bytes_over(rt: HostRuntime) {
+fn a_connection_tells_what_is_armed_and_hands_bytes_over(rt: HostRuntime) -> Result<(), Fail> {
     for row in CONNECTIONS {
-        plays(&rt, rt.alloc(), row);
+        plays(&rt, rt.alloc(), row)?;
     }
+    Ok(())
 }
