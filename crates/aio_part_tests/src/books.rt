@@ -2,7 +2,7 @@
 //! several shapes keep their order, and that those of several hosts, whose ids differ by multiples of 2^40, are
 //! each found again.
 
-use crate::asserts::{moment, same};
+use crate::asserts::{MEMORY, moment, same};
 use crate::calls::{passed, unregister};
 use aio_base::{TimerId, Waker};
 use aio_timers::{TimerBook, TimerOp};
@@ -16,7 +16,7 @@ fn id_of(host: u32, count: u32) -> u64 {
 
 /// Makes room for one more timer, and registers it.
 fn insert(rt: &impl Abort, book: &mut TimerBook, deadline: u64, id: u64, waker: u32) {
-    book.reserve(1).expect(rt, "memory");
+    book.reserve(1).expect(rt, MEMORY);
     book.apply(TimerOp::Insert(moment(rt, deadline), TimerId(id), Waker(waker)));
 }
 
@@ -77,7 +77,7 @@ const EVEN_HOSTS: [Waker; 9] = [
 
 /// Asserts that a pass takes the timers of every second host.
 fn takes_even_hosts(rt: &impl Abort, alloc: Global, book: &mut TimerBook, now: u64) {
-    let taken = passed(alloc, book, moment(rt, now)).expect(rt, "memory");
+    let taken = passed(rt, alloc, book, moment(rt, now));
     same(rt, taken.as_slice(), EVEN_HOSTS.as_slice());
     drop(taken);
 }
@@ -139,7 +139,7 @@ fn pass_rising(
 ) -> Option<Waker> {
     let now = moment(rt, now);
     same(rt, book.due_count(now), count);
-    let taken = passed(alloc, book, now).expect(rt, "memory");
+    let taken = passed(rt, alloc, book, now);
     same(rt, (taken.len(), taken.iter().is_sorted()), (count, true));
     let last = taken.last().copied();
     drop(taken);

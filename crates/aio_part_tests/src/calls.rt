@@ -1,8 +1,10 @@
 //! Calls of a book, with plain numbers in place of its types.
 
+use crate::asserts::MEMORY;
 use aio_base::{Moment, TimerId, Waker};
 use aio_timers::{TimerBook, TimerOp};
-use std::alloc::{AllocError, Global};
+use std::alloc::Global;
+use std::process::Abort;
 
 /// Registers a timer. `false` where there is no room for one more, or the deadline is past 10^18.
 pub(crate) fn register(book: &mut TimerBook, deadline: u64, id: u64, waker: u32) -> bool {
@@ -29,13 +31,14 @@ pub(crate) fn unregister(book: &mut TimerBook, deadline: u64, id: u64) -> bool {
     }
 }
 
-/// The wakers that a pass takes. `AllocError` where there is no memory for them: no timer is taken then.
+/// The wakers that a pass takes.
 pub(crate) fn passed(
+    rt: &impl Abort,
     alloc: Global,
     book: &mut TimerBook,
     now: Moment,
-) -> Result<Vec<Waker>, AllocError> {
-    let mut taken = Vec::with_capacity(alloc, book.due_count(now))?;
+) -> Vec<Waker> {
+    let mut taken = Vec::with_capacity(alloc, book.due_count(now)).expect(rt, MEMORY);
     book.pass(now, &mut taken);
-    Ok(taken)
+    taken
 }

@@ -1,9 +1,9 @@
 //! What no clause says of a recorded cell: that its calls succeed where memory is left, and that the
 //! definition of a history means what was worked out by hand.
 
-use crate::asserts::{same, same_in};
+use crate::asserts::{MEMORY, same, same_in};
 use Told::{GoesOn, Takes, Waits};
-use aio_base::{Dir, Interest, OutOfMemory, Poll, Waker};
+use aio_base::{Dir, Interest, Poll, Waker};
 use aio_history::CellStep;
 use aio_record::RecordedCell;
 use std::process::Abort;
@@ -103,7 +103,7 @@ fn poll_step(dir: Dir, waker: Waker, ticker: u64, answer: Poll<()>) -> CellStep 
 }
 
 /// Makes the call of a step, and answers the step that it came to.
-fn call(cell: &mut RecordedCell, wanted: CellStep) -> Result<CellStep, OutOfMemory> {
+fn call(rt: &impl Abort, cell: &mut RecordedCell, wanted: CellStep) -> CellStep {
     match wanted {
         CellStep::Poll {
             dir,
@@ -111,12 +111,12 @@ fn call(cell: &mut RecordedCell, wanted: CellStep) -> Result<CellStep, OutOfMemo
             ticker,
             ..
         } => {
-            let answer = cell.poll(dir, waker, ticker)?;
-            Ok(poll_step(dir, waker, ticker, answer))
+            let answer = cell.poll(dir, waker, ticker).expect(rt, MEMORY);
+            poll_step(dir, waker, ticker, answer)
         }
         CellStep::Handle { on, round, .. } => {
-            let taken = cell.handle(on, round)?;
-            Ok(CellStep::Handle { on, round, taken })
+            let taken = cell.handle(on, round).expect(rt, MEMORY);
+            CellStep::Handle { on, round, taken }
         }
     }
 }
@@ -126,7 +126,7 @@ fn assert_answers<R: Abort + AllocGlobal>(rt: &R, row: usize, steps: &[Told]) {
     let mut cell = RecordedCell::new(rt.alloc());
     for told in steps {
         let step = step_of(*told);
-        same_in(rt, row, call(&mut cell, step), Ok(step));
+        same_in(rt, row, call(rt, &mut cell, step), step);
     }
     same(rt, cell.steps(), steps.len());
     drop(cell);

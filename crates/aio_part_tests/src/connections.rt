@@ -1,19 +1,15 @@
 //! What no clause says of a connection whose other end is slow or ends: that the end is read, and that a blocked
 //! write goes on.
 
-use crate::asserts::same;
-use crate::joined::{LONG, PIECE, client_of, connected, read_piece};
+use crate::joined::{LONG, PIECE, client_of, connected};
 use crate::plays::Act::{
     Add, End, Faults, FillAndDrain, Read, ReadPiece, ReadToEnd, Send, SendHalf, SendLast, Wait,
     Watch, Write,
 };
-use crate::plays::Came::{Blocked, Done, Event, Number, Went, Wrote};
+use crate::plays::Came::{Blocked, Done, Event, Number, Refused, Went, Wrote};
 use crate::plays::{Row, plays, plays_with};
-use aio_base::{Did, Failed, Interest};
-use aio_mio::MioConn;
+use aio_base::Interest;
 use std::mem;
-use std::process::Abort;
-use std::test::Fail;
 
 const AN_END: Row = Row {
     shows: "an end that came with the last bytes",
@@ -29,8 +25,8 @@ const AN_END: Row = Row {
 };
 
 #[test]
-fn an_end_that_came_with_the_last_bytes_is_read(rt: HostRuntime) -> Result<(), Fail> {
-    plays(&rt, rt.alloc(), &AN_END)
+fn an_end_that_came_with_the_last_bytes_is_read(rt: HostRuntime) {
+    plays(&rt, rt.alloc(), &AN_END);
 }
 
 const MANY_BYTES: Row = Row {
@@ -48,8 +44,8 @@ const MANY_BYTES: Row = Row {
 };
 
 #[test]
-fn many_bytes_are_all_there_is_until_a_new_event(rt: HostRuntime) -> Result<(), Fail> {
-    plays(&rt, rt.alloc(), &MANY_BYTES)
+fn many_bytes_are_all_there_is_until_a_new_event(rt: HostRuntime) {
+    plays(&rt, rt.alloc(), &MANY_BYTES);
 }
 
 const AN_END_BEHIND: Row = Row {
@@ -67,8 +63,8 @@ const AN_END_BEHIND: Row = Row {
 };
 
 #[test]
-fn an_end_behind_many_bytes_is_read_without_a_further_event(rt: HostRuntime) -> Result<(), Fail> {
-    plays(&rt, rt.alloc(), &AN_END_BEHIND)
+fn an_end_behind_many_bytes_is_read_without_a_further_event(rt: HostRuntime) {
+    plays(&rt, rt.alloc(), &AN_END_BEHIND);
 }
 
 /// Half a piece came, and the client has not read what came to it.
@@ -82,23 +78,26 @@ const NOT_READ: Row = Row {
     ],
 };
 
-/// Asserts that the next read fails once half a piece is read, and that the end is read then.
-fn is_reset(rt: &impl Abort, conn: &mut MioConn) {
-    same(rt, read_piece(conn), (Ok(Did::Bytes(PIECE / 2)), 3));
-    same(rt, aio_base::Faults::faults(conn), 0);
-    same(rt, read_piece(conn), (Err(Failed), 0));
-    same(rt, aio_base::Faults::faults(conn), 1);
-    same(rt, read_piece(conn), (Ok(Did::Bytes(0)), 0));
-}
+/// The next read fails once half a piece is read, and the end is read then.
+const IS_RESET: Row = Row {
+    shows: "a reset behind many bytes",
+    acts: &[
+        (ReadPiece, Went(PIECE / 2, 3)),
+        (Faults, Number(0)),
+        (ReadPiece, Refused),
+        (Faults, Number(1)),
+        (ReadPiece, Went(0, 0)),
+    ],
+};
 
 #[test]
 fn a_reset_behind_many_bytes_fails_the_next_read(rt: HostRuntime) {
-    let mut j = connected(&rt, rt.alloc()).expect(&rt, "a connection");
+    let mut j = connected(&rt, rt.alloc());
     plays_with(&rt, rt.alloc(), &mut j, &NOT_READ);
-    let other = client_of(&rt, j.used).expect(&rt, "another client");
+    let other = client_of(&rt, j.used);
     // A client that goes without having read what came to it resets the connection.
     drop(mem::replace(&mut j.client, other));
-    is_reset(&rt, &mut j.conn);
+    plays_with(&rt, rt.alloc(), &mut j, &IS_RESET);
     drop(j);
 }
 
@@ -113,6 +112,6 @@ const A_BLOCKED_WRITE: Row = Row {
 };
 
 #[test]
-fn a_blocked_write_goes_on_after_its_event(rt: HostRuntime) -> Result<(), Fail> {
-    plays(&rt, rt.alloc(), &A_BLOCKED_WRITE)
+fn a_blocked_write_goes_on_after_its_event(rt: HostRuntime) {
+    plays(&rt, rt.alloc(), &A_BLOCKED_WRITE);
 }

@@ -4,8 +4,8 @@
 
 ghost use Rattle.std.specs.Prelude.{◌<◌, ◌^◌};
 
-use crate::asserts::{same, same_in};
-use aio_base::{OutOfMemory, Placement, Spawner};
+use crate::asserts::{MEMORY, same, same_in};
+use aio_base::{Placement, Spawner};
 use aio_record::{StressCell, stress};
 use std::cell::Cell;
 use std::process::Abort;
@@ -81,24 +81,23 @@ fn assert_row<R: Wait + Threads + Sync + Send + Copy + AllocGlobal + Abort>(
     rt: &R,
     row: Row,
     placement: Placement,
-) -> Result<(), OutOfMemory>
+)
     requires { row.seed < 2 ^ 48 }
 {
     let mut spawner = CountingSpawner {
         placement,
         asked: Cell::new(0),
     };
-    let cells = stress(rt, rt.alloc(), &mut spawner, row.calls, row.seed)?;
+    let cells = stress(rt, rt.alloc(), &mut spawner, row.calls, row.seed).expect(rt, MEMORY);
     assert_made(rt, &cells, 0, &row.firsts);
     assert_made(rt, &cells, 1, &row.seconds);
     same(rt, spawner.asked.get(), 1);
-    Ok(())
 }
 
 #[test]
 fn two_jobs_make_the_calls_of_their_seeds(rt: HostRuntime) {
     for row in ROWS {
-        same(&rt, assert_row(&rt, row, Placement::Caller), Ok(()));
-        same(&rt, assert_row(&rt, row, Placement::Threads), Ok(()));
+        assert_row(&rt, row, Placement::Caller);
+        assert_row(&rt, row, Placement::Threads);
     }
 }

@@ -7,6 +7,7 @@ use aio_mio::{MioConn, MioNotify, MioPort, MioWait, mio_parts};
 use std::alloc::Global;
 use std::io::{Read, Write};
 use std::net::{Ipv4Addr, Net, SocketAddr, TcpStream};
+use std::process::Abort;
 use std::sync::Wait;
 
 /// Ten seconds in nanoseconds, after which a wait for what should come gives up.
@@ -25,41 +26,33 @@ pub(crate) struct Joined<R: Net + Copy> {
 }
 
 /// A client of the port in use.
-pub(crate) fn client_of<R: Net<Stream = TcpStream>>(rt: &R, used: u16) -> Option<TcpStream> {
-    TcpStream::connect(rt, SocketAddr::from((Ipv4Addr::LOCALHOST, used))).ok()
+pub(crate) fn client_of<R: Net<Stream = TcpStream> + Abort>(rt: &R, used: u16) -> TcpStream {
+    let address = SocketAddr::from((Ipv4Addr::LOCALHOST, used));
+    TcpStream::connect(rt, address).expect(rt, "a client")
 }
 
-/// Binds a port: a connection of it, its client, and the port in use.
-fn join<R: Net<Stream = TcpStream> + Copy + Wait>(
-    rt: &R,
-    port: &mut MioPort<R>,
-) -> Option<(MioConn, TcpStream, u16)> {
-    let used = port.bind(0).ok()?;
-    let client = client_of(rt, used)?;
-    let conn = port.accept(rt).ok()?;
-    Some((conn, client, used))
+/// The next connection of a port.
+pub(crate) fn accepted<R: Net + Copy + Wait + Abort>(rt: &R, port: &mut MioPort<R>) -> MioConn {
+    port.accept(rt).expect(rt, "a connection")
 }
 
-/// A connection whose key is not told yet. `None` where the system refused or memory ran out.
-pub(crate) fn connected<R: Net<Stream = TcpStream> + Copy + Wait>(
+/// A connection whose key is not told yet.
+pub(crate) fn connected<R: Net<Stream = TcpStream> + Copy + Wait + Abort>(
     rt: &R,
     alloc: Global,
-) -> Option<Joined<R>> {
-    let (mut port, wait, notify) = mio_parts(alloc, rt).ok()?;
-    let Some((conn, client, used)) = join(rt, &mut port) else {
-        drop(port);
-        drop(wait);
-        drop(notify);
-        return None;
-    };
-    Some(Joined {
+) -> Joined<R> {
+    let (mut port, wait, notify) = mio_parts(alloc, rt).expect(rt, "devices");
+    let used = port.bind(0).expect(rt, "a port");
+    let client = client_of(rt, used);
+    let conn = accepted(rt, &mut port);
+    Joined {
         port,
         wait,
         notify,
         conn,
         client,
         used,
-    })
+    }
 }
 
 /// One wait with room for one event: the event, where it gave one.
@@ -73,11 +66,6 @@ pub(crate) fn one_event(
     };
     wait.wait(&mut out, 1, limit)?;
     Ok(out.pop())
-}
-
-/// The event of a key.
-pub(crate) fn event(key: u32, on: Interest) -> Result<Option<Event>, Failed> {
-    Ok(Some(Event { key: Key(key), on }))
 }
 
 /// What one read with room for eight bytes came to, and the first byte of that room.
@@ -98,11 +86,6 @@ pub(crate) fn watch(conn: &mut MioConn, key: u32, on: Interest) -> Result<(), Fa
 /// Sends these bytes to the connection at once. Whether they were sent.
 pub(crate) fn send_all(client: &mut TcpStream, bytes: &[u8]) -> bool {
     client.write_all(bytes).is_ok()
-}
-
-/// Sends this byte to the connection. Whether it was sent.
-pub(crate) fn send(client: &mut TcpStream, byte: u8) -> bool {
-    send_all(client, &[byte])
 }
 
 /// How often the end is asked for before a test gives up.

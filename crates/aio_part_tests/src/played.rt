@@ -1,12 +1,11 @@
 //! A book of timers, as the rows of a table use it.
 
-use crate::asserts::same;
+use crate::asserts::{MEMORY, same};
 use crate::calls::{passed, register, unregister};
 use aio_base::{Moment, Waker};
 use aio_timers::TimerBook;
 use std::alloc::Global;
 use std::process::Abort;
-use std::test::Fail;
 
 /// What is done with a book. Deadlines and moments are in nanoseconds.
 #[derive(Clone, Copy)]
@@ -26,7 +25,7 @@ pub(crate) enum Act {
 }
 
 /// What comes of it.
-#[derive(Clone, Copy, Debug, PartialEq)]
+#[derive(Clone, Copy)]
 pub(crate) enum Came {
     /// It is done.
     Done,
@@ -38,6 +37,17 @@ pub(crate) enum Came {
     Nothing,
     /// Something else.
     Other,
+}
+
+/// What came, as it is compared: which it is, and its numbers.
+fn told(came: Came) -> (&'static str, [u64; 2]) {
+    match came {
+        Came::Done => ("done", [0; 2]),
+        Came::Count(count) => ("count", [count as u64, 0]),
+        Came::Timer(deadline, id) => ("timer", [deadline, id]),
+        Came::Nothing => ("nothing", [0; 2]),
+        Came::Other => ("other", [0; 2]),
+    }
 }
 
 /// A book, and the wakers that its passes took.
@@ -55,32 +65,29 @@ fn done(is_done: bool) -> Came {
 
 impl Played {
     /// A book with room for so many timers.
-    pub(crate) fn new(alloc: Global, room: u32) -> Result<Played, Fail> {
+    pub(crate) fn new(rt: &impl Abort, alloc: Global, room: u32) -> Played {
         let mut book = TimerBook::new(alloc);
-        book.reserve(room)?;
-        Ok(Played {
+        book.reserve(room).expect(rt, MEMORY);
+        Played {
             alloc,
             book,
             taken: Vec::new(alloc),
-        })
-    }
-
-    /// Makes a pass. How many timers it took.
-    fn pass(&mut self, now: Moment) -> Came {
-        let Ok(taken) = passed(self.alloc, &mut self.book, now) else {
-            return Came::Other;
-        };
-        match self.taken.extend_from_slice(taken.as_slice()) {
-            Ok(()) => Came::Count(taken.len()),
-            Err(_) => Came::Other,
         }
     }
 
+    /// Makes a pass. How many timers it took.
+    fn pass(&mut self, rt: &impl Abort, now: Moment) -> Came {
+        let taken = passed(rt, self.alloc, &mut self.book, now);
+        let all = &mut self.taken;
+        all.extend_from_slice(taken.as_slice()).expect(rt, MEMORY);
+        Came::Count(taken.len())
+    }
+
     /// Makes a pass at a moment, or counts the timers that are due then.
-    fn act_at(&mut self, now: u64, act: Act) -> Came {
+    fn act_at(&mut self, rt: &impl Abort, now: u64, act: Act) -> Came {
         match (Moment::new(now), act) {
             (Some(now), Act::Due(_)) => Came::Count(self.book.due_count(now)),
-            (Some(now), _) => self.pass(now),
+            (Some(now), _) => self.pass(rt, now),
             (None, _) => Came::Other,
         }
     }
@@ -94,13 +101,13 @@ impl Played {
     }
 
     /// Does this.
-    fn act(&mut self, act: Act) -> Came {
+    fn act(&mut self, rt: &impl Abort, act: Act) -> Came {
         match act {
             Act::Insert(deadline, id, waker) => {
                 done(register(&mut self.book, deadline, id, waker))
             }
             Act::Remove(deadline, id) => done(unregister(&mut self.book, deadline, id)),
-            Act::Pass(now) | Act::Due(now) => self.act_at(now, act),
+            Act::Pass(now) | Act::Due(now) => self.act_at(rt, now, act),
             Act::Len => Came::Count(self.book.len()),
             Act::First => self.first(),
         }
@@ -109,7 +116,7 @@ impl Played {
     /// Asserts that what these acts come to is what stands beside each.
     pub(crate) fn plays(&mut self, rt: &impl Abort, rows: &[(Act, Came)]) {
         for (act, came) in rows {
-            same(rt, self.act(*act), *came);
+            same(rt, told(self.act(rt, *act)), told(*came));
         }
     }
 }

@@ -1,37 +1,37 @@
 //! What no clause says of a port: that it listens where it says, and what it refuses.
 
 use crate::asserts::same;
-use crate::joined::{client_of, connected, read_some, send};
+use crate::joined::{accepted, client_of, connected, read_some, send_all};
 use aio_base::{Did, Failed, Faults, Port};
 use aio_mio::{MioPort, mio_parts};
 use std::alloc::Global;
 use std::net::Net;
+use std::process::Abort;
 use std::sync::Wait;
 
-/// What another port answers that is bound to the one in use, and its faults then. `None` where there are no
-/// devices.
-fn bind<R: Net + Copy>(rt: &R, alloc: Global, used: u16) -> Option<(Result<u16, Failed>, u64)> {
-    let (mut other, wait, notify) = mio_parts(alloc, rt).ok()?;
+/// What another port answers that is bound to the one in use, and its faults then.
+fn bind<R: Net + Copy + Abort>(rt: &R, alloc: Global, used: u16) -> (Result<u16, Failed>, u64) {
+    let (mut other, wait, notify) = mio_parts(alloc, rt).expect(rt, "devices");
     let answer = (other.bind(used), other.faults());
     drop(other);
     drop(wait);
     drop(notify);
-    Some(answer)
+    answer
 }
 
 #[test]
 fn a_port_in_use_is_refused(rt: HostRuntime) {
-    let j = connected(&rt, rt.alloc()).expect(&rt, "a connection");
-    same(&rt, bind(&rt, rt.alloc(), j.used), Some((Err(Failed), 1)));
+    let j = connected(&rt, rt.alloc());
+    same(&rt, bind(&rt, rt.alloc(), j.used), (Err(Failed), 1));
     drop(j);
 }
 
 #[test]
 fn a_port_is_used_again_once_its_listener_is_gone(rt: HostRuntime) {
-    let j = connected(&rt, rt.alloc()).expect(&rt, "a connection");
+    let j = connected(&rt, rt.alloc());
     let used = j.used;
     drop(j);
-    same(&rt, bind(&rt, rt.alloc(), used), Some((Ok(used), 0)));
+    same(&rt, bind(&rt, rt.alloc(), used), (Ok(used), 0));
 }
 
 #[test]
@@ -45,25 +45,29 @@ fn a_port_that_is_not_bound_accepts_nothing(rt: HostRuntime) {
 }
 
 /// What a read of the next connection of a port comes to, and its first byte.
-fn read_next<R: Net + Copy + Wait>(
+fn read_next<R: Net + Copy + Wait + Abort>(
     rt: &R,
     port: &mut MioPort<R>,
-) -> Option<(Result<Did, Failed>, u8)> {
-    let mut conn = port.accept(rt).ok()?;
+) -> (Result<Did, Failed>, u8) {
+    let mut conn = accepted(rt, port);
     let answer = read_some(&mut conn);
     drop(conn);
-    Some(answer)
+    answer
 }
 
 #[test]
 fn connections_are_accepted_in_the_order_of_their_clients(rt: HostRuntime) {
-    let mut j = connected(&rt, rt.alloc()).expect(&rt, "a connection");
-    let mut first = client_of(&rt, j.used).expect(&rt, "a second client");
-    let mut last = client_of(&rt, j.used).expect(&rt, "a third client");
-    same(&rt, send(&mut first, 1) && send(&mut last, 2), true);
+    let mut j = connected(&rt, rt.alloc());
+    let mut first = client_of(&rt, j.used);
+    let mut last = client_of(&rt, j.used);
+    same(
+        &rt,
+        send_all(&mut first, &[1]) && send_all(&mut last, &[2]),
+        true,
+    );
     let (one, other) = (read_next(&rt, &mut j.port), read_next(&rt, &mut j.port));
-    same(&rt, one, Some((Ok(Did::Bytes(1)), 1)));
-    same(&rt, other, Some((Ok(Did::Bytes(1)), 2)));
+    same(&rt, one, (Ok(Did::Bytes(1)), 1));
+    same(&rt, other, (Ok(Did::Bytes(1)), 2));
     drop(first);
     drop(last);
     drop(j);

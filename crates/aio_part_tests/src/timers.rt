@@ -8,14 +8,13 @@ use crate::played::{Act, Came, Played};
 use aio_base::Waker;
 use std::alloc::Global;
 use std::process::Abort;
-use std::test::Fail;
 
 /// Asserts that what these acts with a new book come to is what stands beside each.
-fn plays(rt: &impl Abort, alloc: Global, room: u32, rows: &[(Act, Came)]) -> Result<Played, Fail> {
-    let mut played = Played::new(alloc, room)?;
+fn plays(rt: &impl Abort, alloc: Global, room: u32, rows: &[(Act, Came)]) -> Played {
+    let mut played = Played::new(rt, alloc, room);
     same(rt, played.book.spare() >= room, true);
     played.plays(rt, rows);
-    Ok(played)
+    played
 }
 
 fn share<T: Send + Sync + Drop>(_value: T) {}
@@ -40,12 +39,11 @@ const BY_DEADLINE_AND_ID: [(Act, Came); 16] = [
 ];
 
 #[test]
-fn timers_fire_by_deadline_and_id(rt: HostRuntime) -> Result<(), Fail> {
-    let played = plays(&rt, rt.alloc(), 4, &BY_DEADLINE_AND_ID)?;
+fn timers_fire_by_deadline_and_id(rt: HostRuntime) {
+    let played = plays(&rt, rt.alloc(), 4, &BY_DEADLINE_AND_ID);
     let wakers = [Waker(4), Waker(2), Waker(5)];
     same(&rt, played.taken.as_slice(), wakers.as_slice());
     share(played.book);
-    Ok(())
 }
 
 const REPLACES: [(Act, Came); 4] = [
@@ -56,11 +54,9 @@ const REPLACES: [(Act, Came); 4] = [
 ];
 
 #[test]
-fn an_insert_of_a_pair_that_is_there_replaces_its_waker(rt: HostRuntime) -> Result<(), Fail> {
-    let played = plays(&rt, rt.alloc(), 2, &REPLACES)?;
+fn an_insert_of_a_pair_that_is_there_replaces_its_waker(rt: HostRuntime) {
+    let played = plays(&rt, rt.alloc(), 2, &REPLACES);
     same(&rt, played.taken.as_slice(), [Waker(5)].as_slice());
-    drop(played);
-    Ok(())
 }
 
 /// Timers at the moments 2 to 10. As those at 0 and 1 came before, and went in a pass before the last
@@ -82,35 +78,32 @@ const TALL: [(Act, Came); 12] = [
 ];
 
 /// The tall heap, and the wakers 0 and 1 of those that went.
-fn tall(rt: &impl Abort, alloc: Global) -> Result<Played, Fail> {
-    let played = plays(rt, alloc, 11, &TALL)?;
+fn tall(rt: &impl Abort, alloc: Global) -> Played {
+    let played = plays(rt, alloc, 11, &TALL);
     same(rt, played.taken.as_slice(), [Waker(0), Waker(1)].as_slice());
-    Ok(played)
+    played
 }
 
 /// Takes the timer at this moment out of the tall heap: asserts which is the first then, and that the others
 /// go in order.
-fn leaves(rt: &impl Abort, alloc: Global, gone: u32, first: u64) -> Result<(), Fail> {
-    let mut played = tall(rt, alloc)?;
+fn leaves(rt: &impl Abort, alloc: Global, gone: u32, first: u64) {
+    let mut played = tall(rt, alloc);
     played.plays(rt, &[(Remove(gone as u64, 7), Done), (Len, Count(8))]);
     played.plays(rt, &[(First, Timer(first, 7)), (Pass(10), Count(8))]);
     let taken = played.taken.as_slice();
     let seen = (taken.iter().is_sorted(), taken.contains(&Waker(gone)));
     same(rt, seen, (true, false));
     played.plays(rt, &[(Remove(2, 7), Done), (First, Nothing)]);
-    drop(played);
-    Ok(())
 }
 
 /// The root, and a first child, one between siblings and a last one, each with children and without
 /// (7 and 10, 5 and 9, 3 and 6), and only children: after each removal the others stand in order.
 #[test]
-fn a_timer_leaves_from_every_place(rt: HostRuntime) -> Result<(), Fail> {
-    leaves(&rt, rt.alloc(), 2, 3)?;
+fn a_timer_leaves_from_every_place(rt: HostRuntime) {
+    leaves(&rt, rt.alloc(), 2, 3);
     for gone in 3u32..11 {
-        leaves(&rt, rt.alloc(), gone, 2)?;
+        leaves(&rt, rt.alloc(), gone, 2);
     }
-    Ok(())
 }
 
 const ARE_DUE: [(Act, Came); 11] = [
@@ -128,12 +121,10 @@ const ARE_DUE: [(Act, Came); 11] = [
 ];
 
 #[test]
-fn a_count_of_due_timers_ends_at_the_first_that_is_not(rt: HostRuntime) -> Result<(), Fail> {
-    plays(&rt, rt.alloc(), 0, &[(Due(0), Count(0))])?;
-    let mut played = tall(&rt, rt.alloc())?;
+fn a_count_of_due_timers_ends_at_the_first_that_is_not(rt: HostRuntime) {
+    plays(&rt, rt.alloc(), 0, &[(Due(0), Count(0))]);
+    let mut played = tall(&rt, rt.alloc());
     played.plays(&rt, &ARE_DUE);
-    drop(played);
-    Ok(())
 }
 
 /// Ten timers of one deadline, inserted in another order than that of their ids.
@@ -156,10 +147,8 @@ const ONE_DEADLINE: [(Act, Came); 15] = [
 ];
 
 #[test]
-fn timers_of_one_deadline_fire_by_id(rt: HostRuntime) -> Result<(), Fail> {
-    let played = plays(&rt, rt.alloc(), 10, &ONE_DEADLINE)?;
+fn timers_of_one_deadline_fire_by_id(rt: HostRuntime) {
+    let played = plays(&rt, rt.alloc(), 10, &ONE_DEADLINE);
     let wakers = [0, 1, 2, 3, 5, 6, 7, 8, 9].map(Waker);
     same(&rt, played.taken.as_slice(), wakers.as_slice());
-    drop(played);
-    Ok(())
 }

@@ -1,9 +1,9 @@
 //! What no clause says of a wait beside others: that a notify of another thread or of a twin ends it, and that no
 //! event is lost for want of room.
 
-use crate::asserts::same;
-use crate::joined::{Joined, LONG, client_of, connected, event, one_event, watch};
-use aio_base::{Arm, EventWait, Failed, Faults, Interest, Key, Notify, Port};
+use crate::asserts::{MEMORY, same};
+use crate::joined::{Joined, LONG, accepted, client_of, connected, one_event, watch};
+use aio_base::{Arm, Event, EventWait, Failed, Faults, Interest, Key, Notify};
 use aio_mio::{MioConn, MioNotify, MioWait};
 use std::alloc::Global;
 use std::net::Net;
@@ -15,13 +15,13 @@ use std::time::{Clock, Duration};
 fn end_later<R: Threads + Clock + Sync>(
     rt: &R,
     alloc: Global,
-    mut wait: MioWait,
-    mut notify: MioNotify,
+    wait: &mut MioWait,
+    notify: &mut MioNotify,
 ) -> (Result<bool, Failed>, Result<(), Failed>) {
     join(
         rt,
-        move || one_event(&mut wait, alloc, None).map(|event| event.is_none()),
-        move || {
+        || one_event(wait, alloc, None).map(|event| event.is_none()),
+        || {
             sleep(rt, Duration::from_millis(20));
             notify.notify()
         },
@@ -31,26 +31,40 @@ fn end_later<R: Threads + Clock + Sync>(
 #[test]
 fn a_notify_of_another_thread_ends_a_wait_without_an_event(rt: HostRuntime) {
     for _ in 0..5 {
-        let j = connected(&rt, rt.alloc()).expect(&rt, "a connection");
-        same(
-            &rt,
-            end_later(&rt, rt.alloc(), j.wait, j.notify),
-            (Ok(true), Ok(())),
-        );
+        let mut j = connected(&rt, rt.alloc());
+        let ended = end_later(&rt, rt.alloc(), &mut j.wait, &mut j.notify);
+        same(&rt, ended, (Ok(true), Ok(())));
+        drop(j);
     }
+}
+
+/// Asserts that a twin of this notifier ends a wait, and counts for itself.
+fn twin_ends(rt: &impl Abort, alloc: Global, wait: &mut MioWait, notify: &MioNotify) {
+    let mut twin = notify.twin().expect(rt, MEMORY);
+    same(rt, twin.notify(), Ok(()));
+    same(rt, one_event(wait, alloc, None), Ok(None));
+    same(rt, (twin.calls(), notify.calls()), (1, 0));
+    same(rt, (twin.faults(), notify.faults()), (0, 0));
+    drop(twin);
 }
 
 #[test]
 fn a_twin_ends_the_same_waits_and_counts_for_itself(rt: HostRuntime) {
-    let mut j = connected(&rt, rt.alloc()).expect(&rt, "a connection");
-    let mut twin = j.notify.twin().expect(&rt, "memory");
-    same(&rt, twin.notify(), Ok(()));
-    same(&rt, one_event(&mut j.wait, rt.alloc(), None), Ok(None));
-    same(&rt, (twin.calls(), j.notify.calls()), (1, 0));
-    same(&rt, (twin.faults(), j.notify.faults()), (0, 0));
-    drop(twin);
+    let mut j = connected(&rt, rt.alloc());
+    twin_ends(&rt, rt.alloc(), &mut j.wait, &j.notify);
     drop(j);
 }
+
+/// The events of two connections.
+const ONE: Event = Event {
+    key: Key(1),
+    on: Interest::WRITE,
+};
+
+const OTHER: Event = Event {
+    key: Key(2),
+    on: Interest::WRITE,
+};
 
 /// Asserts that the first event of two connections comes before they are taken out, and the second after that.
 fn gives_both<R: Net + Copy>(
@@ -63,20 +77,20 @@ fn gives_both<R: Net + Copy>(
     same(rt, watch(&mut j.conn, 1, Interest::WRITE), Ok(()));
     same(rt, watch(second, 2, Interest::WRITE), Ok(()));
     let first = one_event(wait, alloc, LONG);
-    same(rt, first, event(1, Interest::WRITE));
+    same(rt, first, Ok(Some(ONE)));
     same(rt, j.conn.remove(Key(1)), Ok(()));
     same(rt, second.remove(Key(2)), Ok(()));
     let next = one_event(wait, alloc, Some(0));
-    same(rt, next, event(2, Interest::WRITE));
+    same(rt, next, Ok(Some(OTHER)));
     same(rt, one_event(wait, alloc, Some(0)), Ok(None));
     same(rt, wait.waits(), 3);
 }
 
 #[test]
 fn what_there_is_no_room_for_is_given_by_the_next_wait(rt: HostRuntime) {
-    let mut j = connected(&rt, rt.alloc()).expect(&rt, "a connection");
-    let client = client_of(&rt, j.used).expect(&rt, "a second client");
-    let mut conn = j.port.accept(&rt).expect(&rt, "a second connection");
+    let mut j = connected(&rt, rt.alloc());
+    let client = client_of(&rt, j.used);
+    let mut conn = accepted(&rt, &mut j.port);
     gives_both(&rt, rt.alloc(), &mut j, &mut conn);
     drop(conn);
     drop(client);
