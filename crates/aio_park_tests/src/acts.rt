@@ -27,7 +27,7 @@ pub(crate) enum Act {
 }
 
 /// What comes of it.
-#[derive(Clone, Copy, Debug, PartialEq)]
+#[derive(Clone, Copy)]
 pub(crate) enum Came {
     /// A task ended with this number, the moment of its timer or 0, after so many polls.
     Ended(u64, u64),
@@ -47,6 +47,28 @@ pub(crate) enum Came {
     Waits(u64),
     /// Something else.
     Other,
+}
+
+/// What came, as it is compared: which it is, its numbers, and what a round or a poll met.
+pub(crate) fn told(
+    came: Came,
+) -> (
+    &'static str,
+    [u64; 2],
+    Option<BlockFault>,
+    Option<PollFault>,
+) {
+    match came {
+        Came::Ended(number, polls) => ("ended", [number, polls], None, None),
+        Came::Failed(fault, polls) => ("failed", [polls, 0], Some(fault), None),
+        Came::Events(events) => ("events", [events, 0], None, None),
+        Came::Stopped(fault) => ("stopped", [0; 2], Some(fault), None),
+        Came::Pending => ("pending", [0; 2], None, None),
+        Came::Told(fault) => ("told", [0; 2], None, Some(fault)),
+        Came::Mask(mask) => ("mask", [mask, 0], None, None),
+        Came::Waits(waits) => ("waits", [waits, 0], None, None),
+        Came::Other => ("other", [0; 2], None, None),
+    }
 }
 
 /// What blocking on a task with an output came to, after so many polls.

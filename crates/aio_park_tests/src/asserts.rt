@@ -5,6 +5,9 @@ use aio_base::Moment;
 use std::fmt::Debug;
 use std::process::Abort;
 
+/// What a test needs that allocates.
+pub(crate) const MEMORY: &str = "memory is left";
+
 /// Asserts that what was found is what was wanted.
 pub(crate) fn same<T: Debug + Drop + PartialEq>(rt: &impl Abort, found: T, wanted: T) {
     assert_eq!(rt; found, wanted);

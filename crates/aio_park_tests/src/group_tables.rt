@@ -2,7 +2,6 @@
 
 ghost use Rattle.std.specs.Prelude.{◌≤◌};
 
-use crate::asserts::same;
 use crate::groups::Act::{Add, Answer, Count, Poll};
 use crate::groups::Came::{Ended, Full, Pending, Polls, Saw, Slot};
 use crate::groups::{Act, Came, Played};
@@ -13,7 +12,7 @@ use std::thread::{Threads, join};
 /// Adds tasks that end at their own slot's number, so many, and asserts that each has the next slot.
 fn fill(rt: &impl Abort, played: &mut Played, slots: u32) {
     for slot in 0..slots {
-        same(rt, played.act(Add(u64::from(slot))), Slot(slot));
+        played.plays(rt, &[(Add(u64::from(slot)), Slot(slot))]);
     }
 }
 
@@ -31,8 +30,8 @@ fn wake_each(rt: &impl Abort, played: &mut Played, slots: u32)
     requires { slots ≤ 64 }
 {
     for slot in 0..slots {
-        let polled = played.act(Poll(1 << slot, 100));
-        same(rt, polled, Pending(u64::from(slot) + 1));
+        let polls = [(Poll(1 << slot, 100), Pending(u64::from(slot) + 1))];
+        played.plays(rt, &polls);
     }
 }
 

@@ -91,7 +91,7 @@ pub(crate) enum Act {
 }
 
 /// What comes of it.
-#[derive(Clone, Copy, Debug, PartialEq)]
+#[derive(Clone, Copy)]
 pub(crate) enum Came {
     /// The task has this slot.
     Slot(u32),
@@ -108,6 +108,19 @@ pub(crate) enum Came {
     Polls(u64),
     /// Something else.
     Other,
+}
+
+/// What came, as it is compared: which it is, and its numbers.
+fn told(came: Came) -> (&'static str, [u64; 3]) {
+    match came {
+        Came::Slot(slot) => ("slot", [u64::from(slot), 0, 0]),
+        Came::Full(end, polls) => ("full", [end, polls, 0]),
+        Came::Pending(digits) => ("pending", [digits, 0, 0]),
+        Came::Ended(digits, answers) => ("ended", [digits, answers as u64, 0]),
+        Came::Saw(mask, now, polls) => ("saw", [mask, now, polls]),
+        Came::Polls(polls) => ("polls", [polls, 0, 0]),
+        Came::Other => ("other", [0; 3]),
+    }
 }
 
 /// The parker of the groups.
@@ -168,7 +181,7 @@ impl Played {
     }
 
     /// Does this.
-    pub(crate) fn act(&mut self, act: Act) -> Came {
+    fn act(&mut self, act: Act) -> Came {
         match act {
             Act::Add(end) => self.add(end),
             Act::Poll(mask, now) => self.poll_at(mask, now),
@@ -180,7 +193,7 @@ impl Played {
     /// Asserts that what these acts come to is what stands beside each.
     pub(crate) fn plays(&mut self, rt: &impl Abort, rows: &[(Act, Came)]) {
         for (act, came) in rows {
-            same(rt, self.act(*act), *came);
+            same(rt, told(self.act(*act)), told(*came));
         }
     }
 }

@@ -85,13 +85,12 @@ fn reads_alone<R: Wait + Copy>(
 
 mod tests {
     use super::{Fault, read_in_time, reads_alone};
-    use crate::asserts::{moment, same};
+    use crate::asserts::{MEMORY, moment, same};
     use crate::readers::{Alone, alone, waits};
     use aio_devices::{MemBytes, MemNotify, MemWait, clock_until};
     use std::alloc::Global;
     use std::process::Abort;
     use std::sync::Wait;
-    use std::test::Fail;
 
     /// When a read gives up, in nanoseconds.
     const TIMEOUT: u64 = 1000;
@@ -100,13 +99,12 @@ mod tests {
     type Read = Result<Option<u8>, Fault>;
 
     #[test]
-    fn a_byte_that_comes_is_read_before_the_timeout(rt: HostRuntime) -> Result<(), Fail> {
+    fn a_byte_that_comes_is_read_before_the_timeout(rt: HostRuntime) {
         let until = moment(&rt, TIMEOUT);
-        let clock = clock_until(rt.alloc(), 3, until)?;
+        let clock = clock_until(rt.alloc(), 3, until).expect(&rt, MEMORY);
         let io = MemBytes::new(2, 7);
         let reads = reads_alone(&rt, rt.alloc(), clock, io, until, Some(7));
         same(&rt, reads, true);
-        Ok(())
     }
 
     /// Reads of a connection of which so many reads would block, over a wait that gives no event. The time-out
@@ -116,28 +114,26 @@ mod tests {
         alloc: Global,
         looks: usize,
         blocks: u32,
-    ) -> Result<(Read, Option<u64>), Fail> {
+    ) -> (Read, Option<u64>) {
         let devices = (MemNotify::new(), MemWait::new(0));
-        let mut thread: Alone<_, _, MemBytes, _> = alone(rt, alloc, devices, (looks, TIMEOUT))?;
+        let mut thread: Alone<_, _, MemBytes, _> = alone(rt, alloc, devices, (looks, TIMEOUT));
         let until = moment(&rt, TIMEOUT);
         let read = read_in_time(&mut thread, MemBytes::new(blocks, 7), until);
         let waits = waits(&mut thread);
         drop(thread);
-        Ok((read, waits))
+        (read, waits)
     }
 
     #[test]
-    fn a_byte_that_is_there_is_read_without_a_round(rt: HostRuntime) -> Result<(), Fail> {
-        let read = read_silent(&rt, rt.alloc(), 0, 0)?;
+    fn a_byte_that_is_there_is_read_without_a_round(rt: HostRuntime) {
+        let read = read_silent(&rt, rt.alloc(), 0, 0);
         same(&rt, read, (Ok(Some(7)), Some(0)));
-        Ok(())
     }
 
     // The first pass of the second round finds the timer due, as it does for a task that sleeps.
     #[test]
-    fn a_connection_that_stays_silent_runs_into_its_timeout(rt: HostRuntime) -> Result<(), Fail> {
-        let read = read_silent(&rt, rt.alloc(), 3, 9)?;
+    fn a_connection_that_stays_silent_runs_into_its_timeout(rt: HostRuntime) {
+        let read = read_silent(&rt, rt.alloc(), 3, 9);
         same(&rt, read, (Ok(None), Some(2)));
-        Ok(())
     }
 }

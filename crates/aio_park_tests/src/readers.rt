@@ -1,17 +1,18 @@
 //! A thread with a source of its own, which carries out the acts of a table.
 
-use crate::acts::{Act, Came, counted, driven, ended, ended_well, fired, polled};
-use crate::asserts::{moment, same};
+ghost use Rattle.std.specs.Prelude.{◌≡◌, false};
+
+use crate::acts::{Act, Came, counted, driven, ended, ended_well, fired, polled, told};
+use crate::asserts::{MEMORY, moment, same};
 use crate::tasks::{Never, Readable, WakesItself};
 use aio_base::{Arm, Dir, EventWait, Moment, Notify, Task, Waker};
 use aio_devices::{MemClock, clock_until};
 use aio_future::Sleep;
 use aio_park::{BlockFault, Thread, drive};
-use aio_shared::Inside;
+use aio_shared::{Inside, SourceRef};
 use std::alloc::Global;
 use std::process::Abort;
 use std::sync::Wait;
-use std::test::Fail;
 
 /// A thread of a reactor for one, whose clock stands still in the end.
 pub(crate) type Alone<R, N, A, W> = Thread<R, N, A, W, MemClock>;
@@ -118,26 +119,23 @@ pub(crate) fn alone<R: Wait + Copy + Abort, N: Notify + Drop, A: Arm + Drop, W: 
     alloc: Global,
     devices: (N, W),
     times: (usize, u64),
-) -> Result<Alone<R, N, A, W>, Fail> {
+) -> Alone<R, N, A, W> {
     let (notifier, wait) = devices;
-    let clock = clock_until(alloc, times.0, moment(&rt, times.1))?;
-    Ok(Thread::new(alloc, rt, 1, wait, notifier, clock)?)
+    let clock = clock_until(alloc, times.0, moment(&rt, times.1)).expect(&rt, MEMORY);
+    Thread::new(alloc, rt, 1, wait, notifier, clock).expect(&rt, MEMORY)
 }
 
-impl<R: Wait + Copy, N: Notify + Drop, A: Arm + Drop, W: EventWait + Drop> Reader<R, N, A, W> {
-    /// Inserts a connection.
-    fn of(thread: Alone<R, N, A, W>, io: A) -> Result<Reader<R, N, A, W>, Fail> {
-        match thread.host.insert_source(io) {
-            Ok(source) => Ok(Reader {
-                thread,
-                task: Readable { source, polls: 0 },
-            }),
-            Err((io, _)) => {
-                drop(io);
-                drop(thread);
-                Err(Fail::from("no source"))
-            }
-        }
+/// The source of a connection in a thread's reactor.
+fn source_of<R: Wait + Copy + Abort, N: Notify, A: Arm + Drop, W: EventWait>(
+    rt: R,
+    thread: &Alone<R, N, A, W>,
+    io: A,
+) -> SourceRef<A>
+    ensures { result.inside ≡ false }
+{
+    match thread.host.insert_source(io) {
+        Ok(source) => source,
+        Err(_) => rt.panic("the reactor takes the source"),
     }
 }
 
@@ -170,7 +168,7 @@ impl<R: Wait + Copy, N: Notify, A: Arm, W: EventWait> Reader<R, N, A, W> {
     /// Asserts that what these acts come to is what stands beside each.
     fn plays(&mut self, rt: &impl Abort, rows: &[(Act, Came)]) {
         for (act, came) in rows {
-            same(rt, self.act(*act), *came);
+            same(rt, told(self.act(*act)), told(*came));
         }
     }
 }
@@ -183,11 +181,12 @@ pub(crate) fn plays<R: Wait + Copy + Abort, N: Notify + Drop, A: Arm + Drop, W: 
     devices: (N, A, W),
     times: (usize, u64),
     rows: &[(Act, Came)],
-) -> Result<(), Fail> {
+) {
     let (notifier, io, wait) = devices;
-    let thread = alone(rt, alloc, (notifier, wait), times)?;
-    let mut reader = Reader::of(thread, io)?;
+    let thread = alone(rt, alloc, (notifier, wait), times);
+    let source = source_of(rt, &thread, io);
+    let task = Readable { source, polls: 0 };
+    let mut reader = Reader { thread, task };
     reader.plays(&rt, rows);
     drop(reader);
-    Ok(())
 }

@@ -11,7 +11,6 @@ use aio_shared::Inside;
 use std::alloc::Global;
 use std::process::Abort;
 use std::sync::Wait;
-use std::test::Fail;
 
 /// A thread over devices that never fail, and give no event.
 type Undisturbed<R> = Alone<R, MemNotify, SureArm, MemWait>;
@@ -20,51 +19,45 @@ type Undisturbed<R> = Alone<R, MemNotify, SureArm, MemWait>;
 fn answers_of<
     R: Wait + Copy + Abort,
     T: Task<Inside<R, MemNotify, SureArm, MemWait>, Output = u64> + Drop,
->(rt: R, alloc: Global, mut group: Group<T, u64>) -> Result<(Vec<u64>, Option<u64>), Fail> {
+>(rt: R, alloc: Global, mut group: Group<T, u64>) -> (Vec<u64>, Option<u64>) {
     let devices = (MemNotify::new(), MemWait::new(0));
-    let mut thread: Undisturbed<R> = alone(rt, alloc, devices, (1, 0))?;
+    let mut thread: Undisturbed<R> = alone(rt, alloc, devices, (1, 0));
     let blocked = block_on(&mut thread, &mut group);
     drop(group);
     let waits = waits(&mut thread);
     drop(thread);
-    match blocked {
-        Ok(answers) => Ok((answers, waits)),
-        Err(_) => Err(Fail::from("no answers")),
-    }
+    (blocked.expect(&rt, "answers"), waits)
+}
+
+/// Adds a task to a group, for which there is room.
+fn join<T: Drop>(rt: &impl Abort, group: &mut Group<T, u64>, task: T) {
+    same(rt, group.add(task).is_ok(), true);
 }
 
 /// A group of tasks that wake themselves, and end at these polls with the answers beside them.
-fn waking(alloc: Global, tasks: &[(u64, u64)]) -> Result<Group<WakesItself, u64>, Fail> {
+fn waking(rt: &impl Abort, alloc: Global, tasks: &[(u64, u64)]) -> Group<WakesItself, u64> {
     let mut group = Group::new(alloc, 0);
     for (last, answer) in tasks {
-        if group.add(WakesItself::until(*last, *answer)).is_err() {
-            return Err(Fail::from("no room"));
-        }
+        join(rt, &mut group, WakesItself::until(*last, *answer));
     }
-    Ok(group)
+    group
 }
 
 /// A group of so many links of a chain.
-fn chain(alloc: Global, length: u32) -> Result<Group<Link, u64>, Fail> {
+fn chain(rt: &impl Abort, alloc: Global, length: u32) -> Group<Link, u64> {
     let mut group = Group::new(alloc, 0);
     for _ in 0..length {
-        if group.add(Link::new()).is_err() {
-            return Err(Fail::from("no room"));
-        }
+        join(rt, &mut group, Link::new());
     }
-    Ok(group)
+    group
 }
 
 #[test]
-fn a_group_answers_in_the_order_of_its_slots(rt: HostRuntime) -> Result<(), Fail> {
-    let group = waking(rt.alloc(), &[(2, 10), (1, 11)])?;
-    let (answers, waits) = answers_of(&rt, rt.alloc(), group)?;
-    same(
-        &rt,
-        (answers.as_slice() == [10, 11].as_slice(), waits),
-        (true, Some(1)),
-    );
-    Ok(())
+fn a_group_answers_in_the_order_of_its_slots(rt: HostRuntime) {
+    let group = waking(&rt, rt.alloc(), &[(2, 10), (1, 11)]);
+    let (answers, waits) = answers_of(&rt, rt.alloc(), group);
+    let is_in_order = answers.as_slice() == [10, 11].as_slice();
+    same(&rt, (is_in_order, waits), (true, Some(1)));
 }
 
 /// Whether these are the slots from 0 on, so many.
@@ -81,13 +74,9 @@ fn are_slots(answers: &[u64], count: usize) -> bool {
 
 // Each wake is in a mask of its own, and before each poll there is a round.
 #[test]
-fn each_of_64_slots_is_woken_in_turn(rt: HostRuntime) -> Result<(), Fail> {
-    let group = chain(rt.alloc(), 64)?;
-    let (answers, waits) = answers_of(&rt, rt.alloc(), group)?;
-    same(
-        &rt,
-        (are_slots(answers.as_slice(), 64), waits),
-        (true, Some(64)),
-    );
-    Ok(())
+fn each_of_64_slots_is_woken_in_turn(rt: HostRuntime) {
+    let group = chain(&rt, rt.alloc(), 64);
+    let (answers, waits) = answers_of(&rt, rt.alloc(), group);
+    let are_all = are_slots(answers.as_slice(), 64);
+    same(&rt, (are_all, waits), (true, Some(64)));
 }

@@ -4,6 +4,7 @@
 use crate::acts::Act::{Count, Poll, Read, Take};
 use crate::acts::Came::{Ended, Failed, Mask, Pending, Told, Waits};
 use crate::acts::{Act, Came};
+use crate::asserts::MEMORY;
 use crate::readers::plays;
 use aio_base::{ArmFault, CountFault, Dir, Event, Interest, Key};
 use aio_devices::{
@@ -12,7 +13,7 @@ use aio_devices::{
 use aio_park::BlockFault;
 use aio_shared::PollFault;
 use std::alloc::Global;
-use std::test::Fail;
+use std::process::Abort;
 
 const REPLACES_A_WAKER: [(Act, Came); 3] = [
     (Poll(Dir::Read, 3), Pending),
@@ -21,9 +22,14 @@ const REPLACES_A_WAKER: [(Act, Came); 3] = [
 ];
 
 #[test]
-fn the_waker_that_another_one_replaced_is_woken(rt: HostRuntime) -> Result<(), Fail> {
+fn the_waker_that_another_one_replaced_is_woken(rt: HostRuntime) {
     let devices = (MemNotify::new(), SureArm::new(7), MemWait::new(0));
-    plays(&rt, rt.alloc(), devices, (0, 0), &REPLACES_A_WAKER)
+    plays(&rt, rt.alloc(), devices, (0, 0), &REPLACES_A_WAKER);
+}
+
+/// A connection of which the call with this number fails, by its arm.
+fn failing(rt: &impl Abort, alloc: Global, call: u64) -> FailingArm {
+    FailingArm::new(7, vec![in alloc; call].expect(rt, MEMORY))
 }
 
 /// The first fault of the arm of the first source.
@@ -39,20 +45,20 @@ const ARM_FAILS_AT_A_POLL: [(Act, Came); 2] = [
 ];
 
 #[test]
-fn a_failed_arm_is_told_by_the_poll_that_met_it(rt: HostRuntime) -> Result<(), Fail> {
-    let io = FailingArm::new(7, vec![in rt.alloc(); 2]?);
+fn a_failed_arm_is_told_by_the_poll_that_met_it(rt: HostRuntime) {
+    let io = failing(&rt, rt.alloc(), 2);
     let devices = (MemNotify::new(), io, MemWait::new(0));
-    plays(&rt, rt.alloc(), devices, (0, 0), &ARM_FAILS_AT_A_POLL)
+    plays(&rt, rt.alloc(), devices, (0, 0), &ARM_FAILS_AT_A_POLL);
 }
 
 /// A wait that gives one event of the read direction for key 0.
-fn readable_once(alloc: Global) -> Result<ScriptedWait, Fail> {
+fn readable_once(rt: &impl Abort, alloc: Global) -> ScriptedWait {
     let event = Event {
         key: Key(0),
         on: Interest::READ,
     };
-    let answer = WaitAnswer::Gives(vec![in alloc; event]?);
-    Ok(ScriptedWait::new(vec![in alloc; answer]?))
+    let answer = WaitAnswer::Gives(vec![in alloc; event].expect(rt, MEMORY));
+    ScriptedWait::new(vec![in alloc; answer].expect(rt, MEMORY))
 }
 
 const ARM_FAILS_IN_A_ROUND: [(Act, Came); 3] = [
@@ -62,10 +68,10 @@ const ARM_FAILS_IN_A_ROUND: [(Act, Came); 3] = [
 ];
 
 #[test]
-fn a_failed_arm_of_a_round_is_handed_on_and_the_task_goes_on(rt: HostRuntime) -> Result<(), Fail> {
-    let io = FailingArm::new(7, vec![in rt.alloc(); 4]?);
-    let devices = (MemNotify::new(), io, readable_once(rt.alloc())?);
-    plays(&rt, rt.alloc(), devices, (1, 0), &ARM_FAILS_IN_A_ROUND)
+fn a_failed_arm_of_a_round_is_handed_on_and_the_task_goes_on(rt: HostRuntime) {
+    let wait = readable_once(&rt, rt.alloc());
+    let devices = (MemNotify::new(), failing(&rt, rt.alloc(), 4), wait);
+    plays(&rt, rt.alloc(), devices, (1, 0), &ARM_FAILS_IN_A_ROUND);
 }
 
 const NOTIFIER_FAILS: [(Act, Came); 2] = [
@@ -83,7 +89,7 @@ const NOTIFIER_FAILS: [(Act, Came); 2] = [
 ];
 
 #[test]
-fn a_failed_notifier_of_a_round_is_handed_on(rt: HostRuntime) -> Result<(), Fail> {
+fn a_failed_notifier_of_a_round_is_handed_on(rt: HostRuntime) {
     let devices = (FailingNotify::new(), SureArm::new(7), MemWait::new(1));
-    plays(&rt, rt.alloc(), devices, (1, 0), &NOTIFIER_FAILS)
+    plays(&rt, rt.alloc(), devices, (1, 0), &NOTIFIER_FAILS);
 }
