@@ -116,6 +116,13 @@ impl<T, O> Group<T, O> {
         self.slots.push_reserved(Slot::Running(task));
         Ok(slot as u32)
     }
+
+    /// How often it was polled, which `Task::polls` tells for each host.
+    pub fn polls(&self) -> u64
+        ensures { result ≡ self.now.polls }
+    {
+        self.polls
+    }
 }
 
 /// Polls the task of a slot, if it has not ended. One that ends is let go, and its answer kept.

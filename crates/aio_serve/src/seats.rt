@@ -54,7 +54,7 @@ impl<
     }
 
     fn polls(&self) -> u64 {
-        Task::<Inside<R, N, C, W>>::polls(&self.group)
+        self.group.polls()
     }
 
     ghost gives_later = { λ seats sure a b ends.
