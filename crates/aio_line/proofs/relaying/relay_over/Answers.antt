@@ -1,4 +1,5 @@
-use Rattle.std.proofs.Common.{inr}
+use Rattle.std.proofs.Common.{rules, inr, arith}
+use Rattle.std.proofs.lemmas.Grind.{common_steps}
 use Rattle.aio_line.specs.Relays.{MayEndSo, terms_of}
 use Rattle.aio_line.proofs.Stopping.{first_alone, first_and_more, may_end_still, pairs_refused}
 use Rattle.aio_line.proofs.relaying.relay_over.Goals as goal
@@ -37,3 +38,18 @@ returns-clause-order g c = inr (
   c.in-Ok.ensures.port,
   first_and_more c.write_pairs.result _ _ _ _ _ c.in-Ok-write_listening.ensures.written c.write_pairs.ensures.written,
 )
+
+pub returns-in-Err-write_listening-clause-written : goal.returns-in-Err-write_listening-clause-written
+returns-in-Err-write_listening-clause-written g c = search rules
+
+pub returns-in-Err-serve_six-clause-written : goal.returns-in-Err-serve_six-clause-written
+returns-in-Err-serve_six-clause-written g c = search rules
+
+pub returns-in-Ok-write_pairs-clause-written : goal.returns-in-Ok-write_pairs-clause-written
+returns-in-Ok-write_pairs-clause-written g c = grind (arith, common_steps)
+
+pub returns-in-Err-write_listening-clause-order : goal.returns-in-Err-write_listening-clause-order
+returns-in-Err-write_listening-clause-order g c = search rules
+
+pub returns-in-Err-serve_six-clause-cause : goal.returns-in-Err-serve_six-clause-cause
+returns-in-Err-serve_six-clause-cause g c = search rules

@@ -1,4 +1,4 @@
-use Rattle.std.proofs.Common.{◌∙◌, Bool, refl, sym, subst}
+use Rattle.std.proofs.Common.{rules, ◌∙◌, Bool, refl, sym, subst}
 use Rattle.aio_base.specs.ClockBounds.{ClockBounds}
 use Rattle.aio_shared.specs.Later.{later_itself, later_further}
 use Rattle.aio_park.specs.Blocking.{IsPast}
@@ -64,3 +64,6 @@ loop-preserved g c = record {
   parker = c.in-Err-Arm.ensures.parker ∙ c.loop.invariant.parker;
   bounds = c.in-Err-Arm.ensures.bounds ∙ c.loop.invariant.bounds;
 }
+
+pub returns-in-Err-clause-cause : goal.returns-in-Err-clause-cause
+returns-in-Err-clause-cause g c = search rules
