@@ -57,12 +57,8 @@ impl<A: Arm + Drop, W: EventWait> Shared<A, W> {
         ensures removed { Removes A.arm_step A.rest A.fault_count s.key s.rest result }
         ensures fault { IfErr result (λ fault. IsUnsure A.all_sure fault) }
     {
-        // The order of the locks: the table first, and under it the one source. A round that visits the
-        // source has the table, so it is over by then. The table is kept until the `remove` was made,
-        // since the key is free as soon as another thread has the table.
+        // The key is free as soon as another thread has the table, which the call keeps until then.
         let mut table = self.sources.lock(rt);
-        let out = table.take_out(s.key());
-        let closed = s.take_closed(rt, &*table, &out);
-        closed.remove(&*table)
+        table.close(rt, s)
     }
 }

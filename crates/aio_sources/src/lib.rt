@@ -17,8 +17,7 @@ mod sources;
 mod starting;
 mod visits;
 
-pub use closing::Closed;
-pub use source_table::{SourceTable, TakenOut};
+pub use source_table::SourceTable;
 pub use sources::{InsertFault, SourceRef, Sources};
 pub use starting::Places;
 pub use visits::{Attempt, PollDir, Tried, TryDir, Visit};

@@ -68,7 +68,7 @@ impl<A: Arm> Model for Vacancy<A> {
 /// The key of a source that went out of the table. `SourceTable::take_out` alone makes one, so that what
 /// follows on it cannot be done without it. Contracts see the key.
 #[derive(Drop)]
-pub struct TakenOut {
+pub(crate) struct TakenOut {
     key: Key,
 }
 
@@ -150,7 +150,7 @@ impl<A: Arm + Drop> SourceTable<A> {
 
     /// Lets the lock of a key go, where there is one: no source of the table has the key then. The
     /// answer says so of this key.
-    pub fn take_out(&mut self, key: Key) -> TakenOut
+    pub(crate) fn take_out(&mut self, key: Key) -> TakenOut
         requires { key.0 < 4096 }
         ensures keys { self.new ≡ without_key self.old key.0 }
         ensures gone { ¬ Contains self.new key.0 }

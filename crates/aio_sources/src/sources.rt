@@ -122,7 +122,12 @@ impl<A: Arm> SourceRef<A> {
 impl<A: Arm + Drop> SourceRef<A> {
     /// Takes the source out of its lock for good, as soon as no round visits it. The caller has the table,
     /// which the source has left, so that no round comes to it any more. Takes no memory.
-    pub fn take_closed<R: Wait>(self, rt: &R, table: &SourceTable<A>, out: &TakenOut) -> Closed<A>
+    pub(crate) fn take_closed<R: Wait>(
+        self,
+        rt: &R,
+        table: &SourceTable<A>,
+        out: &TakenOut,
+    ) -> Closed<A>
         requires out { ¬ Contains table.now out.now }
         requires key { out.now ≡ self.key }
         requires outside { self.inside ≡ false }
