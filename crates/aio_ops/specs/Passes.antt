@@ -12,8 +12,8 @@ use Rattle.aio_rules.specs.Operations.{QueuePass, queue_limit, seat_of}
 use Rattle.aio_rules.specs.OperationLaws.{HasDrained}
 
 -- A pass: the queue that it belongs to, and its number there; the entries that it pushed, each with how many it had popped by then; the entries
--- that it popped; how many of its pushes found the queue full, and how many of its pops found it empty; and, of the first pass alone, how many
--- passes were made, itself among them.
+-- that it popped; how many of its pushes found the queue full, and how many of its pops found it empty; of the first pass alone, how many passes
+-- were made, itself among them; and the last operation that it applied to a book without the queue, if there was one.
 pub record PassView : Type 0 where
   pub queue : TableId
   pub number : ℕ
@@ -22,6 +22,7 @@ pub record PassView : Type 0 where
   pub fulls : ℕ
   pub empties : ℕ
   pub splits : ℕ
+  pub applied : Option TimerOp
 
 -- the pass as the rule of the queue has it
 abbrev pub queue_pass : PassView → QueuePass TimerOp
@@ -29,7 +30,7 @@ queue_pass p = record { seat = seat_of p.number p.splits p.own p.pulled; fulls =
 
 -- a pass that has pushed and popped nothing
 abbrev pub new_pass : TableId → ℕ → ℕ → PassView
-new_pass queue number made = record { queue = queue; number = number; own = []; pulled = []; fulls = 0; empties = 0; splits = made }
+new_pass queue number made = record { queue = queue; number = number; own = []; pulled = []; fulls = 0; empties = 0; splits = made; applied = None }
 
 -- the most passes of a queue
 abbrev pub pass_limit : ℕ
@@ -87,12 +88,24 @@ pub record Drained (before after : PassView) : Type 0 where
   pub none_left : HasDrained (queue_pass after)
   pub empties : before.empties ≤ after.empties
 
--- A drain of a pass into a book, and then this operation, applied to the book that the drain left.
+-- the pass once it applied this operation itself
+abbrev pub with_applied : TimerOp → PassView → PassView
+with_applied op p = record p { applied = Some op }
+
+-- A drain of a pass into a book, and then this operation, applied to the book that the drain left, which the pass notes.
 pub record DrainsAndApplies (op : TimerOp) (before after : PassView) (book_before book_after : Book) : Type 0 where
   pub count : ℕ
+  pub drained : PassView
   pub book : Book
-  pub drains : Drains count before after book_before book
+  pub drains : Drains count before drained book_before book
+  pub kept : after ≡ with_applied op drained
   pub applied : book_after.entries ≡ fold_changes book.entries (change_of op ∷ [])
+
+-- The same of the pass alone: it was drained, and then it applied this operation itself.
+pub record AppliesItself (op : TimerOp) (before after : PassView) : Type 0 where
+  pub drained : PassView
+  pub drain : Drained before drained
+  pub kept : after ≡ with_applied op drained
 
 -- How one pop leaves a pass: it took this operation out of the queue, with its entry; or it found none, and counted that.
 abbrev pub Pops : Option TimerOp → PassView → PassView → Type 0

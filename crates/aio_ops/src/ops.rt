@@ -2,7 +2,7 @@
 
 ghost use Rattle.std.specs.Prelude.{◌≡◌, ◌==◌, ◌↔◌, ℕ, ◌+◌, ◌<◌, ◌≤◌, ◌^◌, [], IfOk, IfErr, OnOk, OnErr, Err};
 ghost use Rattle.aio_rules.specs.Operations.{queue_limit};
-ghost use Rattle.aio_ops.specs.Passes.{Drained, Drains, DrainsAndApplies, FindsFull, Pops, new_pass, pass_limit, pushed};
+ghost use Rattle.aio_ops.specs.Passes.{AppliesItself, Drained, Drains, DrainsAndApplies, FindsFull, Pops, new_pass, pass_limit, pushed, with_applied};
 
 use crate::queue::{Entry, NewPass, OpQueue, Pop, Push, Seat};
 use aio_base::OutOfMemory;
@@ -49,7 +49,8 @@ impl Drop for Ops {
 }
 
 /// What one thread may do with a queue of operations, and what it did: the entries that it pushed and
-/// popped, and how often it found the queue full and empty. Those of a pass that is let go stay queued.
+/// popped, how often it found the queue full and empty, and the last operation that it applied itself.
+/// Those of a pass that is let go stay queued.
 pub struct OpPass {
     pass: Pass<Entry, Seat>,
     number: u32,
@@ -57,6 +58,7 @@ pub struct OpPass {
     fulls: u64,
     empties: u64,
     splits: u32,
+    applied: Option<TimerOp>,
 }
 
 impl Model for OpPass {
@@ -74,6 +76,7 @@ impl Model for OpPass {
       fulls = p.fulls;
       empties = p.empties;
       splits = p.splits;
+      applied = p.applied;
     } };
 
     ghost invariant = { λ p. (p.pass.me.1 ≡ [])
@@ -92,6 +95,7 @@ impl Drop for OpPass {
             fulls: _,
             empties: _,
             splits: _,
+            applied: _,
         } = self;
     }
 }
@@ -123,6 +127,7 @@ impl Ops {
                     fulls: 0,
                     empties: 0,
                     splits: 1,
+                    applied: None,
                 },
             )),
         }
@@ -155,6 +160,7 @@ impl Ops {
             fulls: 0,
             empties: 0,
             splits: 0,
+            applied: None,
         })
     }
 
@@ -233,8 +239,8 @@ impl Ops {
     }
 
     /// Drains the queue into the book, and then applies an operation to the book: so it comes after all
-    /// that the drain took. `OutOfMemory` where the book has no room for both; then nothing was taken out
-    /// of the queue, and nothing was applied.
+    /// that the drain took. The pass notes which one that was. `OutOfMemory` where the book has no room for
+    /// both; then nothing was taken out of the queue, and nothing was applied.
     pub fn apply_after_drain<R: Wait>(
         &self,
         rt: &R,
@@ -244,12 +250,13 @@ impl Ops {
     ) -> Result<(), OutOfMemory>
         requires belongs { p.old.queue ≡ self.now }
         ensures applied { OnOk result (DrainsAndApplies op p.old p.new book.old book.new) }
-        ensures pass { OnOk result (Drained p.old p.new) }
+        ensures pass { OnOk result (AppliesItself op p.old p.new) }
         ensures refused { OnErr result (p.new ≡ p.old) }
         ensures kept { OnErr result (book.new.entries ≡ book.old.entries) }
     {
         book.reserve(DRAINED + 1)?;
         self.drain_into(rt, p, book);
+        p.note_applied(&op);
         book.apply(op);
         Ok(())
     }
@@ -291,6 +298,13 @@ impl OpPass {
         ensures bound { result < pass_limit }
     {
         self.number
+    }
+
+    // Notes that it applies this operation itself.
+    fn note_applied(&mut self, op: &TimerOp)
+        ensures { self.new ≡ with_applied op.now self.old }
+    {
+        self.applied = Some(*op);
     }
 
     /// Whether no further pass can be made, as far as this pass has counted them: it counts 2^24.

@@ -1,7 +1,7 @@
 -- Tries of a seat to push an operation, one after the other, and what they leave of it.
 use Rattle.std.proofs.Common.{◌≡◌, ℕ, zero, suc, Bool, true, false, Result, Ok, Err, OnOk, OnErr, inr, [], ◌∷◌, length, refl, sym, ap, ◌∙◌, subst, append-nil, le_refl, le_trans, arith}
 use Rattle.aio_base.specs.declared.outcomes.OutOfMemory.{OutOfMemory}
-use Rattle.aio_ops.specs.Passes.{PassView, FindsFull, next_entry, pushed, Drained}
+use Rattle.aio_ops.specs.Passes.{PassView, AppliesItself, FindsFull, next_entry, pushed, with_applied, Drained}
 use Rattle.aio_timers.specs.declared.op.TimerOp.{TimerOp}
 use Rattle.aio_shared.specs.Later.{extends_itself, extends_further}
 use Rattle.aio_shared.specs.TimerCalls.{CarriesOut, FoundFull, IsLaterPass, Tries, TriesAgain, TriesInVain}
@@ -72,11 +72,26 @@ tried_later op p q (Ok false) in_vain = in_vain_later p q in_vain
 tried_later op p q (Err refused) same = subst (λ r. IsLaterPass p r) (sym same) (later_itself p)
 
 -- a seat whose operation the queue did not take at 1,000 tries more, once it was drained for the last time, or could not be
-pub kept_out : (op : TimerOp) (n : ℕ) (p q r : PassView) (answer : Result (Unit {0}) OutOfMemory) → n ≡ 1000 → FoundFull n p q → OnOk answer (Drained q r)
+pub kept_out : (op : TimerOp) (n : ℕ) (p q r : PassView) (answer : Result (Unit {0}) OutOfMemory) → n ≡ 1000 → FoundFull n p q → OnOk answer (AppliesItself op q r)
     → OnOk answer (CarriesOut op p r)
-kept_out op n p q r (Ok done) is full drained = inr record { last = q; full = subst (λ k. FoundFull k p q) is full; drained = drained }
-kept_out op n p q r (Err refused) is full drained = tt
+kept_out op n p q r (Ok done) is full applies = inr record { last = q; full = subst (λ k. FoundFull k p q) is full; applies = applies }
+kept_out op n p q r (Err refused) is full applies = tt
 
-pub last_later : (n : ℕ) (p q r : PassView) (answer : Result (Unit {0}) OutOfMemory) → FoundFull n p q → OnOk answer (Drained q r) → OnErr answer (r ≡ q) → IsLaterPass p r
-last_later n p q r (Ok done) full drained same = later_further p q r (found_full_later n p q full) (drained_later q r drained)
-last_later n p q r (Err refused) full drained same = subst (λ s. IsLaterPass p s) (sym same) (found_full_later n p q full)
+applied_later : (op : TimerOp) (p : PassView) → IsLaterPass p (with_applied op p)
+applied_later op p = record {
+  queue = refl;
+  number = refl;
+  own = extends_itself p.own;
+  pulled = extends_itself p.pulled;
+  fulls = le_refl p.fulls;
+  empties = le_refl p.empties;
+}
+
+applies_later : (op : TimerOp) (p q : PassView) → AppliesItself op p q → IsLaterPass p q
+applies_later op p q a =
+    later_further p a.drained q (drained_later p a.drained a.drain) (subst (λ r. IsLaterPass a.drained r) (sym a.kept) (applied_later op a.drained))
+
+pub last_later : (op : TimerOp) (n : ℕ) (p q r : PassView) (answer : Result (Unit {0}) OutOfMemory) → FoundFull n p q → OnOk answer (AppliesItself op q r)
+    → OnErr answer (r ≡ q) → IsLaterPass p r
+last_later op n p q r (Ok done) full applies same = later_further p q r (found_full_later n p q full) (applies_later op q r applies)
+last_later op n p q r (Err refused) full applies same = subst (λ s. IsLaterPass p s) (sym same) (found_full_later n p q full)

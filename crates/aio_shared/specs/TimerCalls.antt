@@ -9,7 +9,7 @@ use Rattle.aio_timers.specs.declared.op.TimerOp.{TimerOp}
 use Rattle.aio_timers.specs.declared.op.TimerOp.TheVariants as timer_op
 use Rattle.aio_rules.specs.declared.operations.OpEntry.{OpEntry}
 use Rattle.aio_timers.specs.Room.{Book}
-use Rattle.aio_ops.specs.Passes.{PassView, Drained, Drains, FindsFull, RoseBy, pushed}
+use Rattle.aio_ops.specs.Passes.{PassView, AppliesItself, Drained, Drains, FindsFull, RoseBy, pushed}
 use Rattle.aio_react.specs.declared.hosts.InsertRefusal.{InsertRefusal}
 use Rattle.aio_react.specs.declared.hosts.InsertRefusal.TheVariants as refusal
 use Rattle.aio_react.specs.Hosts.{next_id}
@@ -60,15 +60,15 @@ pub record Queued (operation : TimerOp) (before after : PassView) : Type 0 where
   pub pushed : after ≡ pushed operation last
 
 -- An operation was kept out of the queue: its first push found it full, and so did that of each of 1,000 tries more, and then the seat drained it
--- once more, so that nothing which it had pushed is queued any longer. It is left to the call to apply the operation to the book itself.
-pub record KeptOut (before after : PassView) : Type 0 where
+-- once more, so that nothing which it had pushed is queued any longer, and applied the operation itself to the book that it had drained into.
+pub record KeptOut (operation : TimerOp) (before after : PassView) : Type 0 where
   pub last : PassView
   pub full : FoundFull 1000 before last
-  pub drained : Drained last after
+  pub applies : AppliesItself operation last after
 
 -- one operation was carried out: it joined the queue, or the call applied it itself
 abbrev pub CarriesOut : TimerOp → PassView → PassView → Type 0
-CarriesOut operation before after = Queued operation before after ⊎ KeptOut before after
+CarriesOut operation before after = Queued operation before after ⊎ KeptOut operation before after
 
 -- An operation was not carried out: its first push found the queue full, and so did that of each of at most 1,000 tries more, and then there was no
 -- room for a drain.

@@ -1,7 +1,7 @@
 //! The calls on timers: an operation joins the queue, or is applied to the book by the call itself.
 
 ghost use Rattle.std.specs.Prelude.{◌≡◌, ◌+◌, IsTrue, OnOk, OnErr};
-ghost use Rattle.aio_ops.specs.Passes.{Drained};
+ghost use Rattle.aio_ops.specs.Passes.{AppliesItself};
 ghost use Rattle.aio_react.specs.Hosts.{NotifierTells, has_id_left, insert_fault};
 ghost use Rattle.aio_shared.specs.Members.{IsLaterMember, IsMemberOf};
 ghost use Rattle.aio_shared.specs.TimerCalls.{CarriesOut, GivesUp, Inserts, IsLaterPass, RemovesTimer, Tries, TriesOver};
@@ -126,7 +126,7 @@ impl<A: Arm, W: EventWait> Shared<A, W> {
         op: &TimerOp,
     ) -> Result<(), OutOfMemory>
         requires belongs { p.old.queue ≡ self.now.ops }
-        ensures drained { OnOk result (Drained p.old p.new) }
+        ensures applies { OnOk result (AppliesItself op.now p.old p.new) }
         ensures refused { OnErr result (p.new ≡ p.old) }
     {
         let mut guard = self.timers.lock(rt);

@@ -13,7 +13,7 @@ returns-then-branch-clause-later g c =
 pub returns-clause-done : goal.returns-clause-done
 returns-clause-done g c =
     let all : c.loop-tries.tries ≡ 1000 = omega (arith, c.loop-tries-test.false, c.loop-tries.invariant.1) in
-    kept_out _ _ _ _ _ _ all c.loop-tries.invariant.0 c.drain_and_apply.ensures.drained
+    kept_out _ _ _ _ _ _ all c.loop-tries.invariant.0 c.drain_and_apply.ensures.applies
 
 pub returns-clause-later : goal.returns-clause-later
-returns-clause-later g c = last_later _ _ _ _ _ c.loop-tries.invariant.0 c.drain_and_apply.ensures.drained c.drain_and_apply.ensures.refused
+returns-clause-later g c = last_later _ _ _ _ _ _ c.loop-tries.invariant.0 c.drain_and_apply.ensures.applies c.drain_and_apply.ensures.refused
