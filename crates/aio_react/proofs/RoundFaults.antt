@@ -3,8 +3,7 @@ use Rattle.std.proofs.Common.{◌≡◌, ℕ, ◌≤◌, Bool, Option, None, Som
 use Rattle.std.specs.Option.{option_or}
 use Rattle.aio_base.specs.declared.names.Key.{Key}
 use Rattle.aio_base.specs.declared.outcomes.ArmFault.{ArmFault}
-use Rattle.aio_base.specs.declared.outcomes.CountFault.{CountFault}
-use Rattle.aio_base.specs.Devices.{Rose, TellsFaults}
+use Rattle.aio_base.specs.Devices.{TellsFaults}
 use Rattle.aio_react.specs.declared.outcomes.Handled.{Handled}
 use Rattle.aio_react.specs.declared.round.RoundFault.{RoundFault}
 use Rattle.aio_react.specs.declared.round.RoundFault.TheVariants.{Wait, Arm}
@@ -48,57 +47,9 @@ arm_since {P = P} count is_sure start now next kept key (Some fault) since tells
     since_kept count is_sure start now next kept (Some (Arm fault)) since tells
     (subst (λ (f : ArmFault). RisesWithin (count now) (count next) (Arm f)) (sym is) (omega arith, tells.cause.rose refl, omega arith))
 
-pub wait_since : {P : Type 0} (count : P → ℕ) (is_sure : P → Bool) (start now next : P) (kept : Option RoundFault) (fault : Option CountFault) → FaultsSince count is_sure start now kept
-    → TellsFaults count is_sure now next (IsSome fault) → IfSome fault (λ fault. fault ≡ record { before = count now; after = count next })
-    → FaultsSince count is_sure start next (option_or kept (option_map Wait fault))
-wait_since {P = P} count is_sure start now next kept None since tells is = since_kept count is_sure start now next kept None since tells tt
-wait_since {P = P} count is_sure start now next kept (Some fault) since tells is =
-    since_kept count is_sure start now next kept (Some (Wait fault)) since tells
-    (subst (λ (f : CountFault). RisesWithin (count now) (count next) (Wait f)) (sym is) (omega arith, tells.cause.rose refl, omega arith))
-
 -- by the handling of an event that was done
 pub handle_since : {P : Type 0} (count : P → ℕ) (is_sure : P → Bool) (start now next : P) (kept left : Option RoundFault) (handled : Handled) → FaultsSince count is_sure start now kept
     → TellsFaults count is_sure now next (IsSome handled.fault) → IfSome handled.fault (λ fault. fault ≡ record { key = handled.key; before = count now; after = count next })
     → left ≡ option_or kept (option_map Arm handled.fault) → FaultsSince count is_sure start next left
 handle_since {P = P} count is_sure start now next kept left handled since tells is left_is =
     subst (FaultsSince count is_sure start next) (sym left_is) (arm_since count is_sure start now next kept handled.key handled.fault since tells is)
-
-rose_wider : (a b c d : ℕ) → a ≤ b → c ≤ d → Rose b c → Rose a d
-rose_wider a b c d low high rose = omega (arith, rose)
-
-rises_rose : (before after : ℕ) (fault : Option RoundFault) → IfSome fault (RisesWithin before after) → IsSome fault → Rose before after
-rises_rose before after None rises some = absurd (cc)
-rises_rose before after (Some (Wait fault)) rises some = rose_wider before fault.before fault.after after rises.0 rises.2 rises.1
-rises_rose before after (Some (Arm fault)) rises some = rose_wider before fault.before fault.after after rises.0 rises.2 rises.1
-
-none_some : (fault : Option RoundFault) → fault ≡ None → ¬ (IsSome fault)
-none_some None none some = cc
-none_some (Some fault) none some = cc
-
--- what a whole call tells of its faults
-pub since_tells : {P : Type 0} (count : P → ℕ) (is_sure : P → Bool) (start now : P) (kept : Option RoundFault) → FaultsSince count is_sure start now kept
-    → TellsFaults count is_sure start now (IsSome kept)
-since_tells {P = P} count is_sure start now kept since = record {
-  cause = record {
-    later = since.later;
-    rose = rises_rose (count start) (count now) kept since.rises;
-    never = λ surely. let none = since.never surely in (none_some kept none.0, none.1);
-  };
-  sure = since.sure;
-}
-
--- and one that answers no fault
-pub since_quiet : {P : Type 0} (count : P → ℕ) (is_sure : P → Bool) (start now : P) (kept : Option RoundFault) → FaultsSince count is_sure start now kept
-    → TellsFaults count is_sure start now (IsSome {T = RoundFault} None)
-since_quiet {P = P} count is_sure start now kept since = record {
-  cause = record {
-    later = since.later;
-    rose = λ some. absurd (cc);
-    never = λ surely. (λ some. cc, (since.never surely).1);
-  };
-  sure = since.sure;
-}
-
--- before the first call
-pub since_start : {P : Type 0} (count : P → ℕ) (is_sure : P → Bool) (start : P) → FaultsSince count is_sure start start None
-since_start {P = P} count is_sure start = record { later = omega arith; sure = refl; never = λ surely. (refl, refl); rises = tt }

@@ -1,17 +1,16 @@
 -- Lemmas on one step from one end to the other.
-use Rattle.std.proofs.Common.{◌≡◌, ℕ, ◌+◌, ◌<◌, ◌≤◌, Bool, true, false, length, take, drop, refl, sym, ap, ◌∙◌, arith, inl, inr, Option, Some, None, Result, Ok, Err, length-append, length-drop}
-use Rattle.std.specs.Prelude.{◌⊎◌, zero, suc, nat_le, if◌then◌else◌, IsOk, IfSome, IfErr}
-use Rattle.std.proofs.lemmas.Bool.{true≢false, false_from_ne_true, leb-true, leb-false}
+use Rattle.std.proofs.Common.{◌≡◌, ℕ, ◌+◌, ◌≤◌, Bool, true, false, length, take, drop, refl, ap, ◌∙◌, arith, inl, inr, Result, Ok, Err, length-append, length-drop}
+use Rattle.std.specs.Prelude.{◌⊎◌, zero, suc, nat_le, if◌then◌else◌, IfSome}
+use Rattle.std.proofs.lemmas.Bool.{true≢false}
 use Rattle.std.proofs.lemmas.List.{drop-drop, length-take-le}
 use Rattle.aio_base.specs.declared.outcomes.CountFault.{CountFault}
 use Rattle.aio_base.specs.declared.outcomes.Poll.{Poll}
 use Rattle.aio_base.specs.declared.outcomes.Poll.TheVariants.{Ready, Pending}
-use Rattle.aio_future.specs.Tries.{FaultsWithin, MovesWithin, IsReadAnswer, IsWriteAnswer, counts_in, bytes_over, fault_counts}
+use Rattle.aio_future.specs.Tries.{MovesWithin, IsReadAnswer, IsWriteAnswer, bytes_over}
 use Rattle.aio_future.specs.declared.tried.TryFault.{TryFault}
 use Rattle.aio_future.specs.declared.tried.TryFault.TheVariants as try
 use Rattle.aio_pairs.specs.Backlogs.{SideState, shrunk, saturated}
-use Rattle.aio_pairs.specs.Calls.{RoseIn}
-use Rattle.aio_pairs.specs.Exchanges.{IsLongHere, IsReason, after_read, after_write, failure_in, pair_end_of, tries_again, work_left}
+use Rattle.aio_pairs.specs.Exchanges.{IsReason, after_read, after_write, failure_in, tries_again, work_left}
 use Rattle.aio_pairs.specs.Lines.{lines, longest_line, unfinished}
 use Rattle.aio_pairs.specs.declared.outcomes.PairEnd.{PairEnd}
 use Rattle.aio_pairs.specs.declared.outcomes.PairEnd.TheVariants as pair
@@ -69,27 +68,7 @@ write-failure (Ready (Err (try.Write f))) kind = (refl, tt)
 write-failure (Ready (Err (try.Arm f))) kind = (refl, tt)
 write-failure Pending kind = tt
 
--- no line is too long after a read that did not end the pair, where none was before
-pub read-short : (here : Side) (side : SideState) (answer : Poll (Result ℕ TryFault)) → IsOk (after_read here side answer)
-    → (bytes_over answer ≡ 0 → length (unfinished side.backlog) < longest_line) → length (unfinished side.backlog) < longest_line
-read-short here side (Ready (Ok zero)) ok before = before refl
-read-short here side (Ready (Ok (suc n))) ok before =
-    (elim (nat_le longest_line (length (unfinished side.backlog))) as (λ b. nat_le longest_line (length (unfinished side.backlog)) ≡ b → IsOk (on_more here side b) → length (unfinished side.backlog) < longest_line) [
-      | true ↦ λ e ok. absurd (true≢false (sym ok))
-      | false ↦ λ e ok. leb-false longest_line (length (unfinished side.backlog)) e
-    ]) refl ok
-read-short here side (Ready (Err f)) ok before = before refl
-read-short here side Pending ok before = before refl
-
 -- ## Reasons
-
-pub rose-in : (before after : ℕ) (sure_before sure_after : Bool) (f : CountFault) → FaultsWithin before after sure_before sure_after (Some f) → RoseIn before after sure_after f
-rose-in before after sure_before sure_after f t = (
-  t.sure ∙ false_from_ne_true sure_before (λ is. (t.cause.never is).0 refl),
-  t.counts.0,
-  t.counts.1,
-  t.counts.2,
-)
 
 -- what is a reason stays one where what it says is said by more
 pub reason-on : (long new_long : Side → ℕ → Type 0) (failed new_failed notified new_notified : CountFault → Type 0) (end : PairEnd)
@@ -103,39 +82,6 @@ reason-on long new_long failed new_failed notified new_notified (pair.NotifyFaul
 reason-on long new_long failed new_failed notified new_notified (pair.Ended to_a to_b) on_long on_failed on_notified is = is
 reason-on long new_long failed new_failed notified new_notified (pair.Idle last now) on_long on_failed on_notified is = is
 reason-on long new_long failed new_failed notified new_notified pair.OutOfMemory on_long on_failed on_notified is = is
-
-reason-of_failure : (long : Side → ℕ → Type 0) (failed notified : CountFault → Type 0) (f : TryFault) → failed (counts_in f) → IsReason long failed notified (pair_end_of f)
-reason-of_failure long failed notified (try.Read f) is = is
-reason-of_failure long failed notified (try.Write f) is = is
-reason-of_failure long failed notified (try.Arm f) is = is
-
-pub read-reason : (here : Side) (side : SideState) (answer : Poll (Result ℕ TryFault)) (failed notified : CountFault → Type 0)
-    → IfSome (fault_counts answer) failed → IfErr (after_read here side answer) (IsReason (IsLongHere here side) failed notified)
-read-reason here side (Ready (Ok zero)) failed notified fails = tt
-read-reason here side (Ready (Ok (suc n))) failed notified fails =
-    (elim (nat_le longest_line (length (unfinished side.backlog))) as (λ b. nat_le longest_line (length (unfinished side.backlog)) ≡ b → IfErr (on_more here side b) (IsReason (IsLongHere here side) failed notified)) [
-      | true ↦ λ e. (refl, (leb-true longest_line (length (unfinished side.backlog)) e, refl))
-      | false ↦ λ e. tt
-    ]) refl
-read-reason here side (Ready (Err f)) failed notified fails = reason-of_failure (IsLongHere here side) failed notified f fails
-read-reason here side Pending failed notified fails = tt
-
-pub write-reason : (long : Side → ℕ → Type 0) (answer : Poll (Result ℕ TryFault)) (failed notified : CountFault → Type 0)
-    → IfSome (fault_counts answer) failed → IfErr (after_write answer) (IsReason long failed notified)
-write-reason long (Ready (Ok n)) failed notified fails = tt
-write-reason long (Ready (Err f)) failed notified fails = reason-of_failure long failed notified f fails
-write-reason long Pending failed notified fails = tt
-
--- the fault of a try, as one of two ends that failed
-pub tried-rose : (answer : Poll (Result ℕ TryFault)) (before after : ℕ) (sure_before sure_after : Bool) → FaultsWithin before after sure_before sure_after (fault_counts answer)
-    → IfSome (fault_counts answer) (RoseIn before after sure_after)
-tried-rose (Ready (Ok n)) before after sure_before sure_after t = tt
-tried-rose (Ready (Err f)) before after sure_before sure_after t = rose-in before after sure_before sure_after (counts_in f) t
-tried-rose Pending before after sure_before sure_after t = tt
-
-pub some-on : (x : Option CountFault) (P Q : CountFault → Type 0) → ((f : CountFault) → P f → Q f) → IfSome x P → IfSome x Q
-some-on None P Q on is = tt
-some-on (Some f) P Q on is = on f is
 
 -- a fault of the host's notifier is none of an end
 pub notifier-alone : (notified : CountFault → Type 0) (end : PairEnd) (Holds : TryFault → Type 0) → IsReason (λ side at. ⊥) (λ f. ⊥) notified end

@@ -60,7 +60,8 @@ pub record Queued (operation : TimerOp) (before after : PassView) : Type 0 where
   pub pushed : after ≡ pushed operation last
 
 -- An operation was kept out of the queue: its first push found it full, and so did that of each of 1,000 tries more, and then the seat drained it
--- once more, so that nothing which it had pushed is queued any longer, and applied the operation itself to the book that it had drained into.
+-- once more, so that nothing which it had pushed is queued any longer, and noted that it applied the operation itself. What the book became by it is
+-- said by the call that drains and notes.
 pub record KeptOut (operation : TimerOp) (before after : PassView) : Type 0 where
   pub last : PassView
   pub full : FoundFull 1000 before last
