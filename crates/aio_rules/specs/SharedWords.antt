@@ -44,12 +44,22 @@ mask words parker = slice_index words (mask_place parker)
 
 -- the view of the first seat, which is the round seat
 abbrev pub first_view : SeatView
-first_view = record { role = role.Round; seen = 0; owes = owed.Nothing; mode = mode.Idle; did = []; splits = 0; lineage = [] }
+first_view = record { role = role.Round; seen = 0; owes = owed.Nothing; mode = mode.Idle; did = []; splits = 0; lineage = []; joined = []; joined_splits = 0 }
 
 -- what a seat split off this one begins with: it is a pass, idle, without steps or debts, it starts from the ticker that this one has seen, and its
 -- lineage goes on from this one's by the number of splits so far
 abbrev pub split_view : SeatView → SeatView
-split_view v = record { role = role.Pass; seen = v.seen; owes = owed.Nothing; mode = mode.Idle; did = []; splits = 0; lineage = v.lineage ++ v.splits ∷ [] }
+split_view v = record {
+  role = role.Pass;
+  seen = v.seen;
+  owes = owed.Nothing;
+  mode = mode.Idle;
+  did = [];
+  splits = 0;
+  lineage = v.lineage ++ v.splits ∷ [];
+  joined = [];
+  joined_splits = 0;
+}
 
 -- what the split leaves of the seat itself: its number of splits is one higher, nothing else moves
 abbrev pub after_split : SeatView → SeatView
@@ -59,9 +69,14 @@ after_split v = record v { splits = v.splits + 1 }
 abbrev pub spent_view : SeatView
 spent_view = record (split_view first_view) { lineage = [] }
 
--- a pass that joined another: its ticker is the later of both, and steps, splits and lineage stay its own
+-- A pass that joined another: its ticker is the later of both; steps, splits and lineage stay its own. What the other did, and how many seats were split
+-- off it, is kept beside them, with what that one had kept: so a join cannot act by the seat that it takes in.
 abbrev pub joined_seat : SeatView → SeatView → SeatView
-joined_seat v other = record v { seen = max v.seen other.seen }
+joined_seat v other = record v {
+  seen = max v.seen other.seen;
+  joined = v.joined ++ other.joined ++ other.did;
+  joined_splits = v.joined_splits + other.joined_splits + other.splits;
+}
 
 -- the parker that a seat blocks or waits for
 abbrev pub held : Mode → Option ℕ

@@ -39,10 +39,12 @@ JoinKeepsWordRule = (parkers : ℕ) (words : List ℕ) (views : List SeatView) (
     → other ≢ seat → get_elem? views other ≡ some w → IsFree w
     → WordRule parkers words (slice_set (slice_set views seat (joined_seat v w)) other spent_view)
 
--- role, lineage and splits of a seat stay over a step, the ticker that it has seen does not fall, and the step comes last among its own
+-- role, lineage, splits and what a seat has from those that it took in stay over a step, the ticker that it has seen does not fall, and the step comes last
+-- among its own
 abbrev pub StepKeepsSeat : Type 0
 StepKeepsSeat = (parkers : ℕ) (words : List ℕ) (views : List SeatView) (seat : ℕ) (v : SeatView) (s : WordStep)
-    → CanStep parkers words views seat v s → ((after s v).role ≡ v.role) × ((after s v).lineage ≡ v.lineage) × ((after s v).splits ≡ v.splits) × (v.seen ≤ (after s v).seen) × ((after s v).did ≡ v.did ++ s ∷ [])
+    → CanStep parkers words views seat v s → ((after s v).role ≡ v.role) × ((after s v).lineage ≡ v.lineage) × ((after s v).splits ≡ v.splits)
+    × ((after s v).joined ≡ v.joined) × ((after s v).joined_splits ≡ v.joined_splits) × (v.seen ≤ (after s v).seen) × ((after s v).did ≡ v.did ++ s ∷ [])
 
 -- whether a step is a swap of this parker's mask
 abbrev pub is_swap_of : ℕ → WordStep → Bool

@@ -77,4 +77,8 @@ pub struct SeatView {
     /// Its place among all seats: for it and each seat that it descends from, the first one left out, the
     /// number of splits that came before its own.
     pub lineage: LinkedList<u64>,
+    /// The steps of the seats that it took in, and of those that these had taken in.
+    pub joined: LinkedList<WordStep>,
+    /// How many seats were split off those.
+    pub joined_splits: u64,
 }

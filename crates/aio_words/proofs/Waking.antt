@@ -13,8 +13,19 @@ use Rattle.aio_words.specs.Steps.{stepped, did_all}
 use Rattle.aio_words.specs.Calls.{WakesSlot}
 
 -- a view of which only the debt and the list of steps changed, where the debt is nothing again
-settled : (v w : SeatView) (steps : List WordStep) → w.role ≡ v.role → w.seen ≡ v.seen → w.owes ≡ v.owes → w.mode ≡ v.mode → w.did ≡ v.did ++ steps → w.splits ≡ v.splits → w.lineage ≡ v.lineage → w ≡ and_did steps v
-settled v w steps role seen owes mode did splits lineage = λ k. record { role = role k; seen = seen k; owes = owes k; mode = mode k; did = did k; splits = splits k; lineage = lineage k }
+settled : (v w : SeatView) (steps : List WordStep) → w.role ≡ v.role → w.seen ≡ v.seen → w.owes ≡ v.owes → w.mode ≡ v.mode → w.did ≡ v.did ++ steps → w.splits ≡ v.splits → w.lineage ≡ v.lineage → w.joined ≡ v.joined
+    → w.joined_splits ≡ v.joined_splits → w ≡ and_did steps v
+settled v w steps role seen owes mode did splits lineage joined joined_splits = λ k. record {
+  role = role k;
+  seen = seen k;
+  owes = owes k;
+  mode = mode k;
+  did = did k;
+  splits = splits k;
+  lineage = lineage k;
+  joined = joined k;
+  joined_splits = joined_splits k;
+}
 
 or_false : (b : Bool) → (b || false) ≡ b
 or_false true = refl
@@ -58,13 +69,13 @@ module _ (parker slot in_mask in_blocked in_notified : ℕ) where
 
     pub woke_by_bit : (new : SeatValue) → new ≡ stepped sets old → in_mask ≢ 0 → WakesSlot parker slot old new false
     woke_by_bit new made some = at_last (sets ∷ []) new
-        (made ∙ ap (λ (w : SeatView). record old { view = w }) (settled old.view (after sets old.view) (sets ∷ []) refl refl (if_is_not in_mask 0 (owed.Look parker) owed.Nothing some ∙ sym owes) refl refl refl refl))
+        (made ∙ ap (λ (w : SeatView). record old { view = w }) (settled old.view (after sets old.view) (sets ∷ []) refl refl (if_is_not in_mask 0 (owed.Look parker) owed.Nothing some ∙ sym owes) refl refl refl refl refl refl))
         (sets_alone some) false refl
 
     pub woke_by_look : (mid new : SeatValue) → mid ≡ stepped sets old → new ≡ stepped looks mid → in_mask ≡ 0 → in_blocked ≢ 1 → WakesSlot parker slot old new false
     woke_by_look mid new first second none clear = at_last (sets ∷ looks ∷ []) new
         (second ∙ ap (stepped looks) first ∙ ap (λ (w : SeatView). record old { view = w }) (settled old.view (after looks (after sets old.view)) (sets ∷ looks ∷ []) refl refl
-        (if_is_not in_blocked 1 (owed.Tell parker) owed.Nothing clear ∙ sym owes) refl (append_assoc old.view.did (sets ∷ []) (looks ∷ [])) refl refl))
+        (if_is_not in_blocked 1 (owed.Tell parker) owed.Nothing clear ∙ sym owes) refl (append_assoc old.view.did (sets ∷ []) (looks ∷ [])) refl refl refl refl))
         (looks_last none clear) false refl
 
     pub woke_by_exchange : (mid late new : SeatValue) → mid ≡ stepped sets old → late ≡ stepped looks mid → new ≡ stepped exchanges late → in_mask ≡ 0 → in_blocked ≡ 1
@@ -72,7 +83,7 @@ module _ (parker slot in_mask in_blocked in_notified : ℕ) where
     woke_by_exchange mid late new first second third none set = at_last (sets ∷ looks ∷ exchanges ∷ []) new
         (third ∙ ap (stepped exchanges) (second ∙ ap (stepped looks) first) ∙ ap (λ (w : SeatView). record old { view = w })
         (settled old.view (after exchanges (after looks (after sets old.view))) (sets ∷ looks ∷ exchanges ∷ []) refl refl (sym owes) refl
-        (append_assoc (old.view.did ++ sets ∷ []) (looks ∷ []) (exchanges ∷ []) ∙ append_assoc old.view.did (sets ∷ []) (looks ∷ exchanges ∷ [])) refl refl))
+        (append_assoc (old.view.did ++ sets ∷ []) (looks ∷ []) (exchanges ∷ []) ∙ append_assoc old.view.did (sets ∷ []) (looks ∷ exchanges ∷ [])) refl refl refl refl))
         (exchanges_last none set) (eqb in_notified 0) (sym (or_false (eqb in_notified 0)))
 
 -- a waker of no parker takes no step
@@ -81,7 +92,7 @@ module _ (waker parkers : ℕ) (none : parkers ≤ waker / 64) where
   no_steps f = ap (λ (b : Bool). if b then slot_steps (waker / 64) (waker % 64) f else []) (le-ltb (waker / 64) parkers none)
 
   pub untouched : (f : Found) (v : SeatView) → v ≡ and_did (wake_steps waker parkers f) v
-  untouched f v = settled v v (wake_steps waker parkers f) refl refl refl refl (sym (ap (λ l. v.did ++ l) (no_steps f) ∙ append-nil v.did)) refl refl
+  untouched f v = settled v v (wake_steps waker parkers f) refl refl refl refl (sym (ap (λ l. v.did ++ l) (no_steps f) ∙ append-nil v.did)) refl refl refl refl
 
 -- a step at the end of some that are the same is one at their head
 at_head : (s : WordStep) (k : ℕ) → replicate k s ++ s ∷ [] ≡ s ∷ replicate k s
