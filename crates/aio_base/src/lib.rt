@@ -1,4 +1,4 @@
-//! The ground that every other crate stands on: the names of a reactor (keys, wakers, moments,
+//! The ground that most other crates stand on: the names of a reactor (keys, wakers, moments,
 //! interests, events), the traits of its devices with their written meaning, and the definitions of
 //! the machine that contracts cite.
 //!
@@ -15,7 +15,6 @@ pub mod jobs;
 pub mod later;
 pub mod lent;
 pub mod names;
-pub mod notes;
 pub mod notify;
 pub mod outcomes;
 mod running;
@@ -30,7 +29,6 @@ pub use jobs::{Gate, Job, Placement, Spawner};
 pub use later::Later;
 pub use lent::{Lent, Parts};
 pub use names::{DIRS, Dir, Event, Interest, Key, Moment, TimerId, Waker};
-pub use notes::Noted;
 pub use notify::Notify;
 pub use outcomes::{ArmFault, CountFault, EndWord, Failed, OutOfMemory, Poll, Waited, Which};
 pub use steps::{Answer, LineFault, Reason, Step};

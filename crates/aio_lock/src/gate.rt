@@ -6,8 +6,8 @@ ghost use Rattle.aio_lock.specs.Plays.{IsLaden};
 ghost use Rattle.aio_lock.specs.Tokens.{Entered, IsOutside, IsResting, owner_of, view_of};
 
 use crate::plays::{Arrive, Close, FetchSlot, LeaveSlot, Open, Rule, TakeIn, TwoOwners};
-use aio_base::{Noted, OutOfMemory};
-use aio_rules::LockSeat;
+use aio_base::OutOfMemory;
+use aio_rules::{LockSeat, Noted};
 use atomic_table::{Badge, Seat, Table};
 use std::alloc::Global;
 use std::marker::Model;

@@ -5,7 +5,8 @@ ghost use Rattle.aio_rules.specs.SharedLock.{AgreesWithNotes, first_owner, is_in
 ghost use Rattle.aio_lock.specs.Tokens.{owner_of};
 
 use crate::gate::{Gate, Token};
-use aio_base::{Noted, OutOfMemory};
+use aio_base::OutOfMemory;
+use aio_rules::Noted;
 use std::alloc::Global;
 use std::marker::Model;
 use std::sync::Wait;

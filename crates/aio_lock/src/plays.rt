@@ -1,7 +1,6 @@
 //! The rule of a lock as the table takes it, and what each kind of step tells its seat.
 
-use aio_base::Noted;
-use aio_rules::LockSeat;
+use aio_rules::{LockSeat, Noted};
 use atomic_table::{Join, Play, Split, TableRule};
 use std::marker::PhantomData;
 

@@ -9,9 +9,9 @@ use Rattle.aio_base.specs.declared.names.Waker.{Waker}
 use Rattle.aio_rules.specs.declared.seats.SeatView.{SeatView}
 use Rattle.aio_rules.specs.declared.seats.WordStep.{WordStep}
 use Rattle.aio_rules.specs.declared.seats.WordStep.TheVariants as word_step
-use Rattle.aio_rules.specs.WordCalls.{Found, all_wake_steps, is_look_at_end, park_steps, slot_steps, taken_masks, wake_steps}
+use Rattle.aio_rules.specs.WordCalls.{Found, is_look_at_end, park_steps, slot_steps, taken_masks, wake_steps}
 use Rattle.aio_rules.proofs.WordCounts.{taken-append, taken-park}
-use Rattle.aio_words.specs.Calls.{Parks}
+use Rattle.aio_words.specs.Calls.{Parks, all_wake_steps}
 use Rattle.aio_words.specs.Seats.{SeatValue}
 use Rattle.aio_shared.specs.declared.reacting.ReactedIn.{ReactedIn}
 use Rattle.aio_shared.specs.declared.reacting.ReactFault.{ReactFault}

@@ -6,8 +6,9 @@ ghost use Rattle.aio_record.specs.Makers.{IsWhole, Made, first_stressed, number_
 ghost use Rattle.aio_record.specs.declared.stress_cell.Maker.TheVariants.{First};
 
 use crate::recorded::RecordedCell;
-use aio_base::{Noted, OutOfMemory};
+use aio_base::OutOfMemory;
 use aio_history::{CellCall, CellStep};
+use aio_rules::Noted;
 use std::alloc::Global;
 use std::marker::Model;
 

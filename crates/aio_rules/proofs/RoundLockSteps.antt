@@ -183,8 +183,8 @@ module _ {X I : Type 0} (says : X → About I → Type 0) (is_idle : X → Type 
       (done.0, subst (λ l. RoundLockRule says is_idle items l) (claims_set members i (popped m)) done.1)
 
   pub empty_pop_keeps_rule : EmptyPopKeepsRule says is_idle
-  empty_pop_keeps_rule members i m s =
-      subst (λ l. RoundLockRule says is_idle [] l) (sym (set_to_itself (map (λ (n : RoundMember I). n.claim) members) i m.claim (claim_at members i m s.stands)) ∙ claims_set members i (found_none m)) s.rule
+  empty_pop_keeps_rule members i m count s =
+      subst (λ l. RoundLockRule says is_idle [] l) (sym (set_to_itself (map (λ (n : RoundMember I). n.claim) members) i m.claim (claim_at members i m s.stands)) ∙ claims_set members i (found_none count m)) s.rule
 
   pub push_keeps_rule : PushKeepsRule says is_idle
   push_keeps_rule items members i m x s held begun may =

@@ -3,7 +3,6 @@ use Rattle.std.proofs.Common.{◌≡◌, ℕ, zero, suc, Bool, true, false, List
 use Rattle.std.proofs.lemmas.Option.{none-some}
 use mathlib.Core.Option.{some, some-injective, some-ne-none}
 use lib.ListN.{get_elem?}
-use Rattle.aio_base.specs.declared.names.Waker.{Waker}
 use Rattle.aio_rules.specs.declared.seats.Role.TheVariants as role
 use Rattle.aio_rules.specs.declared.seats.Owed.TheVariants as owed
 use Rattle.aio_rules.specs.declared.seats.Mode.{Mode}
@@ -11,7 +10,7 @@ use Rattle.aio_rules.specs.declared.seats.Mode.TheVariants as mode
 use Rattle.aio_rules.specs.declared.seats.WordStep.TheVariants as word_step
 use Rattle.aio_rules.specs.declared.seats.SeatView.{SeatView}
 use Rattle.aio_rules.specs.SharedWords.{first_view, split_view, held, owed_to, after, May, IsInMidCall, WordRule}
-use Rattle.aio_rules.specs.WordCalls.{Found, wake_steps, all_wake_steps, wins}
+use Rattle.aio_rules.specs.WordCalls.{Found, wake_steps, wins}
 use Rattle.aio_rules.proofs.WordFrames.{not_both}
 
 -- ## A wake of slot 0 while the round seat waits
@@ -34,16 +33,8 @@ the_wake_tells = refl
 the_wake_wins : wins (wake_steps 0 1 found) ≡ true
 the_wake_wins = refl
 
-abbrev waker : ℕ → Waker
-waker n = record { 0 = n }
-
 a_wake_of_no_parker_takes_no_step : wake_steps 64 1 found ≡ []
 a_wake_of_no_parker_takes_no_step = refl
-
--- two wakers of parker 0, of which the first tells and the second finds its mask no longer empty, and one of no parker between them
-wakes_in_order : all_wake_steps (waker 0 ∷ waker 64 ∷ waker 5 ∷ []) 1 (found ∷ found ∷ record found { in_mask = 1 } ∷ [])
-    ≡ word_step.SetBit 0 0 0 ∷ word_step.LoadBlocked 0 1 ∷ word_step.ExchangeNotified 0 ∷ word_step.SetBit 0 5 1 ∷ []
-wakes_in_order = refl
 
 it_blocks_again : (after (word_step.SwapNotified 1) waits).mode ≡ mode.Block 0
 it_blocks_again = refl

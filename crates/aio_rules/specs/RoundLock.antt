@@ -4,7 +4,6 @@ use Rattle.std.specs.Prelude.{◌≡◌, ℕ, ◌+◌, ◌≤◌, Bool, true, fa
 use mathlib.Core.Option.{some}
 use lib.ListN.{get_elem?}
 use Rattle.aio_rules.specs.declared.claims.ClaimView.{ClaimView}
-use Rattle.aio_base.specs.Devices.{raised}
 use Rattle.aio_rules.specs.SharedLock.{one_if}
 
 -- ## What members know
@@ -57,9 +56,9 @@ module _ {I : Type 0} where
   abbrev pub popped : RoundMember I → RoundMember I
   popped m = record m { claim = holding m.claim }
 
-  -- a pop that finds none
-  abbrev pub found_none : RoundMember I → RoundMember I
-  found_none m = record m { empties = raised m.empties }
+  -- a pop that finds none, after which the member has this count of them
+  abbrev pub found_none : ℕ → RoundMember I → RoundMember I
+  found_none count m = record m { empties = count }
 
   -- a push, by a member that holds the cell: it holds none afterwards
   abbrev pub pushed : RoundMember I → RoundMember I

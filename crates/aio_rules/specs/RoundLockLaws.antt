@@ -31,10 +31,10 @@ module _ {X I : Type 0} (says : X → About I → Type 0) (is_idle : X → Type 
   PopKeepsRule = (x : X) (items : List X) (members : List (RoundMember I)) (member : ℕ) (m : RoundMember I)
       → StandsAt (x ∷ items) members member m → MayBePushed x (about_of m.claim) × MembersRule items (slice_set members member (popped m))
 
-  -- a pop that finds none
+  -- a pop that finds none, whatever count of them the member has then
   abbrev pub EmptyPopKeepsRule : Type 0
-  EmptyPopKeepsRule = (members : List (RoundMember I)) (member : ℕ) (m : RoundMember I)
-      → StandsAt [] members member m → MembersRule [] (slice_set members member (found_none m))
+  EmptyPopKeepsRule = (members : List (RoundMember I)) (member : ℕ) (m : RoundMember I) (count : ℕ)
+      → StandsAt [] members member m → MembersRule [] (slice_set members member (found_none count m))
 
   -- a push by a member that holds the cell
   abbrev pub PushKeepsRule : Type 0

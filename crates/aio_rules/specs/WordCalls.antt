@@ -1,7 +1,6 @@
 -- What a call on a seat of the shared words adds to the steps of the seat, and how such steps are counted.
 use Rattle.std.specs.Prelude.{◌≡◌, ◌≢◌, ℕ, ◌-◌, ◌^◌, ◌/◌, ◌%◌, ◌==◌, nat_lt, Bool, true, false, if◌then◌else◌, List, [], ◌∷◌, ◌++◌, length, replicate, filter}
 use Rattle.std.specs.List.{list_any}
-use Rattle.aio_base.specs.declared.names.Waker.{Waker}
 use Rattle.aio_rules.specs.declared.seats.WordStep.{WordStep}
 use Rattle.aio_rules.specs.declared.seats.WordStep.TheVariants as word_step
 use Rattle.aio_rules.specs.declared.seats.SeatView.{SeatView}
@@ -26,12 +25,6 @@ slot_steps parker slot f = word_step.SetBit parker slot f.in_mask ∷ (if f.in_m
 -- the steps of a wake, at words for so many parkers: a waker names a slot of a parker, and one of no parker takes no step
 abbrev pub wake_steps : ℕ → ℕ → Found → List WordStep
 wake_steps waker parkers f = if nat_lt (waker / 64) parkers then slot_steps (waker / 64) (waker % 64) f else []
-
--- the steps of a wake of each of these wakers, one after the other, by what those of each found
-abbrev pub all_wake_steps : List Waker → ℕ → List Found → List WordStep
-all_wake_steps [] parkers founds = []
-all_wake_steps (w ∷ wakers) parkers [] = []
-all_wake_steps (w ∷ wakers) parkers (found ∷ founds) = wake_steps w.0 parkers found ++ all_wake_steps wakers parkers founds
 
 -- whether a step is an exchange of notified that won
 abbrev pub is_won : WordStep → Bool

@@ -2,7 +2,7 @@
 
 ghost use Rattle.aio_rules.specs.LockLaws.{ArrivalKeepsRule, ExchangeKeepsRule, JoinKeepsLockRule, LateArrivalKeepsRule, LostExchangeKeepsRule, OneIsInside, OwnersKeepRule, SlotComesOut, SlotGoesBack, StartMeetsLockRule, StoreKeepsRule};
 
-use aio_base::Noted;
+use crate::notes::Noted;
 
 /// The rule of a lock holds at the start, and each kind of step keeps it, whichever seat makes it and
 /// whatever the others have done before: making the two owners, an exchange that wins or finds the lock

@@ -4,7 +4,7 @@ use Rattle.std.proofs.lemmas.Bool.{eq-eqb, ne_eqb}
 use Rattle.std.proofs.lemmas.List.FromFn.{map-range_with_len_more, filter_of_map_range_with_len_more}
 use Rattle.aio_base.specs.declared.names.Waker.{Waker}
 use Rattle.aio_base.specs.Devices.{TellsFaults}
-use Rattle.aio_rules.specs.WordCalls.{all_wake_steps}
+use Rattle.aio_words.specs.Calls.{all_wake_steps}
 use Rattle.aio_words.specs.Seats.{SeatValue}
 use Rattle.aio_shared.specs.HandOver.{first_slot, first_slots_of, slots_below}
 use Rattle.aio_shared.specs.Members.{IsLaterMember, MemberValue}

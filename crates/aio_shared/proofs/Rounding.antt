@@ -8,7 +8,7 @@ use Rattle.aio_rules.specs.declared.seats.WordStep.TheVariants as word_step
 use Rattle.aio_base.specs.ClockBounds.{ClockBounds, IsWithin}
 use Rattle.aio_base.specs.Devices.{HasCause, Rose, TellsFaults}
 use Rattle.aio_rules.specs.SharedWords.{after}
-use Rattle.aio_rules.specs.WordCalls.{all_wake_steps}
+use Rattle.aio_words.specs.Calls.{all_wake_steps}
 use Rattle.aio_ops.specs.Passes.{PassView, Drained}
 use Rattle.aio_react.specs.declared.round.RoundFault.{RoundFault}
 use Rattle.aio_react.specs.declared.round.RoundFault.TheVariants as round_fault

@@ -6,8 +6,8 @@ use Rattle.aio_rules.specs.declared.seats.WordStep.{WordStep}
 use Rattle.aio_rules.specs.declared.seats.SeatView.{SeatView}
 use Rattle.aio_base.specs.declared.outcomes.Failed.{Failed}
 use Rattle.aio_base.specs.Devices.{HasCause, Rose, TellsFaults}
-use Rattle.aio_rules.specs.WordCalls.{and_did, Found, wake_steps, all_wake_steps}
-use Rattle.aio_words.specs.Calls.{Offers, TellsCounts}
+use Rattle.aio_rules.specs.WordCalls.{and_did, Found, wake_steps}
+use Rattle.aio_words.specs.Calls.{Offers, TellsCounts, all_wake_steps}
 use Rattle.aio_words.specs.Seats.{SeatValue}
 use Rattle.aio_shared.specs.Reacting.{Wakes, IsFaultWithin, first_fault}
 use Rattle.aio_shared.specs.Waking.{WakesThese}

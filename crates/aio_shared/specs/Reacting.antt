@@ -9,11 +9,12 @@ use Rattle.aio_base.specs.ClockBounds.{ClockBounds, IsWithin}
 use Rattle.aio_base.specs.Devices.{Rose, raised}
 use Rattle.aio_rules.specs.SharedWords.{after, blocking}
 use Rattle.aio_base.specs.Timers.{after_pass, due_wakers, limit_of}
-use Rattle.aio_rules.specs.WordCalls.{Found, and_did, all_wake_steps, count_of, is_raise}
+use Rattle.aio_rules.specs.WordCalls.{Found, and_did, count_of, is_raise}
 use Rattle.aio_ops.specs.Passes.{PassView, Drains, Drained}
 use Rattle.aio_react.specs.declared.round.RoundFault.TheVariants as round_fault
 use Rattle.aio_react.specs.Rounds.{RoundValue, begun, finished, given_by, second_book, second_wakers}
 use Rattle.aio_timers.specs.Room.{Book}
+use Rattle.aio_words.specs.Calls.{all_wake_steps}
 use Rattle.aio_words.specs.Seats.{SeatValue, is_waiting}
 use Rattle.aio_shared.specs.declared.reacting.ReactedIn.{ReactedIn}
 use Rattle.aio_shared.specs.declared.reacting.ReactFault.{ReactFault}

@@ -1,11 +1,12 @@
 //! One source of a reactor: who waits for its directions, which rounds handled its events, and what
 //! the poller was asked for.
 //!
-//! It stands on `aio_base` and on `aio_listen`, of which it uses the list of tickets with their
-//! wakers alone. It promises for each call its answer and the source after it, by the rules of
-//! `specs/`, for whatever the poller that it is lent answers; which call it made on that poller; and
-//! of every source that each direction with a waiter was asked for, or that its last arm failed. A
-//! cell, the source beside what is armed for it, has a note for a lock that no call changes.
+//! It stands on `aio_base`, on `aio_listen`, of which it uses the list of tickets with their wakers
+//! alone, and on `aio_rules`, for the trait of values with notes. It promises for each call its
+//! answer and the source after it, by the rules of `specs/`, for whatever the poller that it is
+//! lent answers; which call it made on that poller; and of every source that each direction with a
+//! waiter was asked for, or that its last arm failed. A cell, the source beside what is armed for
+//! it, has a note for a lock that no call changes.
 #![tactic(auto)]
 
 mod answers;

@@ -3,7 +3,8 @@
 ghost use Rattle.aio_source.specs.Noting.{CallsKeepNote, NoteTellsCell};
 
 use crate::source::SourceCell;
-use aio_base::{Arm, Noted};
+use aio_base::Arm;
+use aio_rules::Noted;
 
 impl<A: Arm> Noted for SourceCell<A> {
     ghost use Rattle.std.specs.Prelude.{[]};

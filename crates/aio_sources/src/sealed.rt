@@ -15,9 +15,10 @@ ghost use Rattle.aio_words.specs.Calls.{uncounted};
 ghost use Rattle.aio_sources.specs.Sources.{AddedAs, FailsToAdd, IsUnsure};
 ghost use Rattle.aio_sources.specs.Events.{HandlesBy, KeepsFault};
 
-use aio_base::{Arm, CountFault, Key, Noted, OutOfMemory};
+use aio_base::{Arm, CountFault, Key, OutOfMemory};
 use aio_lock::{Lock, Owner, Visit};
 use aio_react::Round;
+use aio_rules::Noted;
 use aio_source::{SourceCell, SourceState};
 use std::alloc::Global;
 use std::marker::Model;

@@ -7,8 +7,8 @@ ghost use Rattle.aio_rules.specs.SharedLock.{first_owner, second_owner};
 ghost use Rattle.aio_lock.specs.Tokens.{owner_of};
 
 use crate::asserts::{MEMORY, may_be_sent, may_be_shared, same};
-use aio_base::Noted;
 use aio_lock::{Lock, Owner};
+use aio_rules::Noted;
 use std::alloc::Global;
 use std::process::Abort;
 use std::sync::Wait;

@@ -1,4 +1,5 @@
 pub mod Allowed
 pub mod Counts
 pub mod Holding
+mod WakeRows
 pub mod Waking

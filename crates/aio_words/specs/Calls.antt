@@ -1,12 +1,13 @@
 -- What the calls that may call a notifier say.
-use Rattle.std.specs.Prelude.{◌≡◌, ◌≢◌, ℕ, Bool, true, false, List, [], ◌∷◌, Result, Ok, Err, IsOk}
+use Rattle.std.specs.Prelude.{◌≡◌, ◌≢◌, ℕ, Bool, true, false, List, [], ◌∷◌, ◌++◌, Result, Ok, Err, IsOk}
+use Rattle.aio_base.specs.declared.names.Waker.{Waker}
 use Rattle.aio_base.specs.declared.outcomes.CountFault.{CountFault}
 use Rattle.aio_base.specs.declared.outcomes.Failed.{Failed}
 use Rattle.aio_rules.specs.declared.seats.WordStep.{WordStep}
 use Rattle.aio_rules.specs.declared.seats.WordStep.TheVariants as word_step
 use Rattle.aio_rules.specs.declared.seats.SeatView.{SeatView}
 use Rattle.aio_base.specs.Devices.{raised}
-use Rattle.aio_rules.specs.WordCalls.{and_did, Found, slot_steps, wins, park_steps}
+use Rattle.aio_rules.specs.WordCalls.{and_did, Found, slot_steps, wake_steps, wins, park_steps}
 use Rattle.aio_words.specs.Seats.{SeatValue}
 use Rattle.aio_words.specs.Steps.{did_all}
 
@@ -40,6 +41,12 @@ pub record WakesSlot (parker slot : ℕ) (old new : SeatValue) (won : Bool) : Ty
   pub found : Found
   pub did : new ≡ did_all (slot_steps parker slot found) old
   pub won_is : won ≡ wins (slot_steps parker slot found)
+
+-- the steps of a wake of each of these wakers, one after the other, by what those of each found
+abbrev pub all_wake_steps : List Waker → ℕ → List Found → List WordStep
+all_wake_steps [] parkers founds = []
+all_wake_steps (w ∷ wakers) parkers [] = []
+all_wake_steps (w ∷ wakers) parkers (found ∷ founds) = wake_steps w.0 parkers found ++ all_wake_steps wakers parkers founds
 
 -- a park made swaps of the parker's mask, of which only the last found woken slots: these
 abbrev pub Parks : ℕ → ℕ → SeatView → SeatView → Type 0
