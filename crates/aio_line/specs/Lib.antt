@@ -1,4 +1,3 @@
 pub mod Lending
 pub mod Words
 pub mod Texts
-pub mod Relays

@@ -1,21 +1,17 @@
-//! The command `relay`: the words that ask for it, the devices that it is lent, the text that it writes,
-//! and its run over a server of lines.
+//! What the command `relay` reads, is lent and writes: the words that ask for it, its six devices, and the
+//! lines of its text.
 //!
-//! It stands on `aio_serve`, which serves the pairs to their ends, on `aio_pairs` for what a pair comes to,
-//! on `aio_base` for the devices, on `aio_bytes` for the output and on `aio_trace` for numbers. It promises
-//! that the text names the port in use and then an end for each pair, in the order of the pairs, each of
-//! which its two connections may come to; and of each other end of a relay its cause and what was written by
-//! then.
+//! It stands on `aio_pairs` for what a pair comes to, on `aio_base` for the devices and on `aio_trace` for
+//! numbers. It promises an order exactly where the words name one; that a lender's devices are afterwards as
+//! the borrower left them; and that each line is the one of its port or of its pair's number and end.
 #![tactic(auto)]
 
 mod kit;
 mod numbers;
-mod relaying;
 mod texts;
 mod words;
 
 pub use kit::{Devices, Kit, SixDevices};
 pub use numbers::number_up_to;
-pub use relaying::{RelayStop, relay};
-pub use texts::{pair_lines, push_pair_line};
+pub use texts::{listening_text, pair_lines, push_pair_line};
 pub use words::{RelayOrder, relay_order};

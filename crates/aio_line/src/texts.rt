@@ -12,7 +12,11 @@ use std::alloc::{AllocError, Global};
 const LINE_ROOM: usize = 80;
 
 /// The first line of a relay's text, which names the port in use, with its line feed.
-pub(crate) fn listening_text(alloc: Global, port: u16) -> Result<Vec<u8>, AllocError>
+///
+/// # Errors
+///
+/// `AllocError` where memory ran out.
+pub fn listening_text(alloc: Global, port: u16) -> Result<Vec<u8>, AllocError>
     ensures { IfOk result (λ text. text.items ≡ listening_line port) }
 {
     let mut text = Vec::with_capacity(alloc, LINE_ROOM)?;

@@ -2,11 +2,11 @@
 use Rattle.std.proofs.Common.{◌≡◌, ◌≢◌, ℕ, Bool, false, IsTrue, List, [], ◌∷◌, Result, Ok, Err, refl, ap, subst}
 use Rattle.std.specs.Prelude.{IfErr}
 use Rattle.aio_base.specs.Devices.{TellsFaults}
-use Rattle.aio_line.specs.Relays.{HasRelayCause, has_output_failed}
 use Rattle.aio_line.specs.Words.{IsRelay, IsServable}
-use Rattle.aio_line.specs.declared.relaying.RelayStop.{RelayStop}
-use Rattle.aio_line.specs.declared.relaying.RelayStop.TheVariants as stop
 use Rattle.aio_line.specs.declared.words.RelayOrder.{RelayOrder}
+use Rattle.aio_serve.specs.Relays.{HasRelayCause, has_output_failed}
+use Rattle.aio_serve.specs.declared.relaying.RelayStop.{RelayStop}
+use Rattle.aio_serve.specs.declared.relaying.RelayStop.TheVariants as stop
 use Rattle.aio_replay.specs.Driving.{Causes}
 use Rattle.aio_run.specs.declared.status.Why.TheVariants as why
 use Rattle.aio_run.specs.Commands.{TellsCounts, is_read_fault, is_write_fault}

@@ -1,9 +1,9 @@
 -- The command `relay`: how the program ends by it, and what that says of output and devices.
 use Rattle.std.specs.Prelude.{◌≡◌, ℕ, Bool, List, Option, Result, Ok, Err, IfErr}
 use Rattle.aio_pairs.specs.declared.outcomes.PairEnd.{PairEnd}
-use Rattle.aio_line.specs.Relays.{HasRelayCause, RelayWrites}
-use Rattle.aio_line.specs.declared.relaying.RelayStop.{RelayStop}
-use Rattle.aio_line.specs.declared.relaying.RelayStop.TheVariants as stop
+use Rattle.aio_serve.specs.Relays.{HasRelayCause, RelayWrites}
+use Rattle.aio_serve.specs.declared.relaying.RelayStop.{RelayStop}
+use Rattle.aio_serve.specs.declared.relaying.RelayStop.TheVariants as stop
 use Rattle.aio_run.specs.declared.status.Why.{Why}
 use Rattle.aio_run.specs.declared.status.Why.TheVariants as why
 use Rattle.aio_run.specs.declared.status.Which6.TheVariants.{Port, Wait, Notify}

@@ -2,7 +2,8 @@
 //!
 //! It stands on `aio_replay`, which reads a trace and runs its steps, on `aio_trace`, which writes steps, on
 //! `aio_generator`, which gives those that a number describes, on `aio_bytes`, on `aio_laws` for what holds
-//! between two steps, on `aio_line` for a relay, and on `aio_record` for two jobs on recorded cells. It promises, for every list of bytes that the source has
+//! between two steps, on `aio_line` for the words and devices of a relay, on `aio_serve` for its run, and on
+//! `aio_record` for two jobs on recorded cells. It promises, for every list of bytes that the source has
 //! left, that the output of a replay is that of the machine run over the steps of these bytes; for all
 //! numbers, that the trace which they describe is written, or the counts of its run; of a relay, that the
 //! output names the port and then an end for each pair that its connections may come to; and of each other

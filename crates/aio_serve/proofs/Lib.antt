@@ -6,3 +6,4 @@ pub mod Slots
 pub mod WorkerRows
 pub mod InARow
 pub mod Fellows
+pub mod Refused

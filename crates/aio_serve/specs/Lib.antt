@@ -4,3 +4,4 @@ pub mod Seated
 pub mod Servers
 pub mod Accepted
 pub mod Complete
+pub mod Relays

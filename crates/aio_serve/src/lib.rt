@@ -1,15 +1,20 @@
 //! A server of lines, and its workers, each of which serves up to 64 pairs by one thread of a shared
-//! reactor; a pair in a slot of its worker is a `Served`.
+//! reactor; a pair in a slot of its worker is a `Served`. And the command `relay`, which runs the server.
 //!
 //! It stands on the pairs of `aio_relay`, on their places of `aio_places`, and on a thread of a shared
-//! reactor of `aio_park`. `serve` promises an end for each pair, in order, that fits the pair's two connections
-//! under the clock's bounds, the idle time and the lent notifier, and a cause where it stops instead.
-//! `laws` says which ends are left where connections and devices are sure.
+//! reactor of `aio_park`; the relay on `aio_line` for its words, its devices and its lines, and on
+//! `aio_bytes` for its output. `serve` promises an end for each pair, in order, that fits the pair's two
+//! connections under the clock's bounds, the idle time and the lent notifier, and a cause where it stops
+//! instead. `laws` says which ends are left where connections and devices are sure. `relay` promises that
+//! its text names the port in use and then an end for each pair, in the order of the pairs, each of which
+//! its two connections may come to; and of each other end of a relay its cause and what was written by
+//! then.
 #![tactic(auto)]
 
 mod accepting;
 mod joining;
 mod laws;
+mod relaying;
 mod seats;
 mod served;
 mod server;
@@ -19,6 +24,7 @@ mod worker;
 pub use aio_park::WorkerFault;
 pub use aio_places::{CallerSpawner, OpenGate, Place, ThreadSpawner};
 pub use laws::{a_sure_server_stops_for_memory_alone, pairs_of_sure_connections_end};
+pub use relaying::{RelayStop, relay};
 pub use served::{Served, Stage};
 pub use server::{ServeFault, serve};
 pub use worker::Worker;

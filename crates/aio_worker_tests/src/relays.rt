@@ -4,9 +4,9 @@
 use crate::asserts::same;
 use crate::clients::{Seen, joined, pass_a_line};
 use aio_bytes::StdSink;
-use aio_line::{Kit, RelayOrder, RelayStop, SixDevices, relay};
+use aio_line::{Kit, RelayOrder, SixDevices};
 use aio_mio::{RealClock, mio_parts};
-use aio_serve::{CallerSpawner, OpenGate};
+use aio_serve::{CallerSpawner, OpenGate, RelayStop, relay};
 use std::alloc::Global;
 use std::net::{Net, TcpListener, TcpStream};
 use std::process::Abort;

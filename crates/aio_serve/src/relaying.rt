@@ -4,20 +4,18 @@ ghost use Rattle.std.specs.Prelude.{◌≡◌, ◌≤◌, IsTrue, IfErr, IfOk, O
 ghost use Rattle.aio_base.specs.Connections.{IsInUse};
 ghost use Rattle.aio_base.specs.Devices.{Rose, TellsFaults};
 ghost use Rattle.aio_bytes.specs.Sinks.{HasFailed, Writes};
-ghost use Rattle.aio_line.specs.Relays.{HasRelayCause, MayEndSo, RelayWrites};
-ghost use Rattle.aio_line.specs.Relays.{TakesAfterFirst, has_output_failed};
-ghost use Rattle.aio_line.specs.Relays.{stop_served, stop_written, terms_of};
-ghost use Rattle.aio_serve.specs.Servers.{HasServeCause};
 ghost use Rattle.aio_line.specs.Texts.{listening_line, pair_lines};
 ghost use Rattle.aio_line.specs.Words.{IsServable};
+ghost use Rattle.aio_serve.specs.Relays.{HasRelayCause, MayEndSo, RelayWrites};
+ghost use Rattle.aio_serve.specs.Relays.{TakesAfterFirst, has_output_failed};
+ghost use Rattle.aio_serve.specs.Relays.{stop_served, stop_written, terms_of};
+ghost use Rattle.aio_serve.specs.Servers.{HasServeCause};
 
-use crate::kit::{Devices, SixDevices};
-use crate::texts::{listening_text, pair_lines};
-use crate::words::RelayOrder;
+use crate::server::{ServeFault, serve};
 use aio_base::{Clock, CountFault, EventWait, Gate, Notify, Parts, Port, Spawner};
 use aio_bytes::{Sink, SinkRefusal, write_all};
+use aio_line::{Devices, RelayOrder, SixDevices, listening_text, pair_lines};
 use aio_pairs::PairEnd;
-use aio_serve::{ServeFault, serve};
 use std::alloc::Global;
 use std::sync::Wait;
 use std::thread::Threads;

@@ -9,13 +9,13 @@ use Rattle.aio_bytes.specs.Sinks.{AppendsPart}
 use Rattle.aio_bytes.specs.declared.traits.SinkRefusal.{SinkRefusal}
 use Rattle.aio_bytes.specs.declared.traits.SinkRefusal.TheVariants as refused
 use Rattle.aio_pairs.specs.declared.outcomes.PairEnd.{PairEnd}
-use Rattle.aio_line.specs.declared.relaying.RelayStop.{RelayStop}
-use Rattle.aio_line.specs.declared.relaying.RelayStop.TheVariants as stop
+use Rattle.aio_line.specs.Texts.{listening_line, relay_text}
+use Rattle.aio_serve.specs.declared.relaying.RelayStop.{RelayStop}
+use Rattle.aio_serve.specs.declared.relaying.RelayStop.TheVariants as stop
 use Rattle.aio_serve.specs.declared.server.ServeFault.{ServeFault}
 use Rattle.aio_serve.specs.declared.server.ServeFault.TheVariants as fault
 use Rattle.aio_serve.specs.Places.{EndsFit, Terms}
 use Rattle.aio_serve.specs.Servers.{HasServeCause}
-use Rattle.aio_line.specs.Texts.{listening_line, relay_text}
 
 abbrev pub terms_of : ClockBounds → (idle : ℕ) → (sure : Bool) → Terms
 terms_of bounds idle sure = record { bounds = bounds; idle = idle; is_sure = sure }

@@ -8,10 +8,10 @@ use Rattle.aio_bytes.specs.Sinks.{AppendsPart, Writes}
 use Rattle.aio_bytes.specs.declared.traits.SinkRefusal.{SinkRefusal}
 use Rattle.aio_bytes.specs.declared.traits.SinkRefusal.TheVariants as refused
 use Rattle.aio_pairs.specs.declared.outcomes.PairEnd.{PairEnd}
-use Rattle.aio_line.specs.declared.relaying.RelayStop.{RelayStop}
-use Rattle.aio_serve.specs.Places.{Terms}
-use Rattle.aio_line.specs.Relays.{AppendsFront, AppendsMore, MayEndSo, RelayWrites, stop_written}
 use Rattle.aio_line.specs.Texts.{listening_line, pair_lines}
+use Rattle.aio_serve.specs.declared.relaying.RelayStop.{RelayStop}
+use Rattle.aio_serve.specs.Places.{Terms}
+use Rattle.aio_serve.specs.Relays.{AppendsFront, AppendsMore, MayEndSo, RelayWrites, stop_written}
 
 -- a bind leaves the connections as they were
 pub may_end_still : {C : Type 0} (telling : C → Telling) (sure : C → Bool) (t : Terms) (before after : Option (List C)) (pairs : ℕ) (ends items : List PairEnd)

@@ -1,5 +1,5 @@
 use Rattle.std.proofs.Common.{rules}
-use Rattle.aio_line.proofs.relaying.serve_six.Goals as goal
+use Rattle.aio_serve.proofs.relaying.serve_six.Goals as goal
 
 pub returns-clause-ends : goal.returns-clause-ends
 returns-clause-ends g c = search rules

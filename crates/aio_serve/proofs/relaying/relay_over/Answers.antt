@@ -1,8 +1,8 @@
 use Rattle.std.proofs.Common.{rules, inr, arith}
 use Rattle.std.proofs.lemmas.Grind.{common_steps}
-use Rattle.aio_line.specs.Relays.{MayEndSo, terms_of}
-use Rattle.aio_line.proofs.Stopping.{first_alone, first_and_more, may_end_still, pairs_refused}
-use Rattle.aio_line.proofs.relaying.relay_over.Goals as goal
+use Rattle.aio_serve.specs.Relays.{MayEndSo, terms_of}
+use Rattle.aio_serve.proofs.Refused.{first_alone, first_and_more, may_end_still, pairs_refused}
+use Rattle.aio_serve.proofs.relaying.relay_over.Goals as goal
 
 pub returns-clause-written : goal.returns-clause-written
 returns-clause-written g c =

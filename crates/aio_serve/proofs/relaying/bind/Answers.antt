@@ -1,5 +1,5 @@
 use Rattle.std.proofs.Common.{rules}
-use Rattle.aio_line.proofs.relaying.bind.Goals as goal
+use Rattle.aio_serve.proofs.relaying.bind.Goals as goal
 
 pub returns-in-Ok-clause-port : goal.returns-in-Ok-clause-port
 returns-in-Ok-clause-port g c = search rules
