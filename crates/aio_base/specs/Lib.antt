@@ -17,3 +17,4 @@ pub mod Moves
 pub mod Tasks
 pub mod Polls
 pub mod ClockBounds
+pub mod Hosts

@@ -1,8 +1,9 @@
 //! The ground that most other crates stand on: the names of a reactor (keys, wakers, moments,
-//! interests, events), the traits of its devices with their written meaning, and the definitions of
-//! the machine that contracts cite.
+//! interests, events), the traits of its devices and of what a reactor is to those that it serves, a host of
+//! timers and a host of tasks, with their written meaning, and the definitions of the machine that contracts
+//! cite.
 //!
-//! It stands on nothing but std. The traits promise what `devices` says; the definitions of
+//! It stands on nothing but std. The traits promise what `devices` and `hosts` say; the definitions of
 //! `specs/` say what the machine answers to each step, and which bytes a trace of steps writes. What
 //! holds of the machine is proved in `aio_laws`.
 #![tactic(auto)]
@@ -11,6 +12,7 @@ pub mod clock;
 pub mod connections;
 pub mod devices;
 pub mod draws;
+pub mod hosts;
 pub mod jobs;
 pub mod later;
 pub mod lent;
@@ -25,6 +27,7 @@ pub use clock::Clock;
 pub use connections::{Conn, Did, Port, Tells};
 pub use devices::{Arm, EventWait, Faults, Poller};
 pub use draws::Draws;
+pub use hosts::{Host, InsertRefusal, TimerHost};
 pub use jobs::{Gate, Job, Placement, Spawner};
 pub use later::Later;
 pub use lent::{Lent, Parts};

@@ -15,13 +15,13 @@ use Rattle.aio_base.specs.declared.outcomes.Waited.TheVariants.{Given, Interrupt
 use Rattle.aio_base.specs.declared.outcomes.Which.{Which}
 use Rattle.aio_base.specs.declared.outcomes.Which.TheVariants.{Add, Arm, Remove, Wait}
 use Rattle.aio_source.specs.declared.answers.Polled.{Polled}
-use Rattle.aio_react.specs.declared.hosts.InsertRefusal.{InsertRefusal}
-use Rattle.aio_react.specs.declared.hosts.InsertRefusal.TheVariants as insert
+use Rattle.aio_base.specs.declared.hosts.InsertRefusal.{InsertRefusal}
+use Rattle.aio_base.specs.declared.hosts.InsertRefusal.TheVariants as insert
 use Rattle.aio_react.specs.declared.outcomes.Handled.{Handled as HandledEvent}
 use Rattle.aio_react.specs.declared.refusals.CoreRefusal.{CoreRefusal}
 use Rattle.aio_react.specs.declared.refusals.CoreRefusal.TheVariants as refusal
-use Rattle.aio_react.specs.declared.round.RoundFault.{RoundFault}
-use Rattle.aio_react.specs.declared.round.RoundFault.TheVariants as fault
+use Rattle.aio_source.specs.declared.in_hand.RoundFault.{RoundFault}
+use Rattle.aio_source.specs.declared.in_hand.RoundFault.TheVariants as fault
 use Rattle.aio_c.specs.declared.answers.KeyAnswer.{KeyAnswer}
 use Rattle.aio_c.specs.declared.answers.PollAnswer.{PollAnswer}
 use Rattle.aio_c.specs.declared.answers.NumberAnswer.{NumberAnswer}

@@ -22,23 +22,24 @@ use Rattle.aio_base.specs.World.{World, PollerAnswer}
 use Rattle.aio_script.specs.Script.{Script, interests_of, ScriptArms, ScriptWaits}
 use Rattle.aio_source.specs.Rules.{Prepared}
 use Rattle.aio_source.specs.declared.answers.Polled.{Polled}
-use Rattle.aio_react.specs.declared.hosts.InsertRefusal.{InsertRefusal}
+use Rattle.aio_base.specs.declared.hosts.InsertRefusal.{InsertRefusal}
 use Rattle.aio_react.specs.declared.outcomes.Handled.{Handled}
 use Rattle.aio_react.specs.declared.refusals.CoreRefusal.{CoreRefusal}
 use Rattle.aio_react.specs.declared.refusals.CoreRefusal.TheVariants as refusal
-use Rattle.aio_react.specs.declared.round.RoundFault.{RoundFault}
-use Rattle.aio_react.specs.declared.round.RoundFault.TheVariants as round
+use Rattle.aio_source.specs.declared.in_hand.RoundFault.{RoundFault}
+use Rattle.aio_source.specs.declared.in_hand.RoundFault.TheVariants as round
 use Rattle.aio_react.specs.Asking.{UsesPoller, poll_part, step_part, handle_part}
 use Rattle.aio_react.specs.Cores.{CoreValue, entry_at}
 use Rattle.aio_react.specs.Hosting.{core_rules}
-use Rattle.aio_react.specs.Hosts.{RegistersAs, registered_id, insert_fault}
+use Rattle.aio_base.specs.Hosts.{RegistersAs, registered_id, insert_fault}
 use Rattle.aio_react.specs.Listeners.{listen_reply, listen_refusal, step_reply, step_refusal, step_armed, IsFirstPoll, drop_reply}
 use Rattle.aio_react.specs.Meeting.{Meets}
 use Rattle.aio_react.specs.Numbers.{value_of}
 use Rattle.aio_react.specs.Parts.{MeetsPart}
 use Rattle.aio_react.specs.Polls.{poll_reply, poll_wakes, poll_armed}
 use Rattle.aio_react.specs.Replies.{empty_hand_refusal, wait_phase, wait_failure, wait_given, wait_reply}
-use Rattle.aio_react.specs.Rounds.{HasRisen, arm_told}
+use Rattle.aio_source.specs.InHand.{arm_told}
+use Rattle.aio_react.specs.Rounds.{HasRisen}
 use Rattle.aio_react.specs.Sections.{IsRefusedBy, begin_refusal, core_begun, begin_reply, handle_refusal, handle_reply, handle_fault, finish_reply, finish_wakes}
 use Rattle.aio_react.specs.Sources.{free_key, AnswersAdd, after_add, add_told, add_failure, add_reply, AnswersDel, after_del, del_told, del_failure, del_reply}
 

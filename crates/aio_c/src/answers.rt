@@ -9,9 +9,10 @@ ghost use Rattle.aio_c.specs.Codes.{handling_answer, handle_answer, finish_answe
 ghost use Rattle.aio_c.specs.Codes.{ask_answer, dir_of, which_of, moment_at, limit_in};
 
 use aio_base::{
-    ArmFault, Dir, Interest, Key, Moment, OutOfMemory, Poll, TimerId, Waited, Waker, Which,
+    ArmFault, Dir, InsertRefusal, Interest, Key, Moment, OutOfMemory, Poll, TimerId, Waited, Waker,
+    Which,
 };
-use aio_react::{CoreRefusal, Handled, InsertRefusal, RoundFault};
+use aio_react::{CoreRefusal, Handled, RoundFault};
 use aio_source::Polled;
 
 /// A new source: its key, where the code is 0.

@@ -2,14 +2,13 @@
 
 ghost use Rattle.std.specs.Prelude.{◌≡◌, true, false};
 ghost use Rattle.aio_react.specs.Hosting.{unregistered};
-ghost use Rattle.aio_react.specs.Hosts.{has_id_left};
+ghost use Rattle.aio_base.specs.Hosts.{has_id_left};
 ghost use Rattle.aio_c.specs.Codes.{timer_answer, no_id, moment_at};
 ghost use Rattle.aio_c.specs.Promises.{Crossed, InsertPromises};
 
 use crate::Handle;
 use crate::answers::{NumberAnswer, memory_code, moment_at, timer_answer};
-use aio_base::{TimerId, Waker};
-use aio_react::TimerHost;
+use aio_base::{TimerHost, TimerId, Waker};
 
 /// Registers a timer for a moment with a waker: its number is its id.
 #[unsafe(no_mangle)]

@@ -5,7 +5,7 @@ use Rattle.aio_base.specs.World.{is_waker}
 use Rattle.aio_base.specs.TimerWork.{no_work, waiting}
 use Rattle.std.proofs.lemmas.Bool.{false≢true}
 use Rattle.aio_future.specs.declared.answers.TimerFault.TheVariants.{IdsSpent}
-use Rattle.aio_react.specs.Hosts.{HostRules}
+use Rattle.aio_base.specs.Hosts.{HostRules}
 use Rattle.aio_future.specs.Timers.{TimerValue, state_of, poll_work, Worked}
 
 -- a timer that is registered with the waker waits on

@@ -7,7 +7,7 @@ use Rattle.aio_base.specs.Polls.{WhilePending}
 use Rattle.aio_future.specs.Timers.{TimerValue, Worked, poll_answer, poll_fault, poll_work}
 use Rattle.aio_future.specs.declared.answers.TimerFault.{TimerFault}
 use Rattle.aio_future.specs.declared.answers.TimerFault.TheVariants as fault
-use Rattle.aio_react.specs.Hosts.{HostRules}
+use Rattle.aio_base.specs.Hosts.{HostRules}
 
 -- What a timer with such a deadline may come to by a moment: it fires with its deadline, which has come; or it tells a fault, that of a notifier
 -- only where the host's is not sure.

@@ -6,7 +6,7 @@ use Rattle.aio_base.specs.declared.outcomes.CountFault.{CountFault}
 use Rattle.aio_base.specs.Devices.{HasCause}
 use Rattle.aio_base.specs.TimerWork.{TimerState, Work, joining, tick_work, reset_work}
 use Rattle.aio_base.specs.Trace.{IsPeriod}
-use Rattle.aio_react.specs.Hosts.{HostRules, has_id_left, next_id, NotifierTells}
+use Rattle.aio_base.specs.Hosts.{HostRules, has_id_left, next_id, NotifierTells}
 use Rattle.aio_base.specs.declared.outcomes.Poll.{Poll}
 use Rattle.aio_base.specs.declared.outcomes.Poll.TheVariants.{Ready, Pending}
 use Rattle.aio_future.specs.declared.answers.TimerFault.{TimerFault}

@@ -1,7 +1,7 @@
 //! A timer: fires once at a moment, or again and again after a period, or never; a task that sleeps
 //! until a moment; and an entered source, whose directions are polled, read and written.
 //!
-//! It stands on `aio_base`, `aio_source` and `aio_react`, and works with whatever hosts timers. It
+//! It stands on `aio_base` and `aio_source`, and works with whatever hosts timers. It
 //! promises for each call on a timer, by the rules of `specs/`, which registration the host lost and
 //! got, the timer that is left, and which of this stands where the call told a fault; of the task, that
 //! it polls its timer so, with its own waker, and what it may answer by a moment; and of an entered

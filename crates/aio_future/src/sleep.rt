@@ -6,8 +6,7 @@ ghost use Rattle.aio_future.specs.Sleeping.{FiresBy, PollsTimer};
 
 use crate::answers::TimerFault;
 use crate::timer::Timer;
-use aio_base::{Cx, Moment, Poll, Task, Waker};
-use aio_react::TimerHost;
+use aio_base::{Cx, Moment, Poll, Task, TimerHost, Waker};
 
 /// A task that is ready once its timer has fired, with the deadline, or with the fault of a poll of the
 /// timer (`async-io` 2, `lib.rs`, `Timer` as a future). After a fault it may be polled further, and goes on

@@ -9,8 +9,7 @@ ghost use Rattle.aio_future.specs.Timers.{IsTimer, new_timer, registration_of, s
 
 use crate::answers::TimerFault;
 use crate::number_or_none::NumberOrNone;
-use aio_base::{Moment, OutOfMemory, Poll, TimerId, Waker};
-use aio_react::{InsertRefusal, TimerHost};
+use aio_base::{InsertRefusal, Moment, OutOfMemory, Poll, TimerHost, TimerId, Waker};
 use std::marker::Model;
 
 /// Nanoseconds of a moment or of a period, where there are any: the greatest number is neither.

@@ -9,7 +9,7 @@ use Rattle.aio_base.specs.declared.outcomes.Failed.{Failed}
 use Rattle.aio_future.specs.Tries.{Tries, read_call, bytes_over, write_call}
 use Rattle.aio_future.specs.declared.tried.Tried.{Tried}
 use Rattle.aio_future.specs.declared.tried.TryFault.TheVariants as fault
-use Rattle.aio_react.specs.Hosts.{HostRules, NotifierTells}
+use Rattle.aio_base.specs.Hosts.{HostRules, NotifierTells}
 use Rattle.aio_source.specs.Values.{SourceValue}
 
 -- A call with what it answered: a read had so much room and gave these bytes; a write was handed this piece.

@@ -10,9 +10,8 @@ ghost use Rattle.aio_pairs.specs.Lines.{lines, unfinished};
 
 use crate::ends::End;
 use crate::lines::{LONGEST, lines_end};
-use aio_base::{Poll, Waker};
+use aio_base::{Host, Poll, Waker};
 use aio_future::{Tried, TryFault};
-use aio_react::Host;
 use std::alloc::{AllocError, Global};
 use std::marker::Model;
 

@@ -3,9 +3,8 @@
 ghost use Rattle.std.specs.Prelude.{◌≡◌, ◌<◌, ◌≤◌, length, take, Ok};
 ghost use Rattle.aio_base.specs.declared.outcomes.Poll.TheVariants.{Ready, Pending};
 
-use aio_base::{Conn, Faults, Tells, Waker};
+use aio_base::{Conn, Faults, Host, Tells, Waker};
 use aio_future::{Async, Tried};
-use aio_react::Host;
 use aio_source::SourceCell;
 
 /// One connection of a pair, as an entered source of a host. It tells of its bytes what the connection

@@ -2,8 +2,7 @@
 
 ghost use Rattle.std.specs.Prelude.{◌≡◌, false};
 
-use aio_base::{Arm, Cx, Dir, EventWait, Later, Notify, Poll, Task, Waker};
-use aio_react::Host;
+use aio_base::{Arm, Cx, Dir, EventWait, Host, Later, Notify, Poll, Task, Waker};
 use aio_shared::{Inside, PollFault, SourceRef};
 use std::sync::Wait;
 

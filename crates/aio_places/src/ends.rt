@@ -9,10 +9,9 @@ ghost use Rattle.aio_pairs.specs.Calls.{Enters, Reads, Writes};
 ghost use Rattle.aio_sources.specs.Sources.{IsUnsure, Removes};
 ghost use Rattle.aio_places.specs.SourceEnds.{IsRestOf, fault_from, last_told, told_from, tried_from};
 
-use aio_base::{ArmFault, Conn, CountFault, EventWait, Faults, Notify, Poll, Tells, Waker};
+use aio_base::{ArmFault, Conn, CountFault, EventWait, Faults, Host, Notify, Poll, Tells, Waker};
 use aio_future::{Async, Tried, TryFault};
 use aio_pairs::End;
-use aio_react::Host;
 use aio_shared::{Inside, Shared, SourceRef};
 use aio_source::SourceCell;
 use std::alloc::Global;

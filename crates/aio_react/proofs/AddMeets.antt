@@ -28,7 +28,7 @@ use Rattle.aio_react.proofs.Arrivals.{distinct_push, not_given, serial_of_next, 
 use Rattle.aio_react.proofs.Clearing.{unset_is, unset_tells}
 use Rattle.aio_react.proofs.Later.{stands_later, quiet_comes}
 use Rattle.aio_react.proofs.Living.{live_stands}
-use Rattle.aio_react.proofs.KeyPlaces.{free_within}
+use Rattle.aio_source.proofs.KeyPlaces.{free_within}
 use Rattle.aio_react.proofs.Places.{free_few, free_is_none, below_free, placed_here, placed_elsewhere, placed_count, each_placed}
 
 -- ## The key

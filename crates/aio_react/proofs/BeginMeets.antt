@@ -20,7 +20,8 @@ use Rattle.aio_react.specs.Cores.{CoreValue, entry_at}
 use Rattle.aio_react.specs.Facts.{Facts, facts_in}
 use Rattle.aio_react.specs.Meeting.{Comes, Meets}
 use Rattle.aio_react.specs.Numbers.{value_of}
-use Rattle.aio_react.specs.Rounds.{RoundValue, begun}
+use Rattle.aio_source.specs.InHand.{RoundValue}
+use Rattle.aio_react.specs.Rounds.{begun}
 use Rattle.aio_react.specs.Sections.{core_begun}
 use Rattle.aio_react.specs.Standing.{PlaceStands, DirectionStands, ListenerStands, Remembers, RoundStands, IsBefore, serial_in, numbers_in, AreAsked, Stands, StandsWithin}
 use Rattle.aio_react.proofs.BookPasses.{due_of_book, limit_of_book, ids_filter}

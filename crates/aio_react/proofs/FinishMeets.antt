@@ -14,10 +14,11 @@ use Rattle.aio_base.specs.World.{PollerAnswer, World, Registration, RoundState, 
 use Rattle.aio_base.proofs.BookChanges.{after_pass_in_order}
 use Rattle.aio_react.specs.declared.refusals.CoreRefusal.{CoreRefusal}
 use Rattle.aio_react.specs.declared.refusals.CoreRefusal.TheVariants as refusal
-use Rattle.aio_react.specs.declared.round.RoundFault.{RoundFault}
+use Rattle.aio_source.specs.declared.in_hand.RoundFault.{RoundFault}
 use Rattle.aio_react.specs.Cores.{CoreValue}
 use Rattle.aio_react.specs.Parts.{ComesWithin, MeetsPart}
-use Rattle.aio_react.specs.Rounds.{RoundValue, has_second_pass, second_wakers, second_book, finished}
+use Rattle.aio_source.specs.InHand.{RoundValue}
+use Rattle.aio_react.specs.Rounds.{has_second_pass, second_wakers, second_book, finished}
 use Rattle.aio_react.specs.Replies.{empty_hand_refusal}
 use Rattle.aio_react.specs.Sections.{finish_reply, finish_wakes}
 use Rattle.aio_react.specs.Standing.{AreAsked, RoundStands, Runs, TimersSound, StandsWithin, end_word}

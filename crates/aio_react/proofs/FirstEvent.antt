@@ -5,9 +5,9 @@ use Rattle.aio_base.specs.declared.names.Event.{Event}
 use Rattle.aio_base.specs.declared.names.Key.{Key}
 use Rattle.aio_base.specs.declared.names.Waker.{Waker}
 use Rattle.aio_base.specs.declared.outcomes.ArmFault.{ArmFault}
-use Rattle.aio_react.specs.Rounds.{RoundValue, first_interest, handled}
-use Rattle.aio_react.specs.declared.round.RoundFault.{RoundFault}
-use Rattle.aio_react.specs.declared.round.RoundFault.TheVariants.{Arm}
+use Rattle.aio_source.specs.InHand.{RoundValue, first_interest, handled}
+use Rattle.aio_source.specs.declared.in_hand.RoundFault.{RoundFault}
+use Rattle.aio_source.specs.declared.in_hand.RoundFault.TheVariants.{Arm}
 
 -- what is behind an index begins with the directions of the event there
 pub first_on : (events : List Event) (k : ℕ) (e : Event) (key : Key) → option_map (λ (event : Event). event.key) (slice_get (drop k events) 0) ≡ Some key

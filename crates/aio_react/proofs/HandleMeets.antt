@@ -28,12 +28,12 @@ use Rattle.aio_react.specs.declared.entries.SourceEntry.{SourceEntry}
 use Rattle.aio_react.specs.declared.outcomes.Handled.{Handled}
 use Rattle.aio_react.specs.declared.refusals.CoreRefusal.{CoreRefusal}
 use Rattle.aio_react.specs.declared.refusals.CoreRefusal.TheVariants as refusal
-use Rattle.aio_react.specs.declared.round.RoundFault.{RoundFault}
-use Rattle.aio_react.specs.declared.round.RoundFault.TheVariants.{Wait, Arm}
+use Rattle.aio_source.specs.declared.in_hand.RoundFault.{RoundFault}
+use Rattle.aio_source.specs.declared.in_hand.RoundFault.TheVariants.{Wait, Arm}
 use Rattle.aio_react.specs.Cores.{CoreValue, entry_at}
 use Rattle.aio_react.specs.Facts.{facts_in}
 use Rattle.aio_react.specs.Parts.{ComesWithin, MeetsPart}
-use Rattle.aio_react.specs.Rounds.{RoundValue, first_interest, handling_first, taken_first, arm_told, skipped, handled}
+use Rattle.aio_source.specs.InHand.{RoundValue, first_interest, handling_first, taken_first, arm_told, skipped, handled}
 use Rattle.aio_react.specs.Sections.{handle_reply}
 use Rattle.aio_react.specs.Standing.{AreAsked, Runs, RunningSound, StandsWithin, serial_in, end_word}
 use Rattle.aio_react.proofs.ArmMeets.{arm_moves, arm_runs, arm_waits, armed_stands, failed_stands, none_asked, unasked}

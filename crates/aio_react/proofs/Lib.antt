@@ -5,7 +5,6 @@ mod Living
 mod Clearing
 pub mod Later
 mod WaitMeets
-pub mod KeyPlaces
 mod Places
 mod Arrivals
 mod Listed

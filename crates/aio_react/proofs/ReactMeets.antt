@@ -14,13 +14,13 @@ use Rattle.aio_base.specs.Timers.{limit_of}
 use Rattle.aio_base.specs.World.{PollerAnswer, World, RoundState}
 use Rattle.aio_react.specs.declared.refusals.CoreRefusal.{CoreRefusal}
 use Rattle.aio_react.specs.declared.refusals.CoreRefusal.TheVariants as refusal
-use Rattle.aio_react.specs.declared.round.RoundFault.{RoundFault}
+use Rattle.aio_source.specs.declared.in_hand.RoundFault.{RoundFault}
 use Rattle.aio_react.specs.Cores.{CoreValue}
 use Rattle.aio_react.specs.Meeting.{Comes, Meets, kind_of}
 use Rattle.aio_react.specs.Parts.{MeetsPart}
 use Rattle.aio_react.specs.Reacting.{react_reply, MeetsRound, Handles, Stopped}
 use Rattle.aio_react.specs.Replies.{empty_hand_refusal}
-use Rattle.aio_react.specs.Rounds.{RoundValue}
+use Rattle.aio_source.specs.InHand.{RoundValue}
 use Rattle.aio_react.specs.Sections.{begin_refusal, core_begun}
 use Rattle.aio_react.specs.Standing.{StandsWithin, end_word}
 use Rattle.aio_react.proofs.BeginMeets.{world_begun, begun_stands, begin_is_made, begin_meets, busy_world}

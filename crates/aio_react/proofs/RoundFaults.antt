@@ -5,8 +5,8 @@ use Rattle.aio_base.specs.declared.names.Key.{Key}
 use Rattle.aio_base.specs.declared.outcomes.ArmFault.{ArmFault}
 use Rattle.aio_base.specs.Devices.{TellsFaults}
 use Rattle.aio_react.specs.declared.outcomes.Handled.{Handled}
-use Rattle.aio_react.specs.declared.round.RoundFault.{RoundFault}
-use Rattle.aio_react.specs.declared.round.RoundFault.TheVariants.{Wait, Arm}
+use Rattle.aio_source.specs.declared.in_hand.RoundFault.{RoundFault}
+use Rattle.aio_source.specs.declared.in_hand.RoundFault.TheVariants.{Wait, Arm}
 use Rattle.aio_react.specs.Reacting.{RisesWithin, FaultsSince}
 
 rises_wider : (a b c d : ℕ) (fault : RoundFault) → a ≤ b → c ≤ d → RisesWithin b c fault → RisesWithin a d fault

@@ -9,7 +9,7 @@ use Rattle.aio_base.specs.Devices.{Interests}
 use Rattle.aio_base.specs.World.{World, ArmedDirection, RoundState, has_dir, is_armed}
 use Rattle.aio_react.specs.declared.entries.SourceEntry.{SourceEntry}
 use Rattle.aio_react.specs.Cores.{CoreValue, entry_at}
-use Rattle.aio_react.specs.Rounds.{RoundValue}
+use Rattle.aio_source.specs.InHand.{RoundValue}
 use Rattle.aio_react.specs.Standing.{AreAsked, Runs, RunningSound, StandsWithin, is_in_hand}
 use Rattle.aio_react.proofs.ArmMeets.{none_asked}
 use Rattle.aio_react.proofs.WaitMeets.{with_round, running_same}

@@ -14,14 +14,15 @@ use Rattle.aio_base.specs.Devices.{Interests, PollerMove, Awaited, ArmCall, Wait
 use Rattle.aio_base.specs.Machine.{Outcome, quiet, first_fault, wait_in, wait_round, wait_answered, next_answer, later_answers, hand_of}
 use Rattle.aio_base.specs.Waits.{IsCountOf}
 use Rattle.aio_base.specs.World.{PollerAnswer, World, RoundState, Gives, IsInterrupted, Fails, clear_armed, is_empty_list}
-use Rattle.aio_react.specs.declared.round.RoundFault.{RoundFault}
-use Rattle.aio_react.specs.declared.round.RoundFault.TheVariants.{Wait, Arm}
+use Rattle.aio_source.specs.declared.in_hand.RoundFault.{RoundFault}
+use Rattle.aio_source.specs.declared.in_hand.RoundFault.TheVariants.{Wait, Arm}
 use Rattle.aio_react.specs.Cores.{CoreValue}
 use Rattle.aio_react.specs.Parts.{ComesWithin, MeetsPart}
 use Rattle.aio_react.specs.declared.refusals.CoreRefusal.{CoreRefusal}
 use Rattle.aio_react.specs.declared.refusals.CoreRefusal.TheVariants as refusal
 use Rattle.aio_react.specs.Replies.{empty_hand_refusal, wait_reply}
-use Rattle.aio_react.specs.Rounds.{RoundValue, wait_of, poller_told, wait_answer, waited}
+use Rattle.aio_source.specs.InHand.{RoundValue}
+use Rattle.aio_react.specs.Rounds.{wait_of, poller_told, wait_answer, waited}
 use Rattle.aio_react.specs.Standing.{AreAsked, RoundStands, Runs, RunningSound, StandsWithin, end_word}
 use Rattle.aio_react.proofs.Clearing.{tells_cleared, asked_cleared}
 use Rattle.aio_react.proofs.PartMeets.{quiet_part}

@@ -16,7 +16,7 @@ use Rattle.aio_react.specs.declared.entries.Listener.{Listener}
 use Rattle.aio_react.specs.declared.entries.SourceEntry.{SourceEntry}
 use Rattle.aio_react.specs.Cores.{CoreValue, entry_at}
 use Rattle.aio_react.specs.Numbers.{value_of}
-use Rattle.aio_react.specs.Rounds.{handling_first}
+use Rattle.aio_source.specs.InHand.{handling_first}
 use Rattle.aio_react.specs.Standing.{ticket_in}
 
 -- A call that concerned no source left the poller alone. One that did used it as its source's part says: it armed it at most once, for that key and

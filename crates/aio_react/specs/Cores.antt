@@ -7,9 +7,10 @@ use Rattle.aio_source.specs.declared.answers.Listened.{Listened}
 use Rattle.aio_source.specs.Rules.{direction_of}
 use Rattle.aio_react.specs.declared.entries.Listener.{Listener}
 use Rattle.aio_react.specs.declared.entries.SourceEntry.{SourceEntry}
-use Rattle.aio_react.specs.KeyTables.{at_key}
+use Rattle.aio_source.specs.KeyTables.{at_key}
 use Rattle.aio_react.specs.Numbers.{value_of}
-use Rattle.aio_react.specs.Rounds.{RoundValue, new_round}
+use Rattle.aio_source.specs.InHand.{RoundValue}
+use Rattle.aio_react.specs.Rounds.{new_round}
 
 -- The sources at the places of their keys, the listeners at the places of their numbers from 1, how many rounds have begun, the registered
 -- timers in order, how many timer ids were drawn, and the round.

@@ -4,7 +4,7 @@ use Rattle.aio_base.specs.declared.names.TimerId.{TimerId}
 use Rattle.aio_base.specs.declared.names.Waker.{Waker}
 use Rattle.aio_base.specs.Timers.{Registers, Unregisters, fold_changes}
 use Rattle.aio_react.specs.Cores.{CoreValue}
-use Rattle.aio_react.specs.Hosts.{HostRules}
+use Rattle.aio_base.specs.Hosts.{HostRules}
 
 -- one id was drawn, under which the timer is registered
 abbrev pub with_registered : CoreValue → ℕ → Waker → TimerId → CoreValue

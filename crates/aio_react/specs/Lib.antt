@@ -1,8 +1,6 @@
 pub mod Rounds
 pub mod Numbers
 pub mod Seats
-pub mod KeyTables
-pub mod TableLending
 pub mod Cores
 pub mod Facts
 pub mod Standing
@@ -11,7 +9,6 @@ pub mod Replies
 pub mod Hosting
 pub mod Lending
 pub mod Asking
-pub mod Hosts
 pub mod Sources
 pub mod Polls
 pub mod Listeners

@@ -14,11 +14,11 @@ use Rattle.aio_base.specs.World.{PollerAnswer, World}
 use Rattle.aio_react.specs.declared.outcomes.Reacted.{Reacted}
 use Rattle.aio_react.specs.declared.refusals.CoreRefusal.{CoreRefusal}
 use Rattle.aio_react.specs.declared.refusals.CoreRefusal.TheVariants as refusal
-use Rattle.aio_react.specs.declared.round.RoundFault.{RoundFault}
-use Rattle.aio_react.specs.declared.round.RoundFault.TheVariants.{Wait, Arm}
+use Rattle.aio_source.specs.declared.in_hand.RoundFault.{RoundFault}
+use Rattle.aio_source.specs.declared.in_hand.RoundFault.TheVariants.{Wait, Arm}
 use Rattle.aio_react.specs.Cores.{CoreValue}
 use Rattle.aio_react.specs.Meeting.{Meets, MeetsBy}
-use Rattle.aio_react.specs.Rounds.{RoundValue}
+use Rattle.aio_source.specs.InHand.{RoundValue}
 use Rattle.aio_react.specs.Standing.{Stands, end_word}
 
 -- ## The answer

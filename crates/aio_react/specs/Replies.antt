@@ -8,7 +8,7 @@ use Rattle.aio_base.specs.declared.steps.Answer.TheVariants as answer
 use Rattle.aio_base.specs.World.{is_empty_list}
 use Rattle.aio_react.specs.declared.refusals.CoreRefusal.{CoreRefusal}
 use Rattle.aio_react.specs.declared.refusals.CoreRefusal.TheVariants as refusal
-use Rattle.aio_react.specs.Rounds.{RoundValue}
+use Rattle.aio_source.specs.InHand.{RoundValue}
 
 -- why a call is refused that wants a running round with no event in hand
 abbrev pub empty_hand_refusal : RoundValue → Option CoreRefusal

@@ -9,9 +9,10 @@ use Rattle.aio_base.specs.World.{is_empty_list}
 use Rattle.aio_react.specs.declared.outcomes.Handled.{Handled}
 use Rattle.aio_react.specs.declared.refusals.CoreRefusal.{CoreRefusal}
 use Rattle.aio_react.specs.declared.refusals.CoreRefusal.TheVariants as refusal
-use Rattle.aio_react.specs.declared.round.RoundFault.{RoundFault}
+use Rattle.aio_source.specs.declared.in_hand.RoundFault.{RoundFault}
 use Rattle.aio_react.specs.Cores.{CoreValue}
-use Rattle.aio_react.specs.Rounds.{RoundValue, begun}
+use Rattle.aio_source.specs.InHand.{RoundValue}
+use Rattle.aio_react.specs.Rounds.{begun}
 use Rattle.aio_react.specs.Standing.{end_word}
 
 -- A section that takes memory is done only where nothing refuses it. It is refused by this cause where there is one, and else only for want of memory.

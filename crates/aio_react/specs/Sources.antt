@@ -11,7 +11,7 @@ use Rattle.aio_react.specs.declared.entries.SourceEntry.{SourceEntry}
 use Rattle.aio_react.specs.declared.refusals.CoreRefusal.{CoreRefusal}
 use Rattle.aio_react.specs.declared.refusals.CoreRefusal.TheVariants as refusal
 use Rattle.aio_react.specs.Cores.{CoreValue, entry_at, count_of}
-use Rattle.aio_react.specs.KeyTables.{least_free, put_at}
+use Rattle.aio_source.specs.KeyTables.{least_free, put_at}
 use Rattle.aio_react.specs.Standing.{count_entries}
 
 -- ## Adding

@@ -19,12 +19,12 @@ use Rattle.aio_source.specs.Rules.{direction_of}
 use Rattle.aio_source.specs.Values.{DirectionValue, SourceValue}
 use Rattle.aio_react.specs.declared.entries.Listener.{Listener}
 use Rattle.aio_react.specs.declared.entries.SourceEntry.{SourceEntry}
-use Rattle.aio_react.specs.declared.round.RoundFault.{RoundFault}
-use Rattle.aio_react.specs.declared.round.RoundFault.TheVariants.{Wait, Arm}
+use Rattle.aio_source.specs.declared.in_hand.RoundFault.{RoundFault}
+use Rattle.aio_source.specs.declared.in_hand.RoundFault.TheVariants.{Wait, Arm}
 use Rattle.aio_react.specs.Cores.{CoreValue, entry_at, ticket_of}
 use Rattle.aio_react.specs.Facts.{Facts, facts_in, no_facts}
 use Rattle.aio_react.specs.Numbers.{value_of}
-use Rattle.aio_react.specs.Rounds.{RoundValue}
+use Rattle.aio_source.specs.InHand.{RoundValue}
 
 -- Two numbers stand for a position of the past: the rounds begun by then, and a number that is no greater.
 abbrev pub Remembers : Option (ℕ × ℕ) → Option ℕ → Type 0

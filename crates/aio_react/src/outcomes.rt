@@ -1,7 +1,7 @@
 //! What the handling of an event and a whole round of a core answer.
 
-use crate::round::RoundFault;
 use aio_base::{ArmFault, Key};
+use aio_source::RoundFault;
 
 /// An event that was handled.
 #[derive(Clone, Copy, Debug, PartialEq, Eq)]

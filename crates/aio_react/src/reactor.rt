@@ -16,12 +16,14 @@ mod rounds;
 mod sources;
 
 use crate::entries::SourceEntry;
-use crate::hosts::{InsertRefusal, TimerHost};
-use crate::key_table::KeyTable;
 use crate::listener_table::ListenerTable;
 use crate::refusals::CoreRefusal;
 use crate::round::Round;
-use aio_base::{EventWait, Key, Later, Moment, OutOfMemory, Poller, TimerId, Waited, Waker};
+use aio_base::{
+    EventWait, InsertRefusal, Key, Later, Moment, OutOfMemory, Poller, TimerHost, TimerId, Waited,
+    Waker,
+};
+use aio_source::{InHand, KeyTable};
 use aio_timers::{TimerBook, TimerOp};
 use std::alloc::Global;
 use std::marker::Model;
@@ -83,7 +85,7 @@ impl<P: Poller> Core<P> {
     ghost use Rattle.aio_react.specs.Meeting.{Meets};
     ghost use Rattle.aio_react.specs.Parts.{MeetsPart};
     ghost use Rattle.aio_react.specs.Replies.{wait_phase, wait_failure, wait_given, wait_reply};
-    ghost use Rattle.aio_react.specs.declared.round.RoundFault.TheVariants.{Wait};
+    ghost use Rattle.aio_source.specs.declared.in_hand.RoundFault.TheVariants.{Wait};
 
     /// A reactor with no source, no listener, no timer and no round, and with room for 4,096
     /// sources. It stands for the opening world with the interests that the poller tells. Where

@@ -1,36 +1,25 @@
 //! A round in sections.
 
-ghost use Rattle.std.specs.Prelude.{◌≡◌, ◌≢◌, ◌<◌, ◌≤◌, ◌+◌, ◌++◌, [], true, false, not, ℕ, List, None, Some, IfOk, IfSome, IsErr, OnOk, OnErr, length, option_map, slice_get, vec_len, vec_capacity};
+ghost use Rattle.std.specs.Prelude.{◌≡◌, ◌≢◌, ◌<◌, ◌≤◌, ◌+◌, ◌++◌, [], true, false, not, None, Some, IfOk, IfSome, IsErr, OnOk, OnErr, length, vec_len, vec_capacity};
 ghost use Rattle.std.specs.List.{All};
 ghost use Rattle.std.specs.Option.{option_or};
 ghost use Rattle.aio_base.specs.Devices.{TellsFaults, raised};
 ghost use Rattle.aio_base.specs.Timers.{due_wakers, after_pass, limit_of, lesser, time_to, first_deadline};
 ghost use Rattle.aio_base.specs.Waits.{IsCountOf};
 ghost use Rattle.aio_base.specs.World.{Registration, directions};
-ghost use Rattle.aio_base.specs.declared.names.Event.{Event};
-ghost use Rattle.aio_source.specs.Lent.{arm_answer, fault_of, UsesArm, arm_of, settled};
 ghost use Rattle.aio_source.specs.Rules.{waiters_in};
-ghost use Rattle.aio_react.specs.Rounds.{new_round, begun, HasRisen, wait_of, poller_told, wait_told, waited, given_by, handling_first, taken_first, arm_told, skipped, handled, has_second_pass, second_wakers, second_book, finished};
+ghost use Rattle.aio_react.specs.Rounds.{new_round, begun, HasRisen, wait_of, poller_told, wait_told, waited, given_by, has_second_pass, second_wakers, second_book, finished};
 
 use aio_base::{
     Arm, ArmFault, CountFault, DIRS, Event, EventWait, Failed, Moment, OutOfMemory, Waited, Waker,
 };
-use aio_source::SourceState;
+use aio_source::{InHand, RoundFault, SourceState};
 use aio_timers::TimerBook;
 use std::alloc::Global;
 use std::marker::Model;
 
 /// How many events one wait gives at most.
 const WAIT_ROOM: u32 = 1024;
-
-/// What failed in a round first.
-#[derive(Clone, Copy, Debug, PartialEq, Eq)]
-pub enum RoundFault {
-    /// A wait of the round failed, between these two counts of the poller's faults.
-    Wait(CountFault),
-    /// An arm of the round failed, between these two counts of the lent arm's faults.
-    Arm(ArmFault),
-}
 
 /// One round after another, each in sections (`async-io` 2, `reactor.rs`, `ReactorLock::react`): a
 /// begin, waits, events that are handled one by one, and a finish.
@@ -56,7 +45,8 @@ pub struct Round {
 
 impl Model for Round {
     ghost use Rattle.std.specs.Prelude.{◌≡◌, ◌≤◌, [], false, drop, option_map, IfSome, vec_capacity, vec_len};
-    ghost use Rattle.aio_react.specs.Rounds.{RoundValue, wait_answer, HasRisen};
+    ghost use Rattle.aio_source.specs.InHand.{RoundValue};
+    ghost use Rattle.aio_react.specs.Rounds.{wait_answer, HasRisen};
 
     ghost Value = { RoundValue };
 
@@ -190,64 +180,6 @@ impl Round {
         }
     }
 
-    /// The first event in hand. `None` exactly where none is, as on an idle round.
-    pub fn peek(&self) -> Option<Event>
-        ensures value { result ≡ slice_get self.now.hand 0 }
-        ensures none { result ≡ None → self.now.hand ≡ [] }
-        ensures idle { self.now.running ≡ false → result ≡ None }
-    {
-        self.hand().first().copied()
-    }
-
-    /// Handles the first event in hand on its source: the wakers that it takes join those of the
-    /// round, and the arm is lent to the source, which arms it once at most. Answers the fault of
-    /// an arm that failed, which is kept where no fault was; the event is handled all the same.
-    /// `OutOfMemory` where there is no memory for the wakers; the event then stays in hand, and all
-    /// is as before.
-    #[inline(always)]
-    pub fn handle<A: Arm>(
-        &mut self,
-        s: &mut SourceState,
-        arm: &mut A,
-    ) -> Result<Option<ArmFault>, OutOfMemory>
-        requires { option_map (λ (event : Event). event.key) (slice_get self.old.hand 0)
-            ≡ Some s.old.key }
-        ensures round { IfOk result (λ fault.
-            self.new ≡ handled self.old (taken_first self.old s.old) fault) }
-        ensures source { let p = handling_first self.old s.old in
-            IfOk result (λ fault. s.new ≡ settled p.arms (arm_answer (arm_told fault)) p.source) }
-        ensures lent { let p = handling_first self.old s.old in
-            IfOk result (λ fault. UsesArm A.arm_step A.interests A.rest A.fault_count A.is_sure
-            p.arms (arm_of p.source) (arm_answer (arm_told fault)) arm.old arm.new) }
-        ensures fault { IfOk result (λ fault. arm_told fault ≡ fault_of s.old.key
-            (A.fault_count arm.old) (A.fault_count arm.new) (arm_answer (arm_told fault))) }
-        ensures key { s.new.key ≡ s.old.key }
-        ensures refused { OnErr result
-            ((self.new ≡ self.old) × (s.new ≡ s.old) × (arm.new ≡ arm.old)) }
-    {
-        let event = self.events[self.done];
-        match make_room(&mut self.taken, s) {
-            Ok(()) => {}
-            Err(refusal) => return Err(refusal),
-        }
-        self.done += 1;
-        match s.handle(arm, event, self.number, &mut self.taken) {
-            Ok(()) => Ok(None),
-            Err(fault) => {
-                self.keep(RoundFault::Arm(fault));
-                Ok(Some(fault))
-            }
-        }
-    }
-
-    /// Drops the first event in hand, whose key no source has. It takes no memory.
-    pub fn skip(&mut self)
-        requires { self.old.hand ≢ [] }
-        ensures { self.new ≡ skipped self.old }
-    {
-        self.done += 1;
-    }
-
     /// Ends the round and answers its first fault. Where its last wait gave no event and had time
     /// to wait, a second pass over the timers is made at the moment `now`. The round is idle then,
     /// and all wakers that it took are to be woken. `OutOfMemory` where there is no memory for the
@@ -317,16 +249,6 @@ impl Round {
         !self.running
     }
 
-    /// How many events are in hand.
-    pub fn in_hand(&self) -> usize
-        ensures value { result ≡ length self.now.hand }
-        ensures bound { result ≤ 1024 }
-        ensures none { result ≡ 0 → self.now.hand ≡ [] }
-        ensures idle { self.now.running ≡ false → result ≡ 0 }
-    {
-        self.hand().len()
-    }
-
     /// The events in hand.
     fn hand(&self) -> &[Event]
         ensures value { result.now ≡ self.now.hand }
@@ -355,6 +277,43 @@ impl Round {
         if self.fault.is_none() {
             self.fault = Some(fault);
         }
+    }
+}
+
+impl InHand for Round {
+    ghost round = { λ r. r };
+
+    fn peek(&self) -> Option<Event> {
+        self.hand().first().copied()
+    }
+
+    fn in_hand(&self) -> usize {
+        self.hand().len()
+    }
+
+    #[inline(always)]
+    fn handle<A: Arm>(
+        &mut self,
+        s: &mut SourceState,
+        arm: &mut A,
+    ) -> Result<Option<ArmFault>, OutOfMemory> {
+        let event = self.events[self.done];
+        match make_room(&mut self.taken, s) {
+            Ok(()) => {}
+            Err(refusal) => return Err(refusal),
+        }
+        self.done += 1;
+        match s.handle(arm, event, self.number, &mut self.taken) {
+            Ok(()) => Ok(None),
+            Err(fault) => {
+                self.keep(RoundFault::Arm(fault));
+                Ok(Some(fault))
+            }
+        }
+    }
+
+    fn skip(&mut self) {
+        self.done += 1;
     }
 }
 

@@ -26,7 +26,7 @@ use Rattle.aio_pairs.specs.declared.outcomes.Tally.{Tally}
 use Rattle.aio_pairs.proofs.ExchangeLemmas.{exchange-begins}
 use Rattle.aio_pairs.proofs.FitLemmas.{fitted, done-fits, long-fits}
 use Rattle.aio_pairs.proofs.PassingLemmas.{wrote-more}
-use Rattle.aio_react.specs.Hosts.{HostRules, has_id_left}
+use Rattle.aio_base.specs.Hosts.{HostRules, has_id_left}
 use Rattle.aio_relay.specs.Waiting.{IsSetTo, idle_from}
 use Rattle.aio_relay.specs.Pairs.{PairState, IsKept, IsPair, BothDone, BothShort, IsSettled, IsTheEnd, IsWaiting, Passed, PollsPair, Tells, bytes_moved, last_after, may_come_to}
 

@@ -6,7 +6,7 @@ use Rattle.aio_base.specs.Devices.{Rose}
 use Rattle.aio_base.specs.TimerWork.{Work}
 use Rattle.aio_base.specs.declared.names.Waker.{Waker}
 use Rattle.aio_base.specs.declared.outcomes.CountFault.{CountFault}
-use Rattle.aio_react.specs.Hosts.{HostRules, NotifierTells, has_id_left}
+use Rattle.aio_base.specs.Hosts.{HostRules, NotifierTells, has_id_left}
 use Rattle.aio_future.specs.Timers.{TimerValue, Worked}
 use Rattle.aio_future.specs.declared.answers.TimerFault.{TimerFault}
 use Rattle.aio_future.specs.declared.answers.TimerFault.TheVariants as timer_fault

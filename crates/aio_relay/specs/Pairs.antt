@@ -21,7 +21,7 @@ use Rattle.aio_pairs.specs.Lines.{lines, longest_line, unfinished}
 use Rattle.aio_pairs.specs.declared.outcomes.PairEnd.{PairEnd}
 use Rattle.aio_pairs.specs.declared.outcomes.PairEnd.TheVariants as pair
 use Rattle.aio_pairs.specs.declared.outcomes.Tally.{Tally}
-use Rattle.aio_react.specs.Hosts.{HostRules, has_id_left}
+use Rattle.aio_base.specs.Hosts.{HostRules, has_id_left}
 use Rattle.aio_relay.specs.Waiting.{GivesUp, IsSetTo, idle_from}
 
 -- The two ends and the sides behind them; the idle time, and the moment of the last byte that went over; the timer; and the number of polls.

@@ -1,7 +1,7 @@
 -- How a pair waits for the moment at which it is idle.
 use Rattle.std.specs.Prelude.{◌≡◌, ◌⊎◌, ℕ, ◌+◌, ◌^◌, Bool, false, nat_le, if◌then◌else◌, Option, Some, None, IfErr, IsSome, Result, Ok, Err, ⊤}
 use Rattle.aio_base.specs.declared.names.Waker.{Waker}
-use Rattle.aio_react.specs.Hosts.{HostRules}
+use Rattle.aio_base.specs.Hosts.{HostRules}
 use Rattle.aio_future.specs.Timers.{TimerValue, RefusesRemoval, RemovesOwn, new_timer, registration_of}
 use Rattle.aio_future.specs.declared.answers.TimerFault.{TimerFault}
 use Rattle.aio_future.specs.declared.answers.TimerFault.TheVariants as timer_fault

@@ -7,8 +7,8 @@ ghost use Rattle.aio_base.specs.declared.tasks.Cx.{Cx};
 ghost use Rattle.aio_pairs.specs.declared.outcomes.PairEnd.{PairEnd};
 ghost use Rattle.aio_relay.specs.Pairs.{PairState, PollsPair, BothDone, BothShort, IsTheEnd};
 
+use aio_base::Host;
 use aio_pairs::End;
-use aio_react::Host;
 
 /// A poll after which both sides have ended and all lines were written tells just that, or that memory
 /// ran out, where no line is too long and neither the host's notifier nor an end failed in it.

@@ -6,16 +6,15 @@ ghost use Rattle.aio_base.specs.Polls.{IfReady, WhilePending};
 ghost use Rattle.aio_pairs.specs.Calls.{HostGoesOn, RoseIn};
 ghost use Rattle.aio_pairs.specs.Exchanges.{IsLongThere, IsReason, OneFailed, failure_in};
 ghost use Rattle.aio_pairs.specs.Fits.{of_side};
-ghost use Rattle.aio_react.specs.Hosts.{has_id_left};
+ghost use Rattle.aio_base.specs.Hosts.{has_id_left};
 ghost use Rattle.aio_relay.specs.Pairs.{IsPair, IsDone, BothDone, BothShort, IsToldBeforeWait, Passed, PollsPair, fresh_pair, may_come_to};
 ghost use Rattle.aio_relay.specs.Waiting.{Sets, IsSetTo, WaitFailed, idle_from};
 
 use crate::passing::exchange;
 use crate::waiting::{WaitFault, give_up, idle_moment, set_timer, wake};
-use aio_base::{Cx, Moment, Poll, Task, Tells, Waker};
+use aio_base::{Cx, Host, Moment, Poll, Task, Tells, Waker};
 use aio_future::Timer;
 use aio_pairs::{BLOCK, Backlog, End, PairEnd, Side, Tally};
-use aio_react::Host;
 use std::alloc::Global;
 use std::marker::Model;
 

@@ -6,10 +6,9 @@ ghost use Rattle.aio_pairs.specs.Calls.{HostGoesOn, RoseIn};
 ghost use Rattle.aio_pairs.specs.Exchanges.{BothGoOn, GoesOn, IsLongAt, IsLongHere, IsLongThere, IsOver, IsReason, IsSameEnd, OneFailed, after_read, after_write, failure_in, pair_end_of, tries_again, work_left};
 ghost use Rattle.aio_pairs.specs.Lines.{lines, unfinished};
 
-use aio_base::{Poll, Waker};
+use aio_base::{Host, Poll, Waker};
 use aio_future::TryFault;
 use aio_pairs::{BLOCK, Backlog, End, LONGEST, PairEnd, Side, Tally, count_of};
-use aio_react::Host;
 
 /// Passes whole lines both ways, until neither side can go on or a block of one was read; or until a
 /// line is too long or a call failed, which is the end of the pair.

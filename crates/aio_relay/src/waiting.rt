@@ -1,13 +1,12 @@
 //! How a pair waits for the moment at which it is idle.
 
 ghost use Rattle.std.specs.Prelude.{◌≡◌, ◌<◌, ◌≤◌, ◌^◌, IfSome, IfErr, IsOk, Some, None};
-ghost use Rattle.aio_react.specs.Hosts.{has_id_left};
+ghost use Rattle.aio_base.specs.Hosts.{has_id_left};
 ghost use Rattle.aio_relay.specs.Waiting.{ComesTo, GivesUp, Sets, WaitFailed, idle_from};
 ghost use Rattle.aio_pairs.specs.Calls.{HostGoesOn};
 
-use aio_base::{CountFault, Moment, Poll, Waker};
+use aio_base::{CountFault, Host, Moment, Poll, TimerHost, Waker};
 use aio_future::{Timer, TimerFault};
-use aio_react::{Host, TimerHost};
 use std::mem;
 
 /// Why a pair cannot wait.

@@ -1,10 +1,11 @@
 //! A host of one thread, for what a task does to its host.
 
 ghost use Rattle.std.specs.Prelude.{◌≡◌, ◌-◌, ◌^◌, ◌≤◌, false};
-ghost use Rattle.aio_react.specs.Hosts.{NotifierTells, wake_fault};
+ghost use Rattle.aio_base.specs.Hosts.{NotifierTells, wake_fault};
 
-use aio_base::{CountFault, Later, Moment, OutOfMemory, TimerId, Waker};
-use aio_react::{Host, InsertRefusal, TimerHost};
+use aio_base::{
+    CountFault, Host, InsertRefusal, Later, Moment, OutOfMemory, TimerHost, TimerId, Waker,
+};
 use std::alloc::Global;
 
 /// The id after which a pass draws none.

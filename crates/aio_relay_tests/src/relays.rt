@@ -4,10 +4,9 @@ ghost use Rattle.std.specs.Prelude.{◌<◌};
 
 use crate::asserts::{MEMORY, same_in};
 use crate::hosts::{ListHost, Trouble};
-use aio_base::{Conn, CountFault, Cx, Key, Moment, Poll, Task};
+use aio_base::{Conn, CountFault, Cx, Host, Key, Moment, Poll, Task};
 use aio_conns::{MemConn, Peer, SILENT};
 use aio_future::TryFault;
-use aio_react::Host;
 use aio_relay::{MemEnd, Pair, PairEnd, Side};
 use aio_source::{SourceCell, SourceState};
 use std::alloc::Global;

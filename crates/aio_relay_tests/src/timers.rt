@@ -3,9 +3,9 @@
 use crate::asserts::{MEMORY, same};
 use crate::hosts::{ListHost, Trouble};
 use crate::relays::moment;
-use aio_base::Waker;
+use aio_base::{TimerHost, Waker};
 use aio_future::{Poll, Timer, TimerFault};
-use aio_react::{Core, TimerHost};
+use aio_react::Core;
 use aio_script::ScriptPoller;
 use std::alloc::Global;
 use std::process::Abort;

@@ -7,7 +7,7 @@ use Rattle.aio_rules.specs.declared.seats.SeatView.{SeatView}
 use Rattle.aio_rules.specs.declared.seats.WordStep.TheVariants as word_step
 use Rattle.aio_rules.specs.SharedWords.{after, blocking}
 use Rattle.aio_ops.specs.Passes.{Drained, PassView}
-use Rattle.aio_react.specs.Rounds.{RoundValue}
+use Rattle.aio_source.specs.InHand.{RoundValue}
 use Rattle.aio_words.specs.Seats.{IsIdleOrWaits, SeatValue, is_waiting}
 use Rattle.aio_shared.specs.declared.reacting.ReactFault.{ReactFault}
 use Rattle.aio_shared.specs.declared.reacting.ReactFault.TheVariants as react_fault

@@ -5,9 +5,9 @@ use Rattle.aio_base.specs.declared.names.Waker.{Waker}
 use Rattle.aio_base.specs.declared.outcomes.Failed.{Failed}
 use Rattle.aio_base.specs.declared.outcomes.OutOfMemory.{OutOfMemory}
 use Rattle.aio_timers.specs.declared.op.TimerOp.TheVariants as timer_op
-use Rattle.aio_react.specs.declared.hosts.InsertRefusal.{InsertRefusal}
-use Rattle.aio_react.specs.declared.hosts.InsertRefusal.TheVariants as refusal
-use Rattle.aio_react.specs.Hosts.{NotifierTells, RegistersAs, registered_id}
+use Rattle.aio_base.specs.declared.hosts.InsertRefusal.{InsertRefusal}
+use Rattle.aio_base.specs.declared.hosts.InsertRefusal.TheVariants as refusal
+use Rattle.aio_base.specs.Hosts.{NotifierTells, RegistersAs, registered_id}
 use Rattle.aio_shared.specs.Inside.{InsideValue, inside_rules}
 use Rattle.aio_shared.specs.Members.{MemberValue, SharedValue}
 use Rattle.aio_shared.specs.TimerCalls.{CarriesOut, Inserts, NotCarriedOut, RemovesTimer}

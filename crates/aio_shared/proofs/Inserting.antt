@@ -5,8 +5,8 @@ use Rattle.aio_base.specs.declared.names.Waker.{Waker}
 use Rattle.aio_base.specs.declared.outcomes.CountFault.{CountFault}
 use Rattle.aio_base.specs.declared.outcomes.Failed.{Failed}
 use Rattle.aio_base.specs.Devices.{HasCause}
-use Rattle.aio_react.specs.declared.hosts.InsertRefusal.{InsertRefusal}
-use Rattle.aio_react.specs.Hosts.{NotifierTells, insert_fault}
+use Rattle.aio_base.specs.declared.hosts.InsertRefusal.{InsertRefusal}
+use Rattle.aio_base.specs.Hosts.{NotifierTells, insert_fault}
 use Rattle.aio_words.specs.Calls.{TellsCounts}
 use Rattle.aio_shared.specs.Members.{MemberValue}
 use Rattle.aio_shared.specs.TimerCalls.{Inserted, Inserts}

@@ -4,7 +4,7 @@ use Rattle.aio_base.specs.declared.outcomes.ArmFault.{ArmFault}
 use Rattle.aio_base.specs.declared.outcomes.CountFault.{CountFault}
 use Rattle.aio_base.specs.declared.outcomes.Poll.{Poll}
 use Rattle.aio_base.specs.declared.outcomes.Poll.TheVariants.{Ready, Pending}
-use Rattle.aio_react.specs.Hosts.{NotifierTells, wake_fault}
+use Rattle.aio_base.specs.Hosts.{NotifierTells, wake_fault}
 use Rattle.aio_sources.specs.Visits.{IsUnsureArm, arm_fault_of}
 use Rattle.aio_shared.specs.declared.polling.PollFault.{PollFault}
 use Rattle.aio_shared.specs.Inside.{InsideValue, IsLaterInside, with_seat}

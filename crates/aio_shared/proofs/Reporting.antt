@@ -5,7 +5,7 @@ use Rattle.aio_base.specs.declared.outcomes.CountFault.{CountFault}
 use Rattle.aio_base.specs.declared.outcomes.Failed.{Failed}
 use Rattle.aio_base.specs.Devices.{TellsFaults}
 use Rattle.aio_rules.specs.declared.seats.SeatView.{SeatView}
-use Rattle.aio_react.specs.Rounds.{RoundValue}
+use Rattle.aio_source.specs.InHand.{RoundValue}
 use Rattle.aio_shared.specs.declared.reacting.ReactedIn.{ReactedIn}
 use Rattle.aio_shared.specs.declared.reacting.ReactFault.{ReactFault}
 use Rattle.aio_shared.specs.declared.reacting.ReactFault.TheVariants as react_fault

@@ -10,9 +10,10 @@ use Rattle.aio_base.specs.Devices.{HasCause, Rose, TellsFaults}
 use Rattle.aio_rules.specs.SharedWords.{after}
 use Rattle.aio_words.specs.Calls.{all_wake_steps}
 use Rattle.aio_ops.specs.Passes.{PassView, Drained}
-use Rattle.aio_react.specs.declared.round.RoundFault.{RoundFault}
-use Rattle.aio_react.specs.declared.round.RoundFault.TheVariants as round_fault
-use Rattle.aio_react.specs.Rounds.{RoundValue, poller_told, wait_fault, wait_told, waited}
+use Rattle.aio_source.specs.declared.in_hand.RoundFault.{RoundFault}
+use Rattle.aio_source.specs.declared.in_hand.RoundFault.TheVariants as round_fault
+use Rattle.aio_source.specs.InHand.{RoundValue}
+use Rattle.aio_react.specs.Rounds.{poller_told, wait_fault, wait_told, waited}
 use Rattle.aio_words.specs.Seats.{SeatValue}
 use Rattle.aio_shared.specs.declared.reacting.ReactedIn.{ReactedIn}
 use Rattle.aio_shared.specs.declared.reacting.ReactFault.{ReactFault}

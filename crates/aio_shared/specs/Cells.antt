@@ -12,9 +12,10 @@ use Rattle.aio_base.specs.declared.outcomes.Failed.{Failed}
 use Rattle.aio_base.specs.Devices.{HasCause, WaitCall, raised}
 use Rattle.aio_rules.specs.RoundLock.{About}
 use Rattle.aio_base.specs.Waits.{IsCountOf}
-use Rattle.aio_react.specs.declared.round.RoundFault.{RoundFault}
-use Rattle.aio_react.specs.declared.round.RoundFault.TheVariants.{Wait, Arm}
-use Rattle.aio_react.specs.Rounds.{RoundValue, poller_told, wait_of, wait_told, waited}
+use Rattle.aio_source.specs.declared.in_hand.RoundFault.{RoundFault}
+use Rattle.aio_source.specs.declared.in_hand.RoundFault.TheVariants.{Wait, Arm}
+use Rattle.aio_source.specs.InHand.{RoundValue}
+use Rattle.aio_react.specs.Rounds.{poller_told, wait_of, wait_told, waited}
 use Rattle.aio_words.specs.Seats.{SeatValue}
 
 -- A round cell: its seat, its round, and the half of the poller that waits, of which contracts also see its counts of waits and of faults, and

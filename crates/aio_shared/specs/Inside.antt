@@ -4,7 +4,7 @@ use Rattle.aio_base.specs.declared.outcomes.CountFault.{CountFault}
 use Rattle.aio_base.specs.declared.outcomes.Failed.{Failed}
 use Rattle.aio_timers.specs.declared.op.TimerOp.TheVariants as timer_op
 use Rattle.aio_words.specs.Seats.{SeatValue}
-use Rattle.aio_react.specs.Hosts.{HostRules}
+use Rattle.aio_base.specs.Hosts.{HostRules}
 use Rattle.aio_shared.specs.Members.{IsLaterMember, MemberValue, SharedValue}
 use Rattle.aio_shared.specs.TimerCalls.{CarriesOut, Inserted, NotCarriedOut}
 

@@ -13,7 +13,7 @@ use Rattle.aio_rules.specs.WordCalls.{wake_steps}
 use Rattle.aio_source.specs.declared.source.SourceCell.{SourceCell}
 use Rattle.aio_words.specs.Calls.{Offers}
 use Rattle.aio_shared.specs.Inside.{InsideValue, IsLaterInside, with_seat}
-use Rattle.aio_react.specs.Hosts.{NotifierTells}
+use Rattle.aio_base.specs.Hosts.{NotifierTells}
 use Rattle.aio_sources.specs.Visits.{IsUnsureArm}
 use Rattle.aio_sources.specs.Sources.{SourceRefValue}
 use Rattle.aio_shared.specs.declared.polling.PollFault.{PollFault}

@@ -11,8 +11,9 @@ use Rattle.aio_rules.specs.SharedWords.{after, blocking}
 use Rattle.aio_base.specs.Timers.{after_pass, due_wakers, limit_of}
 use Rattle.aio_rules.specs.WordCalls.{Found, and_did, count_of, is_raise}
 use Rattle.aio_ops.specs.Passes.{PassView, Drains, Drained}
-use Rattle.aio_react.specs.declared.round.RoundFault.TheVariants as round_fault
-use Rattle.aio_react.specs.Rounds.{RoundValue, begun, finished, given_by, second_book, second_wakers}
+use Rattle.aio_source.specs.declared.in_hand.RoundFault.TheVariants as round_fault
+use Rattle.aio_source.specs.InHand.{RoundValue}
+use Rattle.aio_react.specs.Rounds.{begun, finished, given_by, second_book, second_wakers}
 use Rattle.aio_timers.specs.Room.{Book}
 use Rattle.aio_words.specs.Calls.{all_wake_steps}
 use Rattle.aio_words.specs.Seats.{SeatValue, is_waiting}

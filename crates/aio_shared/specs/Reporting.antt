@@ -3,10 +3,11 @@ use Rattle.std.specs.Prelude.{◌≡◌, ℕ, ◌≤◌, Bool, if◌then◌else�
 use Rattle.aio_base.specs.declared.names.TimerId.{TimerId}
 use Rattle.aio_base.specs.declared.outcomes.CountFault.{CountFault}
 use Rattle.aio_base.specs.Devices.{Rose}
-use Rattle.aio_react.specs.declared.hosts.InsertRefusal.{InsertRefusal}
-use Rattle.aio_react.specs.declared.hosts.InsertRefusal.TheVariants as refusal
-use Rattle.aio_react.specs.declared.round.RoundFault.TheVariants as round_fault
-use Rattle.aio_react.specs.Rounds.{RoundValue, given_by}
+use Rattle.aio_base.specs.declared.hosts.InsertRefusal.{InsertRefusal}
+use Rattle.aio_base.specs.declared.hosts.InsertRefusal.TheVariants as refusal
+use Rattle.aio_source.specs.declared.in_hand.RoundFault.TheVariants as round_fault
+use Rattle.aio_source.specs.InHand.{RoundValue}
+use Rattle.aio_react.specs.Rounds.{given_by}
 use Rattle.aio_shared.specs.declared.reacting.ReactedIn.{ReactedIn}
 use Rattle.aio_shared.specs.declared.reacting.ReactFault.{ReactFault}
 use Rattle.aio_shared.specs.declared.reacting.ReactFault.TheVariants as react_fault

@@ -10,9 +10,9 @@ use Rattle.aio_timers.specs.declared.op.TimerOp.TheVariants as timer_op
 use Rattle.aio_rules.specs.declared.operations.OpEntry.{OpEntry}
 use Rattle.aio_timers.specs.Room.{Book}
 use Rattle.aio_ops.specs.Passes.{PassView, AppliesItself, Drained, Drains, FindsFull, RoseBy, pushed}
-use Rattle.aio_react.specs.declared.hosts.InsertRefusal.{InsertRefusal}
-use Rattle.aio_react.specs.declared.hosts.InsertRefusal.TheVariants as refusal
-use Rattle.aio_react.specs.Hosts.{next_id}
+use Rattle.aio_base.specs.declared.hosts.InsertRefusal.{InsertRefusal}
+use Rattle.aio_base.specs.declared.hosts.InsertRefusal.TheVariants as refusal
+use Rattle.aio_base.specs.Hosts.{next_id}
 use Rattle.aio_words.specs.Calls.{Offers, notify_steps}
 use Rattle.aio_shared.specs.Members.{Extends, MemberValue}
 

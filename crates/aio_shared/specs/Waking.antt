@@ -8,7 +8,7 @@ use Rattle.aio_rules.specs.WordCalls.{wake_steps}
 use Rattle.aio_base.specs.Devices.{TellsFaults}
 use Rattle.aio_words.specs.Calls.{Offers, TellsCounts}
 use Rattle.aio_words.specs.Seats.{SeatValue}
-use Rattle.aio_react.specs.Hosts.{wake_fault}
+use Rattle.aio_base.specs.Hosts.{wake_fault}
 use Rattle.aio_shared.specs.Members.{MemberValue}
 use Rattle.aio_shared.specs.Notifying.{NotifiesAsWon}
 use Rattle.aio_shared.specs.Reacting.{IsFaultWithin, Wakes}

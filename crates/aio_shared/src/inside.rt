@@ -4,14 +4,16 @@ ghost use Rattle.std.specs.Prelude.{◌≡◌, ◌==◌, ◌-◌, ◌^◌, ◌�
 ghost use Rattle.aio_rules.specs.SharedWords.{after};
 ghost use Rattle.aio_rules.specs.WordCalls.{wake_steps};
 ghost use Rattle.aio_rules.specs.declared.seats.WordStep.TheVariants as word_step;
-ghost use Rattle.aio_react.specs.Hosts.{NotifierTells, wake_fault};
+ghost use Rattle.aio_base.specs.Hosts.{NotifierTells, wake_fault};
 ghost use Rattle.aio_words.specs.Calls.{Offers};
 ghost use Rattle.aio_shared.specs.Inside.{IsLaterInside, with_seat};
 
 use crate::members::Member;
 use crate::shared::Shared;
-use aio_base::{Arm, CountFault, EventWait, Later, Moment, Notify, OutOfMemory, TimerId, Waker};
-use aio_react::{Host, InsertRefusal, TimerHost};
+use aio_base::{
+    Arm, CountFault, EventWait, Host, InsertRefusal, Later, Moment, Notify, OutOfMemory, TimerHost,
+    TimerId, Waker,
+};
 use std::alloc::Global;
 use std::marker::Model;
 use std::sync::{Arc, Wait};

@@ -6,7 +6,7 @@ ghost use Rattle.aio_rules.specs.SharedWords.{after};
 ghost use Rattle.aio_rules.specs.WordCalls.{wake_steps};
 ghost use Rattle.aio_rules.specs.declared.seats.WordStep.TheVariants as word_step;
 ghost use Rattle.aio_ops.specs.Passes.{pass_limit};
-ghost use Rattle.aio_react.specs.Hosts.{NotifierTells, has_id_left, next_id, wake_fault};
+ghost use Rattle.aio_base.specs.Hosts.{NotifierTells, has_id_left, next_id, wake_fault};
 ghost use Rattle.aio_words.specs.Calls.{Offers};
 ghost use Rattle.aio_shared.specs.Lending.{LendsPass};
 ghost use Rattle.aio_shared.specs.Members.{IsLaterMember, IsMemberOf, IsNewMember, with_one_more_made};

@@ -2,15 +2,14 @@
 //! begun, and leaves it; then it wakes whom a poll replaced.
 
 ghost use Rattle.std.specs.Prelude.{◌≡◌, ℕ, false, List, length, None, Some, IfOk, IfErr, IfSome};
-ghost use Rattle.aio_react.specs.Hosts.{NotifierTells, wake_fault};
+ghost use Rattle.aio_base.specs.Hosts.{NotifierTells, wake_fault};
 ghost use Rattle.aio_shared.specs.Inside.{IsLaterInside, with_seat};
 ghost use Rattle.aio_sources.specs.Visits.{IsUnsureArm, PollsCell, TriesCell, arm_fault_of};
 ghost use Rattle.aio_shared.specs.Polling.{LeavesInside, VisitsOnce, WakesReplaced, WorksOn, answer_of, arm_fault_in};
 ghost use Rattle.aio_sources.specs.Sources.{Adds, HandsBack, outside, refusal_of};
 
 use crate::inside::Inside;
-use aio_base::{Arm, ArmFault, CountFault, Dir, EventWait, Notify, Poll, Waker};
-use aio_react::Host;
+use aio_base::{Arm, ArmFault, CountFault, Dir, EventWait, Host, Notify, Poll, Waker};
 use aio_sources::{Attempt, InsertFault, PollDir, SourceRef, Tried, TryDir, Visit};
 use std::sync::Wait;
 

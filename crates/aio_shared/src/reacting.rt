@@ -24,6 +24,7 @@ use crate::waking::wake_each;
 use aio_base::{Arm, ArmFault, Clock, CountFault, EventWait, Notify, OutOfMemory};
 use aio_ops::{OpPass, Ops};
 use aio_react::{Round, RoundFault};
+use aio_source::InHand;
 use aio_timers::TimerBook;
 use aio_words::{RoundSeat, Words};
 use std::sync::Wait;

@@ -2,16 +2,17 @@
 
 ghost use Rattle.std.specs.Prelude.{◌≡◌, ◌+◌, IsTrue, OnOk, OnErr};
 ghost use Rattle.aio_ops.specs.Passes.{AppliesItself};
-ghost use Rattle.aio_react.specs.Hosts.{NotifierTells, has_id_left, insert_fault};
+ghost use Rattle.aio_base.specs.Hosts.{NotifierTells, has_id_left, insert_fault};
 ghost use Rattle.aio_shared.specs.Members.{IsLaterMember, IsMemberOf};
 ghost use Rattle.aio_shared.specs.TimerCalls.{CarriesOut, GivesUp, Inserts, IsLaterPass, RemovesTimer, Tries, TriesOver};
 ghost use Rattle.aio_shared.specs.Reporting.{told_of};
 
 use crate::members::Member;
 use crate::shared::Shared;
-use aio_base::{Arm, CountFault, EventWait, Moment, Notify, OutOfMemory, TimerId, Waker};
+use aio_base::{
+    Arm, CountFault, EventWait, InsertRefusal, Moment, Notify, OutOfMemory, TimerId, Waker,
+};
 use aio_ops::{OpPass, Ops};
-use aio_react::InsertRefusal;
 use aio_timers::{TimerBook, TimerOp};
 use std::sync::Wait;
 

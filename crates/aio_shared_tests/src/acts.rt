@@ -1,8 +1,7 @@
 //! What a thread does with a reactor, and what comes of it, as the rows of a table say both.
 
 use crate::asserts::same_in;
-use aio_base::{CountFault, Dir, OutOfMemory, Poll, TimerId};
-use aio_react::InsertRefusal;
+use aio_base::{CountFault, Dir, InsertRefusal, OutOfMemory, Poll, TimerId};
 use aio_shared::{PollFault, ReactFault, ReactedIn};
 use std::process::Abort;
 

@@ -6,10 +6,13 @@ ghost use Rattle.aio_shared.specs.OneCell.{IsCellOf};
 
 use crate::acts::{Came, resumed};
 use crate::asserts::MEMORY;
-use aio_base::{Arm, CountFault, EventWait, Moment, Notify, OutOfMemory, TimerId, Waker};
+use aio_base::{
+    Arm, CountFault, EventWait, Host, InsertRefusal, Moment, Notify, OutOfMemory, TimerHost,
+    TimerId, Waker,
+};
 use aio_devices::{MemClock, MemNotify, SureArm, clock_at};
-use aio_react::{Host, InsertRefusal, TimerHost};
 use aio_shared::{Inside, ReactFault, ReactedIn, RoundCell, Shared};
+use aio_source::InHand;
 use std::alloc::Global;
 use std::process::Abort;
 use std::sync::{Arc, Wait};

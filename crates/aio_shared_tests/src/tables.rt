@@ -15,12 +15,11 @@ use crate::asserts::{MEMORY, same};
 use crate::hosts::{Caller, Quiet, another, enter};
 use crate::owners::{plays, plays_each, plays_over};
 use crate::scripts::one_by_one;
-use aio_base::{ArmFault, CountFault, Dir, Interest, Key, TimerId};
+use aio_base::{ArmFault, CountFault, Dir, InsertRefusal, Interest, Key, TimerId};
 use aio_conns::SureConn;
 use aio_devices::{
     FailingArm, FailingNotify, FailingWait, MemNotify, MemWait, ScriptedWait, SureArm, WaitAnswer,
 };
-use aio_react::InsertRefusal;
 use aio_shared::{PollFault, ReactFault};
 use std::alloc::Global;
 use std::process::Abort;

@@ -2,3 +2,4 @@ pub mod WaiterLemmas
 pub mod Taking
 pub mod Noting
 pub mod AskLemmas
+pub mod KeyPlaces

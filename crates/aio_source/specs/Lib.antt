@@ -4,3 +4,6 @@ pub mod Lent
 pub mod Lending
 pub mod Answers
 pub mod Noting
+pub mod KeyTables
+pub mod TableLending
+pub mod InHand

@@ -6,17 +6,23 @@
 //! answer and the source after it, by the rules of `specs/`, for whatever the poller that it is
 //! lent answers; which call it made on that poller; and of every source that each direction with a
 //! waiter was asked for, or that its last arm failed. A cell, the source beside what is armed for
-//! it, has a note for a lock that no call changes.
+//! it, has a note for a lock that no call changes. `InHand` says what a round with events in hand is
+//! to whoever has the sources. A table promises what is at each key, and which key is the least free
+//! one.
 #![tactic(auto)]
 
 mod answers;
 mod arming;
 mod direction;
 mod directions;
+pub mod in_hand;
+mod key_table;
 mod late;
 pub mod notes;
 mod source;
 
 pub use aio_base::Poll;
 pub use answers::{ListenRefusal, Listened, Polled};
+pub use in_hand::{InHand, RoundFault};
+pub use key_table::KeyTable;
 pub use source::{SourceCell, SourceState};

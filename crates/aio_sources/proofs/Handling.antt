@@ -8,9 +8,9 @@ use Rattle.aio_base.specs.declared.outcomes.Failed.{Failed}
 use Rattle.aio_base.specs.declared.outcomes.OutOfMemory.{OutOfMemory}
 use Rattle.aio_base.specs.Devices.{ArmCall, Interests}
 use Rattle.aio_source.specs.declared.source.SourceCell.{SourceCell}
-use Rattle.aio_react.specs.declared.round.RoundFault.{RoundFault}
-use Rattle.aio_react.specs.declared.round.RoundFault.TheVariants.{Wait, Arm}
-use Rattle.aio_react.specs.Rounds.{RoundValue, handled, skipped, taken_first}
+use Rattle.aio_source.specs.declared.in_hand.RoundFault.{RoundFault}
+use Rattle.aio_source.specs.declared.in_hand.RoundFault.TheVariants.{Wait, Arm}
+use Rattle.aio_source.specs.InHand.{RoundValue, handled, skipped, taken_first}
 use Rattle.aio_sources.specs.Events.{HandlesAt, HandlesBy, HandlesByKey, HandlesEach, HandlesOne, KeepsFault}
 
 keeps_itself : (all_sure : Bool) (f : Option RoundFault) → KeepsFault all_sure f f

@@ -6,7 +6,7 @@ use Rattle.std.specs.List.{Contains, insert}
 use Rattle.std.specs.Option.{option_copied}
 use Rattle.std.proofs.lemmas.Bool.{cases_eq, cases_lt, eq-eqb, ne_eqb}
 use Rattle.aio_base.specs.declared.names.Key.{Key}
-use Rattle.aio_react.specs.KeyTables.{at_key, least_free, put_at}
+use Rattle.aio_source.specs.KeyTables.{at_key, least_free, put_at}
 use Rattle.aio_sources.specs.Sources.{live_keys, IsLeastFree, with_key, without_key}
 
 later_is_in : (k : ℕ) (ks : List ℕ) (key : ℕ) → Contains ks key → Contains (k ∷ ks) key

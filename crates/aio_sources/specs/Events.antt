@@ -6,9 +6,9 @@ use Rattle.aio_base.specs.declared.names.Key.{Key}
 use Rattle.aio_base.specs.declared.outcomes.ArmFault.{ArmFault}
 use Rattle.aio_base.specs.declared.outcomes.Failed.{Failed}
 use Rattle.aio_base.specs.Devices.{ArmCall, Interests, Rose}
-use Rattle.aio_react.specs.declared.round.RoundFault.{RoundFault}
-use Rattle.aio_react.specs.declared.round.RoundFault.TheVariants.{Wait, Arm}
-use Rattle.aio_react.specs.Rounds.{RoundValue, arm_told, handled, handling_first, skipped, taken_first}
+use Rattle.aio_source.specs.declared.in_hand.RoundFault.{RoundFault}
+use Rattle.aio_source.specs.declared.in_hand.RoundFault.TheVariants.{Wait, Arm}
+use Rattle.aio_source.specs.InHand.{RoundValue, arm_told, handled, handling_first, skipped, taken_first}
 use Rattle.aio_source.specs.declared.source.SourceCell.{SourceCell}
 use Rattle.aio_source.specs.Lent.{arm_answer, fault_of, UsesArm, arm_of, settled}
 use Rattle.aio_source.specs.Values.{SourceValue}

@@ -1,7 +1,7 @@
 //! The sources of a reactor that several threads share, each in a lock of its own.
 //!
-//! It stands on the sources of `aio_source`, on the locks of `aio_lock`, on the rounds of `aio_react`, and
-//! on the words of `aio_words`, by which the token of a source names its reactor. It promises under which
+//! It stands on the sources of `aio_source` and what a round with events in hand is to them, on the locks of
+//! `aio_lock`, and on the words of `aio_words`, by which the token of a source names its reactor. It promises under which
 //! key each source joins, and that the keys of a table rise; that the token of a source knows the rest of
 //! its connection whatever rounds did in between; of each event of a round whether a source handled it;
 //! what a poll or a try makes of the source that it is done in; and why a call refuses.

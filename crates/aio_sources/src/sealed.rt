@@ -17,9 +17,8 @@ ghost use Rattle.aio_sources.specs.Events.{HandlesBy, KeepsFault};
 
 use aio_base::{Arm, CountFault, Key, OutOfMemory};
 use aio_lock::{Lock, Owner, Visit};
-use aio_react::Round;
 use aio_rules::Noted;
-use aio_source::{SourceCell, SourceState};
+use aio_source::{InHand, SourceCell, SourceState};
 use std::alloc::Global;
 use std::marker::Model;
 use std::sync::{Arc, Wait};
@@ -185,19 +184,21 @@ pub(crate) fn add_source<A: Arm>(
 /// does nothing else to either. `OutOfMemory` where there is no memory for the wakers; source and
 /// connection are then as they were. A source of another key, which no call puts at this place, answers so
 /// too: no event is lost then.
-pub(crate) fn handle_in<A: Arm>(
+pub(crate) fn handle_in<A: Arm, H: InHand>(
     cell: &mut Sealed<SourceCell<A>>,
     key: Key,
-    round: &mut Round,
+    round: &mut H,
 ) -> Result<(), OutOfMemory>
-    requires { option_map (λ (event : Event). event.key) (slice_get round.old.hand 0) ≡ Some key }
+    requires { option_map (λ (event : Event). event.key) (slice_get (H.round round.old).hand 0)
+        ≡ Some key }
     ensures key { cell.new.value.state.key ≡ cell.old.value.state.key }
     ensures rest { A.rest cell.new.value.io ≡ A.rest cell.old.value.io }
     ensures own { OnOk result (cell.old.value.state.key ≡ key) }
     ensures handled { OnOk result (HandlesBy A.arm_step A.interests A.rest A.fault_count A.is_sure
-        cell.old.value cell.new.value round.old round.new) }
-    ensures fault { OnOk result (KeepsFault A.all_sure round.old.fault round.new.fault) }
-    ensures refused { OnErr result (round.new ≡ round.old) }
+        cell.old.value cell.new.value (H.round round.old) (H.round round.new)) }
+    ensures fault { OnOk result
+        (KeepsFault A.all_sure (H.round round.old).fault (H.round round.new).fault) }
+    ensures refused { OnErr result (H.round round.new ≡ H.round round.old) }
     ensures untouched { OnErr result (cell.new.value ≡ cell.old.value) }
 {
     if cell.value.state.key() != key {

@@ -12,7 +12,7 @@ use crate::sealed::{Sealed, SharedLock, SourceLock, add_source, handle_in};
 use crate::sources::SourceRef;
 use aio_base::{Arm, CountFault, Key, OutOfMemory};
 use aio_lock::Owner;
-use aio_react::{KeyTable, Round};
+use aio_source::{InHand, KeyTable};
 use aio_words::Words;
 use std::alloc::Global;
 use std::marker::Model;
@@ -217,15 +217,19 @@ impl<A: Arm> SourceTable<A> {
     /// memory for the wakers; the event is still in hand then, and nothing has changed.
     ///
     /// The caller has the table, so no source goes out of it meanwhile.
-    pub(crate) fn handle<R: Wait>(&self, rt: &R, round: &mut Round) -> Result<(), OutOfMemory>
-        requires { round.old.hand ≢ [] }
+    pub(crate) fn handle<R: Wait, H: InHand>(
+        &self,
+        rt: &R,
+        round: &mut H,
+    ) -> Result<(), OutOfMemory>
+        requires { (H.round round.old).hand ≢ [] }
         ensures handled { OnOk result ((event : Event)
-            × HandlesOne A.all_sure self.now event round.old round.new) }
-        ensures lent { (event : Event) → slice_get round.old.hand 0 ≡ Some event
+            × HandlesOne A.all_sure self.now event (H.round round.old) (H.round round.new)) }
+        ensures lent { (event : Event) → slice_get (H.round round.old).hand 0 ≡ Some event
             → Contains self.now event.key.0 → OnOk result
             (HandlesByKey A.arm_step A.interests A.rest A.fault_count A.is_sure
-            event.key round.old round.new) }
-        ensures refused { OnErr result (round.new ≡ round.old) }
+            event.key (H.round round.old) (H.round round.new)) }
+        ensures refused { OnErr result (H.round round.new ≡ H.round round.old) }
     {
         let Some(event) = round.peek() else {
             unreachable!()
@@ -242,9 +246,9 @@ impl<A: Arm> SourceTable<A> {
 
     /// Handles each event in hand of a round, as `handle` does: by this table's source of its key, or it
     /// is skipped where this table has none. `OutOfMemory` leaves in hand what was not handled.
-    pub fn handle_each<R: Wait>(&self, rt: &R, round: &mut Round) -> Result<(), OutOfMemory>
-        ensures handled { HandlesAt self.now A.all_sure round.old round.new }
-        ensures none_left { OnOk result (round.new.hand ≡ []) }
+    pub fn handle_each<R: Wait, H: InHand>(&self, rt: &R, round: &mut H) -> Result<(), OutOfMemory>
+        ensures handled { HandlesAt self.now A.all_sure (H.round round.old) (H.round round.new) }
+        ensures none_left { OnOk result ((H.round round.new).hand ≡ []) }
     {
         while round.in_hand() > 0 {
             match self.handle(rt, round) {

@@ -4,9 +4,10 @@
 use crate::asserts::{MEMORY, same, same_in};
 use crate::hosts::insert;
 use aio_base::{
-    ArmFault, Dir, Event, EventWait, Interest, Key, Moment, Poll, Poller, Waited, Waker, Which,
+    ArmFault, Dir, Event, EventWait, Interest, Key, Moment, Poll, Poller, TimerHost, Waited, Waker,
+    Which,
 };
-use aio_react::{Core, CoreRefusal, RoundFault, TimerHost};
+use aio_react::{Core, CoreRefusal, RoundFault};
 use aio_script::ScriptPoller;
 use std::alloc::Global;
 use std::process::Abort;

@@ -2,9 +2,8 @@
 
 use crate::asserts::same_in;
 use crate::hosts::{LAST_ID, ListHost, PASS};
-use aio_base::{Moment, Waker};
+use aio_base::{Moment, TimerHost, Waker};
 use aio_future::{Poll, Timer, TimerFault};
-use aio_react::TimerHost;
 use std::mem;
 use std::process::Abort;
 

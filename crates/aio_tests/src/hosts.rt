@@ -1,10 +1,9 @@
 //! A host of timers, and code over the bounds of hosts. That they are proved shows that the traits can be met.
 
 ghost use Rattle.std.specs.Prelude.{◌≡◌, ◌-◌, ◌^◌, ◌≤◌, false};
-ghost use Rattle.aio_react.specs.Hosts.{NotifierTells, wake_fault};
+ghost use Rattle.aio_base.specs.Hosts.{NotifierTells, wake_fault};
 
-use aio_base::{CountFault, Later, Moment, OutOfMemory, TimerId, Waker};
-use aio_react::{InsertRefusal, TimerHost};
+use aio_base::{CountFault, InsertRefusal, Later, Moment, OutOfMemory, TimerHost, TimerId, Waker};
 use std::alloc::Global;
 
 /// The id after which a pass draws none.

@@ -14,7 +14,7 @@ use aio_base::{
 };
 use aio_devices::{FailingArm, ScriptedWait, WaitAnswer};
 use aio_react::{Round, RoundFault};
-use aio_source::SourceState;
+use aio_source::{InHand, SourceState};
 use aio_timers::{TimerBook, TimerOp};
 use std::alloc::Global;
 use std::process::Abort;

@@ -3,11 +3,12 @@
 use crate::acts::{Act, Came, done, driven, ended, fired, told};
 use crate::asserts::same;
 use crate::tasks::{Meets, Rests, WakesItself};
-use aio_base::{Clock, Dir, Event, EventWait, Interest, Key, Moment, Notify, Poll, Task, Waker};
+use aio_base::{
+    Clock, Dir, Event, EventWait, Host, Interest, Key, Moment, Notify, Poll, Task, TimerHost, Waker,
+};
 use aio_devices::{BlockingNotify, SureArm};
 use aio_future::Sleep;
 use aio_park::{BlockFault, Thread, drive};
-use aio_react::{Host, TimerHost};
 use aio_shared::Inside;
 use std::process::Abort;
 use std::sync::Wait;

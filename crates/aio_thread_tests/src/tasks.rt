@@ -2,9 +2,8 @@
 
 ghost use Rattle.std.specs.Prelude.{◌≡◌};
 
-use aio_base::{Cx, Later, Moment, Poll, Task, Waker};
+use aio_base::{Cx, Host, Later, Moment, Poll, Task, TimerHost, Waker};
 use aio_future::Timer;
-use aio_react::{Host, TimerHost};
 
 /// A task that ends once one of these slots was woken after its first poll, and answers which of them were.
 #[derive(Drop)]

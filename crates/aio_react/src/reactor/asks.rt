@@ -12,6 +12,7 @@ ghost use Rattle.aio_react.specs.Numbers.{value_of};
 use crate::entries::{Listener, SourceEntry};
 use crate::reactor::Core;
 use aio_base::{Dir, Interest, Key, Poller};
+use aio_source::InHand;
 
 impl<P: Poller> Core<P> {
     /// The interest for which `poll` would arm the poller now, whatever its waker; `None` where it

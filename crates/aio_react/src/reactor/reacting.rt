@@ -15,6 +15,7 @@ use super::Core;
 use crate::outcomes::Reacted;
 use crate::refusals::CoreRefusal;
 use aio_base::{Moment, OutOfMemory, Poller, Waited};
+use aio_source::InHand;
 
 impl<P: Poller> Core<P> {
     /// A whole round at the moment `now`, all in one step of the machine: a begin with the given

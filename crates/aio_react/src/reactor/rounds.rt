@@ -7,19 +7,20 @@ ghost use Rattle.aio_base.specs.declared.steps.Step.TheVariants as step;
 ghost use Rattle.aio_base.specs.Devices.{PollerStep, TellsFaults};
 ghost use Rattle.aio_base.specs.Machine.{handle_round, finish_round};
 ghost use Rattle.aio_base.specs.Timers.{due_wakers};
-ghost use Rattle.aio_react.specs.declared.round.RoundFault.TheVariants.{Arm};
+ghost use Rattle.aio_source.specs.declared.in_hand.RoundFault.TheVariants.{Arm};
 ghost use Rattle.aio_react.specs.Asking.{UsesPoller, handle_part};
 ghost use Rattle.aio_react.specs.Meeting.{Meets};
 ghost use Rattle.aio_react.specs.Parts.{MeetsPart};
 ghost use Rattle.aio_react.specs.Replies.{empty_hand_refusal};
-ghost use Rattle.aio_react.specs.Rounds.{HasRisen, arm_told};
+ghost use Rattle.aio_source.specs.InHand.{arm_told};
+ghost use Rattle.aio_react.specs.Rounds.{HasRisen};
 ghost use Rattle.aio_react.specs.Sections.{IsRefusedBy, begin_refusal, core_begun, begin_reply, handle_refusal, handle_reply, handle_fault, finish_reply, finish_wakes};
 
 use super::{Core, require_empty_hand};
 use crate::outcomes::Handled;
 use crate::refusals::CoreRefusal;
-use crate::round::RoundFault;
 use aio_base::{Moment, Poller};
+use aio_source::{InHand, RoundFault};
 
 impl<P: Poller> Core<P> {
     /// Begins a round at the moment `now`, with a pass over the timers. Answers its number, to which

@@ -2,7 +2,7 @@ use Rattle.std.proofs.Common.{◌≡◌, ◌≤◌, ◌∙◌, length, None, ref
 use Rattle.aio_react.specs.Cores.{CoreValue, entry_at}
 use Rattle.aio_react.specs.Sources.{free_key}
 use Rattle.aio_react.proofs.AddMeets.{full_meets, added_meets, unadded_meets}
-use Rattle.aio_react.proofs.KeyPlaces.{free_within}
+use Rattle.aio_source.proofs.KeyPlaces.{free_within}
 use Rattle.aio_react.proofs.Listed.{listed_placed}
 use Rattle.aio_react.proofs.Places.{free_few, free_is_none, has_free, keyed_placed}
 use Rattle.aio_react.proofs.reactor.Core.add.Goals as goal

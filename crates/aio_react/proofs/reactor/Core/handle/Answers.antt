@@ -2,7 +2,7 @@ use Rattle.std.proofs.Common.{◌∙◌, None, [], refl, sym, subst, arith}
 use Rattle.aio_base.specs.declared.steps.Step.TheVariants as step
 use Rattle.aio_base.specs.Devices.{PollerStep}
 use Rattle.aio_source.specs.Lent.{arm_answer}
-use Rattle.aio_react.specs.Rounds.{first_interest, arm_told}
+use Rattle.aio_source.specs.InHand.{first_interest, arm_told}
 use Rattle.aio_react.proofs.FirstEvent.{first_of}
 use Rattle.aio_react.proofs.HandleMeets.{handle_idle, handle_empty, handle_dropped, handle_answered, handle_unanswered}
 use Rattle.aio_react.proofs.HeldSources.{HoldsOn, holds_itself, key_is, keyed_on, listed_on, handled_on}

@@ -1,5 +1,5 @@
 use Rattle.std.proofs.Common.{◌≡◌, refl, sym, ap, subst, arith, rules}
-use Rattle.aio_react.specs.Hosts.{next_id}
+use Rattle.aio_base.specs.Hosts.{next_id}
 use Rattle.aio_rules.specs.declared.seats.SeatView.{SeatView}
 use Rattle.aio_words.specs.Calls.{notify_steps}
 use Rattle.aio_shared.specs.Members.{MemberValue}

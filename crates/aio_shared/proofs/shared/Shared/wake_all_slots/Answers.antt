@@ -1,5 +1,5 @@
 use Rattle.std.proofs.Common.{rules, ◌≡◌, ap, refl}
-use Rattle.aio_react.specs.Hosts.{wake_fault}
+use Rattle.aio_base.specs.Hosts.{wake_fault}
 use Rattle.aio_shared.specs.HandOver.{all_slots}
 use Rattle.aio_shared.specs.Members.{MemberValue}
 use Rattle.aio_shared.proofs.HandingOver.{woken_later}

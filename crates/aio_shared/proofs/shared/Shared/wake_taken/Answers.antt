@@ -1,6 +1,6 @@
 use Rattle.std.proofs.Common.{◌≡◌, ℕ, List, ap, ◌∙◌, subst}
 use Rattle.aio_base.specs.declared.names.Waker.{Waker}
-use Rattle.aio_react.specs.Rounds.{RoundValue}
+use Rattle.aio_source.specs.InHand.{RoundValue}
 use Rattle.aio_shared.specs.Reporting.{Reports}
 use Rattle.aio_shared.specs.Waking.{WakesThese}
 use Rattle.aio_shared.proofs.Reporting.{reports_round, reports_faults, reports_first}

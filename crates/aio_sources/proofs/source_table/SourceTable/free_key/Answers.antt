@@ -1,5 +1,5 @@
 use Rattle.std.proofs.Common.{length, sym, ap, ◌∙◌}
-use Rattle.aio_react.specs.KeyTables.{least_free}
+use Rattle.aio_source.specs.KeyTables.{least_free}
 use Rattle.aio_sources.proofs.Keys.{full_keys, full_first, no_key, least_key, key_within}
 use Rattle.aio_sources.proofs.source_table.SourceTable.free_key.Goals as goal
 

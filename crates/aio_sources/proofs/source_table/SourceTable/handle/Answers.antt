@@ -7,12 +7,12 @@ use Rattle.aio_sources.proofs.source_table.SourceTable.handle.Goals as goal
 pub returns-in_default-lock_of-clause-handled : goal.returns-in_default-lock_of-clause-handled
 returns-in_default-lock_of-clause-handled g c = (
   c.in-Some.event,
-  skips_one g.A.Faults.all_sure c.args.self.now c.in-Some.event c.args.round.now c.skip.new.self (sym c.in-Some.ensures.value) (c.in_default-lock_of.ensures.none refl) c.skip.ensures,
+  skips_one g.A.Faults.all_sure c.args.self.now c.in-Some.event (g.H.InHand.round c.args.round.now) (g.H.InHand.round c.skip.new.self) (sym c.in-Some.ensures.value) (c.in_default-lock_of.ensures.none refl) c.skip.ensures,
 )
 
 pub returns-in_default-lock_of-clause-lent : goal.returns-in_default-lock_of-clause-lent
 returns-in_default-lock_of-clause-lent g c event is among =
-    let same = one_first (slice_get c.args.round.now.hand 0) c.in-Some.event event (sym c.in-Some.ensures.value) is in
+    let same = one_first (slice_get (g.H.InHand.round c.args.round.now).hand 0) c.in-Some.event event (sym c.in-Some.ensures.value) is in
     absurd (c.in_default-lock_of.ensures.none refl (subst (λ (e : Event). Contains c.args.self.now e.key.0) same among))
 
 pub handle_in-handled-requires : goal.handle_in-handled-requires
@@ -31,12 +31,12 @@ leave-requires-clause-second g c = sym c.visit-cell.ensures.second
 pub returns-clause-handled : goal.returns-clause-handled
 returns-clause-handled g c =
     handles_one g.A.Arm.arm_step g.A.Arm.interests g.A.Arm.rest g.A.Faults.fault_count g.A.Faults.is_sure g.A.Faults.all_sure c.args.self.now c.in-Some.event
-    c.visit-cell.result.0.value c.handle_in-handled.new.cell.value c.args.round.now c.handle_in-handled.new.round c.handle_in-handled.result
+    c.visit-cell.result.0.value c.handle_in-handled.new.cell.value (g.H.InHand.round c.args.round.now) (g.H.InHand.round c.handle_in-handled.new.round) c.handle_in-handled.result
     (sym c.in-Some.ensures.value) (c.in-Some-lock_of.ensures.some refl)
     c.handle_in-handled.ensures.own c.handle_in-handled.ensures.handled c.handle_in-handled.ensures.fault
 
 pub returns-clause-lent : goal.returns-clause-lent
 returns-clause-lent g c event is among =
-    handles_by_key g.A.Arm.arm_step g.A.Arm.interests g.A.Arm.rest g.A.Faults.fault_count g.A.Faults.is_sure c.in-Some.event event (slice_get c.args.round.now.hand 0)
+    handles_by_key g.A.Arm.arm_step g.A.Arm.interests g.A.Arm.rest g.A.Faults.fault_count g.A.Faults.is_sure c.in-Some.event event (slice_get (g.H.InHand.round c.args.round.now).hand 0)
     (sym c.in-Some.ensures.value) is
-    c.visit-cell.result.0.value c.handle_in-handled.new.cell.value c.args.round.now c.handle_in-handled.new.round c.handle_in-handled.result c.handle_in-handled.ensures.own c.handle_in-handled.ensures.handled
+    c.visit-cell.result.0.value c.handle_in-handled.new.cell.value (g.H.InHand.round c.args.round.now) (g.H.InHand.round c.handle_in-handled.new.round) c.handle_in-handled.result c.handle_in-handled.ensures.own c.handle_in-handled.ensures.handled

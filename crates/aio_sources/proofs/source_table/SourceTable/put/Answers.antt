@@ -1,5 +1,5 @@
 use Rattle.std.proofs.Common.{subst}
-use Rattle.aio_react.specs.KeyTables.{least_free}
+use Rattle.aio_source.specs.KeyTables.{least_free}
 use Rattle.aio_sources.specs.Sources.{IsLeastFree}
 use Rattle.aio_sources.proofs.Keys.{first_is_free, one_least, put_keys}
 use Rattle.aio_sources.proofs.source_table.SourceTable.put.Goals as goal

@@ -1,7 +1,7 @@
 use Rattle.std.proofs.Common.{◌≡◌, ◌≤◌, length, sym, ap, ◌∙◌, arith}
-use Rattle.aio_react.specs.KeyTables.{least_free}
-use Rattle.aio_react.proofs.KeyPlaces.{free_within, put_few, taken_put}
-use Rattle.aio_react.proofs.key_table.KeyTable.put.Goals as goal
+use Rattle.aio_source.specs.KeyTables.{least_free}
+use Rattle.aio_source.proofs.KeyPlaces.{free_within, put_few, taken_put}
+use Rattle.aio_source.proofs.key_table.KeyTable.put.Goals as goal
 
 pub fill_place-requires-clause-within : goal.fill_place-requires-clause-within
 fill_place-requires-clause-within g c =

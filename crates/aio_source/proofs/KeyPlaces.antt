@@ -1,7 +1,7 @@
 -- The places of a table: the least free one, and what a change of one place makes of it.
 use Rattle.std.proofs.Common.{◌≡◌, ℕ, zero, suc, ◌+◌, ◌<◌, ◌≤◌, min, List, [], ◌∷◌, ◌++◌, length, set, get_or, Option, None, Some, refl, ap, ◌∙◌, arith}
 use Rattle.std.proofs.lemmas.List.{set-get_or}
-use Rattle.aio_react.specs.KeyTables.{least_free, put_at}
+use Rattle.aio_source.specs.KeyTables.{least_free, put_at}
 
 module _ {X : Type 0} where
   pub free_within : (places : List (Option X)) → least_free places ≤ length places

@@ -1,7 +1,7 @@
 use Rattle.std.proofs.Common.{ap, arith}
-use Rattle.aio_react.specs.KeyTables.{least_free}
-use Rattle.aio_react.proofs.KeyPlaces.{taken_more, read_back}
-use Rattle.aio_react.proofs.key_table.KeyTable.given_mut.Goals as goal
+use Rattle.aio_source.specs.KeyTables.{least_free}
+use Rattle.aio_source.proofs.KeyPlaces.{taken_more, read_back}
+use Rattle.aio_source.proofs.key_table.KeyTable.given_mut.Goals as goal
 
 -- whatever is written in its place, no key below is freed
 pub invariant_of-self-lent : goal.invariant_of-self-lent

@@ -1,7 +1,7 @@
 -- A thing of a table is lent to be changed.
 use Rattle.std.specs.Prelude.{ℕ, List, Option, Some, slice_set}
 use Rattle.std.specs.Borrow.{LendsIf, Fml, RattleType, MutBor}
-use Rattle.aio_react.specs.contracts.key_table.KeyTable.{the_row}
+use Rattle.aio_source.specs.contracts.key_table.KeyTable.{the_row}
 
 module _ (T : RattleType) (table : MutBor (List (Option T.Denot))) (key : ℕ) where
   -- the key has what was written last once the loan ends; where nothing was lent all stays

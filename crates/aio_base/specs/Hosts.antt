@@ -4,8 +4,8 @@ use Rattle.aio_base.specs.declared.names.TimerId.{TimerId}
 use Rattle.aio_base.specs.declared.names.Waker.{Waker}
 use Rattle.aio_base.specs.declared.outcomes.CountFault.{CountFault}
 use Rattle.aio_base.specs.Devices.{HasCause}
-use Rattle.aio_react.specs.declared.hosts.InsertRefusal.{InsertRefusal}
-use Rattle.aio_react.specs.declared.hosts.InsertRefusal.TheVariants as refusal
+use Rattle.aio_base.specs.declared.hosts.InsertRefusal.{InsertRefusal}
+use Rattle.aio_base.specs.declared.hosts.InsertRefusal.TheVariants as refusal
 
 -- ## A host
 

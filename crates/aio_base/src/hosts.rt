@@ -7,7 +7,9 @@
 
 ghost use Rattle.std.specs.Prelude.{◌≡◌, ◌-◌, ◌^◌, ◌≤◌, IsTrue, Result, None, OnOk, OnErr};
 
-use aio_base::{CountFault, Later, Moment, OutOfMemory, TimerId, Waker};
+use crate::later::Later;
+use crate::names::{Moment, TimerId, Waker};
+use crate::outcomes::{CountFault, OutOfMemory};
 
 /// What an insert that met trouble answers.
 #[derive(Clone, Copy, Debug, PartialEq, Eq)]
@@ -32,7 +34,7 @@ pub enum InsertRefusal {
 /// later than it was, keeps its pass, and lets its notifier's count of faults not fall, nor rise
 /// where the notifier is sure.
 pub trait TimerHost: Later {
-    ghost use Rattle.aio_react.specs.Hosts.{HostRules, has_id_left, RegistersAs, NotifierTells, registered_id, insert_fault};
+    ghost use Rattle.aio_base.specs.Hosts.{HostRules, has_id_left, RegistersAs, NotifierTells, registered_id, insert_fault};
 
     /// What the host tells of its calls: its relations of an insert and of a removal, and of each
     /// where it was refused, which always hold where it tells nothing of that; its notifier's count of
@@ -71,7 +73,7 @@ pub trait TimerHost: Later {
 /// `Reactor::ticker`). Both calls take no memory.
 pub trait Host: TimerHost {
     ghost use Rattle.aio_base.specs.declared.outcomes.CountFault.{CountFault};
-    ghost use Rattle.aio_react.specs.Hosts.{NotifierTells, wake_fault};
+    ghost use Rattle.aio_base.specs.Hosts.{NotifierTells, wake_fault};
 
     /// How many rounds have begun.
     fn ticker(&mut self) -> u64

@@ -3,8 +3,8 @@
 ghost use Rattle.std.specs.Prelude.{◌≡◌, ◌<◌, ◌≤◌, [], None, is_some, IfOk, IfSome, length, option_copied, slice_set, vec_capacity, vec_len};
 ghost use Rattle.std.specs.Option.{option_copied_mut};
 ghost use Rattle.std.specs.Borrow.{sem};
-ghost use Rattle.aio_react.specs.KeyTables.{at_key, least_free, put_at};
-ghost use Rattle.aio_react.specs.TableLending.{lends_at};
+ghost use Rattle.aio_source.specs.KeyTables.{at_key, least_free, put_at};
+ghost use Rattle.aio_source.specs.TableLending.{lends_at};
 
 use aio_base::{Key, OutOfMemory};
 use std::alloc::Global;
@@ -26,7 +26,7 @@ pub struct KeyTable<T> {
 
 impl<T> Model for KeyTable<T> {
     ghost use Rattle.std.specs.Prelude.{List, Option, ◌≤◌, vec_capacity, vec_len};
-    ghost use Rattle.aio_react.specs.KeyTables.{least_free};
+    ghost use Rattle.aio_source.specs.KeyTables.{least_free};
 
     ghost Value = { List (Option T) };
 

@@ -1,7 +1,7 @@
 use Rattle.std.proofs.Common.{◌≡◌, length, sym, ap, ◌∙◌, arith}
-use Rattle.aio_react.specs.KeyTables.{put_at}
-use Rattle.aio_react.proofs.KeyPlaces.{put_set, put_last}
-use Rattle.aio_react.proofs.key_table.fill_place.Goals as goal
+use Rattle.aio_source.specs.KeyTables.{put_at}
+use Rattle.aio_source.proofs.KeyPlaces.{put_set, put_last}
+use Rattle.aio_source.proofs.key_table.fill_place.Goals as goal
 
 pub returns-then-at-len-clause-items : goal.returns-then-at-len-clause-items
 returns-then-at-len-clause-items g c = sym (put_set c.args.places.now.items c.args.at c.args.x (omega arith))

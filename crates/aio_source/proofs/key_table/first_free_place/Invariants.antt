@@ -1,5 +1,5 @@
 use Rattle.std.proofs.Common.{◌≡◌, ◌<◌, ℕ, false, get_or, None, is_none}
-use Rattle.aio_react.proofs.key_table.first_free_place.Given as goal
+use Rattle.aio_source.proofs.key_table.first_free_place.Given as goal
 
 -- no place before this one is free
 abbrev pub invariant-loop-place : goal.invariant-loop-place

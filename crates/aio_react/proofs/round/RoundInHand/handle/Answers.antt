@@ -4,9 +4,10 @@ use Rattle.aio_base.specs.declared.names.Event.{Event}
 use Rattle.aio_base.specs.declared.names.Waker.{Waker}
 use Rattle.aio_base.specs.World.{directions}
 use Rattle.aio_source.specs.Rules.{taken_along}
-use Rattle.aio_react.specs.Rounds.{RoundValue, wait_answer}
+use Rattle.aio_source.specs.InHand.{RoundValue}
+use Rattle.aio_react.specs.Rounds.{wait_answer}
 use Rattle.aio_react.proofs.FirstEvent.{first_on, handled_is, none_kept}
-use Rattle.aio_react.proofs.round.Round.handle.Goals as goal
+use Rattle.aio_react.proofs.round.RoundInHand.handle.Goals as goal
 
 pub returns-in-Ok-handle-clause-lent : goal.returns-in-Ok-handle-clause-lent
 returns-in-Ok-handle-clause-lent g c =

@@ -1,7 +1,7 @@
 use Rattle.std.proofs.Common.{◌≡◌, true, length, get_or, None, is_none, not, refl, sym, ap, ◌∙◌, arith}
 use Rattle.std.proofs.lemmas.List.Sums.{fails_before_first, position_or_len_is}
 use Rattle.std.proofs.lemmas.Option.{slice_get_read, get_or_from_slice_get}
-use Rattle.aio_react.proofs.key_table.first_free_place.Goals as goal
+use Rattle.aio_source.proofs.key_table.first_free_place.Goals as goal
 
 pub loop-place-init : goal.loop-place-init
 loop-place-init g c = λ k below. fails_before_first is_none c.args.places.now k None (omega arith)
