@@ -1,5 +1,1 @@
-pub mod Causes
-pub mod Naming
 pub mod RelayEnds
-pub mod Telling
-pub mod TraceTexts

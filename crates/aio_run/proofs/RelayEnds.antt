@@ -8,8 +8,8 @@ use Rattle.aio_serve.specs.Relays.{HasRelayCause, has_output_failed}
 use Rattle.aio_serve.specs.declared.relaying.RelayStop.{RelayStop}
 use Rattle.aio_serve.specs.declared.relaying.RelayStop.TheVariants as stop
 use Rattle.aio_replay.specs.Driving.{Causes}
-use Rattle.aio_run.specs.declared.status.Why.TheVariants as why
-use Rattle.aio_run.specs.Commands.{TellsCounts, is_read_fault, is_write_fault}
+use Rattle.aio_commands.specs.declared.status.Why.TheVariants as why
+use Rattle.aio_commands.specs.Commands.{TellsCounts, is_read_fault, is_write_fault}
 use Rattle.aio_run.specs.Relaying.{why_relayed}
 
 pub never_usage : (r : Result (Unit {0}) RelayStop) → why_relayed r ≢ why.Usage

@@ -11,12 +11,12 @@ use Rattle.aio_line.specs.declared.kit.SixDevices.{SixDevices}
 use Rattle.aio_line.specs.declared.words.RelayOrder.{RelayOrder}
 use Rattle.aio_serve.specs.Relays.{MayEndSo, TakesAfterFirst, terms_of}
 use Rattle.aio_bytes.specs.Unread.{LeavesAllBut}
-use Rattle.aio_run.specs.Commands.{WritesOf, WritesText, bytes_taken, exit_of, summary_text, trace_text}
+use Rattle.aio_commands.specs.Commands.{WritesOf, WritesText, bytes_taken, exit_of, summary_text, trace_text}
 use Rattle.aio_run.specs.Relaying.{Relayed}
-use Rattle.aio_run.specs.Stressing.{TouchesSpawner, stress_text}
-use Rattle.aio_run.specs.declared.commands.Command.{Command}
-use Rattle.aio_run.specs.declared.commands.Command.TheVariants as command
-use Rattle.aio_run.specs.declared.status.Why.{Why}
+use Rattle.aio_commands.specs.Stressing.{TouchesSpawner, stress_text}
+use Rattle.aio_commands.specs.declared.commands.Command.{Command}
+use Rattle.aio_commands.specs.declared.commands.Command.TheVariants as command
+use Rattle.aio_commands.specs.declared.status.Why.{Why}
 
 -- ## What contracts see
 

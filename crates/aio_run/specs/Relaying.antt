@@ -4,9 +4,9 @@ use Rattle.aio_pairs.specs.declared.outcomes.PairEnd.{PairEnd}
 use Rattle.aio_serve.specs.Relays.{HasRelayCause, RelayWrites}
 use Rattle.aio_serve.specs.declared.relaying.RelayStop.{RelayStop}
 use Rattle.aio_serve.specs.declared.relaying.RelayStop.TheVariants as stop
-use Rattle.aio_run.specs.declared.status.Why.{Why}
-use Rattle.aio_run.specs.declared.status.Why.TheVariants as why
-use Rattle.aio_run.specs.declared.status.Which6.TheVariants.{Port, Wait, Notify}
+use Rattle.aio_commands.specs.declared.status.Why.{Why}
+use Rattle.aio_commands.specs.declared.status.Why.TheVariants as why
+use Rattle.aio_commands.specs.declared.status.Which6.TheVariants.{Port, Wait, Notify}
 
 -- why the program ends where a relay ended so
 abbrev pub why_relayed : Result (Unit {0}) RelayStop → Why

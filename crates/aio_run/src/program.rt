@@ -1,36 +1,22 @@
 //! The top call of the program.
 
-ghost use Rattle.std.specs.Prelude.{◌≡◌, ◌≢◌, ℕ, ◌<◌, ◌≤◌, ◌^◌, ◌↔◌, ◌++◌, List, Some, IfErr, codes, string_bytes, map};
-ghost use Rattle.aio_base.specs.Generated.{generated_steps};
-ghost use Rattle.aio_base.specs.Devices.{TellsFaults};
-ghost use Rattle.aio_bytes.specs.Sinks.{HasFailed, RefusedBy, Writes};
-ghost use Rattle.aio_bytes.specs.Unread.{LeavesAllBut};
+ghost use Rattle.std.specs.Prelude.{◌≡◌, ◌≢◌, ◌↔◌, map, string_bytes};
+ghost use Rattle.aio_commands.specs.Commands.{Names, TellsCounts, WritesCause, exit_of};
+ghost use Rattle.aio_commands.specs.Commands.{is_read_fault, is_write_fault, text_of};
+ghost use Rattle.aio_commands.specs.declared.commands.Command.{Command};
 ghost use Rattle.aio_replay.specs.Driving.{Causes};
-ghost use Rattle.aio_run.specs.Commands.{WritesCause, Names, exit_of};
-ghost use Rattle.aio_run.specs.Commands.{text_of, refusal_text, summary_text, trace_text};
-ghost use Rattle.aio_run.specs.Commands.{Replays, TellsCounts, WritesText, bytes_taken, why_of};
-ghost use Rattle.aio_run.specs.Commands.{is_read_fault, is_write_fault};
 ghost use Rattle.aio_run.specs.Ending.{Observers, Ran};
-ghost use Rattle.aio_run.specs.declared.commands.Command.{Command};
-ghost use Rattle.aio_base.specs.Text.{ended_line, reason_text};
 
-use crate::commands::{Command, command_of};
 use crate::relaying::run_relay;
-use crate::status::{Status, Why};
-use crate::stressing::run_stress;
-use crate::texts::{cause_of_text, write_summary, write_trace};
-use aio_base::{Port, Reason};
-use aio_bytes::{Sink, SinkRefusal, Source, write_all};
+use aio_base::Port;
+use aio_bytes::{Sink, Source};
+use aio_commands::{
+    Command, Status, Why, command_of, exit_status, run_gen, run_replay, run_stress, run_sum, tell,
+};
 use aio_line::Devices;
-use aio_replay::{ReplayEnd, replay};
-use itoa::Buffer;
 use std::alloc::Global;
 use std::sync::Wait;
 use std::thread::Threads;
-
-/// The text where the words are no command.
-const USAGE: &[u8] =
-    b"usage: replay; gen N SEED; sum N SEED; relay PORT WORKERS IDLE PAIRS; stress CALLS SEED\n";
 
 /// Runs the command that the words name, over an input, an output, a sink for what is told to the user
 /// and six devices.
@@ -147,143 +133,5 @@ where
     Status {
         exit: exit_status(why),
         why,
-    }
-}
-
-/// The command `replay`: replays the trace of an input, and lets go of the core that ran it. It is handed
-/// no runtime, so it can't wait.
-pub fn run_replay<S: Source, K: Sink>(alloc: Global, input: &mut S, out: &mut K) -> Why
-    ensures usage { result ≢ Why.Usage }
-    ensures no_device { exit_of result < 6 }
-    ensures replays { (bytes : List ℕ) → S.remaining input.old ≡ Some bytes
-        → Replays result bytes (S.remaining input.new) (K.contents out.old) (K.contents out.new) }
-    ensures taken { (bytes : List ℕ) → S.remaining input.old ≡ Some bytes
-        → LeavesAllBut (bytes_taken result bytes) (S.remaining input.new) bytes }
-    ensures most { (bytes : List ℕ) → S.remaining input.old ≡ Some bytes
-        → LeavesAllBut 257000257 (S.remaining input.new) bytes }
-    ensures counts { TellsCounts result (S.fault_count input.old) (S.fault_count input.new)
-        (K.fault_count out.old) (K.fault_count out.new) }
-    ensures read_cause { Causes S.fault_count S.is_sure
-        input.old input.new (is_read_fault result) }
-    ensures write_cause { Causes K.fault_count K.is_sure
-        out.old out.new (is_write_fault result) }
-{
-    let (end, _) = replay(alloc, input, out);
-    cause_of(end)
-}
-
-/// Why the program ends, where a replay ended so.
-fn cause_of(end: ReplayEnd) -> Why
-    ensures { result ≡ why_of end }
-{
-    match end {
-        ReplayEnd::Done => Why::Done,
-        ReplayEnd::Refused { line, reason } => Why::Refused { line, reason },
-        ReplayEnd::ReadFault(fault) => Why::ReadFault(fault),
-        ReplayEnd::WriteFault(fault) => Why::WriteFault(fault),
-        ReplayEnd::OutOfMemory => Why::OutOfMemory,
-    }
-}
-
-/// The command `gen`: writes the trace of the first `n` steps that the seed gives. It is handed no
-/// runtime, so it can't wait.
-pub fn run_gen<K: Sink>(alloc: Global, n: u32, seed: u64, out: &mut K) -> Why
-    requires few { n ≤ 999999 }
-    requires seed { seed < 2 ^ 48 }
-    ensures writes { WritesText result (K.contents out.old) (K.contents out.new)
-        (trace_text (generated_steps n seed)) }
-    ensures counts { (reads : ℕ) → TellsCounts result reads reads
-        (K.fault_count out.old) (K.fault_count out.new) }
-    ensures cause { Causes K.fault_count K.is_sure out.old out.new (is_write_fault result) }
-{
-    let before = out.faults();
-    let sent = write_trace(alloc, n, seed, out);
-    cause_of_text(sent, before, out.faults())
-}
-
-/// The command `sum`: runs the first `n` steps that the seed gives, and writes what their run comes to.
-/// It is handed no runtime, so it can't wait.
-pub fn run_sum<K: Sink>(alloc: Global, n: u32, seed: u64, out: &mut K) -> Why
-    requires few { n ≤ 999999 }
-    requires seed { seed < 2 ^ 48 }
-    ensures writes { WritesText result (K.contents out.old) (K.contents out.new)
-        (summary_text (generated_steps n seed)) }
-    ensures counts { (reads : ℕ) → TellsCounts result reads reads
-        (K.fault_count out.old) (K.fault_count out.new) }
-    ensures cause { Causes K.fault_count K.is_sure out.old out.new (is_write_fault result) }
-{
-    let before = out.faults();
-    let sent = write_summary(alloc, n, seed, out);
-    cause_of_text(sent, before, out.faults())
-}
-
-/// The exit status of the program.
-fn exit_status(why: Why) -> u8
-    ensures { result ≡ exit_of why }
-{
-    match why {
-        Why::Done => 0,
-        Why::Usage => 1,
-        Why::Refused { .. } => 2,
-        Why::ReadFault(_) => 3,
-        Why::WriteFault(_) => 4,
-        Why::OutOfMemory => 5,
-        Why::DeviceFault { .. } => 6,
-    }
-}
-
-/// Tells the user why the call ended, where that is not plain; or what kept `err` from taking it. It
-/// takes no memory.
-fn tell<E: Sink>(err: &mut E, why: Why) -> Result<(), SinkRefusal>
-    ensures written { Writes result (E.contents err.old) (E.contents err.new) (text_of why) }
-    ensures refused { IfErr result (RefusedBy E.write_step err.new) }
-    ensures cause { TellsFaults E.fault_count E.is_sure err.old err.new (HasFailed result) }
-{
-    match why {
-        Why::Done => Ok(()),
-        Why::Usage => write_all(err, USAGE),
-        Why::Refused { line, reason } => tell_refusal(err, line, reason),
-        Why::ReadFault(_) => write_all(err, b"read fault\n"),
-        Why::WriteFault(_) => write_all(err, b"write fault\n"),
-        Why::OutOfMemory => write_all(err, b"out of memory\n"),
-        Why::DeviceFault { .. } => write_all(err, b"device fault\n"),
-    }
-}
-
-/// Tells the user which line of a trace is refused, and why.
-fn tell_refusal<E: Sink>(err: &mut E, line: u64, reason: Reason) -> Result<(), SinkRefusal>
-    ensures written { Writes result (E.contents err.old) (E.contents err.new)
-        (refusal_text line reason) }
-    ensures refused { IfErr result (RefusedBy E.write_step err.new) }
-    ensures cause { TellsFaults E.fault_count E.is_sure err.old err.new (HasFailed result) }
-{
-    match write_all(err, b"line ") {
-        Ok(()) => {}
-        Err(refusal) => return Err(refusal),
-    }
-    let mut digits = Buffer::new();
-    match write_all(err, digits.format(line).as_bytes()) {
-        Ok(()) => {}
-        Err(refusal) => return Err(refusal),
-    }
-    write_all(err, refusal_end(reason))
-}
-
-/// How the line ends that tells why a line of a trace is refused.
-fn refusal_end(reason: Reason) -> &'static [u8]
-    ensures { result.now ≡ ended_line (codes ": " ++ reason_text reason) }
-{
-    match reason {
-        Reason::Long => b": long\n",
-        Reason::Byte => b": byte\n",
-        Reason::Empty => b": empty\n",
-        Reason::Command => b": command\n",
-        Reason::Count => b": count\n",
-        Reason::Number => b": number\n",
-        Reason::Direction => b": direction\n",
-        Reason::Flags => b": flags\n",
-        Reason::Choice => b": choice\n",
-        Reason::Header => b": header\n",
-        Reason::Lines => b": lines\n",
     }
 }

@@ -1,15 +1,15 @@
 //! The command `relay`, as the program ends by it.
 
 ghost use Rattle.std.specs.Prelude.{◌≡◌, ◌≢◌, ℕ, false};
+ghost use Rattle.aio_commands.specs.Commands.{TellsCounts, is_read_fault, is_write_fault};
 ghost use Rattle.aio_line.specs.Words.{IsServable};
 ghost use Rattle.aio_replay.specs.Driving.{Causes};
-ghost use Rattle.aio_run.specs.Commands.{TellsCounts, is_read_fault, is_write_fault};
 ghost use Rattle.aio_run.specs.Relaying.{Relayed, why_relayed};
 ghost use Rattle.aio_serve.specs.Relays.{MayEndSo, TakesAfterFirst, terms_of};
 
-use crate::status::{Which6, Why};
 use aio_base::Port;
 use aio_bytes::Sink;
+use aio_commands::{Which6, Why};
 use aio_line::{Devices, RelayOrder};
 use aio_serve::{RelayStop, relay};
 use std::alloc::Global;

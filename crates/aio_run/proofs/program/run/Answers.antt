@@ -1,7 +1,7 @@
 use Rattle.std.proofs.Common.{map, string_bytes, take, refl, ◌∙◌, rules}
 use Rattle.aio_base.specs.Trace.{trace_of}
 use Rattle.aio_laws.proofs.runs.BetweenSteps.{stands_after}
-use Rattle.aio_run.proofs.Naming.{one_command}
+use Rattle.aio_commands.proofs.Naming.{one_command}
 use Rattle.aio_run.proofs.program.run.Goals as goal
 use Rattle.aio_run.proofs.program.run.Goals.{in-Some-Replay, in-Some-Gen, in-Some-Sum, in-Some-Relay, in-Some-Stress, in-None}
 

@@ -1,0 +1,4 @@
+pub mod Causes
+pub mod Naming
+pub mod Telling
+pub mod TraceTexts

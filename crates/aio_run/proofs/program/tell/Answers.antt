@@ -1,8 +1,0 @@
-use Rattle.std.proofs.Common.{rules}
-use Rattle.aio_run.proofs.program.tell.Goals as goal
-
-pub returns-in-Refused-clause-written : goal.returns-in-Refused-clause-written
-returns-in-Refused-clause-written g c = search rules
-
-pub returns-in-Refused-clause-refused : goal.returns-in-Refused-clause-refused
-returns-in-Refused-clause-refused g c = search rules
