@@ -10,6 +10,7 @@ pub mod adapters;
 pub mod lines;
 pub mod memory;
 pub mod sure;
+pub mod torn;
 pub mod traits;
 pub mod writing;
 
@@ -17,5 +18,6 @@ pub use adapters::{BufferedSource, StdSink, StdSource};
 pub use lines::{LONGEST, LineReader, Next};
 pub use memory::{MemSink, MemSource};
 pub use sure::{SureSink, SureSource};
+pub use torn::Torn;
 pub use traits::{Sink, SinkRefusal, Source};
 pub use writing::{BLOCK, flush, write_all};

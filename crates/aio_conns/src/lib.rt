@@ -1,5 +1,5 @@
-//! Connections in memory, and the port that hands them out, for what stands above a connection and has to
-//! be tried.
+//! Connections in memory, the port that hands them out, and a port that cannot be bound, for what stands
+//! above a connection and has to be tried.
 //!
 //! It stands on `aio_base`, and on `aio_devices` for calls that fail by a script. A connection promises by
 //! the relations of its traits what each call answers and what it leaves, tells its bytes and its interests,
@@ -7,6 +7,7 @@
 #![tactic(auto)]
 
 mod armed;
+mod closed;
 mod connections;
 mod giving;
 mod peers;
@@ -14,6 +15,7 @@ mod pieces;
 mod ports;
 mod sending;
 
+pub use closed::ClosedPort;
 pub use connections::{MemConn, SureConn};
 pub use peers::{ENDS, Peer, SILENT};
 pub use pieces::Piece;

@@ -7,10 +7,14 @@
 //! trace which they describe is written, or the counts of its run; of a relay, that the output names the port
 //! and then an end for each pair that its connections may come to; and of each other end its cause and what
 //! was written by then.
+//!
+//! Its tests stand beside it, and not in a crate above: so no more crates are below them than below it.
 #![tactic(auto)]
 
 pub mod program;
 mod relaying;
+#[cfg(test)]
+mod tests;
 
 pub use aio_commands::{Command, Status, Which6, Why, run_gen, run_replay, run_sum};
 pub use program::run;

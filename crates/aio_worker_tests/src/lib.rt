@@ -1,5 +1,5 @@
-//! Tests of a server of lines, with one worker on the caller and with several on threads, and of a relay
-//! over sockets of this machine.
+//! Tests of a server of lines, with one worker on the caller and with several on threads, of the lines that
+//! are told of its pairs, and of a relay over sockets of this machine.
 //!
 //! Of the relay they show what no contract sees, since that is what the system does with bytes and
 //! connections. What it writes goes over a connection of the test too, so the clients learn the port from
@@ -16,6 +16,8 @@ mod clients;
 mod failing_waits;
 #[cfg(test)]
 mod gates;
+#[cfg(test)]
+mod lines;
 #[cfg(test)]
 mod relays;
 #[cfg(test)]

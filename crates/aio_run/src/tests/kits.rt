@@ -1,6 +1,6 @@
 //! Devices in memory for the calls of the tests.
 
-use crate::asserts::MEMORY;
+use crate::tests::asserts::MEMORY;
 use aio_base::{EventWait, Faults, Moment, Notify, Placement, Port, Spawner};
 use aio_devices::{FailingWait, MemClock, MemNotify, clock_until};
 use aio_line::{Kit, SixDevices};

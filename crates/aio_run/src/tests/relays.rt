@@ -1,59 +1,18 @@
-//! What no clause says of a relay: that the definitions mean the lines that are told of pairs, that a port
-//! which is not bound ends it before anything is written, and that it serves pairs to their ends.
+//! What no clause says of a relay: that a port which is not bound ends it before anything is written, and that
+//! it serves pairs to their ends.
 
-use crate::asserts::{MEMORY, same};
-use crate::devices::ClosedPort;
-use crate::kits::{Course, NOTHING_COMES};
-use crate::runs::{FIRST_FAULT, Failing, NOTHING_FAILS, Wrote, assert_ran, run_with, source_of};
-use aio_base::{ArmFault, Key, Moment, Placement, Port};
-use aio_conns::{ENDS, MemPort, Peer, SILENT};
-use aio_line::pair_lines;
-use aio_pairs::{PairEnd, Side};
-use aio_run::{Which6, Why};
+use crate::tests::asserts::{MEMORY, same};
+use crate::tests::kits::{Course, NOTHING_COMES};
+use crate::tests::runs::{
+    FIRST_FAULT, Failing, NOTHING_FAILS, Wrote, assert_ran, run_with, source_of,
+};
+use crate::{Which6, Why};
+use aio_base::{Placement, Port};
+use aio_conns::{ClosedPort, ENDS, MemPort, Peer, SILENT};
 use std::alloc::{AllocGlobal, Global};
 use std::process::Abort;
 use std::sync::Wait;
 use std::thread::Threads;
-
-/// A moment so many nanoseconds after the start.
-fn moment(rt: &impl Abort, nanoseconds: u64) -> Moment {
-    Moment::new(nanoseconds).expect(rt, "the moment is at most 10^18")
-}
-
-/// Each form of an end, one pair after the other.
-const LINES: &[u8] = b"pair 1 ended 0 3\npair 2 idle 0 1000\npair 3 too long a 4096\n\
-pair 4 too long b 18446744073709551615\npair 5 read fault\npair 6 write fault\n\
-pair 7 arm fault\npair 8 notify fault\npair 9 out of memory\n";
-
-#[test]
-fn each_end_of_a_pair_has_its_line(rt: HostRuntime) {
-    let ends = [
-        PairEnd::Ended { to_a: 0, to_b: 3 },
-        PairEnd::Idle {
-            last: moment(&rt, 0),
-            now: moment(&rt, 1000),
-        },
-        PairEnd::TooLong {
-            side: Side::A,
-            at: 4096,
-        },
-        PairEnd::TooLong {
-            side: Side::B,
-            at: u64::MAX,
-        },
-        PairEnd::ReadFault(FIRST_FAULT),
-        PairEnd::WriteFault(FIRST_FAULT),
-        PairEnd::ArmFault(ArmFault {
-            key: Key(0),
-            before: 0,
-            after: 1,
-        }),
-        PairEnd::NotifyFault(FIRST_FAULT),
-        PairEnd::OutOfMemory,
-    ];
-    let lines = pair_lines(rt.alloc(), &ends).expect(&rt, MEMORY);
-    same(&rt, lines.as_slice(), LINES);
-}
 
 /// Sends a line in two pieces and two bytes behind it, and ends.
 const TORN: Peer<'static> = Peer {

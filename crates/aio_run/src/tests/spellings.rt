@@ -1,7 +1,9 @@
 //! In which spellings a line is read, and why a line that reads as no step is refused.
 
-use crate::asserts::{MEMORY, same_in};
-use crate::runs::{NOTHING_FAILS, Wrote, assert_ran, replay_rows, replay_so, run_from, source_of};
+use crate::tests::asserts::{MEMORY, same_in};
+use crate::tests::runs::{
+    NOTHING_FAILS, Wrote, assert_ran, replay_rows, replay_so, run_from, source_of,
+};
 use aio_bytes::{MemSource, Source};
 use std::alloc::Global;
 use std::process::Abort;

@@ -1,9 +1,9 @@
 //! What no clause says: that the replay of a trace, called through its bounds, ends and hands back the
 //! core that ran it, where memory is left.
 
-use crate::asserts::same;
-use crate::runs::source_of;
-use crate::traces::{ORDINARY, ORDINARY_ANSWERS};
+use crate::tests::asserts::same;
+use crate::tests::runs::source_of;
+use crate::tests::traces::{ORDINARY, ORDINARY_ANSWERS};
 use aio_base::Key;
 use aio_bytes::{MemSink, Sink, Source};
 use aio_replay::{ReplayEnd, replay};

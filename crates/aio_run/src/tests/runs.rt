@@ -1,11 +1,11 @@
 //! Runs of commands over devices in memory, and assertions on what comes of them.
 
-use crate::asserts::{MEMORY, same_in};
-use crate::kits::{Course, NOTHING_COMES, counts, kit_of};
+use crate::tests::asserts::{MEMORY, same_in};
+use crate::tests::kits::{Course, NOTHING_COMES, counts, kit_of};
+use crate::{Status, Why, run};
 use aio_base::{CountFault, Port};
 use aio_bytes::{MemSink, MemSource, Sink, Source};
 use aio_conns::MemPort;
-use aio_run::{Status, Why, run};
 use std::alloc::Global;
 use std::fmt::Debug;
 use std::process::Abort;

@@ -2,10 +2,10 @@
 //! left, and which steps and counts the definitions give. The counts of long runs are those of a plain
 //! model that was written apart from this program.
 
-use crate::asserts::same;
-use crate::runs::{FIRST_FAULT, Failing, NOTHING_FAILS, Ran, ends, run_over};
+use crate::tests::asserts::same;
+use crate::tests::runs::{FIRST_FAULT, Failing, NOTHING_FAILS, Ran, ends, run_over};
+use crate::{Status, Why};
 use aio_replay::{Summary, summary};
-use aio_run::{Status, Why};
 use std::process::Abort;
 use std::sync::Wait;
 use std::thread::Threads;

@@ -3,14 +3,14 @@
 
 ghost use Rattle.std.specs.Prelude.{None, false};
 
-use crate::asserts::{same, same_in};
-use crate::kits::NOTHING_COMES;
-use crate::runs::{FIRST_FAULT, NOTHING_FAILS, Ran, run_from, run_into, sink_of, source_of};
-use crate::traces::{ORDINARY, ORDINARY_ANSWERS};
+use crate::tests::asserts::{same, same_in};
+use crate::tests::kits::NOTHING_COMES;
+use crate::tests::runs::{FIRST_FAULT, NOTHING_FAILS, Ran, run_from, run_into, sink_of, source_of};
+use crate::tests::traces::{ORDINARY, ORDINARY_ANSWERS};
+use crate::{Status, Why};
 use aio_base::Faults;
 use aio_bytes::{MemSink, Sink, SinkRefusal};
 use aio_conns::MemPort;
-use aio_run::{Status, Why};
 use std::alloc::AllocGlobal;
 use std::process::Abort;
 use std::sync::Wait;

@@ -3,14 +3,13 @@
 
 ghost use Rattle.std.specs.Prelude.{None, false};
 
-use crate::asserts::{MEMORY, same, same_in};
-use crate::devices::Torn;
-use crate::runs::{
+use crate::tests::asserts::{MEMORY, same, same_in};
+use crate::tests::runs::{
     FIRST_FAULT, Failing, NOTHING_FAILS, assert_ran, ends, replay_rows, run_from, run_over,
 };
+use crate::{Status, Why};
 use aio_base::{Failed, Faults, Reason};
-use aio_bytes::Source;
-use aio_run::{Status, Why};
+use aio_bytes::{Source, Torn};
 use std::alloc::{AllocError, Global};
 use std::process::Abort;
 use std::sync::Wait;

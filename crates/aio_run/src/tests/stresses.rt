@@ -1,12 +1,14 @@
 //! What no clause says of `stress`: that it comes to its line where memory is left, also with as many calls
 //! as may be asked for, and that its jobs are run by the lent spawner.
 
-use crate::asserts::{same, same_in};
-use crate::kits::{Course, NOTHING_COMES};
-use crate::runs::{FIRST_FAULT, Failing, NOTHING_FAILS, Wrote, assert_ran, run_with, source_of};
+use crate::Why;
+use crate::tests::asserts::{same, same_in};
+use crate::tests::kits::{Course, NOTHING_COMES};
+use crate::tests::runs::{
+    FIRST_FAULT, Failing, NOTHING_FAILS, Wrote, assert_ran, run_with, source_of,
+};
 use aio_base::Placement;
 use aio_conns::MemPort;
-use aio_run::Why;
 use std::process::Abort;
 use std::sync::Wait;
 use std::thread::Threads;

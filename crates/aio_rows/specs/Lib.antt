@@ -1,2 +1,0 @@
--- Definitions that the contracts of the code in this crate cite.
-pub mod Devices
