@@ -15,7 +15,7 @@ mod refusals;
 mod round;
 
 pub use aio_base::{Host, InsertRefusal, TimerHost};
-pub use aio_source::RoundFault;
+pub use aio_source::{InHand, RoundFault};
 pub use outcomes::{Handled, Reacted};
 pub use reactor::Core;
 pub use refusals::CoreRefusal;

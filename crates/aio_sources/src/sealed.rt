@@ -15,6 +15,7 @@ ghost use Rattle.aio_words.specs.Calls.{uncounted};
 ghost use Rattle.aio_sources.specs.Sources.{AddedAs, FailsToAdd, IsUnsure};
 ghost use Rattle.aio_sources.specs.Events.{HandlesBy, KeepsFault};
 
+use crate::sources::SourceRef;
 use aio_base::{Arm, CountFault, Key, OutOfMemory};
 use aio_lock::{Lock, Owner, Visit};
 use aio_rules::Noted;
@@ -95,6 +96,31 @@ impl<T: Noted> SharedLock<T> {
             (put_back (T.first_note value) (T.second_note value) o.old.knows) }
     {
         self.lock.give(o, value);
+    }
+}
+
+// These two stand here since they name the lock itself: behind one call more a source is copied once
+// more, each way.
+impl<A: Arm> SourceRef<A> {
+    /// Takes the source out of its lock, as soon as no round visits it. Its connection has the rest that
+    /// the token knows, whatever rounds did in between. Takes no memory.
+    pub fn take<R: Wait>(&mut self, rt: &R) -> SourceCell<A>
+        requires outside { self.old.inside ≡ false }
+        ensures key { result.state.key.0 ≡ self.old.key }
+        ensures rest { A.rest result.io ≡ self.old.rest }
+        ensures inside { self.new ≡ record self.old { inside = true } }
+    {
+        self.lock.lock.take(rt, &mut self.owner)
+    }
+
+    /// Puts the source back into its lock. The token then knows the rest of this connection. Takes no
+    /// memory and does not wait.
+    pub fn give(&mut self, cell: SourceCell<A>)
+        requires inside { self.old.inside ≡ true }
+        requires key { cell.state.key.0 ≡ self.old.key }
+        ensures { self.new ≡ record self.old { inside = false; rest = A.rest cell.io } }
+    {
+        self.lock.lock.give(&mut self.owner, cell);
     }
 }
 

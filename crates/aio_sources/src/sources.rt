@@ -90,27 +90,6 @@ impl<A: Arm> SourceRef<A> {
         }
     }
 
-    /// Takes the source out of its lock, as soon as no round visits it. Its connection has the rest that
-    /// the token knows, whatever rounds did in between. Takes no memory.
-    pub fn take<R: Wait>(&mut self, rt: &R) -> SourceCell<A>
-        requires outside { self.old.inside ≡ false }
-        ensures key { result.state.key.0 ≡ self.old.key }
-        ensures rest { A.rest result.io ≡ self.old.rest }
-        ensures inside { self.new ≡ record self.old { inside = true } }
-    {
-        self.lock.take(rt, &mut self.owner)
-    }
-
-    /// Puts the source back into its lock. The token then knows the rest of this connection. Takes no
-    /// memory and does not wait.
-    pub fn give(&mut self, cell: SourceCell<A>)
-        requires inside { self.old.inside ≡ true }
-        requires key { cell.state.key.0 ≡ self.old.key }
-        ensures { self.new ≡ record self.old { inside = false; rest = A.rest cell.io } }
-    {
-        self.lock.give(&mut self.owner, cell);
-    }
-
     /// The key of the source.
     pub fn key(&self) -> Key
         ensures { result.0 ≡ self.now.key }
