@@ -2,6 +2,7 @@ pub mod BookChanges
 pub mod BookLemmas
 pub mod BrokenSources
 pub mod ConnectionRests
+pub mod DirectionLemmas
 pub mod FreshnessLemmas
 pub mod InterestLemmas
 mod JobEnds

@@ -5,21 +5,11 @@ use Rattle.std.proofs.lemmas.Bool.{and_parts, and_from, eqb-true, eq-eqb, not_fr
 use Rattle.std.proofs.lemmas.List.Elements.{Contains-append_cases, Contains-append_right}
 use Rattle.aio_base.specs.declared.names.Waker.{Waker}
 use Rattle.aio_base.specs.declared.names.Dir.{Dir}
-use Rattle.aio_base.specs.declared.names.Dir.TheVariants.{Read, Write}
-use Rattle.aio_base.specs.World.{LiveSource, PollWaiter, ListenerEntry, World, directions, same_dir, is_of, serial_of, key_of, poll_waiter, listener_wakers, waiters_of, is_empty_list, is_idle, wanted}
-use Rattle.aio_base.proofs.Membership.{none_is_in, first_is_in, later_is_in, among_cases, passing_is_kept, found_is_in, passing_is_found}
+use Rattle.aio_base.specs.World.{LiveSource, PollWaiter, ListenerEntry, World, same_dir, is_of, serial_of, key_of, poll_waiter, listener_wakers, waiters_of, is_empty_list, is_idle, wanted}
+use Rattle.aio_base.proofs.DirectionLemmas.{same_dir-eq, same_dir-refl, passing_direction}
+use Rattle.aio_base.proofs.Membership.{none_is_in, first_is_in, later_is_in, among_cases, found_is_in, passing_is_found}
 
 -- ## Directions of serials
-
-pub same_dir-eq : (a b : Dir) → same_dir a b ≡ true → a ≡ b
-same_dir-eq Read Read same = refl
-same_dir-eq Read Write same = absurd cc
-same_dir-eq Write Read same = absurd cc
-same_dir-eq Write Write same = refl
-
-same_dir-refl : (d : Dir) → same_dir d d ≡ true
-same_dir-refl Read = refl
-same_dir-refl Write = refl
 
 pub is_of-eq : (serial : ℕ) (dir : Dir) (s : ℕ) (d : Dir) → is_of serial dir s d ≡ true → (s ≡ serial) × (d ≡ dir)
 is_of-eq serial dir s d same =
@@ -27,9 +17,6 @@ is_of-eq serial dir s d same =
 
 pub is_of-from : (serial : ℕ) (dir : Dir) (s : ℕ) (d : Dir) → s ≡ serial → d ≡ dir → is_of serial dir s d ≡ true
 is_of-from serial dir s d e f = and_from (s == serial) (same_dir d dir) (eq-eqb s serial e) (rw f (same_dir-refl dir))
-
-pub same_dir-from : (a b : Dir) → a ≡ b → same_dir a b ≡ true
-same_dir-from a b e = rw e (same_dir-refl b)
 
 -- ## Waiters
 
@@ -140,14 +127,10 @@ busy_wants w serial dir busy = let some = some_of (waiters_of w serial dir) busy
 pub wants_busy : (w : World) (serial : ℕ) (dir : Dir) → Wants w.poll_waiters w.listeners serial dir → is_idle w serial dir ≡ false
 wants_busy w serial dir wants = let waiter = wants_waiter w serial dir wants in filled (waiters_of w serial dir) waiter.0 waiter.1
 
-each_direction : (dir : Dir) → Contains directions dir
-each_direction Write = first_is_in Write (Read ∷ [])
-each_direction Read = later_is_in Write (Read ∷ []) Read (first_is_in Read [])
-
 -- an arming arms each direction that is wanted
 pub wants_wanted : (w : World) (serial : ℕ) (dir : Dir) → Wants w.poll_waiters w.listeners serial dir → Contains (wanted w serial) dir
 wants_wanted w serial dir wants =
-    passing_is_kept (λ d. not (is_idle w serial d)) directions dir (not_from_false (is_idle w serial dir) (wants_busy w serial dir wants)) (each_direction dir)
+    passing_direction (λ d. not (is_idle w serial d)) dir (not_from_false (is_idle w serial dir) (wants_busy w serial dir wants))
 
 pub none_wants : (w : World) (serial : ℕ) (dir : Dir) → is_empty_list (wanted w serial) ≡ true → Wants w.poll_waiters w.listeners serial dir → ⊥
 none_wants w serial dir none wants = let some = filled (wanted w serial) dir (wants_wanted w serial dir wants) in cc

@@ -3,6 +3,7 @@ use Rattle.std.specs.Prelude.{ℕ, zero, suc, ◌+◌, ◌*◌, ◌/◌, ◌%◌
 use Rattle.aio_base.specs.declared.names.Dir.{Dir}
 use Rattle.aio_base.specs.declared.names.Dir.TheVariants.{Read, Write}
 use Rattle.aio_base.specs.declared.names.Interest.{Interest}
+use Rattle.aio_base.specs.declared.names.TheConstants.Interest.{READ, WRITE, READ_WRITE}
 use Rattle.aio_base.specs.declared.steps.Step.{Step}
 use Rattle.aio_base.specs.declared.steps.Step.TheVariants as step
 use Rattle.aio_base.specs.declared.steps.Answer.{Answer}
@@ -53,8 +54,7 @@ dir_drawn n = if n % 2 == 0 then Read else Write
 
 abbrev pub interest_drawn : ℕ → Interest
 interest_drawn n =
-    if n % 3 == 0 then record { read = true; write = false }
-    else (if n % 3 == 1 then record { read = false; write = true } else record { read = true; write = true })
+    if n % 3 == 0 then READ else (if n % 3 == 1 then WRITE else READ_WRITE)
 
 -- one of the listeners made so far, or a number that none has yet
 abbrev pub listener_drawn : Generator → ℕ → ℕ

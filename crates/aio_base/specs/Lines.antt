@@ -6,8 +6,9 @@ use Rattle.std.specs.Option.{option_map, option_map_or, option_or}
 use Rattle.std.specs.Str.{all_ascii_digits}
 use Rattle.std.specs.Str.Parse.{digits_value}
 use Rattle.aio_base.specs.declared.names.Dir.{Dir}
-use Rattle.aio_base.specs.declared.names.Dir.TheVariants.{Read, Write}
+use Rattle.aio_base.specs.declared.names.Dir.TheVariants.{Read, Write, Priority}
 use Rattle.aio_base.specs.declared.names.Interest.{Interest}
+use Rattle.aio_base.specs.declared.names.TheConstants.Interest.{NONE, READ, WRITE, READ_WRITE}
 use Rattle.aio_base.specs.declared.outcomes.Which.TheVariants as which
 use Rattle.aio_base.specs.declared.steps.LineFault.{LineFault}
 use Rattle.aio_base.specs.declared.steps.LineFault.TheVariants as fault
@@ -76,11 +77,29 @@ IsInRange (step.SetEvery number deadline period) = IsPeriod period
 IsInRange (step.Begin (Some limit)) = limit ≤ 10 ^ 18
 IsInRange _ = Unit {0}
 
--- a step that a line can spell: each number is in the range of its place. What this asks beside `IsInRange` each value of the type `Step` meets.
+-- a direction that a line may name: Priority is none
+abbrev pub HasWord : Dir → Type 0
+HasWord Read = Unit {0}
+HasWord Write = Unit {0}
+HasWord Priority = ⊥
+
+-- flags that a line may name: those without Priority
+abbrev pub HaveWord : Interest → Type 0
+HaveWord on = on.priority ≡ false
+
+-- a step that names no Priority: it polls no such direction, makes no listener of it, and notes no event of it
+abbrev pub NamesNoPriority : Step → Type 0
+NamesNoPriority (step.Poll key dir waker) = HasWord dir
+NamesNoPriority (step.New key dir) = HasWord dir
+NamesNoPriority (step.Note event) = HaveWord event.on
+NamesNoPriority _ = Unit {0}
+
+-- A step that a line can spell: each number is in the range of its place, and no direction is Priority. What this asks beside `IsInRange` and
+-- `NamesNoPriority` each value of the type `Step` meets.
 abbrev pub HasSpelling : Step → Type 0
 HasSpelling (step.Del key) = key.0 ≤ last_number
-HasSpelling (step.Poll key dir waker) = (key.0 ≤ last_number) × (waker.0 ≤ last_number)
-HasSpelling (step.New key dir) = key.0 ≤ last_number
+HasSpelling (step.Poll key dir waker) = (key.0 ≤ last_number) × HasWord dir × (waker.0 ≤ last_number)
+HasSpelling (step.New key dir) = (key.0 ≤ last_number) × HasWord dir
 HasSpelling (step.StepEar number waker) = (number ≤ last_number) × (waker.0 ≤ last_number)
 HasSpelling (step.DropEar number) = number ≤ last_number
 HasSpelling (step.TimerAt deadline) = IsMoment deadline
@@ -90,7 +109,7 @@ HasSpelling (step.SetAt number deadline) = (number ≤ last_number) × IsMoment 
 HasSpelling (step.SetEvery number deadline period) = (number ≤ last_number) × IsMoment deadline × IsPeriod period
 HasSpelling (step.End number) = number ≤ last_number
 HasSpelling (step.Now moment) = IsMoment moment
-HasSpelling (step.Note event) = event.key.0 ≤ last_number
+HasSpelling (step.Note event) = (event.key.0 ≤ last_number) × HaveWord event.on
 HasSpelling (step.Begin (Some limit)) = limit ≤ 10 ^ 18
 HasSpelling _ = Unit {0}
 
@@ -318,12 +337,7 @@ abbrev pub written_directions : List Dir
 written_directions = Read ∷ Write ∷ []
 
 abbrev pub interests : List Interest
-interests =
-    record { read = false; write = false }
-    ∷ record { read = true; write = false }
-    ∷ record { read = false; write = true }
-    ∷ record { read = true; write = true }
-    ∷ []
+interests = NONE ∷ READ ∷ WRITE ∷ READ_WRITE ∷ []
 
 -- the value of a word that is what the place asks
 abbrev pub value_of : (place : Asked) → List ℕ → Option (Value place)

@@ -18,7 +18,8 @@ use Rattle.aio_base.specs.declared.steps.Answer.{Answer}
 use Rattle.aio_base.specs.declared.steps.Answer.TheVariants as answer
 pub use Rattle.aio_base.specs.World.{is_waker}
 pub use Rattle.aio_base.specs.TimerWork.{next_deadline}
-use Rattle.aio_base.specs.World.{PollerAnswer, Succeeds, Gives, IsInterrupted, Fails, LiveSource, PollWaiter, Mark, ListenerEntry, Registration, TimerEntry, DueFaults, RoundState, World, directions_of, is_of, serial_of, key_of, poll_waiter, without_waiter, mark_of, without_mark, waiters_of, is_empty_list, is_idle, wanted, is_broken, without_broken, set_armed, clear_armed, is_fresh}
+use Rattle.aio_base.specs.declared.outcomes.DueFaults.{DueFaults}
+use Rattle.aio_base.specs.World.{PollerAnswer, Succeeds, Gives, IsInterrupted, Fails, LiveSource, PollWaiter, Mark, ListenerEntry, Registration, TimerEntry, RoundState, World, directions_of, is_of, serial_of, key_of, poll_waiter, without_waiter, mark_of, without_mark, waiters_of, is_empty_list, is_idle, wanted, is_broken, without_broken, set_armed, clear_armed, is_fresh}
 use Rattle.aio_base.specs.Timers.{due_wakers, after_pass, limit_of}
 use Rattle.aio_base.specs.TimerWork.{TimerState, joining, tick_work, reset_work}
 

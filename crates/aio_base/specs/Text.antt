@@ -1,7 +1,7 @@
 -- The trace language in writing: the line of each answer, and the words of a step's places.
 use Rattle.std.specs.Prelude.{ℕ, Bool, true, false, List, [], ◌∷◌, ◌++◌, Option, None, Some, codes, decimal}
 use Rattle.aio_base.specs.declared.names.Dir.{Dir}
-use Rattle.aio_base.specs.declared.names.Dir.TheVariants.{Read, Write}
+use Rattle.aio_base.specs.declared.names.Dir.TheVariants.{Read, Write, Priority}
 use Rattle.aio_base.specs.declared.names.Interest.{Interest}
 use Rattle.aio_base.specs.declared.outcomes.EndWord.{EndWord}
 use Rattle.aio_base.specs.declared.outcomes.EndWord.TheVariants.{Clean, FaultWait, FaultArm}
@@ -84,11 +84,13 @@ reason_text reason.Lines = codes "lines"
 
 -- ## Words of a step
 
+-- the word of a direction; no line has that of Priority
 abbrev pub dir_text : Dir → List ℕ
 dir_text Read = codes "r"
 dir_text Write = codes "w"
+dir_text Priority = codes "p"
 
--- the directions of an event: `-`, `r`, `w` or `rw`
+-- the directions of an event that has no Priority: `-`, `r`, `w` or `rw`
 abbrev pub flags_of : Bool → Bool → List ℕ
 flags_of false false = codes "-"
 flags_of true false = codes "r"

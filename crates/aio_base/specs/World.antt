@@ -1,13 +1,14 @@
 -- The world of the machine: everything that has happened and stands, as plain lists and numbers. It keeps the past (who stored a waker when,
 -- which round handled which event), so freshness is a search of the past and needs no remembered numbers.
-use Rattle.std.specs.Prelude.{ℕ, ◌^◌, Bool, true, false, not, ◌&&◌, ◌==◌, nat_lt, if◌then◌else◌, List, [], ◌∷◌, ◌++◌, map, filter, find, filter_map, Option, None, option_map, option_to_list}
+use Rattle.std.specs.Prelude.{ℕ, ◌^◌, Bool, true, false, not, ◌&&◌, ◌||◌, ◌==◌, nat_lt, if◌then◌else◌, List, [], ◌∷◌, ◌++◌, map, filter, find, filter_map, Option, None, option_map, option_to_list}
 use Rattle.std.specs.List.{list_any}
 use Rattle.std.specs.Option.{option_map_or}
 use Rattle.aio_base.specs.declared.names.Waker.{Waker}
 use Rattle.aio_base.specs.declared.names.Dir.{Dir}
-use Rattle.aio_base.specs.declared.names.Dir.TheVariants.{Read, Write}
+use Rattle.aio_base.specs.declared.names.Dir.TheVariants.{Read, Write, Priority}
 use Rattle.aio_base.specs.declared.names.Interest.{Interest}
 use Rattle.aio_base.specs.declared.names.Event.{Event}
+use Rattle.aio_base.specs.declared.outcomes.DueFaults.{DueFaults}
 use Rattle.aio_base.specs.declared.outcomes.EndWord.{EndWord}
 
 -- what a poller answers to one call: it is done; a wait gave these events; a wait was interrupted; or the call failed
@@ -66,14 +67,6 @@ pub record TimerEntry : Type 0 where
   pub id : Option ℕ
   pub kept : Option Waker
 
--- what the poller was told to do: to fail the next call of a kind, to interrupt the next wait that does not fail
-pub record DueFaults : Type 0 where
-  pub add : Bool
-  pub arm : Bool
-  pub remove : Bool
-  pub wait : Bool
-  pub interrupt : Bool
-
 -- a running round: its number, the position at which it began, its limit in nanoseconds, the events in hand, the wakers taken so far, what
 -- its last wait answered, and its first fault
 pub record RoundState : Type 0 where
@@ -119,6 +112,7 @@ pub record World : Type 0 where
   -- the whole past of handled events
   pub handled : List HandledDirection
 
+-- the poller was told nothing
 abbrev pub nothing_due : DueFaults
 nothing_due = record { add = false; arm = false; remove = false; wait = false; interrupt = false }
 
@@ -153,18 +147,27 @@ last_moment = 10 ^ 18
 
 -- all directions, in the order in which one event takes waiters
 abbrev pub directions : List Dir
-directions = Write ∷ Read ∷ []
+directions = Write ∷ Read ∷ Priority ∷ []
 
 abbrev pub same_dir : Dir → Dir → Bool
 same_dir Read Read = true
-same_dir Read Write = false
-same_dir Write Read = false
 same_dir Write Write = true
+same_dir Priority Priority = true
+same_dir a b = false
 
 -- whether an interest has a direction
 abbrev pub has_dir : Interest → Dir → Bool
 has_dir on Read = on.read
 has_dir on Write = on.write
+has_dir on Priority = on.priority
+
+-- the interest of the directions that pass a test
+abbrev pub interest_where : (Dir → Bool) → Interest
+interest_where test = record { read = test Read; write = test Write; priority = test Priority }
+
+-- an interest with one more direction
+abbrev pub with_dir : Interest → Dir → Interest
+with_dir on dir = interest_where (λ d. same_dir d dir || has_dir on d)
 
 -- an interest as the list of its directions
 abbrev pub directions_of : Interest → List Dir

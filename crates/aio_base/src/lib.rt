@@ -33,6 +33,8 @@ pub use later::Later;
 pub use lent::{Lent, Parts};
 pub use names::{DIRS, Dir, Event, Interest, Key, Moment, TimerId, Waker};
 pub use notify::Notify;
-pub use outcomes::{ArmFault, CountFault, EndWord, Failed, OutOfMemory, Poll, Waited, Which};
+pub use outcomes::{
+    ArmFault, CountFault, DueFaults, EndWord, Failed, OutOfMemory, Poll, Waited, Which,
+};
 pub use steps::{Answer, LineFault, Reason, Step};
 pub use tasks::{Cx, Task};

@@ -1,7 +1,7 @@
 //! The names of a reactor: sources, tasks, timers, moments, directions and events.
 
 ghost use Rattle.std.specs.Prelude.{◌≡◌, ℕ, ◌^◌, ◌<◌, ◌≤◌, true, false, [], ◌∷◌, SomeIff};
-ghost use Rattle.aio_base.specs.World.{directions};
+ghost use Rattle.aio_base.specs.World.{directions, has_dir, interest_where, same_dir, with_dir};
 
 use std::marker::Model;
 
@@ -62,15 +62,18 @@ pub enum Dir {
     Read,
     /// Writability, written `w`.
     Write,
+    /// Urgent readiness, an extension of this project: `polling` 3 knows it as an extra of an event.
+    Priority,
 }
 
 /// All directions, in the order in which one event takes waiters: the published reactor looks at
 /// writability first (`async-io` 2, `reactor.rs`, `react`).
-pub const DIRS: [Dir; 2] = [Dir::Write, Dir::Read];
+pub const DIRS: [Dir; 3] = [Dir::Write, Dir::Read, Dir::Priority];
 
-/// `DIRS` is Write and then Read, and these are the directions of the machine in its order.
+/// `DIRS` is Write, then Read, then Priority, and these are the directions of the machine in its
+/// order.
 pub fn writability_comes_first()
-    ensures order { DIRS ≡ Dir.Write ∷ Dir.Read ∷ [] }
+    ensures order { DIRS ≡ Dir.Write ∷ Dir.Read ∷ Dir.Priority ∷ [] }
     ensures machine { DIRS ≡ directions }
 {}
 
@@ -81,6 +84,8 @@ pub struct Interest {
     pub read: bool,
     /// Whether writability is among them.
     pub write: bool,
+    /// Whether urgent readiness is among them.
+    pub priority: bool,
 }
 
 impl Interest {
@@ -88,33 +93,81 @@ impl Interest {
     pub const NONE: Interest = Interest {
         read: false,
         write: false,
+        priority: false,
     };
 
     /// Readability alone.
     pub const READ: Interest = Interest {
         read: true,
         write: false,
+        priority: false,
     };
 
     /// Writability alone.
     pub const WRITE: Interest = Interest {
         read: false,
         write: true,
+        priority: false,
     };
 
-    /// Both directions.
-    pub const BOTH: Interest = Interest {
+    /// Readability and writability.
+    pub const READ_WRITE: Interest = Interest {
         read: true,
         write: true,
+        priority: false,
     };
+
+    /// Urgent readiness alone.
+    pub const PRIORITY: Interest = Interest {
+        read: false,
+        write: false,
+        priority: true,
+    };
+
+    /// All directions.
+    pub const ALL: Interest = Interest {
+        read: true,
+        write: true,
+        priority: true,
+    };
+
+    /// Whether a direction is among them.
+    pub fn has(self, dir: Dir) -> bool
+        ensures { result ≡ has_dir self dir }
+    {
+        match dir {
+            Dir::Read => self.read,
+            Dir::Write => self.write,
+            Dir::Priority => self.priority,
+        }
+    }
+
+    /// These directions and this one.
+    pub fn with(self, dir: Dir) -> Interest
+        ensures { result ≡ with_dir self dir }
+    {
+        match dir {
+            Dir::Read => Interest { read: true, ..self },
+            Dir::Write => Interest {
+                write: true,
+                ..self
+            },
+            Dir::Priority => Interest {
+                priority: true,
+                ..self
+            },
+        }
+    }
 }
 
 /// The law of the constants of `Interest`: each has the directions that its name says.
 pub fn interests_have_the_directions_of_their_names()
-    ensures none { Interest.NONE ≡ record { read = false; write = false } }
-    ensures read { Interest.READ ≡ record { read = true; write = false } }
-    ensures write { Interest.WRITE ≡ record { read = false; write = true } }
-    ensures both { Interest.BOTH ≡ record { read = true; write = true } }
+    ensures none { Interest.NONE ≡ interest_where (λ d. false) }
+    ensures read { Interest.READ ≡ interest_where (same_dir Dir.Read) }
+    ensures write { Interest.WRITE ≡ interest_where (same_dir Dir.Write) }
+    ensures both { Interest.READ_WRITE ≡ with_dir Interest.READ Dir.Write }
+    ensures priority { Interest.PRIORITY ≡ interest_where (same_dir Dir.Priority) }
+    ensures all { Interest.ALL ≡ interest_where (λ d. true) }
 {}
 
 /// An event of a poller: the directions of the source `key` that are ready, maybe none

@@ -1,6 +1,9 @@
 //! What calls of devices answer, and the faults that are told upwards.
 
+ghost use Rattle.std.specs.Prelude.{◌≡◌};
+
 use crate::names::Key;
+use std::alloc::AllocFailed;
 
 /// What a wait that did not fail answers: so many events were given, or it was interrupted.
 #[derive(Clone, Copy, Debug, PartialEq, Eq)]
@@ -27,6 +30,13 @@ pub struct Failed;
 /// The answer where memory ran out.
 #[derive(Clone, Copy, Debug, PartialEq, Eq)]
 pub struct OutOfMemory;
+
+/// A growth that was refused is told as want of memory by `?`.
+impl<T: Drop> From<AllocFailed<T>> for OutOfMemory {
+    fn from(_refused: AllocFailed<T>) -> OutOfMemory {
+        OutOfMemory
+    }
+}
 
 /// The fault of a device, told by its count of faults before and after the call.
 #[derive(Clone, Copy, Debug, PartialEq, Eq)]
@@ -59,6 +69,53 @@ pub enum Which {
     Remove,
     /// Waiting for events, written `wait`.
     Wait,
+}
+
+/// What a poller in memory was told to answer and has not answered yet: a failure of the next call
+/// of a kind, and an interrupt of the next wait that does not fail. The machine keeps it beside the
+/// noted events.
+#[derive(Clone, Copy, Debug, PartialEq, Eq)]
+pub struct DueFaults {
+    /// The next registration fails.
+    pub add: bool,
+    /// The next arming fails.
+    pub arm: bool,
+    /// The next removal fails.
+    pub remove: bool,
+    /// The next wait fails.
+    pub wait: bool,
+    /// The next wait that does not fail is interrupted.
+    pub interrupt: bool,
+}
+
+impl DueFaults {
+    ghost use Rattle.aio_base.specs.World.{nothing_due};
+    ghost use Rattle.aio_base.specs.Machine.{with_due};
+
+    /// Nothing was told.
+    pub fn none() -> DueFaults
+        ensures { result ≡ nothing_due }
+    {
+        DueFaults {
+            add: false,
+            arm: false,
+            remove: false,
+            wait: false,
+            interrupt: false,
+        }
+    }
+
+    /// The next call of this kind fails. Told twice, still one call fails.
+    pub fn fail_next(&mut self, which: Which)
+        ensures { self.new ≡ with_due which self.old }
+    {
+        match which {
+            Which::Add => self.add = true,
+            Which::Arm => self.arm = true,
+            Which::Remove => self.remove = true,
+            Which::Wait => self.wait = true,
+        }
+    }
 }
 
 /// How a round ended: clean, written `ok`, or with its first fault.

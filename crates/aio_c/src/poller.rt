@@ -1,7 +1,7 @@
 //! What the system's poller answered is told to the poller in memory.
 
-ghost use Rattle.std.specs.Prelude.{◌≡◌, true};
-ghost use Rattle.aio_script.specs.Script.{with_failure};
+ghost use Rattle.std.specs.Prelude.{◌≡◌, false, true};
+ghost use Rattle.aio_base.specs.Machine.{with_due};
 ghost use Rattle.aio_c.specs.Codes.{memory_code, which_of};
 ghost use Rattle.aio_c.specs.Promises.{Crossed, GivePromises};
 
@@ -14,13 +14,17 @@ use aio_base::{Event, Interest, Key};
 pub extern "C" fn aio_give(h: Handle, out: &mut Handle, key: u32, read: bool, write: bool) -> u32
     ensures { Crossed memory_code (λ told. GivePromises h.home.core (record {
       key = record { 0 = key };
-      on = record { read = read; write = write };
+      on = record { read = read; write = write; priority = false };
     }) told out.new.home.core) result }
 {
     let mut held = h.open();
     let event = Event {
         key: Key(key),
-        on: Interest { read, write },
+        on: Interest {
+            read,
+            write,
+            priority: false,
+        },
     };
     let told = held.core.poller().give(event);
     *out = Handle::close(held);
@@ -33,7 +37,7 @@ pub extern "C" fn aio_give(h: Handle, out: &mut Handle, key: u32, read: bool, wr
 pub extern "C" fn aio_fail_next(h: Handle, out: &mut Handle, kind: u32)
     ensures { out.new.home.core ≡ (
       record h.home.core.0 {
-        due = with_failure (which_of kind) h.home.core.0.due;
+        due = with_due (which_of kind) h.home.core.0.due;
       },
       h.home.core.1,
     ) }

@@ -51,7 +51,7 @@ const STEPS: [(&str, Step); 26] = [
         "event 9 rw",
         Step::Note(Event {
             key: Key(9),
-            on: Interest::BOTH,
+            on: Interest::READ_WRITE,
         }),
     ),
     ("fault add", Step::Fault(Which::Add)),
@@ -142,7 +142,7 @@ const OTHER_SPELLINGS: [(&str, Step); 7] = [
         "event 00 rw \r",
         Step::Note(Event {
             key: Key(0),
-            on: Interest::BOTH,
+            on: Interest::READ_WRITE,
         }),
     ),
     ("  add", Step::Add),

@@ -2,7 +2,7 @@
 use Rattle.std.specs.Prelude.{◌≡◌, ℕ, suc, zero, List, [], ◌∷◌, ◌++◌, Result, Ok, OnOk, is_err, min}
 use Rattle.aio_base.specs.Devices.{WaitCall, raised}
 use Rattle.aio_base.specs.declared.names.Event.{Event}
-use Rattle.aio_base.specs.declared.names.TheConstants.Interest.{BOTH}
+use Rattle.aio_base.specs.declared.names.TheConstants.Interest.{READ_WRITE}
 use Rattle.aio_base.specs.declared.outcomes.Failed.{Failed}
 use Rattle.aio_base.specs.declared.outcomes.Waited.{Waited}
 use Rattle.aio_base.specs.declared.outcomes.Waited.TheVariants.{Given}
@@ -10,7 +10,7 @@ use Rattle.aio_devices.specs.Scripts.{ScriptValue, after_call, is_next_failing}
 
 -- an event of both directions
 abbrev pub both_of : ℕ → Event
-both_of key = record { key = record { 0 = key }; on = BOTH }
+both_of key = record { key = record { 0 = key }; on = READ_WRITE }
 
 -- an event of both directions for each of the first keys, in order
 abbrev pub key_events : ℕ → List Event

@@ -20,7 +20,7 @@ fn give_keys(out: &mut Vec<Event>, keys: u32, room: u32) -> u32
     for key in 0..count {
         out.push_reserved(Event {
             key: Key(key),
-            on: Interest::BOTH,
+            on: Interest::READ_WRITE,
         });
     }
     count

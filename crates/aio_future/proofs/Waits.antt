@@ -5,7 +5,6 @@ use Rattle.std.proofs.lemmas.Bool.{false≢true}
 use Rattle.aio_base.specs.Devices.{HasCause}
 use Rattle.aio_base.specs.Machine.{is_waker}
 use Rattle.aio_base.specs.declared.names.Dir.{Dir}
-use Rattle.aio_base.specs.declared.names.Dir.TheVariants.{Read, Write}
 use Rattle.aio_base.specs.declared.names.Key.{Key}
 use Rattle.aio_base.specs.declared.names.Waker.{Waker}
 use Rattle.aio_base.specs.declared.outcomes.ArmFault.{ArmFault}
@@ -16,6 +15,7 @@ use Rattle.aio_source.specs.Answers.{poll_answer, armed_in}
 use Rattle.aio_source.specs.Lent.{arm_answer, fault_of, settled}
 use Rattle.aio_source.specs.Rules.{direction_of, is_idle, is_ready, polling, seen, stored, with_direction, with_source_direction, Polling}
 use Rattle.aio_source.specs.Values.{DirectionValue, DirectionValues, SourceValue}
+use Rattle.aio_source.proofs.DirectionCases.{direction_put}
 use Rattle.aio_future.specs.declared.tried.Tried.{Tried}
 use Rattle.aio_future.specs.Tries.{FaultsWithin, IsWaitAnswer, SpendsReadiness, answer_so_far, end_by_poll, fault_counts}
 
@@ -79,8 +79,7 @@ ready_picked false true a b c not_b not_c e = absurd (false≢true (sym not_b �
 ready_picked false false a b c not_b not_c e = absurd (false≢true (sym not_c ∙ e))
 
 no_more : (ds : DirectionValues) (dir : Dir) (d : DirectionValue) → is_ready (direction_of (with_direction ds dir (seen d)) dir) ≡ false
-no_more ds Read d = refl
-no_more ds Write d = refl
+no_more ds dir d = ap is_ready (direction_put ds dir (seen d))
 
 pub spent_by_poll : (s new : SourceValue) (dir : Dir) (w : Waker) (ticker : ℕ) (told : Result (Unit {0}) Failed) (armed : Result (Unit {0}) ArmFault)
     (answer : Poll (Result (Unit {0}) ArmFault)) (replaced : Option Waker)

@@ -58,6 +58,20 @@ impl<'a, C> Async<'a, C> {
         poll_dir(self.cell, Dir::Write, self.ticker, w)
     }
 
+    /// Polls whether the source is urgently ready, an extension of this project. It takes no memory.
+    pub fn poll_priority(&mut self, w: Waker) -> Polled
+    where
+        C: Arm,
+        ensures polls { Polls C.arm_step C.interests C.rest C.fault_count C.is_sure
+            Dir.Priority w self.old.ticker self.old.cell.now.state self.old.cell.now.io
+            result self.new.cell.now.state self.new.cell.now.io }
+        ensures key { self.new.cell.now.state.key ≡ self.old.cell.now.state.key }
+        ensures same_reference { self.new.cell.ghost_name ≡ self.old.cell.ghost_name }
+        ensures ticker { self.new.ticker ≡ self.old.ticker }
+    {
+        poll_dir(self.cell, Dir::Priority, self.ticker, w)
+    }
+
     /// Reads into the front of `buf` what there is to read; 0 bytes are the end (`async-io` 2, `lib.rs`,
     /// `Async::read_with`). A blocked connection is waited for with `w`: its direction is polled. Where
     /// that finds it ready, an event came before; it is read once more and, blocked again, polled once

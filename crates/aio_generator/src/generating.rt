@@ -188,7 +188,7 @@ impl Steps {
         match self.draws.draw() % 3 {
             0 => Interest::READ,
             1 => Interest::WRITE,
-            _ => Interest::BOTH,
+            _ => Interest::READ_WRITE,
         }
     }
 

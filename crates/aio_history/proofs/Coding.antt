@@ -1,15 +1,18 @@
 -- The numbers of a step tell it.
 use Rattle.std.proofs.Common.{◌≡◌, ℕ, Bool, true, false, ◌==◌, if◌then◌else◌, List, [], ◌∷◌, ◌++◌, length, refl, sym, ap, ◌∙◌}
 use Rattle.aio_base.specs.declared.names.Dir.{Dir}
-use Rattle.aio_base.specs.declared.names.Dir.TheVariants.{Read, Write}
+use Rattle.aio_base.specs.declared.names.Dir.TheVariants.{Read, Write, Priority}
 use Rattle.aio_base.specs.declared.outcomes.Poll.{Poll}
 use Rattle.aio_base.specs.declared.outcomes.Poll.TheVariants.{Ready, Pending}
+use Rattle.aio_base.specs.declared.names.Interest.{Interest}
+use Rattle.aio_base.specs.World.{has_dir}
+use Rattle.aio_base.proofs.DirectionLemmas.{where_same}
 use Rattle.aio_history.specs.declared.steps.CellStep.{CellStep}
 use Rattle.aio_history.specs.declared.steps.CellStep.TheVariants as step
 use Rattle.aio_history.specs.StepNumbers.{number_of_dir, number_of_answer, number_of_flag, step_numbers, numbers_of}
 
 abbrev dir_told : ℕ → Dir
-dir_told n = if n == 0 then Read else Write
+dir_told n = if n == 0 then Read else (if n == 1 then Write else Priority)
 
 abbrev answer_told : ℕ → Poll (Unit {0})
 answer_told n = if n == 0 then Ready tt else Pending
@@ -17,22 +20,24 @@ answer_told n = if n == 0 then Ready tt else Pending
 abbrev flag_told : ℕ → Bool
 flag_told n = n == 1
 
-abbrev step_told : ℕ → ℕ → ℕ → ℕ → ℕ → CellStep
-step_told kind a b c d =
+abbrev step_told : ℕ → ℕ → ℕ → ℕ → ℕ → ℕ → CellStep
+step_told kind a b c d e =
     if kind == 0 then step.Poll (dir_told a) (record { 0 = b }) c (answer_told d)
-    else step.Handle (record { read = flag_told d; write = flag_told c }) a b
+    else step.Handle (record { read = flag_told d; write = flag_told c; priority = flag_told e }) a b
 
 abbrev steps_told : List ℕ → List CellStep
-steps_told (kind ∷ a ∷ b ∷ c ∷ d ∷ rest) = step_told kind a b c d ∷ steps_told rest
+steps_told (kind ∷ a ∷ b ∷ c ∷ d ∷ e ∷ rest) = step_told kind a b c d e ∷ steps_told rest
 steps_told [] = []
 steps_told (kind ∷ []) = []
 steps_told (kind ∷ a ∷ []) = []
 steps_told (kind ∷ a ∷ b ∷ []) = []
 steps_told (kind ∷ a ∷ b ∷ c ∷ []) = []
+steps_told (kind ∷ a ∷ b ∷ c ∷ d ∷ []) = []
 
 dir_back : (d : Dir) → dir_told (number_of_dir d) ≡ d
 dir_back Read = refl
 dir_back Write = refl
+dir_back Priority = refl
 
 answer_back : (a : Poll (Unit {0})) → answer_told (number_of_answer a) ≡ a
 answer_back (Ready done) = refl
@@ -49,8 +54,8 @@ told_back (step.Poll dir waker ticker answer ∷ steps) =
     ∙ ap (λ a. step.Poll dir waker ticker a ∷ steps_told (numbers_of steps)) (answer_back answer)
     ∙ ap (λ more. step.Poll dir waker ticker answer ∷ more) (told_back steps)
 told_back (step.Handle on round taken ∷ steps) =
-    ap (λ r. step.Handle (record { read = r; write = flag_told (number_of_flag on.write) }) round taken ∷ steps_told (numbers_of steps)) (flag_back on.read)
-    ∙ ap (λ w. step.Handle (record { read = on.read; write = w }) round taken ∷ steps_told (numbers_of steps)) (flag_back on.write)
+    ap (λ (on : Interest). step.Handle on round taken ∷ steps_told (numbers_of steps))
+    (where_same (λ dir. flag_told (number_of_flag (has_dir on dir))) (has_dir on) (λ dir. flag_back (has_dir on dir)))
     ∙ ap (λ more. step.Handle on round taken ∷ more) (told_back steps)
 
 pub as_many_numbers : (s other : CellStep) → length (step_numbers s) ≡ length (step_numbers other)

@@ -3,7 +3,7 @@ use Rattle.std.proofs.Common.{◌≡◌, ℕ, zero, suc, ◌+◌, ◌%◌, ◌<�
 use Rattle.std.proofs.lemmas.Bool.{cases_lt}
 use Rattle.std.proofs.lemmas.Bool.Decides.{nat_tests}
 use Rattle.aio_base.specs.Generated.{draw, drawn, next_state, state_after, dir_drawn}
-use Rattle.aio_base.specs.declared.names.TheConstants.Interest.{BOTH}
+use Rattle.aio_base.specs.declared.names.TheConstants.Interest.{READ_WRITE}
 use Rattle.aio_history.specs.declared.steps.CellCall.{CellCall}
 use Rattle.aio_history.specs.declared.steps.CellCall.TheVariants as call
 use Rattle.aio_history.specs.DrawnCalls.{Drawing, call_drawn, calls_from, drawn_calls, calls_in_all}
@@ -52,7 +52,7 @@ each_for_one seed calls = all_from calls seed
 abbrev call_behind : ℕ → Drawing
 call_behind s =
     let cell = drawn s % 8 in
-    if draw 0 s % 4 == 0 then record { cell = cell; call = call.Handle BOTH (draw 1 s % 1000); after = state_after 2 s }
+    if draw 0 s % 4 == 0 then record { cell = cell; call = call.Handle READ_WRITE (draw 1 s % 1000); after = state_after 2 s }
     else record { cell = cell; call = call.Poll (dir_drawn (draw 1 s)) (record { 0 = draw 2 s % 64 }) 0; after = state_after 3 s }
 
 abbrev calls_behind : ℕ → ℕ → ℕ → List CellCall

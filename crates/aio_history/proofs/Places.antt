@@ -1,19 +1,14 @@
 -- The mark of a direction is a place of its past.
 use Rattle.std.proofs.Common.{◌≡◌, ℕ, Bool, true, false, not, ◌&&◌, if◌then◌else◌, List, [], ◌∷◌, Option, Some, None, refl, ap, subst}
 use Rattle.aio_base.specs.declared.names.Dir.{Dir}
-use Rattle.aio_base.specs.declared.names.Dir.TheVariants.{Read, Write}
 use Rattle.aio_base.specs.declared.names.Waker.{Waker}
 use Rattle.aio_base.specs.declared.outcomes.Poll.TheVariants.{Ready, Pending}
 use Rattle.aio_base.specs.Machine.{is_waker}
+use Rattle.aio_base.specs.World.{same_dir}
+use Rattle.aio_base.proofs.DirectionLemmas.{same_dir-eq}
 use Rattle.aio_history.specs.declared.steps.CellStep.{CellStep}
 use Rattle.aio_history.specs.declared.steps.CellStep.TheVariants as step
-use Rattle.aio_history.specs.Histories.{Mark, IsPlace, mark_of, mark_here, one_later, waiter_of, same_dir}
-
-same_dir-is : (d e : Dir) → same_dir d e ≡ true → d ≡ e
-same_dir-is Read Read same = refl
-same_dir-is Read Write same = cc
-same_dir-is Write Read same = cc
-same_dir-is Write Write same = refl
+use Rattle.aio_history.specs.Histories.{Mark, IsPlace, mark_of, mark_here, one_later, waiter_of}
 
 further : (s : CellStep) (past : List CellStep) (dir : Dir) (kept : Option Mark) (mark : Mark)
     → ((m : Mark) → kept ≡ Some m → IsPlace past dir m) → one_later s kept ≡ Some mark → IsPlace (s ∷ past) dir mark
@@ -28,7 +23,7 @@ here : (waker : Waker) (ticker : ℕ) (past : List CellStep) (d dir : Dir) (mark
     → Some (mark_here ticker past) ≡ Some mark → IsPlace (step.Poll d waker ticker Pending ∷ past) dir mark
 here waker ticker past d dir mark same found =
     let e : mark_here ticker past ≡ mark = cc found in
-    let d-is : d ≡ dir = same_dir-is d dir same in
+    let d-is : d ≡ dir = same_dir-eq d dir same in
     subst (λ (k : Mark). IsPlace (step.Poll d waker ticker Pending ∷ past) dir k) {x = mark_here ticker past} e
     (waker, ap (λ (x : Dir). step.Poll x waker ticker Pending ∷ past) d-is)
 

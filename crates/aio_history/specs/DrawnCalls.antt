@@ -1,7 +1,7 @@
 -- The calls that a seed gives for eight sources, by the draws of `Generated`.
 use Rattle.std.specs.Prelude.{ℕ, zero, suc, ◌+◌, ◌%◌, ◌==◌, if◌then◌else◌, List, [], ◌∷◌, length}
 use Rattle.aio_base.specs.Generated.{draw, state_after, dir_drawn}
-use Rattle.aio_base.specs.declared.names.TheConstants.Interest.{BOTH}
+use Rattle.aio_base.specs.declared.names.TheConstants.Interest.{READ_WRITE}
 use Rattle.aio_history.specs.declared.steps.CellCall.{CellCall}
 use Rattle.aio_history.specs.declared.steps.CellCall.TheVariants as call
 
@@ -16,7 +16,7 @@ pub record Drawing : Type 0 where
 abbrev pub call_drawn : ℕ → Drawing
 call_drawn state =
     let cell = draw 0 state % 8 in
-    if draw 1 state % 4 == 0 then record { cell = cell; call = call.Handle BOTH (draw 2 state % 1000); after = state_after 3 state }
+    if draw 1 state % 4 == 0 then record { cell = cell; call = call.Handle READ_WRITE (draw 2 state % 1000); after = state_after 3 state }
     else record { cell = cell; call = call.Poll (dir_drawn (draw 2 state)) (record { 0 = draw 3 state % 64 }) 0; after = state_after 4 state }
 
 -- of so many calls that follow a state those for one source, in order

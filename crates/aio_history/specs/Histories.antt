@@ -2,12 +2,11 @@
 use Rattle.std.specs.Prelude.{◌≡◌, ℕ, Bool, true, false, not, ◌&&◌, nat_lt, if◌then◌else◌, List, [], ◌∷◌, ◌++◌, count_by, Option, None, Some, is_some, ⊤}
 use Rattle.std.specs.List.{list_any, list_all}
 use Rattle.aio_base.specs.declared.names.Dir.{Dir}
-use Rattle.aio_base.specs.declared.names.Dir.TheVariants.{Read, Write}
 use Rattle.aio_base.specs.declared.names.Waker.{Waker}
 use Rattle.aio_base.specs.declared.names.Interest.{Interest}
 use Rattle.aio_base.specs.declared.outcomes.Poll.{Poll}
 use Rattle.aio_base.specs.declared.outcomes.Poll.TheVariants.{Ready, Pending}
-use Rattle.aio_base.specs.World.{directions, has_dir}
+use Rattle.aio_base.specs.World.{directions, same_dir, has_dir}
 use Rattle.aio_base.specs.Machine.{is_waker}
 use Rattle.aio_history.specs.declared.steps.CellCall.{CellCall}
 use Rattle.aio_history.specs.declared.steps.CellCall.TheVariants as call
@@ -15,12 +14,6 @@ use Rattle.aio_history.specs.declared.steps.CellStep.{CellStep}
 use Rattle.aio_history.specs.declared.steps.CellStep.TheVariants as step
 
 -- ## What a past leaves
-
-abbrev pub same_dir : Dir → Dir → Bool
-same_dir Read Read = true
-same_dir Read Write = false
-same_dir Write Read = false
-same_dir Write Write = true
 
 -- The waiter of a direction: the waker of its last poll that was pending, unless an event of the direction was handled since.
 abbrev pub waiter_of : List CellStep → Dir → Option Waker

@@ -3,14 +3,14 @@ use Rattle.std.specs.Prelude.{ℕ, true, false, List, [], ◌∷◌, ⊤}
 use Rattle.aio_base.specs.declared.names.Dir.{Dir}
 use Rattle.aio_base.specs.declared.names.Dir.TheVariants.{Read, Write}
 use Rattle.aio_base.specs.declared.names.Interest.{Interest}
-use Rattle.aio_base.specs.declared.names.TheConstants.Interest.{NONE, BOTH}
+use Rattle.aio_base.specs.declared.names.TheConstants.Interest.{NONE, READ, READ_WRITE}
 use Rattle.aio_base.specs.declared.outcomes.Poll.TheVariants.{Ready, Pending}
 use Rattle.aio_history.specs.declared.steps.CellStep.{CellStep}
 use Rattle.aio_history.specs.declared.steps.CellStep.TheVariants as step
 use Rattle.aio_history.specs.Histories.{Replays}
 
 abbrev reading : Interest
-reading = record { read = true; write = false }
+reading = READ
 
 abbrev waits : Dir → ℕ → ℕ → CellStep
 waits dir waker ticker = step.Poll dir (record { 0 = waker }) ticker Pending
@@ -53,7 +53,7 @@ wrong_pasts =
     -- one waker taken twice
     ∷ (step.Handle reading 2 1 ∷ step.Handle reading 1 1 ∷ waits Read 1 0 ∷ [])
     -- directions counted in place of their waiters
-    ∷ (step.Handle BOTH 1 2 ∷ waits Read 1 0 ∷ [])
+    ∷ (step.Handle READ_WRITE 1 2 ∷ waits Read 1 0 ∷ [])
     -- the waiter of a direction taken that the event does not name
     ∷ (step.Handle NONE 1 1 ∷ waits Read 1 0 ∷ [])
     -- a waiter that was replaced taken too

@@ -55,7 +55,7 @@ impl CellDraws {
         let kind = self.draws.draw() % 4;
         if kind == 0 {
             let round = u64::from(self.draws.draw() % 1000);
-            let on = Interest::BOTH;
+            let on = Interest::READ_WRITE;
             return DrawnCall {
                 cell,
                 call: CellCall::Handle { on, round },

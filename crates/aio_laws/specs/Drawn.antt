@@ -7,7 +7,8 @@ use Rattle.aio_base.specs.declared.steps.Step.{Step}
 use Rattle.aio_base.specs.declared.steps.Step.TheVariants as step
 use Rattle.aio_base.specs.declared.steps.Answer.{Answer}
 use Rattle.aio_base.specs.declared.steps.Answer.TheVariants as answer
-use Rattle.aio_base.specs.World.{Registration, DueFaults, World}
+use Rattle.aio_base.specs.declared.outcomes.DueFaults.{DueFaults}
+use Rattle.aio_base.specs.World.{Registration, World}
 
 -- one more number of a listener was drawn where a listener is told, and of a timer where a timer is told; so no number is left out
 abbrev pub listeners_after : Answer → ℕ → ℕ

@@ -38,7 +38,7 @@ const WAITS_FOR_A_LATER_ROUND: [(Act, Came); 17] = [
     (Poll(Dir::Read, 2, 0), REPLACES),
     (Arms, Armed(1, Interest::READ)),
     (Poll(Dir::Write, 3, 0), WAITS),
-    (Arms, Armed(2, Interest::BOTH)),
+    (Arms, Armed(2, Interest::READ_WRITE)),
     (Look(Dir::Read), Looked(1, 0)),
     (Handle(Interest::READ, 1), Done),
     (Taken, Count(1)),
@@ -61,14 +61,14 @@ const ARMS_WHAT_STILL_WAITS: [(Act, Came); 12] = [
     (Poll(Dir::Write, 2, 0), WAITS),
     (Handle(Interest::NONE, 1), Done),
     (Taken, Count(0)),
-    (Arms, Armed(3, Interest::BOTH)),
-    (Handle(Interest::BOTH, 5), Done),
+    (Arms, Armed(3, Interest::READ_WRITE)),
+    (Handle(Interest::READ_WRITE, 5), Done),
     (Look(Dir::Read), Looked(0, 5)),
     (Asked, Came::Asked(Interest::NONE, false)),
-    (Handle(Interest::BOTH, 3), Done),
+    (Handle(Interest::READ_WRITE, 3), Done),
     (Look(Dir::Read), Looked(0, 5)),
     (Asked, Came::Asked(Interest::NONE, false)),
-    (Arms, Armed(3, Interest::BOTH)),
+    (Arms, Armed(3, Interest::READ_WRITE)),
 ];
 
 #[test]
@@ -114,7 +114,7 @@ const TELLS_A_FAILED_ARM: [(Act, Came); 14] = [
     (Holds(0), Is(true)),
     (Look(Dir::Read), Looked(1, 1)),
     (Poll(Dir::Write, 2, 1), WAITS),
-    (Asked, Came::Asked(Interest::BOTH, false)),
+    (Asked, Came::Asked(Interest::READ_WRITE, false)),
 ];
 
 #[test]

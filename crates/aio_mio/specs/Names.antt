@@ -20,13 +20,14 @@ Watches on (Some interest) =
 
 -- what is watched once a registration succeeded: these directions, or the old ones where it asked for none
 abbrev pub watched_after : Interest → Interest → Interest
-watched_after old on = if names_any on then on else old
+watched_after old on = if names_any on then record on { priority = false } else old
 
 -- the directions that an event names; each is named for its end and for an error too
 abbrev pub told_directions : given.Event → Interest
 told_directions e = record {
   read = is_readable e || is_read_closed e || is_error e;
   write = is_writable e || is_write_closed e || is_error e;
+  priority = false;
 }
 
 -- the event of a source; a number that no key has names none

@@ -1,6 +1,7 @@
 //! A connection over a TCP stream.
 
 ghost use Rattle.std.specs.Prelude.{◌≡◌, ◌≤◌, length, false, true, IsErr, IfOk, OnOk, OnErr};
+ghost use Rattle.aio_base.specs.declared.names.TheConstants.Interest.{NONE};
 ghost use Rattle.aio_base.specs.Devices.{HasCause};
 ghost use Rattle.aio_mio.specs.Answers.{MovesWithin, KeepsOk};
 ghost use Rattle.aio_base.specs.World.{has_dir};
@@ -86,7 +87,7 @@ impl MioConn {
     /// A connection that is not registered, under key 0.
     pub(crate) fn new(stream: TcpStream, selector: Arc<Selector, Global>) -> MioConn
         ensures faults { result.faults ≡ 0 }
-        ensures watched { result.watched ≡ record { read = false; write = false } }
+        ensures watched { result.watched ≡ NONE }
     {
         MioConn {
             stream,
@@ -105,7 +106,7 @@ impl MioConn {
         ensures watched { self.new.watched ≡ self.old.watched }
     {
         self.key = key;
-        self.selector.readiness.set_all(key, Interest::BOTH);
+        self.selector.readiness.set_all(key, Interest::READ_WRITE);
     }
 
     /// Registers the stream under its key, or registers it again, by which the system tells anew what is
@@ -127,14 +128,17 @@ impl MioConn {
             registry.reregister(&mut self.stream, token, watch)
         };
         if registered.is_ok() {
-            self.watched = on;
+            self.watched = Interest {
+                priority: false,
+                ..on
+            };
         }
         registered
     }
 
     /// Takes the registration back, where there is one.
     fn deregister(&mut self) -> io::Result<()>
-        ensures watched { self.new.watched ≡ record { read = false; write = false } }
+        ensures watched { self.new.watched ≡ NONE }
         ensures faults { self.new.faults ≡ self.old.faults }
     {
         if self.watched == Interest::NONE {
@@ -148,10 +152,7 @@ impl MioConn {
     fn watches(&self, dir: Dir) -> bool
         ensures { result ≡ has_dir self.now.watched dir }
     {
-        match dir {
-            Dir::Read => self.watched.read,
-            Dir::Write => self.watched.write,
-        }
+        self.watched.has(dir)
     }
 
     /// Whether the system is to be asked whether something goes over in this direction. It always is where

@@ -29,6 +29,7 @@ fn place_of(key: Key) -> usize {
 struct Flags {
     read: AtomicBool,
     write: AtomicBool,
+    priority: AtomicBool,
 }
 
 impl Flags {
@@ -36,6 +37,7 @@ impl Flags {
         match dir {
             Dir::Read => &self.read,
             Dir::Write => &self.write,
+            Dir::Priority => &self.priority,
         }
     }
 }
@@ -56,6 +58,7 @@ impl Readiness {
             let of_one = Flags {
                 read: AtomicBool::new(true),
                 write: AtomicBool::new(true),
+                priority: AtomicBool::new(true),
             };
             if flags.push(of_one).is_err() {
                 return Err(OutOfMemory);

@@ -2,7 +2,7 @@
 use Rattle.std.specs.Prelude.{◌≡◌, ◌⊎◌, ℕ, ◌+◌, ◌*◌, ◌-◌, ◌<◌, ◌≤◌, Bool, true, false, nat_lt, nat_le, if◌then◌else◌, zero, suc, List, [], ◌∷◌, ◌++◌, length, take, Option, None, Some, IfSome, Result, Ok, Err}
 use Rattle.aio_base.specs.Connections.{Telling, Takes, Joins, IsAtItsEnd}
 use Rattle.aio_base.specs.declared.names.Dir.{Dir}
-use Rattle.aio_base.specs.declared.names.Dir.TheVariants.{Read, Write}
+use Rattle.aio_base.specs.declared.names.Dir.TheVariants.{Read, Write, Priority}
 use Rattle.aio_base.specs.declared.outcomes.CountFault.{CountFault}
 use Rattle.aio_base.specs.declared.outcomes.Poll.{Poll}
 use Rattle.aio_base.specs.declared.outcomes.Poll.TheVariants.{Ready, Pending}
@@ -32,6 +32,7 @@ went_over Read (Reads room w tried bytes ∷ earlier) = went_over Read earlier +
 went_over Read (Writes piece w tried ∷ earlier) = went_over Read earlier
 went_over Write (Reads room w tried bytes ∷ earlier) = went_over Write earlier
 went_over Write (Writes piece w tried ∷ earlier) = went_over Write earlier ++ take (bytes_over tried.answer) piece
+went_over Priority (call ∷ earlier) = went_over Priority earlier
 
 -- what the latest call in this direction answered
 abbrev pub last_answer : Dir → List EndCall → Option (Poll (Result ℕ TryFault))
@@ -40,6 +41,7 @@ last_answer Read (Reads room w tried bytes ∷ earlier) = Some tried.answer
 last_answer Read (Writes piece w tried ∷ earlier) = last_answer Read earlier
 last_answer Write (Reads room w tried bytes ∷ earlier) = last_answer Write earlier
 last_answer Write (Writes piece w tried ∷ earlier) = Some tried.answer
+last_answer Priority (call ∷ earlier) = last_answer Priority earlier
 
 -- the latest call of all answered with this fault, and the fault is of such a call
 abbrev pub EndsIn : TryFault → List EndCall → Type 0

@@ -12,6 +12,7 @@ use std::process::Abort;
 const READING: Interest = Interest {
     read: true,
     write: false,
+    priority: false,
 };
 
 /// The greatest waker, and the greatest round or ticker.
@@ -44,8 +45,8 @@ const HISTORIES: &[&[Told]] = &[
         Waits(Dir::Read, 1, 0),
         Waits(Dir::Write, 2, 0),
         Takes(Interest::NONE, 1, 0),
-        Takes(Interest::BOTH, 1, 2),
-        Takes(Interest::BOTH, 2, 0),
+        Takes(Interest::READ_WRITE, 1, 2),
+        Takes(Interest::READ_WRITE, 2, 0),
         GoesOn(Dir::Write, 2, 5),
         GoesOn(Dir::Read, 3, 5),
         Waits(Dir::Read, 3, 5),
@@ -75,10 +76,10 @@ const HISTORIES: &[&[Told]] = &[
     // The ends of the ranges.
     &[
         Waits(Dir::Write, LAST_WAKER, LAST),
-        Takes(Interest::BOTH, LAST, 1),
+        Takes(Interest::READ_WRITE, LAST, 1),
         Waits(Dir::Write, LAST_WAKER, LAST - 1),
         Waits(Dir::Read, 0, LAST - 1),
-        Takes(Interest::BOTH, LAST, 2),
+        Takes(Interest::READ_WRITE, LAST, 2),
         Waits(Dir::Read, 0, 0),
     ],
 ];

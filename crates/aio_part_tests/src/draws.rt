@@ -17,14 +17,14 @@ const FIRST_CALLS: [DrawnCall; 4] = [
     DrawnCall {
         cell: 4,
         call: CellCall::Handle {
-            on: Interest::BOTH,
+            on: Interest::READ_WRITE,
             round: 378,
         },
     },
     DrawnCall {
         cell: 2,
         call: CellCall::Handle {
-            on: Interest::BOTH,
+            on: Interest::READ_WRITE,
             round: 693,
         },
     },

@@ -296,8 +296,8 @@ const CONNECTIONS: &[Row] = &[
             (Send(1), Done),
             (Watch(4_095, Interest::WRITE), Done),
             (Wait(LONG), Event(4_095, Interest::WRITE)),
-            (Arm(4_095, Interest::BOTH), Done),
-            (Wait(LONG), Event(4_095, Interest::BOTH)),
+            (Arm(4_095, Interest::READ_WRITE), Done),
+            (Wait(LONG), Event(4_095, Interest::READ_WRITE)),
         ],
     },
     Row {

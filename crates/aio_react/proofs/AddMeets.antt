@@ -4,7 +4,6 @@ use Rattle.std.proofs.lemmas.Bool.{cases_eq, ne_eqb}
 use Rattle.std.proofs.lemmas.Bool.Decides.{nat_tests}
 use Rattle.std.proofs.lemmas.List.Elements.{All-push, All-weaker}
 use Rattle.aio_base.specs.declared.names.Dir.{Dir}
-use Rattle.aio_base.specs.declared.names.Dir.TheVariants.{Read, Write}
 use Rattle.aio_base.specs.declared.names.Event.{Event}
 use Rattle.aio_base.specs.declared.names.Key.{Key}
 use Rattle.aio_base.specs.declared.outcomes.Failed.{Failed}
@@ -15,7 +14,9 @@ use Rattle.aio_base.specs.Devices.{Interests, ArmCall, AddOf, Arms, Becomes, Wai
 use Rattle.aio_base.specs.Machine.{Outcome, add, is_live, moved_on, quiet, step_result, hand_of}
 use Rattle.aio_base.specs.Machine as machine
 use Rattle.aio_base.specs.World.{World, ArmedDirection, LiveSource, ListenerEntry, set_armed, is_armed, is_broken, has_dir}
+use Rattle.aio_base.proofs.DirectionLemmas.{none_has}
 use Rattle.aio_source.specs.Rules.{new_direction, new_directions, direction_of}
+use Rattle.aio_source.proofs.DirectionCases.{each_new}
 use Rattle.aio_source.specs.Values.{DirectionValue}
 use Rattle.aio_react.specs.declared.entries.Listener.{Listener}
 use Rattle.aio_react.specs.declared.entries.SourceEntry.{SourceEntry}
@@ -66,17 +67,11 @@ no_serial listeners (Some e) serial broken facts stands none = absurd (cc)
 new_direction_stands : (listeners : List (Option Listener)) (d : DirectionValue) (f : Facts) → f ≡ no_facts → d ≡ new_direction → DirectionStands listeners d f
 new_direction_stands listeners d f nothing fresh = rw (nothing, fresh) (record { waiter_is = refl; tick_is = refl; remembers = tt; entries_are = refl })
 
-each_new : (dir : Dir) → direction_of new_directions dir ≡ new_direction
-each_new Read = refl
-each_new Write = refl
-
 few_new : (bound : ℕ) (dir : Dir) → (direction_of new_directions dir).listeners.drawn ≤ bound
-few_new bound Read = omega arith
-few_new bound Write = omega arith
+few_new bound dir = subst (λ (d : DirectionValue). d.listeners.drawn ≤ bound) (sym (each_new dir)) (omega arith)
 
 none_asked : (key : Key) (dir : Dir) (R : Type 0) → IsTrue (has_dir (new_entry key).source.asked dir) → R
-none_asked key Read R asked = absurd (cc)
-none_asked key Write R asked = absurd (cc)
+none_asked key dir R asked = let has = none_has dir in absurd (cc)
 
 registered : (listeners : List (Option Listener)) (live : List LiveSource) (next : LiveSource) (begun : List ℕ) (l : Option Listener) (entry : Option ListenerEntry)
     → ListenerStands live begun l entry → ListenerStands (live ++ next ∷ []) begun l entry

@@ -5,7 +5,6 @@ use Rattle.std.proofs.lemmas.Bool.{false≢true, eq-eqb, ne_eqb, eqb-true}
 use Rattle.std.proofs.lemmas.List.Folds.{list_any-append}
 use Rattle.std.proofs.lemmas.Map.Views.{any-filter_same}
 use Rattle.aio_base.specs.declared.names.Dir.{Dir}
-use Rattle.aio_base.specs.declared.names.Dir.TheVariants.{Read, Write}
 use Rattle.aio_base.specs.declared.names.Event.{Event}
 use Rattle.aio_base.specs.declared.names.Waker.{Waker}
 use Rattle.aio_base.specs.declared.names.TheConstants.Interest.{NONE}
@@ -21,6 +20,7 @@ use Rattle.aio_base.specs.World.{PollerAnswer, World, BrokenSource, without_brok
 use Rattle.aio_base.specs.World as machine
 use Rattle.aio_base.proofs.BrokenSources.{without_unbroken}
 use Rattle.aio_source.specs.Lent.{ArmsOnce, TellsArmed, arm_of, settled}
+use Rattle.aio_base.proofs.DirectionLemmas.{none_has}
 use Rattle.aio_source.specs.Rules.{wanted}
 use Rattle.aio_react.specs.declared.entries.SourceEntry.{SourceEntry}
 use Rattle.aio_react.specs.Cores.{CoreValue, entry_at}
@@ -111,8 +111,7 @@ broken_here broken b =
 -- ## The arm
 
 pub none_asked : (dir : Dir) → IsTrue (has_dir NONE dir) → (b : Bool) → IsTrue b
-none_asked Read wants b = absurd (false≢true wants)
-none_asked Write wants b = absurd (false≢true wants)
+none_asked dir wants b = absurd (false≢true (sym (none_has dir) ∙ wants))
 
 -- the source armed, within any bound of the past
 pub armed_stands : (bound : ℕ) (told told' : Option Interests) (core : CoreValue) (w : World) (serial : ℕ) (e : SourceEntry)

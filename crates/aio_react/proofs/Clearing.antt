@@ -4,13 +4,13 @@ use Rattle.std.proofs.lemmas.Bool.{cases_eq, ne_eqb, eqb-true, and_parts}
 use Rattle.std.proofs.lemmas.List.Folds.{list_any-append}
 use Rattle.std.proofs.lemmas.Map.Views.{any-filter_same}
 use Rattle.aio_base.specs.declared.names.Dir.{Dir}
-use Rattle.aio_base.specs.declared.names.Dir.TheVariants.{Read, Write}
 use Rattle.aio_base.specs.declared.names.Event.{Event}
 use Rattle.aio_base.specs.declared.names.Interest.{Interest}
 use Rattle.aio_base.specs.declared.names.TheConstants.Interest.{NONE}
 use Rattle.aio_base.specs.Devices.{Interests, Becomes, with_interest, clear_interests}
 use Rattle.aio_base.specs.Moves.{interests_of}
-use Rattle.aio_base.specs.World.{ArmedDirection, same_dir, has_dir, is_armed, set_armed, clear_armed}
+use Rattle.aio_base.proofs.DirectionLemmas.{has_dir-where, where_same}
+use Rattle.aio_base.specs.World.{ArmedDirection, same_dir, has_dir, interest_where, is_armed, set_armed, clear_armed}
 use Rattle.aio_react.specs.declared.entries.SourceEntry.{SourceEntry}
 use Rattle.aio_react.specs.Cores.{entry_at}
 use Rattle.aio_react.specs.Standing.{AgreesWithArmed, AreAsked, is_in_hand}
@@ -27,10 +27,7 @@ unset_is armed key k dir =
     ∙ any-filter_same (λ (a : ArmedDirection). (a.key == k) && same_dir a.dir dir) (λ (a : ArmedDirection). not (a.key == key)) (not (k == key))
     (λ a hit. ap (λ (m : ℕ). not (m == key)) (eqb-true a.key k (and_parts (a.key == k) (same_dir a.dir dir) hit).0)) armed
 
-interest_is : (a b : Interest) → a.read ≡ b.read → a.write ≡ b.write → a ≡ b
-interest_is a b e f = λ i. record { read = e i; write = f i }
-
-either_interest : (hit : Bool) (on : Interest) → (if hit then NONE else on) ≡ record { read = not hit && on.read; write = not hit && on.write }
+either_interest : (hit : Bool) (on : Interest) → (if hit then NONE else on) ≡ interest_where (λ dir. not hit && has_dir on dir)
 either_interest true on = refl
 either_interest false on = refl
 
@@ -38,8 +35,9 @@ pub unset_tells : (interests : Interests) (armed : List ArmedDirection) (key : �
     → (k : ℕ) → with_interest key NONE interests k ≡ interests_of (set_armed armed key []) k
 unset_tells interests armed key tells k =
     either_interest (k == key) (interests k)
-    ∙ ap (λ (on : Interest). record { read = not (k == key) && on.read; write = not (k == key) && on.write }) (tells k)
-    ∙ interest_is _ _ (sym (unset_is armed key k Read)) (sym (unset_is armed key k Write))
+    ∙ ap (λ (on : Interest). interest_where (λ dir. not (k == key) && has_dir on dir)) (tells k)
+    ∙ where_same (λ dir. not (k == key) && has_dir (interests_of armed k) dir) (is_armed (set_armed armed key []) k)
+    (λ dir. ap (λ (has : Bool). not (k == key) && has) (has_dir-where (is_armed armed k) dir) ∙ sym (unset_is armed key k dir))
 
 cleared_tells : (events : List Event) (interests : Interests) (armed : List ArmedDirection) → ((k : ℕ) → interests k ≡ interests_of armed k)
     → (k : ℕ) → clear_interests events interests k ≡ interests_of (clear_armed armed events) k

@@ -5,13 +5,13 @@ use Rattle.std.specs.List.{All, Contains, list_any, cons_option}
 use Rattle.std.specs.Option.{option_map_or}
 use Rattle.std.proofs.lemmas.List.Elements.{All-contains}
 use Rattle.aio_base.specs.declared.names.Dir.{Dir}
-use Rattle.aio_base.specs.declared.names.Dir.TheVariants.{Read, Write}
 use Rattle.aio_base.specs.declared.names.Waker.{Waker}
 use Rattle.aio_base.specs.Rounds.{rounds_at, last_tick, AllBegun}
 use Rattle.aio_base.specs.World.{World, HandledDirection, ListenerEntry, is_of, is_fresh, mark_of, same_dir, has_dir, is_empty_list, listener_wakers}
 use Rattle.aio_base.specs.World as machine
 use Rattle.aio_base.specs.Machine.{is_fresh_since}
 use Rattle.aio_base.proofs.FreshnessLemmas.{is_fresh-remembered}
+use Rattle.aio_base.proofs.DirectionLemmas.{among_passing, has_dir-where}
 use Rattle.aio_base.proofs.Membership.{first_is_in, later_is_in}
 use Rattle.aio_listen.specs.declared.ticket.Ticket.{Ticket}
 use Rattle.aio_listen.specs.Listening.{wakers_of}
@@ -86,20 +86,10 @@ idle_stands listeners d w serial dir holds stands = ap (λ (ws : List Waker). is
 
 -- ## What the waiters want
 
-both_wanted : (write read : Bool) (dir : Dir)
-    → list_any (λ d. same_dir d dir) (if write then Write ∷ (if read then Read ∷ [] else []) else (if read then Read ∷ [] else [])) ≡ has_dir (record { read = read; write = write }) dir
-both_wanted true true Read = refl
-both_wanted true true Write = refl
-both_wanted true false Read = refl
-both_wanted true false Write = refl
-both_wanted false true Read = refl
-both_wanted false true Write = refl
-both_wanted false false Read = refl
-both_wanted false false Write = refl
-
 -- the world's waiters of a source want the interest that the source wants
 pub wanted_stands : (listeners : List (Option Listener)) (s : SourceValue) (w : World) (serial : ℕ) (broken : Bool) → OnlyPolledHold w.listeners
     → SourceStands listeners s broken (facts_in w serial) → (dir : Dir) → list_any (λ d. same_dir d dir) (machine.wanted w serial) ≡ has_dir (source.wanted s.directions) dir
 wanted_stands listeners s w serial broken holds stands dir =
-    rw (idle_stands listeners s.directions.write w serial Write holds (stands.each Write), idle_stands listeners s.directions.read w serial Read holds (stands.each Read))
-    (both_wanted (not (source.is_idle s.directions.write)) (not (source.is_idle s.directions.read)) dir)
+    among_passing (λ d. not (machine.is_idle w serial d)) dir _ refl
+    ∙ ap not (idle_stands listeners (direction_of s.directions dir) w serial dir holds (stands.each dir))
+    ∙ sym (has_dir-where (λ d. not (source.is_idle (direction_of s.directions d))) dir)

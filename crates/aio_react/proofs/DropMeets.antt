@@ -3,7 +3,6 @@ use Rattle.std.proofs.Common.{◌≡◌, ◌≢◌, ℕ, ◌+◌, ◌-◌, ◌�
 use Rattle.std.proofs.lemmas.Bool.{cases_eq, eq-eqb, ne_eqb, true≢false}
 use Rattle.std.proofs.lemmas.List.Elements.{All-filter}
 use Rattle.aio_base.specs.declared.names.Dir.{Dir}
-use Rattle.aio_base.specs.declared.names.Dir.TheVariants.{Read, Write}
 use Rattle.aio_base.specs.declared.names.Waker.{Waker}
 use Rattle.aio_base.specs.declared.steps.Answer.TheVariants as replies
 use Rattle.aio_base.specs.declared.steps.Step.TheVariants as step
@@ -16,7 +15,8 @@ use Rattle.aio_base.proofs.Searching.{without_found}
 use Rattle.aio_listen.specs.declared.ticket.Ticket.{Ticket}
 use Rattle.aio_listen.specs.Tickets.{same_ticket}
 use Rattle.aio_source.specs.Rules.{direction_of, with_source_direction, without_listener}
-use Rattle.aio_source.specs.Values.{DirectionValue, SourceValue}
+use Rattle.aio_source.proofs.DirectionCases.{put_itself}
+use Rattle.aio_source.specs.Values.{DirectionValue, DirectionValues, SourceValue}
 use Rattle.aio_source.specs.declared.answers.Listened.{Listened}
 use Rattle.aio_react.specs.declared.entries.Listener.{Listener}
 use Rattle.aio_react.specs.declared.entries.SourceEntry.{SourceEntry}
@@ -42,8 +42,7 @@ left_direction d None = d
 left_direction d (Some first) = without_listener first.ticket d
 
 same_direction : (s : SourceValue) (dir : Dir) → s ≡ with_source_direction s dir (direction_of s.directions dir)
-same_direction s Read = refl
-same_direction s Write = refl
+same_direction s dir = sym (ap (λ (ds : DirectionValues). record s { directions = ds }) (put_itself s.directions dir))
 
 left_is : (s : SourceValue) (dir : Dir) (first : Option Listened) → left_by s dir first ≡ with_source_direction s dir (left_direction (direction_of s.directions dir) first)
 left_is s dir None = same_direction s dir

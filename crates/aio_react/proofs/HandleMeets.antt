@@ -3,7 +3,6 @@ use Rattle.std.proofs.Common.{◌≡◌, ℕ, Bool, true, false, not, ◌||◌, 
 use Rattle.std.specs.Option.{option_or}
 use Rattle.std.proofs.lemmas.Bool.{false≢true}
 use Rattle.aio_base.specs.declared.names.Event.{Event}
-use Rattle.aio_base.specs.declared.names.Dir.TheVariants.{Read, Write}
 use Rattle.aio_base.specs.declared.names.Interest.{Interest}
 use Rattle.aio_base.specs.declared.names.Key.{Key}
 use Rattle.aio_base.specs.declared.names.Waker.{Waker}
@@ -21,7 +20,10 @@ use Rattle.aio_base.specs.Moves.{answer_of}
 use Rattle.aio_base.specs.World.{PollerAnswer, World, RoundState, LiveSource, directions, directions_of, has_dir, is_empty_list, serial_of, is_broken}
 use Rattle.aio_base.specs.World as machine
 use Rattle.aio_source.specs.Lent.{ArmsOnce, TellsArmed, arm_of, settled, arm_answer}
-use Rattle.aio_source.specs.Rules.{Prepared, has_any, wanted, handled_along}
+use Rattle.std.specs.List.{list_any}
+use Rattle.aio_base.specs.declared.names.Dir.{Dir}
+use Rattle.aio_base.proofs.DirectionLemmas.{has_dir-where, none_passing}
+use Rattle.aio_source.specs.Rules.{Prepared, has_any, wanted, direction_of, handled_along}
 use Rattle.aio_source.specs.Rules as source
 use Rattle.aio_source.specs.Values.{SourceValue}
 use Rattle.aio_react.specs.declared.entries.SourceEntry.{SourceEntry}
@@ -116,22 +118,16 @@ arm_fault_is None fault = refl
 arm_fault_is (Some (Wait kept)) fault = refl
 arm_fault_is (Some (Arm kept)) fault = refl
 
-none_wanted : (write read : Bool) → is_empty_list (if write then Write ∷ (if read then Read ∷ [] else []) else (if read then Read ∷ [] else [])) ≡ not (write || (read || false))
-none_wanted true read = refl
-none_wanted false true = refl
-none_wanted false false = refl
-
 -- a source is armed again exactly where a waiter is left
 wants_any : (bound : ℕ) (told : Option Interests) (core : CoreValue) (w : World) (serial : ℕ) (e : SourceEntry) → StandsWithin bound told core w
     → entry_at core.sources e.source.key.0 ≡ Some e → serial_in w.live e.source.key.0 ≡ Some serial
     → is_empty_list (machine.wanted w serial) ≡ not (has_any (wanted e.source.directions))
 wants_any bound told core w serial e stands is found =
     let before = source_found core w e.source.key.0 serial e stands.sources is found in
-    rw (
-      idle_stands core.listeners e.source.directions.write w serial Write stands.sound.listeners.only_polled_hold (before.each Write),
-      idle_stands core.listeners e.source.directions.read w serial Read stands.sound.listeners.only_polled_hold (before.each Read),
-    )
-    (none_wanted (not (source.is_idle e.source.directions.write)) (not (source.is_idle e.source.directions.read)))
+    none_passing (λ d. not (machine.is_idle w serial d)) directions
+    ∙ ap (λ (test : Dir → Bool). not (list_any test directions)) (λ i d.
+    (ap not (idle_stands core.listeners (direction_of e.source.directions d) w serial d stands.sound.listeners.only_polled_hold (before.each d))
+    ∙ sym (has_dir-where (λ d. not (source.is_idle (direction_of e.source.directions d))) d)) i)
 
 abbrev armed_again : World → RoundState → Key → ℕ → List PollerAnswer → Outcome
 armed_again w round key serial answers =

@@ -2,7 +2,6 @@
 use Rattle.std.proofs.Common.{◌≡◌, ◌≢◌, ℕ, zero, suc, ◌+◌, Bool, if◌then◌else◌, ◌==◌, List, [], ◌∷◌, length, slice_set, slice_index_or, Option, None, Some, IfSome, option_map, refl, sym, ap, ◌∙◌, subst, arith, ⊎_elim}
 use Rattle.std.proofs.lemmas.Bool.{cases_eq, eq-eqb, ne_eqb}
 use Rattle.aio_base.specs.declared.names.Dir.{Dir}
-use Rattle.aio_base.specs.declared.names.Dir.TheVariants.{Read, Write}
 use Rattle.aio_base.specs.declared.names.Key.{Key}
 use Rattle.aio_base.proofs.Searching.{false_unless}
 use Rattle.aio_listen.specs.declared.ticket.Ticket.{Ticket}
@@ -11,6 +10,7 @@ use Rattle.aio_listen.specs.Tickets.{same_ticket}
 use Rattle.aio_listen.proofs.ListeningLaws.{has_ticket-without_other}
 use Rattle.aio_listen.proofs.TicketLemmas.{same_ticket-true}
 use Rattle.aio_source.specs.Rules.{direction_of, with_direction, without_listener}
+use Rattle.aio_source.proofs.DirectionCases.{each_put}
 use Rattle.aio_source.specs.Values.{DirectionValues, SourceValue}
 use Rattle.aio_source.specs.declared.answers.Listened.{Listened}
 use Rattle.aio_react.specs.declared.entries.Listener.{Listener}
@@ -178,12 +178,11 @@ own_tickets l m ticket own keys dirs is =
 
 holds_without : (ds : DirectionValues) (dir d : Dir) (ticket other : Ticket) → (dir ≡ d → other ≢ ticket) → Holds (direction_of ds d).listeners.entries other
     → Holds (direction_of (with_direction ds dir (without_listener ticket (direction_of ds dir))) d).listeners.entries other
-holds_without ds Read Read ticket other apart held =
-    has_ticket-without_other ds.read.listeners.entries ticket other (false_unless (same_ticket ticket other) (λ same. apart refl (sym (same_ticket-true ticket other same)))) ∙ held
-holds_without ds Read Write ticket other apart held = held
-holds_without ds Write Read ticket other apart held = held
-holds_without ds Write Write ticket other apart held =
-    has_ticket-without_other ds.write.listeners.entries ticket other (false_unless (same_ticket ticket other) (λ same. apart refl (sym (same_ticket-true ticket other same)))) ∙ held
+holds_without ds dir d ticket other =
+    each_put (λ d v. (dir ≡ d → other ≢ ticket) → Holds (direction_of ds d).listeners.entries other → Holds v.listeners.entries other) ds dir
+    (without_listener ticket (direction_of ds dir))
+    (λ apart held. has_ticket-without_other (direction_of ds dir).listeners.entries ticket other
+    (false_unless (same_ticket ticket other) (λ same. apart refl (sym (same_ticket-true ticket other same)))) ∙ held) (λ d aside apart held. held) d
 
 ticket_stays : (s : SourceValue) (dir d : Dir) (first : Option Listened) (other : Option Ticket)
     → (dir ≡ d → IfSome first (λ (f : Listened). other ≢ Some f.ticket))

@@ -2,7 +2,6 @@
 use Rattle.std.proofs.Common.{◌≡◌, ◌≢◌, ℕ, Bool, true, false, if◌then◌else◌, List, [], ◌∷◌, slice_set, Option, None, Some, IfSome, Result, refl, sym, ap, ◌∙◌, subst, ⊎_elim}
 use Rattle.std.proofs.lemmas.Bool.{cases_eq}
 use Rattle.aio_base.specs.declared.names.Dir.{Dir}
-use Rattle.aio_base.specs.declared.names.Dir.TheVariants.{Read, Write}
 use Rattle.aio_base.specs.declared.names.Interest.{Interest}
 use Rattle.aio_base.specs.declared.names.Key.{Key}
 use Rattle.aio_base.specs.declared.names.Waker.{Waker}
@@ -13,6 +12,7 @@ use Rattle.aio_listen.specs.declared.ticket.Ticket.{Ticket}
 use Rattle.aio_listen.specs.Listening.{Holds, Listening}
 use Rattle.aio_listen.proofs.ListeningLaws.{has_ticket-emptied}
 use Rattle.aio_source.specs.Lent.{settled}
+use Rattle.aio_source.proofs.DirectionCases.{each_put}
 use Rattle.aio_source.specs.Rules.{Polling, polling, is_ready, seen, stored, direction_of, with_direction, handled, handled_in, handled_along, handling}
 use Rattle.aio_source.specs.Values.{DirectionValues, SourceValue}
 use Rattle.aio_react.specs.declared.entries.Listener.{Listener}
@@ -110,11 +110,10 @@ listed_again sources listeners key e new is keeps count listed = listed_on sourc
 handled_holds : (number : ℕ) (dir : Dir) (ds : DirectionValues) (here : Bool) (d : Dir) (ticket : Ticket)
     → Holds (direction_of ds d).listeners.entries ticket
     → Holds (direction_of (if here then with_direction ds dir (handled number (direction_of ds dir)) else ds) d).listeners.entries ticket
-handled_holds number dir ds false d ticket held = held
-handled_holds number Read ds true Read ticket held = has_ticket-emptied ds.read.listeners.entries ticket ∙ held
-handled_holds number Read ds true Write ticket held = held
-handled_holds number Write ds true Read ticket held = held
-handled_holds number Write ds true Write ticket held = has_ticket-emptied ds.write.listeners.entries ticket ∙ held
+handled_holds number dir ds false d ticket = λ held. held
+handled_holds number dir ds true d ticket =
+    each_put (λ d v. Holds (direction_of ds d).listeners.entries ticket → Holds v.listeners.entries ticket) ds dir (handled number (direction_of ds dir))
+    (λ held. has_ticket-emptied (direction_of ds dir).listeners.entries ticket ∙ held) (λ d other held. held) d
 
 along_holds : (on : Interest) (number : ℕ) (dirs : List Dir) (ds : DirectionValues) (d : Dir) (ticket : Ticket) → Holds (direction_of ds d).listeners.entries ticket
     → Holds (direction_of (handled_along on number dirs ds) d).listeners.entries ticket

@@ -37,6 +37,7 @@ mod TakenFacts
 pub mod Taking
 mod PartMeets
 mod RoundMoves
+mod HandleLent
 mod HandleMeets
 mod PartRows
 mod HandleRows

@@ -3,13 +3,13 @@ use Rattle.std.proofs.Common.{◌≡◌, ◌≢◌, ℕ, ◌≤◌, Bool, true, 
 use Rattle.std.specs.List.{All, Contains}
 use Rattle.std.proofs.lemmas.Bool.{cases_eq, false≢true}
 use Rattle.aio_base.specs.declared.names.Dir.{Dir}
-use Rattle.aio_base.specs.declared.names.Dir.TheVariants.{Read, Write}
 use Rattle.aio_base.specs.Devices.{Interests}
 use Rattle.aio_base.specs.Machine.{is_listener, hand_of}
 use Rattle.aio_base.specs.World.{World, ListenerEntry, is_armed, is_broken, is_of, has_dir}
 use Rattle.aio_base.proofs.Membership.{filtered_is_in, filtered_passes}
 use Rattle.aio_base.proofs.WaiterLemmas.{is_of-eq, is_of-from}
 use Rattle.aio_source.specs.Rules.{direction_of, with_direction, with_source_direction}
+use Rattle.aio_source.proofs.DirectionCases.{each_put}
 use Rattle.aio_source.specs.Values.{DirectionValue, DirectionValues}
 use Rattle.aio_react.specs.declared.entries.Listener.{Listener}
 use Rattle.aio_react.specs.declared.entries.SourceEntry.{SourceEntry}
@@ -91,10 +91,8 @@ place_on listeners listeners' (Some e) (Some n) broken facts facts' each stands 
 
 few_direction : (bound : ℕ) (ds : DirectionValues) (dir : Dir) (new : DirectionValue) (d : Dir) → new.listeners.drawn ≤ bound → (direction_of ds d).listeners.drawn ≤ bound
     → (direction_of (with_direction ds dir new) d).listeners.drawn ≤ bound
-few_direction bound ds Read new Read here old = here
-few_direction bound ds Read new Write here old = old
-few_direction bound ds Write new Read here old = old
-few_direction bound ds Write new Write here old = here
+few_direction bound ds dir new d here =
+    each_put (λ d v. (direction_of ds d).listeners.drawn ≤ bound → v.listeners.drawn ≤ bound) ds dir new (λ old. here) (λ d other old. old) d
 
 -- ## The whole
 

@@ -5,11 +5,11 @@ use Rattle.std.proofs.lemmas.Bool.{cases_eq, eq-eqb, ne_eqb, eqb-true, and_parts
 use Rattle.std.proofs.lemmas.List.Folds.{list_any-append}
 use Rattle.std.proofs.lemmas.Map.Views.{any-filter_same}
 use Rattle.aio_base.specs.declared.names.Dir.{Dir}
-use Rattle.aio_base.specs.declared.names.Dir.TheVariants.{Read, Write}
 use Rattle.aio_base.specs.declared.names.Interest.{Interest}
 use Rattle.aio_base.specs.declared.names.Key.{Key}
 use Rattle.aio_base.specs.Devices.{Interests, ArmCall, ArmOf, Arms, with_interest}
 use Rattle.aio_base.specs.Moves.{interests_of}
+use Rattle.aio_base.proofs.DirectionLemmas.{where_same}
 use Rattle.aio_base.specs.World.{ArmedDirection, same_dir, has_dir, is_armed, set_armed}
 use Rattle.aio_react.specs.Standing.{AgreesWithArmed}
 
@@ -54,13 +54,10 @@ armed_aside armed key dirs k dir apart =
     ∙ ap (λ (same : Bool). is_armed armed k dir || (same && list_any (λ d. same_dir d dir) dirs)) (ne_eqb key k (λ (e : key ≡ k). apart (sym e)))
     ∙ or_false (is_armed armed k dir)
 
-interest_is : (a b : Interest) → a.read ≡ b.read → a.write ≡ b.write → a ≡ b
-interest_is a b e f = λ i. record { read = e i; write = f i }
-
 interests_here : (armed : List ArmedDirection) (key : ℕ) (dirs : List Dir) (on : Interest) → ((dir : Dir) → list_any (λ d. same_dir d dir) dirs ≡ has_dir on dir)
     → on ≡ interests_of (set_armed armed key dirs) key
 interests_here armed key dirs on wants =
-    interest_is on (interests_of (set_armed armed key dirs) key) (sym (armed_here armed key dirs Read ∙ wants Read)) (sym (armed_here armed key dirs Write ∙ wants Write))
+    where_same (has_dir on) (is_armed (set_armed armed key dirs) key) (λ dir. sym (armed_here armed key dirs dir ∙ wants dir))
 
 interests_are : (armed : List ArmedDirection) (key : ℕ) (dirs : List Dir) (on : Interest) → ((dir : Dir) → list_any (λ d. same_dir d dir) dirs ≡ has_dir on dir)
     → (k : ℕ) → with_interest key on (interests_of armed) k ≡ interests_of (set_armed armed key dirs) k
@@ -68,7 +65,7 @@ interests_are armed key dirs on wants k =
     ⊎_elim
     (λ (same : k ≡ key). rw (same, eq-eqb key key refl) (interests_here armed key dirs on wants))
     (λ (apart : k ≢ key). ap (λ (same : Bool). if same then on else interests_of armed k) (ne_eqb k key apart)
-    ∙ interest_is (interests_of armed k) (interests_of (set_armed armed key dirs) k) (sym (armed_aside armed key dirs k Read apart)) (sym (armed_aside armed key dirs k Write apart)))
+    ∙ where_same (is_armed armed k) (is_armed (set_armed armed key dirs) k) (λ dir. sym (armed_aside armed key dirs k dir apart)))
     (cases_eq k key)
 
 -- what a poller tells once it was armed

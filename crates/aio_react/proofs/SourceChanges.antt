@@ -5,13 +5,13 @@ use Rattle.std.proofs.lemmas.Bool.{false≢true, cases_eq, eq-eqb, eqb-true}
 use Rattle.std.proofs.lemmas.List.Elements.{All-contains}
 use Rattle.std.proofs.lemmas.Map.Keys.{IsDistinct-head, IsDistinct-tail}
 use Rattle.aio_base.specs.declared.names.Dir.{Dir}
-use Rattle.aio_base.specs.declared.names.Dir.TheVariants.{Read, Write}
 use Rattle.aio_base.specs.Devices.{Interests}
 use Rattle.aio_base.specs.Machine.{hand_of}
 use Rattle.aio_base.specs.World.{World, LiveSource, PollWaiter, Mark, BrokenSource, ArmedDirection, is_armed, is_broken, has_dir, same_dir}
 use Rattle.aio_base.proofs.Membership.{none_is_in, among_cases, found_is_in, image_is_in}
 use Rattle.aio_source.specs.Values.{DirectionValue, DirectionValues, SourceValue}
 use Rattle.aio_source.specs.Rules.{direction_of, with_direction, with_source_direction}
+use Rattle.aio_source.proofs.DirectionCases.{each_put}
 use Rattle.aio_react.specs.declared.entries.Listener.{Listener}
 use Rattle.aio_react.specs.declared.entries.SourceEntry.{SourceEntry}
 use Rattle.aio_react.specs.Cores.{CoreValue, entry_at}
@@ -235,12 +235,9 @@ source_changes bound told told' core w key serial e new waiters marks broken arm
 
 pub one_direction : (listeners : List (Option Listener)) (facts : Dir → Facts) (ds : DirectionValues) (dir : Dir) (new : DirectionValue) → DirectionStands listeners new (facts dir)
     → ((d : Dir) → same_dir d dir ≡ false → DirectionStands listeners (direction_of ds d) (facts d)) → (d : Dir) → DirectionStands listeners (direction_of (with_direction ds dir new) d) (facts d)
-one_direction listeners facts ds Read new here apart Read = here
-one_direction listeners facts ds Read new here apart Write = apart Write refl
-one_direction listeners facts ds Write new here apart Read = apart Read refl
-one_direction listeners facts ds Write new here apart Write = here
+one_direction listeners facts ds dir new here apart = each_put (λ d v. DirectionStands listeners v (facts d)) ds dir new here apart
 
--- one direction of a source changes, and the other as before
+-- one direction of a source changes, and each other one stays
 pub direction_changes : (listeners : List (Option Listener)) (s : SourceValue) (broken : Bool) (facts facts' : Dir → Facts) (dir : Dir) (new : DirectionValue) → SourceStands listeners s broken facts
     → DirectionStands listeners new (facts' dir) → ((d : Dir) → same_dir d dir ≡ false → facts' d ≡ facts d) → SourceStands listeners (with_source_direction s dir new) broken facts'
 direction_changes listeners s broken facts facts' dir new stands here apart = record {
@@ -249,7 +246,4 @@ direction_changes listeners s broken facts facts' dir new stands here apart = re
 }
 
 pub keeps_listeners : (s : SourceValue) (dir : Dir) (new : DirectionValue) → new.listeners ≡ (direction_of s.directions dir).listeners → KeepsListeners s (with_source_direction s dir new)
-keeps_listeners s Read new same Read = same
-keeps_listeners s Read new same Write = refl
-keeps_listeners s Write new same Read = refl
-keeps_listeners s Write new same Write = same
+keeps_listeners s dir new same = each_put (λ d v. v.listeners ≡ (direction_of s.directions d).listeners) s.directions dir new same (λ d other. refl)

@@ -2,7 +2,6 @@
 use Rattle.std.proofs.Common.{◌≡◌, ◌≢◌, ℕ, ◌-◌, ◌^◌, Bool, true, false, if◌then◌else◌, ◌||◌, ◌&&◌, is_none, List, slice_set, Option, None, Some, IfSome, Result, Ok, Err, IsErrOf, refl, sym, ap, ◌∙◌, subst, ⊎_elim}
 use Rattle.std.proofs.lemmas.Bool.{cases_eq, ne_eqb}
 use Rattle.aio_base.specs.declared.names.Dir.{Dir}
-use Rattle.aio_base.specs.declared.names.Dir.TheVariants.{Read, Write}
 use Rattle.aio_base.specs.declared.names.Key.{Key}
 use Rattle.aio_base.specs.declared.names.Waker.{Waker}
 use Rattle.aio_base.specs.declared.outcomes.ArmFault.{ArmFault}
@@ -16,6 +15,7 @@ use Rattle.aio_listen.proofs.ListeningLaws.{has_ticket-added, Holds-added, has_t
 use Rattle.aio_source.specs.Answers.{poll_answer, armed_first, listened_in, ticket_in}
 use Rattle.aio_base.specs.Devices.{ArmCall}
 use Rattle.aio_source.specs.Lent.{ArmsOnce, arm_of, settled}
+use Rattle.aio_source.proofs.DirectionCases.{each_put, direction_put}
 use Rattle.aio_source.specs.Rules.{Polling, polling_again, listening_first, is_above, listening, listening_again, direction_of, with_direction, with_source_direction}
 use Rattle.aio_source.specs.Values.{DirectionValue, DirectionValues, SourceValue}
 use Rattle.aio_source.specs.declared.answers.Listened.{Listened}
@@ -39,10 +39,8 @@ KeepsTickets s new = (dir : Dir) (ticket : Ticket) → Holds (direction_of s.dir
 
 changed_keeps : (s : SourceValue) (dir : Dir) (d : DirectionValue) → ((ticket : Ticket) → Holds (direction_of s.directions dir).listeners.entries ticket → Holds d.listeners.entries ticket)
     → KeepsTickets s (with_source_direction s dir d)
-changed_keeps s Read d each Read ticket held = each ticket held
-changed_keeps s Read d each Write ticket held = held
-changed_keeps s Write d each Read ticket held = held
-changed_keeps s Write d each Write ticket held = each ticket held
+changed_keeps s dir d each =
+    each_put (λ e v. (ticket : Ticket) → Holds (direction_of s.directions e).listeners.entries ticket → Holds v.listeners.entries ticket) s.directions dir d each (λ e other ticket held. held)
 
 either_keeps : (s : SourceValue) (test : Bool) (a b : Polling) → KeepsTickets s a.source → KeepsTickets s b.source → KeepsTickets s (if test then a else b).source
 either_keeps s true a b first second = first
@@ -70,10 +68,6 @@ first_keeps s dir ticket waker =
     let d = direction_of s.directions dir in
     changed_keeps s dir (listening ticket waker d)
     (λ other held. has_ticket-added d.listeners.entries ticket (Some waker) other ∙ ap (λ (b : Bool). b || same_ticket ticket other) held)
-
-direction_put : (ds : DirectionValues) (dir : Dir) (d : DirectionValue) → direction_of (with_direction ds dir d) dir ≡ d
-direction_put ds Read d = refl
-direction_put ds Write d = refl
 
 -- ## The listeners of the source
 

@@ -4,7 +4,6 @@ use Rattle.std.specs.List.{All, IsDistinct}
 use Rattle.std.proofs.lemmas.Bool.{cases_eq}
 use Rattle.std.proofs.lemmas.List.Elements.{All-map, All-weaker}
 use Rattle.aio_base.specs.declared.names.Dir.{Dir}
-use Rattle.aio_base.specs.declared.names.Dir.TheVariants.{Read, Write}
 use Rattle.aio_base.specs.declared.names.Interest.{Interest}
 use Rattle.aio_base.specs.declared.names.Waker.{Waker}
 use Rattle.aio_base.specs.Devices.{Interests}
@@ -13,6 +12,7 @@ use Rattle.aio_base.specs.Rounds.{rounds_at, HasBegun, AllBegun}
 use Rattle.aio_base.specs.World.{World, LiveSource, ListenerEntry, HandledDirection, is_of, is_armed, is_broken, has_dir}
 use Rattle.aio_base.proofs.Searching.{mapped_found}
 use Rattle.aio_source.specs.Rules.{direction_of, with_source_direction, handled_along, taken_along}
+use Rattle.aio_source.proofs.DirectionCases.{each_put}
 use Rattle.aio_source.specs.Rules as source
 use Rattle.aio_source.specs.Values.{SourceValue, DirectionValues}
 use Rattle.aio_react.specs.declared.entries.Listener.{Listener}
@@ -89,10 +89,8 @@ abbrev source_taken : SourceValue → Dir → ℕ → SourceValue
 source_taken s dir number = with_source_direction s dir (source.handled number (direction_of s.directions dir))
 
 drawn_same : (s : SourceValue) (dir : Dir) (number : ℕ) (d : Dir) → (direction_of (source_taken s dir number).directions d).listeners.drawn ≡ (direction_of s.directions d).listeners.drawn
-drawn_same s Read number Read = refl
-drawn_same s Read number Write = refl
-drawn_same s Write number Read = refl
-drawn_same s Write number Write = refl
+drawn_same s dir number =
+    each_put (λ d v. v.listeners.drawn ≡ (direction_of s.directions d).listeners.drawn) s.directions dir (source.handled number (direction_of s.directions dir)) refl (λ d other. refl)
 
 asked_place : (place : Option SourceEntry) (e new : SourceEntry) (armed hand : Bool) (dir : Dir) → place ≡ Some e → new.source.asked ≡ e.source.asked
     → IfSome place (λ (e : SourceEntry). IsTrue (has_dir e.source.asked dir) → IsTrue (armed || hand))

@@ -76,8 +76,10 @@ abbrev pub opened_by : ℕ → ℕ → ℕ → ℕ → Seat
 opened_by kind key place early =
     if kind == 1 then seat.Unpolled dir.Read key else
     if kind == 2 then seat.Unpolled dir.Write key else
-    if kind == 3 then seat.Polled dir.Read key place early else
-    if kind == 4 then seat.Polled dir.Write key place early else
+    if kind == 3 then seat.Unpolled dir.Priority key else
+    if kind == 4 then seat.Polled dir.Read key place early else
+    if kind == 5 then seat.Polled dir.Write key place early else
+    if kind == 6 then seat.Polled dir.Priority key place early else
     seat.Gone
 
 -- the seat that lies in eight bytes

@@ -38,7 +38,7 @@ pub(crate) enum Seat {
 #[derive(Clone, Copy)]
 struct PackedSeat {
     place: u32,
-    /// Eight times the key, and 1 or 2 of a listener that was not polled, 3 or 4 of one that was.
+    /// Eight times the key, and 1 to 3 of a listener that was not polled, 4 to 6 of one that was.
     code: u16,
     early: u16,
 }
@@ -70,14 +70,24 @@ impl PackedSeat {
                 dir: Dir::Write,
                 key,
             },
-            3 => Seat::Polled {
+            3 => Seat::Unpolled {
+                dir: Dir::Priority,
+                key,
+            },
+            4 => Seat::Polled {
                 dir: Dir::Read,
                 key,
                 place: self.place,
                 early: self.early,
             },
-            4 => Seat::Polled {
+            5 => Seat::Polled {
                 dir: Dir::Write,
+                key,
+                place: self.place,
+                early: self.early,
+            },
+            6 => Seat::Polled {
+                dir: Dir::Priority,
                 key,
                 place: self.place,
                 early: self.early,
@@ -270,6 +280,7 @@ fn seat_of(listener: Listener) -> PackedSeat
             let kind = match listener.dir {
                 Dir::Read => 1,
                 Dir::Write => 2,
+                Dir::Priority => 3,
             };
             PackedSeat {
                 place: 0,
@@ -279,8 +290,9 @@ fn seat_of(listener: Listener) -> PackedSeat
         }
         Some(first) => {
             let kind = match listener.dir {
-                Dir::Read => 3,
-                Dir::Write => 4,
+                Dir::Read => 4,
+                Dir::Write => 5,
+                Dir::Priority => 6,
             };
             PackedSeat {
                 place: first.ticket.place,

@@ -361,7 +361,7 @@ fn make_room(taken: &mut Vec<Waker>, s: &SourceState) -> Result<(), OutOfMemory>
     ensures room { OnOk result (vec_len taken.new
         + length (waiters_in directions s.now.directions) ≤ vec_capacity taken.new) }
 {
-    if s.is_only_polled() && taken.capacity() - taken.len() >= 2 {
+    if s.is_only_polled() && taken.capacity() - taken.len() >= DIRS.len() {
         return Ok(());
     }
     match count_waiters(s) {

@@ -7,15 +7,17 @@ use Rattle.std.proofs.lemmas.Bool.Decides.{nat_tests}
 use Rattle.std.proofs.lemmas.List.{reverse-append}
 use Rattle.aio_base.specs.declared.names.Key.{Key}
 use Rattle.aio_base.specs.declared.names.Dir.{Dir}
-use Rattle.aio_base.specs.declared.names.Dir.TheVariants.{Read, Write}
+use Rattle.aio_base.specs.declared.names.Dir.TheVariants.{Read, Write, Priority}
 use Rattle.aio_base.specs.declared.names.Waker.{Waker}
 use Rattle.aio_base.specs.declared.names.Interest.{Interest}
 use Rattle.aio_base.specs.declared.outcomes.Poll.{Poll}
 use Rattle.aio_base.specs.declared.outcomes.Poll.TheVariants.{Ready, Pending}
-use Rattle.aio_base.specs.World.{directions, has_dir}
+use Rattle.aio_base.specs.World.{directions, same_dir, has_dir}
+use Rattle.aio_base.proofs.DirectionLemmas.{same_dir-refl, same_dir-turned}
+use Rattle.aio_source.proofs.DirectionCases.{direction_of-where, put_itself, put_where, where_values}
 use Rattle.aio_base.specs.Machine.{is_waker}
 use Rattle.aio_source.specs.Values.{DirectionValue, DirectionValues, SourceValue}
-use Rattle.aio_source.specs.Rules.{is_ready, is_above, is_above_both, seen, stored, handled, with_direction, direction_of, handled_along, taken_along, waiters_in, Polling, polling}
+use Rattle.aio_source.specs.Rules.{is_ready, is_idle, is_above, is_above_both, seen, stored, handled, with_direction, with_source_direction, directions_where, direction_of, handled_along, taken_along, waiters_in, Polling, polling}
 use Rattle.aio_history.specs.declared.steps.CellStep.{CellStep}
 use Rattle.aio_history.specs.declared.steps.CellStep.TheVariants as step
 use Rattle.aio_history.specs.Histories.{Mark, mark_here, one_later, waiter_of, rounds_of, mark_of, is_news, is_fresh_since, is_ready_by, is_ready_after, answer_to_poll, waiters_among}
@@ -111,43 +113,52 @@ pending_here false past dir w ticker held = refl
 pending_left : (past : List CellStep) (dir : Dir) (w : Waker) (ticker : ℕ)
     → (if is_waker w (waiter_of past dir) then direction_left past dir else stored w ticker (direction_left past dir))
     ≡ direction_left (step.Poll dir w ticker Pending ∷ past) dir
-pending_left past Read w ticker = pending_here (is_waker w (waiter_of past Read)) past Read w ticker refl
-pending_left past Write w ticker = pending_here (is_waker w (waiter_of past Write)) past Write w ticker refl
+pending_left past dir w ticker =
+    let s = step.Poll dir w ticker Pending in
+    pending_here (is_waker w (waiter_of past dir)) past dir w ticker refl
+    ∙ ap (λ (own : Bool). fresh_direction (greatest (rounds_of past dir))
+    (remembered dir (if own && not (is_waker w (waiter_of past dir)) then Some (mark_here ticker past) else one_later s (mark_of past dir))) (if own then Some w else waiter_of past dir))
+    (sym (same_dir-refl dir))
 
 ready_left : (past : List CellStep) (dir : Dir) (w : Waker) (ticker : ℕ)
     → seen (direction_left past dir) ≡ direction_left (step.Poll dir w ticker (Ready tt) ∷ past) dir
-ready_left past Read w ticker = refl
-ready_left past Write w ticker = refl
+ready_left past dir w ticker =
+    ap (λ (own : Bool). fresh_direction (greatest (rounds_of past dir))
+    (remembered dir (if own then None else one_later (step.Poll dir w ticker (Ready tt)) (mark_of past dir))) (waiter_of past dir))
+    (sym (same_dir-refl dir))
 
 further_ticks : (past : List CellStep) (dir : Dir) (s : CellStep)
     → direction_left past dir ≡ fresh_direction (greatest (rounds_of past dir)) (remembered dir (one_later s (mark_of past dir))) (waiter_of past dir)
 further_ticks past dir s =
     ap (λ ticks. fresh_direction (greatest (rounds_of past dir)) ticks (waiter_of past dir)) (remembered_further dir s (mark_of past dir))
 
+left_of : (past : List CellStep) (dir : Dir) → direction_of (directions_left past) dir ≡ direction_left past dir
+left_of past dir = direction_of-where (direction_left past) dir
+
+-- a poll of another direction leaves a direction as it was
+left_aside : (past : List CellStep) (dir : Dir) (w : Waker) (ticker : ℕ) (answer : Poll (Unit {0})) (e : Dir) → same_dir dir e ≡ false
+    → direction_left past e ≡ direction_left (step.Poll dir w ticker answer ∷ past) e
+left_aside past dir w ticker (Ready tt) e other =
+    let s = step.Poll dir w ticker (Ready tt) in
+    further_ticks past e s
+    ∙ ap (λ (own : Bool). fresh_direction (greatest (rounds_of past e)) (remembered e (if own then None else one_later s (mark_of past e))) (waiter_of past e)) (sym other)
+left_aside past dir w ticker Pending e other =
+    let s = step.Poll dir w ticker Pending in
+    further_ticks past e s
+    ∙ ap (λ (own : Bool). fresh_direction (greatest (rounds_of past e))
+    (remembered e (if own && not (is_waker w (waiter_of past e)) then Some (mark_here ticker past) else one_later s (mark_of past e))) (if own then Some w else waiter_of past e))
+    (sym other)
+
 -- a poll of one direction, which its own direction becomes so, leaves the directions so
 polled : (past : List CellStep) (dir : Dir) (w : Waker) (ticker : ℕ) (answer : Poll (Unit {0})) (d : DirectionValue)
     → d ≡ direction_left (step.Poll dir w ticker answer ∷ past) dir
     → with_direction (directions_left past) dir d ≡ directions_left (step.Poll dir w ticker answer ∷ past)
-polled past Read w ticker (Ready tt) d own =
-    ap (λ r. record { read = r; write = direction_left past Write }) own
-    ∙ ap (λ x. record { read = direction_left (step.Poll Read w ticker (Ready tt) ∷ past) Read; write = x }) (further_ticks past Write (step.Poll Read w ticker (Ready tt)))
-polled past Read w ticker Pending d own =
-    ap (λ r. record { read = r; write = direction_left past Write }) own
-    ∙ ap (λ x. record { read = direction_left (step.Poll Read w ticker Pending ∷ past) Read; write = x }) (further_ticks past Write (step.Poll Read w ticker Pending))
-polled past Write w ticker (Ready tt) d own =
-    ap (λ x. record { read = direction_left past Read; write = x }) own
-    ∙ ap (λ r. record { read = r; write = direction_left (step.Poll Write w ticker (Ready tt) ∷ past) Write }) (further_ticks past Read (step.Poll Write w ticker (Ready tt)))
-polled past Write w ticker Pending d own =
-    ap (λ x. record { read = direction_left past Read; write = x }) own
-    ∙ ap (λ r. record { read = r; write = direction_left (step.Poll Write w ticker Pending ∷ past) Write }) (further_ticks past Read (step.Poll Write w ticker Pending))
+polled past dir w ticker answer d own =
+    put_where (direction_left (step.Poll dir w ticker answer ∷ past)) (directions_left past) dir d own
+    (λ e other. left_of past e ∙ left_aside past dir w ticker answer e (same_dir-turned dir e ∙ other))
 
 itself : (ds : DirectionValues) (dir : Dir) → ds ≡ with_direction ds dir (direction_of ds dir)
-itself ds Read = refl
-itself ds Write = refl
-
-left_of : (past : List CellStep) (dir : Dir) → direction_of (directions_left past) dir ≡ direction_left past dir
-left_of past Read = refl
-left_of past Write = refl
+itself ds dir = sym (put_itself ds dir)
 
 -- the directions that a poll comes to, by whether it is ready and whether its waker is the waiter
 abbrev choose : Bool → Bool → DirectionValues → DirectionValues → DirectionValues → DirectionValues
@@ -171,7 +182,7 @@ chosen_left : (ready same : Bool) (past : List CellStep) (dir : Dir) (w : Waker)
 chosen_left true same past dir w ticker held = polled past dir w ticker (Ready tt) (seen (direction_left past dir)) (ready_left past dir w ticker)
 chosen_left false true past dir w ticker held =
     itself (directions_left past) dir
-    ∙ ap (λ d. with_direction (directions_left past) dir d) (left_of past dir)
+    ∙ ap (λ (d : DirectionValue). with_direction (directions_left past) dir d) (left_of past dir)
     ∙ polled past dir w ticker Pending (direction_left past dir)
     (ap (λ b. if b then direction_left past dir else stored w ticker (direction_left past dir)) (sym held) ∙ pending_left past dir w ticker)
 chosen_left false false past dir w ticker held =
@@ -181,14 +192,15 @@ chosen_left false false past dir w ticker held =
 poll_core : (past : List CellStep) (key : Key) (asked : Interest) (broken : Bool) (dir : Dir) (w : Waker) (ticker : ℕ)
     → (polling (record { key = key; directions = directions_left past; asked = asked; broken = broken }) dir w ticker).source.directions
     ≡ directions_left (step.Poll dir w ticker (answer_to_poll past dir) ∷ past)
-poll_core past key asked broken Read w ticker =
-    chosen (is_ready (direction_left past Read)) (is_waker w (waiter_of past Read)) _ _ _ _ _ _
-    ∙ chosen_left (is_ready (direction_left past Read)) (is_waker w (waiter_of past Read)) past Read w ticker refl
-    ∙ ap (λ b. directions_left (step.Poll Read w ticker (if b then Ready tt else Pending) ∷ past)) (ready_by past Read)
-poll_core past key asked broken Write w ticker =
-    chosen (is_ready (direction_left past Write)) (is_waker w (waiter_of past Write)) _ _ _ _ _ _
-    ∙ chosen_left (is_ready (direction_left past Write)) (is_waker w (waiter_of past Write)) past Write w ticker refl
-    ∙ ap (λ b. directions_left (step.Poll Write w ticker (if b then Ready tt else Pending) ∷ past)) (ready_by past Write)
+poll_core past key asked broken dir w ticker =
+    let s : SourceValue = record { key = key; directions = directions_left past; asked = asked; broken = broken } in
+    subst (λ (d : DirectionValue). (pick (is_ready d) (record { ready = true; replaced = None; source = with_source_direction s dir (seen d); arms = false })
+    (pick (is_waker w d.waiter) (record { ready = false; replaced = None; source = s; arms = broken })
+    (record { ready = false; replaced = d.waiter; source = with_source_direction s dir (stored w ticker d); arms = is_idle d || broken }))).source.directions
+    ≡ directions_left (step.Poll dir w ticker (answer_to_poll past dir) ∷ past)) (sym (left_of past dir))
+    (chosen (is_ready (direction_left past dir)) (is_waker w (waiter_of past dir)) _ _ _ _ _ _
+    ∙ chosen_left (is_ready (direction_left past dir)) (is_waker w (waiter_of past dir)) past dir w ticker refl
+    ∙ ap (λ b. directions_left (step.Poll dir w ticker (if b then Ready tt else Pending) ∷ past)) (ready_by past dir))
 
 -- a poll leaves what one more step of the history leaves
 pub poll_left : (past : List CellStep) (s : SourceValue) (dir : Dir) (w : Waker) (ticker : ℕ) → s.directions ≡ directions_left past
@@ -208,10 +220,13 @@ ready_picked false false replaced arms idle a b c = refl
 
 ready_core : (past : List CellStep) (key : Key) (asked : Interest) (broken : Bool) (dir : Dir) (w : Waker) (ticker : ℕ)
     → (polling (record { key = key; directions = directions_left past; asked = asked; broken = broken }) dir w ticker).ready ≡ is_ready_after past dir
-ready_core past key asked broken Read w ticker =
-    ready_picked (is_ready (direction_left past Read)) (is_waker w (waiter_of past Read)) _ _ _ _ _ _ ∙ ready_by past Read
-ready_core past key asked broken Write w ticker =
-    ready_picked (is_ready (direction_left past Write)) (is_waker w (waiter_of past Write)) _ _ _ _ _ _ ∙ ready_by past Write
+ready_core past key asked broken dir w ticker =
+    let s : SourceValue = record { key = key; directions = directions_left past; asked = asked; broken = broken } in
+    subst (λ (d : DirectionValue). (pick (is_ready d) (record { ready = true; replaced = None; source = with_source_direction s dir (seen d); arms = false })
+    (pick (is_waker w d.waiter) (record { ready = false; replaced = None; source = s; arms = broken })
+    (record { ready = false; replaced = d.waiter; source = with_source_direction s dir (stored w ticker d); arms = is_idle d || broken }))).ready
+    ≡ is_ready_after past dir) (sym (left_of past dir))
+    (ready_picked (is_ready (direction_left past dir)) (is_waker w (waiter_of past dir)) _ _ _ _ _ _ ∙ ready_by past dir)
 
 pub poll_ready : (past : List CellStep) (s : SourceValue) (dir : Dir) (w : Waker) (ticker : ℕ) → s.directions ≡ directions_left past
     → (polling s dir w ticker).ready ≡ is_ready_after past dir
@@ -256,22 +271,29 @@ handled_dir true past dir on round n =
     ap (λ ticks. fresh_direction (max (greatest (rounds_of past dir)) round) ticks None) (remembered_further dir (step.Handle on round n) (mark_of past dir))
 handled_dir false past dir on round n = further_ticks past dir (step.Handle on round n)
 
-along : (r w : Bool) (round : ℕ) (ds : DirectionValues)
-    → handled_along (record { read = r; write = w }) round directions ds
-    ≡ record { read = if r then handled round ds.read else ds.read; write = if w then handled round ds.write else ds.write }
-along true true round ds = refl
-along true false round ds = refl
-along false true round ds = refl
-along false false round ds = refl
+abbrev flags : Bool → Bool → Bool → Interest
+flags r w p = record { read = r; write = w; priority = p }
+
+-- each direction by itself
+along : (r w p : Bool) (round : ℕ) (ds : DirectionValues)
+    → handled_along (flags r w p) round directions ds
+    ≡ directions_where (λ dir. if has_dir (flags r w p) dir then handled round (direction_of ds dir) else direction_of ds dir)
+along true true true round ds = refl
+along true true false round ds = refl
+along true false true round ds = refl
+along true false false round ds = refl
+along false true true round ds = refl
+along false true false round ds = refl
+along false false true round ds = refl
+along false false false round ds = refl
 
 handle_core : (past : List CellStep) (on : Interest) (round n : ℕ)
     → handled_along on round directions (directions_left past) ≡ directions_left (step.Handle on round n ∷ past)
 handle_core past on round n =
-    along on.read on.write round (directions_left past)
-    ∙ ap (λ (d : DirectionValue). record { read = d; write = if on.write then handled round (direction_left past Write) else direction_left past Write })
-    (handled_dir on.read past Read on round n)
-    ∙ ap (λ (d : DirectionValue). record { read = direction_left (step.Handle on round n ∷ past) Read; write = d })
-    (handled_dir on.write past Write on round n)
+    along on.read on.write on.priority round (directions_left past)
+    ∙ where_values (λ dir. if has_dir on dir then handled round (direction_of (directions_left past) dir) else direction_of (directions_left past) dir)
+    (direction_left (step.Handle on round n ∷ past))
+    (λ dir. ap (λ (d : DirectionValue). if has_dir on dir then handled round d else d) (left_of past dir) ∙ handled_dir (has_dir on dir) past dir on round n)
 
 pub handle_left : (past : List CellStep) (s : SourceValue) (on : Interest) (round n : ℕ) → s.directions ≡ directions_left past
     → (after_handle s on round).directions ≡ directions_left (step.Handle on round n ∷ past)
@@ -282,22 +304,32 @@ count_held true None = refl
 count_held true (Some waker) = refl
 count_held false waiter = refl
 
-taken_two : (r w : Bool) (round : ℕ) (past : List CellStep)
-    → taken_along (record { read = r; write = w }) round directions (directions_left past)
-    ≡ (if w then option_to_list (waiter_of past Write) ++ [] else []) ++ ((if r then option_to_list (waiter_of past Read) ++ [] else []) ++ [])
-taken_two true true round past = refl
-taken_two true false round past = refl
-taken_two false true round past = refl
-taken_two false false round past = refl
+-- what an event takes of a direction that never had a listener
+abbrev taken_of : List CellStep → Interest → Dir → List Waker
+taken_of past on dir = if has_dir on dir then option_to_list (waiter_of past dir) ++ [] else []
+
+taken_three : (r w p : Bool) (round : ℕ) (past : List CellStep)
+    → taken_along (flags r w p) round directions (directions_left past)
+    ≡ taken_of past (flags r w p) Write ++ (taken_of past (flags r w p) Read ++ (taken_of past (flags r w p) Priority ++ []))
+taken_three true true true round past = refl
+taken_three true true false round past = refl
+taken_three true false true round past = refl
+taken_three true false false round past = refl
+taken_three false true true round past = refl
+taken_three false true false round past = refl
+taken_three false false true round past = refl
+taken_three false false false round past = refl
 
 taken_core : (past : List CellStep) (on : Interest) (round : ℕ) → length (taken_along on round directions (directions_left past)) ≡ waiters_among on past
 taken_core past on round =
-    let a : List Waker = if on.write then option_to_list (waiter_of past Write) ++ [] else [] in
-    let b : List Waker = if on.read then option_to_list (waiter_of past Read) ++ [] else [] in
-    let e : length (taken_along on round directions (directions_left past)) ≡ length (a ++ (b ++ [])) = ap length (taken_two on.read on.write round past) in
+    let a : List Waker = taken_of past on Write in
+    let b : List Waker = taken_of past on Read in
+    let c : List Waker = taken_of past on Priority in
+    let all : length (taken_along on round directions (directions_left past)) ≡ length (a ++ (b ++ (c ++ []))) = ap length (taken_three on.read on.write on.priority round past) in
     let f : length a ≡ cond (on.write && is_some (waiter_of past Write)) 1 0 = count_held on.write (waiter_of past Write) in
     let g : length b ≡ cond (on.read && is_some (waiter_of past Read)) 1 0 = count_held on.read (waiter_of past Read) in
-    omega (arith, e, f, g, length-append a (b ++ []), length-append b [])
+    let h : length c ≡ cond (on.priority && is_some (waiter_of past Priority)) 1 0 = count_held on.priority (waiter_of past Priority) in
+    omega (arith, all, f, g, h, length-append a (b ++ (c ++ [])), length-append b (c ++ []), length-append c [])
 
 pub taken_count : (past : List CellStep) (s : SourceValue) (on : Interest) (round : ℕ) → s.directions ≡ directions_left past
     → length (taken_along on round directions s.directions) ≡ waiters_among on past
@@ -313,29 +345,31 @@ at_most_one : (held : Bool) → cond held 1 0 ≤ 1
 at_most_one true = omega arith
 at_most_one false = omega arith
 
-pub has_room : (len found capacity : ℕ) → len + 2 ≤ capacity → found ≤ 2 → len + found ≤ capacity
+pub has_room : (len found capacity : ℕ) → len + 3 ≤ capacity → found ≤ 3 → len + found ≤ capacity
 has_room len found capacity room few = omega arith
 
 pub has_place : (len capacity : ℕ) → len + 1 ≤ capacity → len < capacity
 has_place len capacity room = omega arith
 
-pub fits_few : (n count : ℕ) → n ≡ count → count ≤ 2 → Fits w32 n
+pub fits_few : (n count : ℕ) → n ≡ count → count ≤ 3 → Fits w32 n
 fits_few n count is few = omega arith
 
-pub at_most_two : (past : List CellStep) (on : Interest) → waiters_among on past ≤ 2
-at_most_two past on =
-    omega (arith, at_most_one (on.write && is_some (waiter_of past Write)), at_most_one (on.read && is_some (waiter_of past Read)))
+pub at_most_three : (past : List CellStep) (on : Interest) → waiters_among on past ≤ 3
+at_most_three past on =
+    omega (arith, at_most_one (on.write && is_some (waiter_of past Write)), at_most_one (on.read && is_some (waiter_of past Read)),
+    at_most_one (on.priority && is_some (waiter_of past Priority)))
 
 one_held : (waiter : Option Waker) → length (option_to_list waiter ++ []) ≤ 1
 one_held None = omega arith
 one_held (Some waker) = omega arith
 
-pub two_wait : (past : List CellStep) (ds : DirectionValues) → ds ≡ directions_left past → length (waiters_in directions ds) ≤ 2
-two_wait past ds e =
-    subst (λ (d : DirectionValues). length (waiters_in directions d) ≤ 2) (sym e)
+pub three_wait : (past : List CellStep) (ds : DirectionValues) → ds ≡ directions_left past → length (waiters_in directions ds) ≤ 3
+three_wait past ds e =
+    subst (λ (d : DirectionValues). length (waiters_in directions d) ≤ 3) (sym e)
     (let a : List Waker = option_to_list (waiter_of past Write) ++ [] in
     let b : List Waker = option_to_list (waiter_of past Read) ++ [] in
-    omega (arith, one_held (waiter_of past Write), one_held (waiter_of past Read), length-append a (b ++ []), length-append b []))
+    let c : List Waker = option_to_list (waiter_of past Priority) ++ [] in
+    omega (arith, one_held (waiter_of past Write), one_held (waiter_of past Read), one_held (waiter_of past Priority), length-append a (b ++ (c ++ [])), length-append b (c ++ []), length-append c []))
 
 -- ## The list of steps
 

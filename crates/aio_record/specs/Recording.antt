@@ -1,14 +1,13 @@
 -- A recorded cell: what its steps leave in its source.
 use Rattle.std.specs.Prelude.{◌≡◌, ℕ, List, [], ◌∷◌, max, Option, None, Some, Result, Ok, reverse}
 use Rattle.aio_base.specs.declared.names.Dir.{Dir}
-use Rattle.aio_base.specs.declared.names.Dir.TheVariants.{Read, Write}
 use Rattle.aio_base.specs.declared.names.Waker.{Waker}
 use Rattle.aio_base.specs.declared.names.Interest.{Interest}
 use Rattle.aio_base.specs.declared.outcomes.ArmFault.{ArmFault}
 use Rattle.aio_base.specs.declared.outcomes.Poll.{Poll}
 use Rattle.aio_base.specs.declared.outcomes.Poll.TheVariants.{Ready, Pending}
 use Rattle.aio_source.specs.Values.{DirectionValue, DirectionValues, SourceValue}
-use Rattle.aio_source.specs.Rules.{new_source, polling, handling}
+use Rattle.aio_source.specs.Rules.{new_source, directions_where, polling, handling}
 use Rattle.aio_source.specs.Lent.{settled}
 use Rattle.aio_history.specs.declared.steps.CellStep.{CellStep}
 use Rattle.aio_history.specs.Histories.{Mark, waiter_of, rounds_of, mark_of, Replays}
@@ -40,7 +39,7 @@ direction_left past dir = record {
 }
 
 abbrev pub directions_left : List CellStep → DirectionValues
-directions_left past = record { read = direction_left past Read; write = direction_left past Write }
+directions_left past = directions_where (direction_left past)
 
 -- the steps replay, and the source is what they leave
 pub record IsRecorded (steps : List CellStep) (s : SourceValue) : Type 0 where

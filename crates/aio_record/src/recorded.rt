@@ -6,7 +6,7 @@ ghost use Rattle.aio_history.specs.declared.steps.CellStep.TheVariants as step;
 ghost use Rattle.aio_record.specs.Recording.{IsRecorded, after_handle, after_poll, first_recorded, without_fault};
 
 use crate::quiet::QuietArm;
-use aio_base::{ArmFault, Dir, Event, Interest, Key, OutOfMemory, Poll, Waker};
+use aio_base::{ArmFault, DIRS, Dir, Event, Interest, Key, OutOfMemory, Poll, Waker};
 use aio_history::CellStep;
 use aio_source::{SourceCell, SourceState};
 use std::alloc::Global;
@@ -92,7 +92,7 @@ impl RecordedCell {
             return Err(OutOfMemory);
         }
         self.taken.clear();
-        if self.taken.reserve(2).is_err() {
+        if self.taken.reserve(DIRS.len()).is_err() {
             return Err(OutOfMemory);
         }
         let event = Event { key: Key(0), on };

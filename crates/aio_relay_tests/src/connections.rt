@@ -98,7 +98,7 @@ fn write<C: Conn>(conn: &mut C, text: &str) -> Came {
 fn comes_of<C: Conn>(act: Act, conn: &mut C, heard: &mut Vec<u8>) -> Came {
     match act {
         Add => done(conn.add(KEY)),
-        Arm => done(conn.arm(KEY, Interest::BOTH)),
+        Arm => done(conn.arm(KEY, Interest::READ_WRITE)),
         Remove => done(conn.remove(KEY)),
         Read(room) => read(conn, room, heard),
         Write(text) => write(conn, text),

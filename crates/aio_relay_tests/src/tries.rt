@@ -311,7 +311,7 @@ const ROWS: &[Row] = &[
             (Write("d", 1), Waits(None)),
             (Write("d", 2), Waits(Some(1))),
             (PollWritable(3), Waits(Some(2))),
-            (Event(Interest::BOTH), Took(Some(3))),
+            (Event(Interest::READ_WRITE), Took(Some(3))),
             (PollWritable(4), Ready),
             (Write("d", 4), Waits(None)),
         ],

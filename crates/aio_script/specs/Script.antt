@@ -2,20 +2,19 @@
 use Rattle.std.specs.Prelude.{◌≡◌, ℕ, Bool, true, false, if◌then◌else◌, List, [], ◌∷◌, Result, Ok, Err, length, take, drop, min, replicate, slice_index_or, slice_set}
 use Rattle.aio_base.specs.declared.names.Interest.{Interest}
 use Rattle.aio_base.specs.declared.names.Event.{Event}
+use Rattle.aio_base.specs.declared.outcomes.DueFaults.{DueFaults}
 use Rattle.aio_base.specs.declared.outcomes.Failed.{Failed}
 use Rattle.aio_base.specs.declared.outcomes.Waited.{Waited}
 use Rattle.aio_base.specs.declared.outcomes.Waited.TheVariants.{Given, Interrupted}
-use Rattle.aio_base.specs.declared.outcomes.Which.{Which}
-use Rattle.aio_base.specs.declared.outcomes.Which.TheVariants.{Add, Arm, Remove, Wait}
 use Rattle.aio_base.specs.Devices.{Interests, raised, ArmCall, AddOf, ArmOf, RemoveOf, WaitCall}
+use Rattle.aio_base.specs.World.{nothing_due}
 use Rattle.aio_base.specs.declared.names.TheConstants.Interest.{NONE}
-use Rattle.aio_script.specs.declared.poller.Due.{Due}
 
 -- A poller in memory: the interest of each key in the order of the keys, the events that are noted and not yet given, what its next calls are told to answer, and its counts of faults and of waits.
 pub record Script : Type 0 where
   pub armed : List Interest
   pub noted : List Event
-  pub due : Due
+  pub due : DueFaults
   pub faults : ℕ
   pub waits : ℕ
 
@@ -27,28 +26,18 @@ interests_of script key = slice_index_or script.armed key NONE
 unfoldable pub none_armed : List Interest
 none_armed = replicate 4096 NONE
 
-abbrev pub nothing_due : Due
-nothing_due = record { add = false; arm = false; remove = false; wait = false; interrupt = false }
-
 -- a poller that was just made
 abbrev pub new_script : Script
 new_script = record { armed = none_armed; noted = []; due = nothing_due; faults = 0; waits = 0 }
 
--- the next call of this kind is told to fail
-abbrev pub with_failure : Which → Due → Due
-with_failure Add due = record due { add = true }
-with_failure Arm due = record due { arm = true }
-with_failure Remove due = record due { remove = true }
-with_failure Wait due = record due { wait = true }
-
 -- whether a failure of such a call is due
-abbrev pub is_due : ArmCall → Due → Bool
+abbrev pub is_due : ArmCall → DueFaults → Bool
 is_due (AddOf key) due = due.add
 is_due (ArmOf key on) due = due.arm
 is_due (RemoveOf key) due = due.remove
 
 -- a failure that was answered is due no longer
-abbrev pub without_failure : ArmCall → Due → Due
+abbrev pub without_failure : ArmCall → DueFaults → DueFaults
 without_failure (AddOf key) due = record due { add = false }
 without_failure (ArmOf key on) due = record due { arm = false }
 without_failure (RemoveOf key) due = record due { remove = false }

@@ -5,7 +5,7 @@ ghost use Rattle.aio_script.specs.Script.{cleared};
 
 use crate::events::NotedEvents;
 use aio_base::{
-    Arm, Event, EventWait, Failed, Faults, Interest, Key, OutOfMemory, Poller, Waited, Which,
+    Arm, DueFaults, Event, EventWait, Failed, Faults, Interest, Key, OutOfMemory, Poller, Waited, Which,
 };
 use std::alloc::Global;
 use std::marker::Model;
@@ -14,24 +14,13 @@ use std::mem;
 /// How many keys have an interest: one for each source that a reactor can hold.
 const KEYS: usize = 4096;
 
-/// What the next calls are told to answer: a failure of the next call of a kind, and an interrupt
-/// of the next wait that does not fail.
-#[derive(Clone, Copy)]
-pub(crate) struct Due {
-    pub add: bool,
-    pub arm: bool,
-    pub remove: bool,
-    pub wait: bool,
-    pub interrupt: bool,
-}
-
 /// A poller in memory in oneshot mode (`polling` 3, `lib.rs`, `Poller`): its events, failures and
 /// interrupts are told to it before the calls that answer them. It looks at no clock.
 #[derive(Drop)]
 pub struct ScriptPoller {
     armed: Vec<Interest>,
     noted: NotedEvents,
-    due: Due,
+    due: DueFaults,
     faults: u64,
     waits: u64,
 }
@@ -55,7 +44,8 @@ impl Model for ScriptPoller {
 
 impl ScriptPoller {
     ghost use Rattle.aio_base.specs.Devices.{raised};
-    ghost use Rattle.aio_script.specs.Script.{interests_of, new_script, with_failure};
+    ghost use Rattle.aio_base.specs.Machine.{with_due};
+    ghost use Rattle.aio_script.specs.Script.{interests_of, new_script};
 
     /// A poller with room for 4,096 keys that has nothing armed, noted or due, and no faults or
     /// waits counted. `OutOfMemory` where memory ran out.
@@ -69,13 +59,7 @@ impl ScriptPoller {
         Ok(ScriptPoller {
             armed,
             noted: NotedEvents::new(alloc),
-            due: Due {
-                add: false,
-                arm: false,
-                remove: false,
-                wait: false,
-                interrupt: false,
-            },
+            due: DueFaults::none(),
             faults: 0,
             waits: 0,
         })
@@ -93,14 +77,9 @@ impl ScriptPoller {
 
     /// The next call of this kind fails. Told twice, still one call fails.
     pub fn fail_next(&mut self, which: Which)
-        ensures { self.new ≡ record self.old { due = with_failure which self.old.due } }
+        ensures { self.new ≡ record self.old { due = with_due which self.old.due } }
     {
-        match which {
-            Which::Add => self.due.add = true,
-            Which::Arm => self.due.arm = true,
-            Which::Remove => self.due.remove = true,
-            Which::Wait => self.due.wait = true,
-        }
+        self.due.fail_next(which);
     }
 
     /// The next wait that does not fail is interrupted.

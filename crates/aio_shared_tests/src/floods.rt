@@ -15,9 +15,9 @@ use std::process::Abort;
 /// The first key of each round, of how many keys there are events, and in which directions: three floods of
 /// keys which no source has, and then the first source.
 const FLOODS: &[(u32, u32, Interest)] = &[
-    (1, 1024, Interest::BOTH),
-    (4096, 1024, Interest::BOTH),
-    (u32::MAX - 1023, 1024, Interest::BOTH),
+    (1, 1024, Interest::READ_WRITE),
+    (4096, 1024, Interest::READ_WRITE),
+    (u32::MAX - 1023, 1024, Interest::READ_WRITE),
     (0, 1, Interest::READ),
 ];
 

@@ -78,6 +78,6 @@ fn polls_and_plays<R: Wait + Abort>(rt: &R, alloc: Global, wait: ScriptedWait) {
 
 #[test]
 fn an_event_takes_the_waiters_of_its_source(rt: HostRuntime) {
-    let wait = one_by_one(&rt, rt.alloc(), &[1, 0, 0], Interest::BOTH);
+    let wait = one_by_one(&rt, rt.alloc(), &[1, 0, 0], Interest::READ_WRITE);
     polls_and_plays(&rt, rt.alloc(), wait);
 }

@@ -180,7 +180,7 @@ fn work_beside<R: Threads + Wait + Sync + Abort>(
 fn keys_in_turn(rt: &impl Abort, alloc: Global, pairs: u32) -> ScriptedWait {
     let mut answers = Vec::new(alloc);
     for round in 0..pairs.saturating_mul(2) {
-        give(rt, alloc, &mut answers, (round % 2 * 2, 2), Interest::BOTH);
+        give(rt, alloc, &mut answers, (round % 2 * 2, 2), Interest::READ_WRITE);
     }
     ScriptedWait::new(answers)
 }

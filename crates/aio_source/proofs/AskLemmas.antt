@@ -1,32 +1,43 @@
 -- For which interest a source's calls arm the poller, by who waits before them.
-use Rattle.std.specs.Prelude.{◌≡◌, ℕ, Bool, true, false, not, ◌||◌, IsTrue, if◌then◌else◌, List, [], ◌∷◌, ◌++◌, Option, None, Some, option_to_list, refl}
-use Rattle.std.proofs.Common.{ap, sym, ◌∙◌}
+use Rattle.std.specs.Prelude.{◌≡◌, ℕ, Bool, true, false, not, ◌&&◌, ◌||◌, IsTrue, if◌then◌else◌, List, [], ◌∷◌, ◌++◌, Option, None, Some, option_to_list, refl}
+use Rattle.std.specs.List.{list_any}
+use Rattle.std.proofs.Common.{ap, sym, ◌∙◌, subst, Result, Ok, Err}
+use Rattle.aio_base.specs.Devices.{Interests, ArmCall}
+use Rattle.aio_base.specs.declared.outcomes.ArmFault.{ArmFault}
+use Rattle.aio_base.specs.declared.outcomes.Failed.{Failed}
+use Rattle.aio_base.specs.declared.outcomes.Poll.{Poll}
+use Rattle.aio_source.specs.Answers.{poll_answer, armed_in}
 use Rattle.aio_base.specs.declared.names.Dir.{Dir}
-use Rattle.aio_base.specs.declared.names.Dir.TheVariants.{Read, Write}
 use Rattle.aio_base.specs.declared.names.Waker.{Waker}
 use Rattle.aio_base.specs.declared.names.Interest.{Interest}
-use Rattle.aio_base.specs.World.{directions, is_empty_list}
+use Rattle.aio_base.specs.World.{directions, same_dir, has_dir, with_dir, is_empty_list}
 use Rattle.aio_base.specs.Machine.{is_waker}
 use Rattle.aio_listen.specs.declared.ticket.Ticket.{Ticket}
 use Rattle.aio_listen.specs.Tickets.{same_ticket}
 use Rattle.aio_listen.specs.Listening.{Entry, Holds, has_ticket, wakers_of, with_waker}
 use Rattle.aio_source.specs.Values.{DirectionValue, DirectionValues, SourceValue}
 use Rattle.aio_source.specs.declared.answers.Listened.{Listened}
-use Rattle.aio_source.specs.Rules.{is_idle, is_ready, is_above, wanted, has_any, direction_of, with_direction, listening, listening_again, stored, handled, handled_along, part_of, polling, listening_first, polling_again, handling}
-use Rattle.aio_source.specs.Lent.{asked_by, asked_for, asked_with, left_of, with_dir}
+use Rattle.aio_source.specs.Rules.{Polling, is_idle, is_ready, is_above, wanted, has_any, direction_of, with_direction, with_source_direction, seen, listening, listening_again, stored, handled, handled_in, handled_along, part_of, polling, listening_first, polling_again, handling, Covers}
+use Rattle.aio_source.specs.Lent.{UsesArm, arm_answer, asked_by, asked_for, asked_with, left_of}
+use Rattle.aio_base.proofs.DirectionLemmas.{same_dir-refl, each_direction, where_same, has_dir-where, named_where}
+use Rattle.aio_base.proofs.Membership.{any_from}
+use Rattle.aio_base.proofs.Searching.{false_unless}
+use Rattle.aio_source.proofs.DirectionCases.{each_put, put_itself}
 use Rattle.aio_source.proofs.WaiterLemmas.{held_waits, none_emptied}
 
 -- once a direction has a waiter, it is wanted beside what was wanted before
 wanted_with : (ds : DirectionValues) (dir : Dir) (d : DirectionValue) → is_idle d ≡ false → wanted (with_direction ds dir d) ≡ with_dir (wanted ds) dir
-wanted_with ds Read d waits = ap (λ (idle : Bool). record { read = not idle; write = not (is_idle ds.write) }) waits
-wanted_with ds Write d waits = ap (λ (idle : Bool). record { read = not (is_idle ds.read); write = not idle }) waits
+wanted_with ds dir d waits =
+    where_same (λ e. not (is_idle (direction_of (with_direction ds dir d) e))) (λ e. same_dir e dir || has_dir (wanted ds) e)
+    (each_put (λ e v. not (is_idle v) ≡ (same_dir e dir || has_dir (wanted ds) e)) ds dir d
+    (ap not waits ∙ sym (ap (λ (same : Bool). same || has_dir (wanted ds) dir) (same_dir-refl dir)))
+    (λ e other. sym (ap (λ (same : Bool). same || has_dir (wanted ds) e) other ∙ has_dir-where (λ dir. not (is_idle (direction_of ds dir))) e)))
 
 asked_once : (s : SourceValue) (dir : Dir) (d : DirectionValue) → is_idle d ≡ false → asked_for (is_idle (direction_of s.directions dir) || s.broken) (wanted (with_direction s.directions dir d)) ≡ asked_with s dir
 asked_once s dir d waits = ap (λ (on : Interest). asked_for (is_idle (direction_of s.directions dir) || s.broken) on) (wanted_with s.directions dir d waits)
 
 wanted_still : (ds : DirectionValues) (dir : Dir) → is_idle (direction_of ds dir) ≡ false → wanted ds ≡ with_dir (wanted ds) dir
-wanted_still ds Read waits = ap (λ (idle : Bool). record { read = not idle; write = not (is_idle ds.write) }) waits
-wanted_still ds Write waits = ap (λ (idle : Bool). record { read = not (is_idle ds.read); write = not idle }) waits
+wanted_still ds dir waits = ap wanted (sym (put_itself ds dir)) ∙ wanted_with ds dir (direction_of ds dir) waits
 
 asked_still : (s : SourceValue) (dir : Dir) → is_idle (direction_of s.directions dir) ≡ false → asked_for s.broken (wanted s.directions) ≡ asked_with s dir
 asked_still s dir waits =
@@ -43,6 +54,38 @@ polling_step : (ready held : Bool) (s : SourceValue) (dir : Dir) (waker : Waker)
 polling_step true held s dir waker ticker unready waits = cc
 polling_step false true s dir waker ticker unready waits = asked_still s dir (waits refl)
 polling_step false false s dir waker ticker unready waits = asked_once s dir (stored waker ticker (direction_of s.directions dir)) refl
+
+-- a poll that is not ready comes to one source, whatever its waker
+polling_either : (ready held : Bool) (s : SourceValue) (dir : Dir) (waker : Waker) (ticker : ℕ)
+    → ready ≡ false → (held ≡ true → is_idle (direction_of s.directions dir) ≡ false)
+    → (let d = direction_of s.directions dir in
+    ◌≡◌ {A = Polling} (if ready then record { ready = true; replaced = None; source = with_source_direction s dir (seen d); arms = false }
+    else (if held then record { ready = false; replaced = None; source = s; arms = s.broken }
+    else record { ready = false; replaced = d.waiter; source = with_source_direction s dir (stored waker ticker d); arms = is_idle d || s.broken }))
+    (record {
+      ready = false;
+      replaced = if held then None else d.waiter;
+      source = with_source_direction s dir (if held then d else stored waker ticker d);
+      arms = is_idle d || s.broken;
+    }))
+polling_either true held s dir waker ticker unready waits = absurd cc
+polling_either false true s dir waker ticker unready waits =
+    let same = sym (put_itself s.directions dir) in
+    let arms = sym (ap (λ (idle : Bool). idle || s.broken) (waits refl)) in
+    λ i. record { ready = false; replaced = None; source = record s { directions = same i }; arms = arms i }
+polling_either false false s dir waker ticker unready waits = refl
+
+pub polling_unready : (s : SourceValue) (dir : Dir) (waker : Waker) (ticker : ℕ) → is_ready (direction_of s.directions dir) ≡ false
+    → (let d = direction_of s.directions dir in
+    polling s dir waker ticker ≡ record {
+      ready = false;
+      replaced = if is_waker waker d.waiter then None else d.waiter;
+      source = with_source_direction s dir (if is_waker waker d.waiter then d else stored waker ticker d);
+      arms = is_idle d || s.broken;
+    })
+polling_unready s dir waker ticker unready =
+    let d = direction_of s.directions dir in
+    polling_either (is_ready d) (is_waker waker d.waiter) s dir waker ticker unready (held_waits waker d)
 
 pub asked_polling : (s : SourceValue) (dir : Dir) (waker : Waker) (ticker : ℕ) → is_ready (direction_of s.directions dir) ≡ false → asked_by (part_of (polling s dir waker ticker)) ≡ asked_with s dir
 asked_polling s dir waker ticker unready =
@@ -90,13 +133,87 @@ asked_again s dir l waker holds below =
 idle_handled : (round : ℕ) (d : DirectionValue) → is_idle (handled round d) ≡ true
 idle_handled round d = ap (λ (wakers : List Waker). is_empty_list wakers) (none_emptied d.listeners.entries)
 
-wanted_left : (read write : Bool) (round : ℕ) (ds : DirectionValues) → let on : Interest = record { read = read; write = write } in wanted (handled_along on round directions ds) ≡ left_of on ds
-wanted_left false false round ds = refl
-wanted_left true false round ds = ap (λ (idle : Bool). record { read = not idle; write = not (is_idle ds.write) }) (idle_handled round ds.read)
-wanted_left false true round ds = ap (λ (idle : Bool). record { read = not (is_idle ds.read); write = not idle }) (idle_handled round ds.write)
-wanted_left true true round ds =
-    ap (λ (idle : Bool). record { read = not idle; write = not (is_idle (handled round ds.write)) }) (idle_handled round ds.read)
-    ∙ ap (λ (idle : Bool). record { read = false; write = not idle }) (idle_handled round ds.write)
+idle_in : (has : Bool) (round : ℕ) (ds : DirectionValues) (dir e : Dir)
+    → is_idle (direction_of (if has then with_direction ds dir (handled round (direction_of ds dir)) else ds) e) ≡ ((has && same_dir e dir) || is_idle (direction_of ds e))
+idle_in true round ds dir e =
+    each_put (λ e d. is_idle d ≡ (same_dir e dir || is_idle (direction_of ds e))) ds dir (handled round (direction_of ds dir))
+    (idle_handled round (direction_of ds dir) ∙ sym (ap (λ (same : Bool). same || is_idle (direction_of ds dir)) (same_dir-refl dir)))
+    (λ e other. sym (ap (λ (same : Bool). same || is_idle (direction_of ds e)) other)) e
+idle_in false round ds dir e = refl
+
+or_turned : (a b c : Bool) → (b || (a || c)) ≡ ((a || b) || c)
+or_turned true true c = refl
+or_turned true false c = refl
+or_turned false b c = refl
+
+-- a direction that an event took has no waiter, and every other one those that it had
+idle_along : (on : Interest) (round : ℕ) (dirs : List Dir) (ds : DirectionValues) (e : Dir)
+    → is_idle (direction_of (handled_along on round dirs ds) e) ≡ (list_any (λ (d : Dir). has_dir on d && same_dir e d) dirs || is_idle (direction_of ds e))
+idle_along on round [] ds e = refl
+idle_along on round (dir ∷ dirs) ds e =
+    idle_along on round dirs (handled_in on round dir ds) e
+    ∙ ap (λ (idle : Bool). list_any (λ (d : Dir). has_dir on d && same_dir e d) dirs || idle) (idle_in (has_dir on dir) round ds dir e)
+    ∙ or_turned (has_dir on dir && same_dir e dir) (list_any (λ (d : Dir). has_dir on d && same_dir e d) dirs) (is_idle (direction_of ds e))
+
+not_or : (a b : Bool) → not (a || b) ≡ (not a && not b)
+not_or true b = refl
+not_or false b = refl
+
+wanted_left : (on : Interest) (round : ℕ) (ds : DirectionValues) → wanted (handled_along on round directions ds) ≡ left_of on ds
+wanted_left on round ds =
+    where_same (λ e. not (is_idle (direction_of (handled_along on round directions ds) e))) (λ e. not (has_dir on e) && not (is_idle (direction_of ds e)))
+    (λ e. ap not (idle_along on round directions ds e
+    ∙ ap (λ (has : Bool). has || is_idle (direction_of ds e)) (named_where (has_dir on) e (has_dir on e) refl)) ∙ not_or (has_dir on e) (is_idle (direction_of ds e)))
 
 pub asked_handling : (s : SourceValue) (on : Interest) (round : ℕ) → asked_by (handling s on round) ≡ asked_for (has_any (left_of on s.directions)) (left_of on s.directions)
-asked_handling s on round = ap (λ (left : Interest). asked_for (has_any left) left) (wanted_left on.read on.write round s.directions)
+asked_handling s on round = ap (λ (left : Interest). asked_for (has_any left) left) (wanted_left on round s.directions)
+
+-- ## Nobody waits
+
+or_parts : (a b : Bool) → (a || b) ≡ false → (a ≡ false) × (b ≡ false)
+or_parts true b e = absurd cc
+or_parts false b e = (refl, e)
+
+or_always : (b : Bool) → (b || true) ≡ true
+or_always true = refl
+or_always false = refl
+
+unasked : (asked : Interest) → has_any asked ≡ false → (dir : Dir) → has_dir asked dir ≡ false
+unasked asked none dir =
+    false_unless (has_dir asked dir) (λ has.
+    let any = any_from (has_dir asked) directions dir (each_direction dir) has in
+    let wrong : true ≡ false = sym any ∙ none in cc)
+
+idle_step : (idle has broken : Bool) → (IsTrue (not idle) → IsTrue (has || broken)) → has ≡ false → broken ≡ false → idle ≡ true
+idle_step true has broken covers none whole = refl
+idle_step false true broken covers none whole = absurd cc
+idle_step false false true covers none whole = absurd cc
+idle_step false false false covers none whole = cc (covers refl)
+
+-- where nothing was asked for and no arm failed, nobody waits, and an event leaves nobody
+pub none_left : (ds left : DirectionValues) (asked : Interest) (broken : Bool) (on : Interest) (round : ℕ) (may : Bool) → Covers ds asked broken → may ≡ (broken || has_any asked)
+    → left ≡ handled_along on round directions ds → may ≡ false → has_any (wanted left) ≡ false
+none_left ds left asked broken on round may covers is after none =
+    let parts = or_parts broken (has_any asked) (sym is ∙ none) in
+    ap (λ (d : DirectionValues). has_any (wanted d)) after
+    ∙ ap has_any (where_same (λ e. not (is_idle (direction_of (handled_along on round directions ds) e))) (λ e. false)
+    (λ e. ap not (idle_along on round directions ds e
+    ∙ ap (λ (idle : Bool). list_any (λ (d : Dir). has_dir on d && same_dir e d) directions || idle)
+    (idle_step (is_idle (direction_of ds e)) (has_dir asked e) broken (covers e) (unasked asked parts.1 e) parts.0)
+    ∙ or_always (list_any (λ (d : Dir). has_dir on d && same_dir e d) directions))))
+
+-- ## A lent arm
+
+armed_back : (armed : Result (Unit {0}) ArmFault) → armed_in (poll_answer false armed) ≡ armed
+armed_back (Ok done) = refl
+armed_back (Err fault) = refl
+
+-- what an arm was lent for, said otherwise
+pub lent_alike : {S : Type 0} {step : S → ArmCall → Result (Unit {0}) Failed → S → Type 0} {tells : S → Option Interests} {rest : S → List ℕ} {count : S → ℕ} {is_sure : S → Bool}
+    {a b : Bool} {x y : ArmCall} {old new : S} (armed : Result (Unit {0}) ArmFault) (answer : Poll (Result (Unit {0}) ArmFault)) → answer ≡ poll_answer false armed → a ≡ b → x ≡ y
+    → UsesArm step tells rest count is_sure a x (arm_answer armed) old new → UsesArm step tells rest count is_sure b y (arm_answer (armed_in answer)) old new
+lent_alike {S} {step} {tells} {rest} {count} {is_sure} {a} {b} {x} {y} {old} {new} armed answer is arms call uses =
+    let told : arm_answer armed ≡ arm_answer (armed_in answer) = sym (ap (λ (p : Poll (Result (Unit {0}) ArmFault)). arm_answer (armed_in p)) is ∙ ap arm_answer (armed_back armed)) in
+    subst (λ t. UsesArm step tells rest count is_sure b y t old new) told
+    (subst (λ z. UsesArm step tells rest count is_sure b z (arm_answer armed) old new) call
+    (subst (λ c. UsesArm step tells rest count is_sure c x (arm_answer armed) old new) arms uses))

@@ -3,3 +3,4 @@ pub mod Taking
 pub mod Noting
 pub mod AskLemmas
 pub mod KeyPlaces
+pub mod DirectionCases

@@ -3,16 +3,16 @@ use Rattle.std.specs.Prelude.{◌≡◌, ◌==◌, Bool, true, false, not, ◌||
 use Rattle.std.proofs.Common.{ap, arith}
 use Rattle.std.proofs.lemmas.Bool.Decides.{nat_tests}
 use Rattle.aio_base.specs.declared.names.Dir.{Dir}
-use Rattle.aio_base.specs.declared.names.Dir.TheVariants.{Read, Write}
 use Rattle.aio_base.specs.declared.names.Waker.{Waker}
 use Rattle.aio_base.specs.declared.names.Interest.{Interest}
-use Rattle.aio_base.specs.World.{is_empty_list}
+use Rattle.aio_base.specs.World.{has_dir, is_empty_list}
 use Rattle.aio_base.specs.Machine.{is_waker}
 use Rattle.aio_listen.specs.declared.ticket.Ticket.{Ticket}
 use Rattle.aio_listen.specs.Tickets.{same_ticket}
 use Rattle.aio_listen.specs.Listening.{Entry, Holds, has_ticket, wakers_of, with_waker, without, emptied}
 use Rattle.aio_source.specs.Values.{DirectionValue, DirectionValues}
 use Rattle.aio_source.specs.Rules.{is_idle, without_listener, direction_of, with_direction, Covers}
+use Rattle.aio_source.proofs.DirectionCases.{each_put}
 
 pub empty_by_length : {A : Type 0} (xs : List A) → (length xs == 0) ≡ is_empty_list xs
 empty_by_length [] = refl
@@ -54,10 +54,9 @@ waits_unlistened ticket d waits = waits_before (is_idle d) (is_idle (without_lis
 
 -- and what was asked for covers the listeners that are left
 pub covers_unlistened : (ds : DirectionValues) (asked : Interest) (broken : Bool) (dir : Dir) (ticket : Ticket) → Covers ds asked broken → Covers (with_direction ds dir (without_listener ticket (direction_of ds dir))) asked broken
-covers_unlistened ds asked broken Read ticket covers Read waits = covers Read (waits_unlistened ticket ds.read waits)
-covers_unlistened ds asked broken Read ticket covers Write waits = covers Write waits
-covers_unlistened ds asked broken Write ticket covers Read waits = covers Read waits
-covers_unlistened ds asked broken Write ticket covers Write waits = covers Write (waits_unlistened ticket ds.write waits)
+covers_unlistened ds asked broken dir ticket covers =
+    each_put (λ e d. IsTrue (not (is_idle d)) → IsTrue (has_dir asked e || broken)) ds dir (without_listener ticket (direction_of ds dir))
+    (λ waits. covers dir (waits_unlistened ticket (direction_of ds dir) waits)) (λ e other. covers e)
 
 same_ticket_itself : (t : Ticket) → same_ticket t t ≡ true
 same_ticket_itself t = grind (arith, nat_tests)

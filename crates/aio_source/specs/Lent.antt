@@ -1,13 +1,13 @@
 -- What became of an arm that was lent to a call of a source: it was left alone, or armed once.
 use Rattle.std.specs.Prelude.{◌≡◌, ℕ, Bool, true, false, not, ◌&&◌, ◌||◌, if◌then◌else◌, List, Option, None, Some, Result, Ok, Err, IsOk, IsErr}
 use Rattle.aio_base.specs.declared.names.Dir.{Dir}
-use Rattle.aio_base.specs.declared.names.Dir.TheVariants.{Read, Write}
 use Rattle.aio_base.specs.declared.names.Key.{Key}
 use Rattle.aio_base.specs.declared.names.Interest.{Interest}
 use Rattle.aio_base.specs.declared.outcomes.Failed.{Failed}
 use Rattle.aio_base.specs.declared.outcomes.ArmFault.{ArmFault}
 use Rattle.aio_base.specs.Devices.{Interests, ArmCall, ArmOf, Arms, TellsFaults}
 use Rattle.aio_base.specs.declared.names.TheConstants.Interest.{NONE}
+use Rattle.aio_base.specs.World.{has_dir, interest_where, with_dir}
 use Rattle.aio_source.specs.Values.{DirectionValues, SourceValue}
 use Rattle.aio_source.specs.Rules.{Prepared, wanted, is_idle, direction_of}
 
@@ -51,17 +51,13 @@ asked_for arms on = if arms then Some on else None
 abbrev pub asked_by : Prepared → Option Interest
 asked_by p = asked_for p.arms (wanted p.source.directions)
 
-abbrev pub with_dir : Interest → Dir → Interest
-with_dir on Read = record on { read = true }
-with_dir on Write = record on { write = true }
-
 -- the interest that a new waiter of a direction asks for, where nobody waited for it or the last arm failed
 abbrev pub asked_with : SourceValue → Dir → Option Interest
 asked_with s dir = asked_for (is_idle (direction_of s.directions dir) || s.broken) (with_dir (wanted s.directions) dir)
 
 -- who is left once an event took the waiters of the directions that it names
 abbrev pub left_of : Interest → DirectionValues → Interest
-left_of on ds = record { read = not on.read && not (is_idle ds.read); write = not on.write && not (is_idle ds.write) }
+left_of on ds = interest_where (λ dir. not (has_dir on dir) && not (is_idle (direction_of ds dir)))
 
 -- an arm that succeeds leaves the interest that was asked for, and one that fails leaves none
 abbrev pub asked_after : Bool → Interest → Result (Unit {0}) Failed → Interest → Interest

@@ -2,12 +2,12 @@
 use Rattle.std.specs.Prelude.{ℕ, ◌+◌, Bool, true, false, not, ◌&&◌, ◌||◌, IsTrue, nat_lt, if◌then◌else◌, List, [], ◌∷◌, ◌++◌, max, Option, None, Some, option_to_list}
 use Rattle.std.specs.List.{list_any}
 use Rattle.aio_base.specs.declared.names.Dir.{Dir}
-use Rattle.aio_base.specs.declared.names.Dir.TheVariants.{Read, Write}
+use Rattle.aio_base.specs.declared.names.Dir.TheVariants.{Read, Write, Priority}
 use Rattle.aio_base.specs.declared.names.Key.{Key}
 use Rattle.aio_base.specs.declared.names.Waker.{Waker}
 use Rattle.aio_base.specs.declared.names.Interest.{Interest}
 use Rattle.aio_base.specs.declared.names.TheConstants.Interest.{NONE}
-use Rattle.aio_base.specs.World.{directions, has_dir, is_empty_list}
+use Rattle.aio_base.specs.World.{directions, has_dir, interest_where, is_empty_list}
 use Rattle.aio_base.specs.Machine.{is_waker}
 use Rattle.aio_listen.specs.declared.ticket.Ticket.{Ticket}
 use Rattle.aio_source.specs.declared.answers.Listened.{Listened}
@@ -64,20 +64,26 @@ handled round d = record d { tick = max d.tick round; waiter = None; listeners =
 
 -- ## The directions of a source
 
+-- the directions with these values
+abbrev pub directions_where : (Dir → DirectionValue) → DirectionValues
+directions_where value = record { read = value Read; write = value Write; priority = value Priority }
+
 abbrev pub new_directions : DirectionValues
-new_directions = record { read = new_direction; write = new_direction }
+new_directions = directions_where (λ dir. new_direction)
 
 abbrev pub direction_of : DirectionValues → Dir → DirectionValue
 direction_of ds Read = ds.read
 direction_of ds Write = ds.write
+direction_of ds Priority = ds.priority
 
 abbrev pub with_direction : DirectionValues → Dir → DirectionValue → DirectionValues
 with_direction ds Read d = record ds { read = d }
 with_direction ds Write d = record ds { write = d }
+with_direction ds Priority d = record ds { priority = d }
 
 -- the interest made of the directions that have a waiter
 abbrev pub wanted : DirectionValues → Interest
-wanted ds = record { read = not (is_idle ds.read); write = not (is_idle ds.write) }
+wanted ds = interest_where (λ dir. not (is_idle (direction_of ds dir)))
 
 -- an interest has some direction
 abbrev pub has_any : Interest → Bool

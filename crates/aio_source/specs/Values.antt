@@ -17,6 +17,7 @@ pub record DirectionValue : Type 0 where
 pub record DirectionValues : Type 0 where
   pub read : DirectionValue
   pub write : DirectionValue
+  pub priority : DirectionValue
 
 -- a source: its key, its directions, the interest that its last arm asked for, and whether that arm failed
 pub record SourceValue : Type 0 where

@@ -1,8 +1,8 @@
 //! What a source asks of the poller that it is lent.
 
-ghost use Rattle.std.specs.Prelude.{◌≡◌, ◌<◌};
+ghost use Rattle.std.specs.Prelude.{◌≡◌, ◌<◌, ◌||◌};
 ghost use Rattle.aio_base.specs.Devices.{ArmOf};
-ghost use Rattle.aio_source.specs.Rules.{wanted};
+ghost use Rattle.aio_source.specs.Rules.{has_any, wanted};
 ghost use Rattle.aio_source.specs.Lent.{arm_answer, fault_of, UsesArm, asked_after, broken_after};
 
 use crate::directions::Directions;
@@ -16,6 +16,13 @@ pub(crate) struct Arming {
 }
 
 impl Arming {
+    /// Whether a direction may have a waiter: something was asked for, or the last arm failed.
+    pub(crate) fn may_wait(&self) -> bool
+        ensures { result ≡ (self.now.broken || has_any self.now.asked) }
+    {
+        self.broken || self.asked.write || self.asked.read || self.asked.priority
+    }
+
     /// Arms the poller for this key and the directions that have a waiter, where `arms` says so.
     pub(crate) fn arm_where<A: Arm>(
         &mut self,

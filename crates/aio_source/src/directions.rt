@@ -1,8 +1,8 @@
 //! The directions of a source.
 
-ghost use Rattle.std.specs.Prelude.{◌≡◌, ◌+◌, ◌≤◌, ◌++◌, true, length, vec_len, vec_capacity};
+ghost use Rattle.std.specs.Prelude.{◌≡◌, ◌+◌, ◌≤◌, ◌++◌, false, true, length, vec_len, vec_capacity};
 ghost use Rattle.std.specs.Borrow.{sem};
-ghost use Rattle.aio_base.specs.World.{directions, has_dir};
+ghost use Rattle.aio_base.specs.World.{directions};
 ghost use Rattle.aio_source.specs.Rules.{new_directions, direction_of, wanted, has_any, waiters_in, handled_along, taken_along};
 ghost use Rattle.aio_source.specs.Lending.{LendsDirection};
 
@@ -15,6 +15,7 @@ use std::marker::Model;
 pub(crate) struct Directions {
     read: Direction,
     write: Direction,
+    priority: Direction,
 }
 
 impl Model for Directions {
@@ -22,12 +23,16 @@ impl Model for Directions {
 
     ghost Value = { DirectionValues };
 
-    ghost view = { λ ds. record { read = ds.read; write = ds.write } };
+    ghost view = { λ ds. record { read = ds.read; write = ds.write; priority = ds.priority } };
 }
 
 impl Drop for Directions {
     fn drop(self) {
-        let Directions { read: _, write: _ } = self;
+        let Directions {
+            read: _,
+            write: _,
+            priority: _,
+        } = self;
     }
 }
 
@@ -38,6 +43,7 @@ impl Directions {
         Directions {
             read: Direction::new(alloc),
             write: Direction::new(alloc),
+            priority: Direction::new(alloc),
         }
     }
 
@@ -47,6 +53,7 @@ impl Directions {
         match dir {
             Dir::Read => &self.read,
             Dir::Write => &self.write,
+            Dir::Priority => &self.priority,
         }
     }
 
@@ -57,6 +64,7 @@ impl Directions {
         match dir {
             Dir::Read => &mut self.read,
             Dir::Write => &mut self.write,
+            Dir::Priority => &mut self.priority,
         }
     }
 
@@ -67,6 +75,7 @@ impl Directions {
         Interest {
             read: !self.read.is_idle(),
             write: !self.write.is_idle(),
+            priority: !self.priority.is_idle(),
         }
     }
 
@@ -74,14 +83,24 @@ impl Directions {
     pub(crate) fn has_waiter(&self) -> bool
         ensures { result ≡ has_any (wanted self.now) }
     {
-        !self.write.is_idle() || !self.read.is_idle()
+        !self.write.is_idle() || !self.read.is_idle() || !self.priority.is_idle()
+    }
+
+    /// The same, where `may` is false only if none has.
+    pub(crate) fn has_waiter_where(&self, may: bool) -> bool
+        requires { may ≡ false → has_any (wanted self.now) ≡ false }
+        ensures { result ≡ has_any (wanted self.now) }
+    {
+        may && self.has_waiter()
     }
 
     /// Whether no direction has had a listener yet. Each has its poll waiter at most then.
     pub(crate) fn are_only_polled(&self) -> bool
-        ensures { result ≡ true → length (waiters_in directions self.now) ≤ 2 }
+        ensures { result ≡ true → length (waiters_in directions self.now) ≤ length directions }
     {
-        self.write.is_only_polled() && self.read.is_only_polled()
+        self.write.is_only_polled()
+            && self.read.is_only_polled()
+            && self.priority.is_only_polled()
     }
 
     /// Moves the waiters of the directions that an event of this round names to the end of `taken`,
@@ -96,19 +115,9 @@ impl Directions {
         ensures capacity { vec_capacity taken.new ≡ vec_capacity taken.old }
     {
         for dir in DIRS {
-            if names(on, dir) {
+            if on.has(dir) {
                 self.get_mut(dir).take_waiters(round, taken);
             }
         }
-    }
-}
-
-/// Whether an interest has a direction.
-pub(crate) fn names(on: Interest, dir: Dir) -> bool
-    ensures { result ≡ has_dir on dir }
-{
-    match dir {
-        Dir::Read => on.read,
-        Dir::Write => on.write,
     }
 }

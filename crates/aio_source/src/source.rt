@@ -96,9 +96,9 @@ impl SourceState {
         self.directions.get(dir).waiting()
     }
 
-    /// Whether the source has had no listener yet. Two waiters wait at most then.
+    /// Whether the source has had no listener yet. A waiter of each direction waits at most then.
     pub fn is_only_polled(&self) -> bool
-        ensures { result ≡ true → length (waiters_in directions self.now.directions) ≤ 2 }
+        ensures { result ≡ true → length (waiters_in directions self.now.directions) ≤ length directions }
     {
         self.directions.are_only_polled()
     }
@@ -319,9 +319,10 @@ impl SourceState {
             UsesArm A.arm_step A.interests A.rest A.fault_count A.is_sure
             p.arms (arm_of p.source) (arm_answer result) arm.old arm.new }
     {
+        let may = self.arming.may_wait();
         self.directions.take_waiters(e.on, round, taken);
         self.arming.asked = Interest::NONE;
-        let left = self.directions.has_waiter();
+        let left = self.directions.has_waiter_where(may);
         self.arming.arm_where(left, arm, self.key, &self.directions)
     }
 }

@@ -24,7 +24,7 @@ const GIVEN: [Event; 6] = [
     },
     Event {
         key: Key(u32::MAX),
-        on: Interest::BOTH,
+        on: Interest::READ_WRITE,
     },
     Event {
         key: Key(0),

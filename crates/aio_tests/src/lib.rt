@@ -19,6 +19,8 @@ mod hosts;
 #[cfg(test)]
 mod listeners;
 #[cfg(test)]
+mod priority;
+#[cfg(test)]
 mod reactors;
 #[cfg(test)]
 mod rounds;

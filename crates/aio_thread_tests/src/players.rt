@@ -196,10 +196,7 @@ fn poll_at<R: Wait + Copy, N: Notify, W: EventWait, C>(
 
 /// An event of one direction.
 fn event(key: u32, dir: Dir) -> Event {
-    let on = match dir {
-        Dir::Read => Interest::READ,
-        Dir::Write => Interest::WRITE,
-    };
+    let on = Interest::NONE.with(dir);
     Event { key: Key(key), on }
 }
 

@@ -5,7 +5,7 @@ use Rattle.std.specs.Int.{IsInRange}
 use Rattle.std.proofs.lemmas.Bool.Decides.{nat_tests}
 use Rattle.std.proofs.lemmas.List.Splits.{slice_split-cons_yes, slice_split-cons_no}
 use Rattle.std.proofs.lemmas.Str.Parse.{tells_all_ascii_digits}
-use Rattle.aio_base.specs.declared.names.Dir.TheVariants.{Read, Write}
+use Rattle.aio_base.specs.declared.names.Dir.TheVariants.{Read, Write, Priority}
 use Rattle.aio_base.specs.declared.names.Dir.{Dir}
 use Rattle.aio_base.specs.declared.outcomes.Which.{Which}
 use Rattle.aio_base.specs.declared.outcomes.Which.TheVariants as which
@@ -39,6 +39,7 @@ ArePrintedWords (w ∷ ws) = IsPrintedWord w × ArePrintedWords ws
 dir_printed : (dir : Dir) → IsPrinted (dir_text dir)
 dir_printed Read = refl
 dir_printed Write = refl
+dir_printed Priority = refl
 
 flags_printed : (read write : Bool) → IsPrinted (flags_of read write)
 flags_printed false false = refl

@@ -4,7 +4,7 @@ use Rattle.std.specs.Prelude.{bytes_eq}
 use Rattle.std.proofs.lemmas.Bool.{le-leb}
 use Rattle.std.proofs.lemmas.Slice.Eq.{bytes_eq-Decides}
 use Rattle.aio_base.specs.declared.names.Dir.{Dir}
-use Rattle.aio_base.specs.declared.names.Dir.TheVariants.{Read, Write}
+use Rattle.aio_base.specs.declared.names.Dir.TheVariants.{Read, Write, Priority}
 use Rattle.aio_base.specs.declared.names.Interest.{Interest}
 use Rattle.aio_base.specs.declared.outcomes.Which.TheVariants as which
 use Rattle.aio_base.specs.declared.steps.LineFault.{LineFault}
@@ -13,7 +13,7 @@ use Rattle.aio_base.specs.declared.steps.Step.{Step}
 use Rattle.aio_base.specs.declared.steps.Step.TheVariants as step
 use Rattle.aio_base.specs.World.{last_moment}
 use Rattle.aio_base.specs.Text.{dir_text, flags_of, flags_text}
-use Rattle.aio_base.specs.Lines.{numeral, last_number, HasSpelling, StepWord, Text, Number, limit_word, step_words, SpellAll}
+use Rattle.aio_base.specs.Lines.{numeral, last_number, HasWord, HaveWord, HasSpelling, StepWord, Text, Number, limit_word, step_words, SpellAll}
 use Rattle.aio_trace.specs.Reading.{◌>>=◌, with_rest, up_to, take_number, not_zero, take_period, dir_of, take_direction, flags_of_word, take_flags, some_up_to, limit_of, take_limit, ended, timer_of, set_behind, fault_line_of, step_of_words}
 
 -- ## Places
@@ -40,25 +40,30 @@ period_back n next ws s (word ∷ words) some small spelled go =
     ∙ ap (λ t. with_rest words (cond t (Ok n) (Err fault.Number)) >>= not_zero >>= next) (le-leb n last_moment small)
     ∙ ap (λ t. cond t (Ok (n, words)) (Err fault.Number) >>= next) (le-leb 1 n some) ∙ go words spelled.1
 
-dir_read : (dir : Dir) → dir_of (dir_text dir) ≡ Ok dir
-dir_read Read = refl
-dir_read Write = refl
+dir_read : (dir : Dir) → HasWord dir → dir_of (dir_text dir) ≡ Ok dir
+dir_read Read has = refl
+dir_read Write has = refl
+dir_read Priority has = absurd has
 
 direction_back : (dir : Dir) (next : Dir × List (List ℕ) → Result Step LineFault) (ws : List StepWord) (s : Step) (words : List (List ℕ))
-    → SpellAll words (Text (dir_text dir) ∷ ws) → Goes next dir ws s → (take_direction words >>= next) ≡ Ok s
-direction_back dir next ws s [] spelled go = absurd spelled
-direction_back dir next ws s (word ∷ words) spelled go = ap (λ read. with_rest words read >>= next) (ap dir_of spelled.0 ∙ dir_read dir) ∙ go words spelled.1
+    → HasWord dir → SpellAll words (Text (dir_text dir) ∷ ws) → Goes next dir ws s → (take_direction words >>= next) ≡ Ok s
+direction_back dir next ws s [] has spelled go = absurd spelled
+direction_back dir next ws s (word ∷ words) has spelled go = ap (λ read. with_rest words read >>= next) (ap dir_of spelled.0 ∙ dir_read dir has) ∙ go words spelled.1
 
-flags_read : (read write : Bool) → flags_of_word (flags_of read write) ≡ Ok (record { read = read; write = write })
-flags_read false false = refl
-flags_read true false = refl
-flags_read false true = refl
-flags_read true true = refl
+abbrev flags : Bool → Bool → Bool → Interest
+flags read write priority = record { read = read; write = write; priority = priority }
+
+flags_read : (read write priority : Bool) → priority ≡ false → flags_of_word (flags_of read write) ≡ Ok (flags read write priority)
+flags_read false false false has = refl
+flags_read true false false has = refl
+flags_read false true false has = refl
+flags_read true true false has = refl
+flags_read read write true has = absurd cc
 
 flags_back : (on : Interest) (next : Interest × List (List ℕ) → Result Step LineFault) (ws : List StepWord) (s : Step) (words : List (List ℕ))
-    → SpellAll words (Text (flags_text on) ∷ ws) → Goes next on ws s → (take_flags words >>= next) ≡ Ok s
-flags_back on next ws s [] spelled go = absurd spelled
-flags_back on next ws s (word ∷ words) spelled go = ap (λ read. with_rest words read >>= next) (ap flags_of_word spelled.0 ∙ flags_read on.read on.write) ∙ go words spelled.1
+    → HaveWord on → SpellAll words (Text (flags_text on) ∷ ws) → Goes next on ws s → (take_flags words >>= next) ≡ Ok s
+flags_back on next ws s [] has spelled go = absurd spelled
+flags_back on next ws s (word ∷ words) has spelled go = ap (λ read. with_rest words read >>= next) (ap flags_of_word spelled.0 ∙ flags_read on.read on.write on.priority has) ∙ go words spelled.1
 
 -- a number is no `none`
 number_is_not_none : (word : List ℕ) (n : ℕ) → numeral word ≡ Some n → bytes_eq word (codes "none") ≡ false
@@ -107,9 +112,9 @@ step_back step.React words fits spelled = word_back (codes "react") step_of_word
 step_back (step.Del key) words fits spelled = word_back (codes "del") step_of_words (Number key.0 ∷ []) (step.Del key) words spelled (λ rest spelled.
     number_back last_number key.0 _ [] (step.Del key) rest fits spelled (λ rest spelled. end_back (step.Del key) rest spelled))
 step_back (step.Poll key dir waker) words fits spelled = word_back (codes "poll") step_of_words (Number key.0 ∷ Text (dir_text dir) ∷ Number waker.0 ∷ []) (step.Poll key dir waker) words spelled (λ rest spelled.
-    number_back last_number key.0 _ (Text (dir_text dir) ∷ Number waker.0 ∷ []) (step.Poll key dir waker) rest fits.0 spelled (λ rest spelled. direction_back dir _ (Number waker.0 ∷ []) (step.Poll key dir waker) rest spelled (λ rest spelled. number_back last_number waker.0 _ [] (step.Poll key dir waker) rest fits.1 spelled (λ rest spelled. end_back (step.Poll key dir waker) rest spelled))))
+    number_back last_number key.0 _ (Text (dir_text dir) ∷ Number waker.0 ∷ []) (step.Poll key dir waker) rest fits.0 spelled (λ rest spelled. direction_back dir _ (Number waker.0 ∷ []) (step.Poll key dir waker) rest fits.1 spelled (λ rest spelled. number_back last_number waker.0 _ [] (step.Poll key dir waker) rest fits.2 spelled (λ rest spelled. end_back (step.Poll key dir waker) rest spelled))))
 step_back (step.New key dir) words fits spelled = word_back (codes "new") step_of_words (Number key.0 ∷ Text (dir_text dir) ∷ []) (step.New key dir) words spelled (λ rest spelled.
-    number_back last_number key.0 _ (Text (dir_text dir) ∷ []) (step.New key dir) rest fits spelled (λ rest spelled. direction_back dir _ [] (step.New key dir) rest spelled (λ rest spelled. end_back (step.New key dir) rest spelled)))
+    number_back last_number key.0 _ (Text (dir_text dir) ∷ []) (step.New key dir) rest fits.0 spelled (λ rest spelled. direction_back dir _ [] (step.New key dir) rest fits.1 spelled (λ rest spelled. end_back (step.New key dir) rest spelled)))
 step_back (step.StepEar number waker) words fits spelled = word_back (codes "step") step_of_words (Number number ∷ Number waker.0 ∷ []) (step.StepEar number waker) words spelled (λ rest spelled.
     number_back last_number number _ (Number waker.0 ∷ []) (step.StepEar number waker) rest fits.0 spelled (λ rest spelled. number_back last_number waker.0 _ [] (step.StepEar number waker) rest fits.1 spelled (λ rest spelled. end_back (step.StepEar number waker) rest spelled)))
 step_back (step.DropEar number) words fits spelled = word_back (codes "drop") step_of_words (Number number ∷ []) (step.DropEar number) words spelled (λ rest spelled.
@@ -121,7 +126,7 @@ step_back (step.End number) words fits spelled = word_back (codes "end") step_of
 step_back (step.Now moment) words fits spelled = word_back (codes "now") step_of_words (Number moment ∷ []) (step.Now moment) words spelled (λ rest spelled.
     number_back last_moment moment _ [] (step.Now moment) rest fits spelled (λ rest spelled. end_back (step.Now moment) rest spelled))
 step_back (step.Note event) words fits spelled = word_back (codes "event") step_of_words (Number event.key.0 ∷ Text (flags_text event.on) ∷ []) (step.Note event) words spelled (λ rest spelled.
-    number_back last_number event.key.0 _ (Text (flags_text event.on) ∷ []) (step.Note event) rest fits spelled (λ rest spelled. flags_back event.on _ [] (step.Note event) rest spelled (λ rest spelled. end_back (step.Note event) rest spelled)))
+    number_back last_number event.key.0 _ (Text (flags_text event.on) ∷ []) (step.Note event) rest fits.0 spelled (λ rest spelled. flags_back event.on _ [] (step.Note event) rest fits.1 spelled (λ rest spelled. end_back (step.Note event) rest spelled)))
 step_back (step.Begin limit) words fits spelled = word_back (codes "begin") step_of_words (limit_word limit ∷ []) (step.Begin limit) words spelled (λ rest spelled.
     limit_back limit _ [] (step.Begin limit) rest fits spelled (λ rest spelled. end_back (step.Begin limit) rest spelled))
 step_back (step.TimerAt deadline) words fits spelled = word_back (codes "timer") step_of_words (Text (codes "at") ∷ Number deadline ∷ []) (step.TimerAt deadline) words spelled (λ rest spelled.

@@ -7,6 +7,7 @@ use Rattle.std.proofs.Math.Dec.{leb-zero}
 use Rattle.std.proofs.lemmas.Slice.Eq.{bytes_eq-Decides}
 use Rattle.aio_base.specs.declared.names.Dir.{Dir}
 use Rattle.aio_base.specs.declared.names.Dir.TheVariants.{Read, Write}
+use Rattle.aio_base.specs.declared.names.TheConstants.Interest.{NONE, READ, WRITE, READ_WRITE}
 use Rattle.aio_base.specs.declared.names.Interest.{Interest}
 use Rattle.aio_base.specs.declared.outcomes.Which.TheVariants as which
 use Rattle.aio_base.specs.declared.steps.LineFault.{LineFault}
@@ -15,7 +16,7 @@ use Rattle.aio_base.specs.declared.steps.Step.{Step}
 use Rattle.aio_base.specs.declared.steps.Step.TheVariants as step
 use Rattle.aio_base.specs.World.{last_moment}
 use Rattle.aio_base.specs.Text.{dir_text, flags_text}
-use Rattle.aio_base.specs.Lines.{numeral, last_number, is_from_to, HasSpelling, limit_word, step_words, Spells, SpellAll, Asked, ANumber, AMoment, APeriod, ALimit, ADirection, SomeFlags, Form, plain, choose, no_more, fault_in, fault_of_chosen, fault_of_choice, fault_in_form, fault_of_words}
+use Rattle.aio_base.specs.Lines.{numeral, last_number, is_from_to, HasWord, HaveWord, HasSpelling, limit_word, step_words, Spells, SpellAll, Asked, ANumber, AMoment, APeriod, ALimit, ADirection, SomeFlags, Form, plain, choose, no_more, fault_in, fault_of_chosen, fault_of_choice, fault_in_form, fault_of_words}
 use Rattle.aio_trace.specs.declared.reading.Command.{Command}
 use Rattle.aio_trace.specs.declared.reading.Command.TheVariants as command
 use Rattle.aio_trace.specs.Reading.{◌>>=◌, with_rest, up_to, take_number, not_zero, take_period, take_direction, take_flags, some_up_to, take_limit, ended, del_of, poll_of, new_of, listener_poll_of, drop_of, timer_at_of, timer_every_of, timer_chosen, timer_of, tick_of, set_at_of, set_every_of, set_chosen, set_behind, set_of, end_of, now_of, event_of, fault_chosen, fault_line_of, begin_of, command_named, step_of, step_by, step_of_words}
@@ -82,7 +83,7 @@ at_period next places behind line (word ∷ words) go = period_by next places be
 
 -- a direction
 abbrev IsDirection : List ℕ → Dir → Type 0
-IsDirection word dir = word ≡ dir_text dir
+IsDirection word dir = HasWord dir × (word ≡ dir_text dir)
 
 at_direction : (next : Dir × List (List ℕ) → Result Step LineFault) (places : List Asked) (behind : List (List ℕ) → Option LineFault) (line : List (List ℕ) → List (List ℕ)) (words : List (List ℕ))
     → Behind next places behind line IsDirection → Tells (take_direction words >>= next) (fault_in (ADirection ∷ places) behind words) (line words)
@@ -91,13 +92,13 @@ at_direction next places behind line (word ∷ words) go = by_tests (bytes_eq wo
   where
     by_tests : (r w : Bool) → bytes_eq word (codes "r") ≡ r → bytes_eq word (codes "w") ≡ w
         → Tells (with_rest words (cond r (Ok Read) (cond w (Ok Write) (Err fault.Direction))) >>= next) (cond (r || (w || false)) (fault_in places behind words) (Some fault.Direction)) (line (word ∷ words))
-    by_tests true w is other = go word Read words (same_bytes word (codes "r") is)
-    by_tests false true other is = go word Write words (same_bytes word (codes "w") is)
+    by_tests true w is other = go word Read words (tt, same_bytes word (codes "r") is)
+    by_tests false true other is = go word Write words (tt, same_bytes word (codes "w") is)
     by_tests false false one two = refl
 
 -- the directions of an event
 abbrev IsFlags : List ℕ → Interest → Type 0
-IsFlags word on = word ≡ flags_text on
+IsFlags word on = HaveWord on × (word ≡ flags_text on)
 
 at_flags : (next : Interest × List (List ℕ) → Result Step LineFault) (places : List Asked) (behind : List (List ℕ) → Option LineFault) (line : List (List ℕ) → List (List ℕ)) (words : List (List ℕ))
     → Behind next places behind line IsFlags → Tells (take_flags words >>= next) (fault_in (SomeFlags ∷ places) behind words) (line words)
@@ -105,16 +106,13 @@ at_flags next places behind line [] go = refl
 at_flags next places behind line (word ∷ words) go =
     by_tests (bytes_eq word (codes "-")) (bytes_eq word (codes "r")) (bytes_eq word (codes "w")) (bytes_eq word (codes "rw")) refl refl refl refl
   where
-    on : Bool → Bool → Interest
-    on read write = record { read = read; write = write }
-
     by_tests : (n r w b : Bool) → bytes_eq word (codes "-") ≡ n → bytes_eq word (codes "r") ≡ r → bytes_eq word (codes "w") ≡ w → bytes_eq word (codes "rw") ≡ b
-        → Tells (with_rest words (cond n (Ok (on false false)) (cond r (Ok (on true false)) (cond w (Ok (on false true)) (cond b (Ok (on true true)) (Err fault.Flags))))) >>= next)
+        → Tells (with_rest words (cond n (Ok NONE) (cond r (Ok READ) (cond w (Ok WRITE) (cond b (Ok READ_WRITE) (Err fault.Flags))))) >>= next)
         (cond (n || (r || (w || (b || false)))) (fault_in places behind words) (Some fault.Flags)) (line (word ∷ words))
-    by_tests true r w b is e2 e3 e4 = go word (on false false) words (same_bytes word (codes "-") is)
-    by_tests false true w b e1 is e3 e4 = go word (on true false) words (same_bytes word (codes "r") is)
-    by_tests false false true b e1 e2 is e4 = go word (on false true) words (same_bytes word (codes "w") is)
-    by_tests false false false true e1 e2 e3 is = go word (on true true) words (same_bytes word (codes "rw") is)
+    by_tests true r w b is e2 e3 e4 = go word NONE words (refl, same_bytes word (codes "-") is)
+    by_tests false true w b e1 is e3 e4 = go word READ words (refl, same_bytes word (codes "r") is)
+    by_tests false false true b e1 e2 is e4 = go word WRITE words (refl, same_bytes word (codes "w") is)
+    by_tests false false false true e1 e2 e3 is = go word READ_WRITE words (refl, same_bytes word (codes "rw") is)
     by_tests false false false false e1 e2 e3 e4 = refl
 
 -- a limit
@@ -161,13 +159,13 @@ poll_tells words =
     at_number _ (ADirection ∷ ANumber ∷ []) no_more (λ words. codes "poll" ∷ words) words (λ key k rest is_key.
     at_direction _ (ANumber ∷ []) no_more (λ words. codes "poll" ∷ key ∷ words) rest (λ dir d rest is_dir.
     at_number _ [] no_more (λ words. codes "poll" ∷ key ∷ dir ∷ words) rest (λ waker w rest is_waker.
-    at_end (step.Poll (record { 0 = k }) d (record { 0 = w })) (λ words. codes "poll" ∷ key ∷ dir ∷ waker ∷ words) rest (is_key.1, is_waker.1) (refl, (is_key.0, (is_dir, (is_waker.0, tt)))))))
+    at_end (step.Poll (record { 0 = k }) d (record { 0 = w })) (λ words. codes "poll" ∷ key ∷ dir ∷ waker ∷ words) rest (is_key.1, is_dir.0, is_waker.1) (refl, (is_key.0, (is_dir.1, (is_waker.0, tt)))))))
 
 new_tells : (words : List (List ℕ)) → Tells (new_of words) (fault_in (ANumber ∷ ADirection ∷ []) no_more words) (codes "new" ∷ words)
 new_tells words =
     at_number _ (ADirection ∷ []) no_more (λ words. codes "new" ∷ words) words (λ key k rest is_key.
     at_direction _ [] no_more (λ words. codes "new" ∷ key ∷ words) rest (λ dir d rest is_dir.
-    at_end (step.New (record { 0 = k }) d) (λ words. codes "new" ∷ key ∷ dir ∷ words) rest is_key.1 (refl, (is_key.0, (is_dir, tt)))))
+    at_end (step.New (record { 0 = k }) d) (λ words. codes "new" ∷ key ∷ dir ∷ words) rest (is_key.1, is_dir.0) (refl, (is_key.0, (is_dir.1, tt)))))
 
 listener_poll_tells : (words : List (List ℕ)) → Tells (listener_poll_of words) (fault_in (ANumber ∷ ANumber ∷ []) no_more words) (codes "step" ∷ words)
 listener_poll_tells words =
@@ -200,7 +198,7 @@ event_tells : (words : List (List ℕ)) → Tells (event_of words) (fault_in (AN
 event_tells words =
     at_number _ (SomeFlags ∷ []) no_more (λ words. codes "event" ∷ words) words (λ key k rest is_key.
     at_flags _ [] no_more (λ words. codes "event" ∷ key ∷ words) rest (λ flags on rest is_flags.
-    at_end (step.Note (record { key = (record { 0 = k }); on = on })) (λ words. codes "event" ∷ key ∷ flags ∷ words) rest is_key.1 (refl, (is_key.0, (is_flags, tt)))))
+    at_end (step.Note (record { key = (record { 0 = k }); on = on })) (λ words. codes "event" ∷ key ∷ flags ∷ words) rest (is_key.1, is_flags.0) (refl, (is_key.0, (is_flags.1, tt)))))
 
 begin_tells : (words : List (List ℕ)) → Tells (begin_of words) (fault_in (ALimit ∷ []) no_more words) (codes "begin" ∷ words)
 begin_tells words =

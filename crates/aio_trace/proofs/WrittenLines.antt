@@ -6,7 +6,7 @@ use Rattle.std.proofs.lemmas.Bool.Decides.{nat_tests}
 use Rattle.std.proofs.lemmas.List.Folds.{list_all_at}
 use Rattle.std.proofs.lemmas.Fmt.{digits_decimal, digits_value-decimal, decimal_nonempty, length-decimal-le}
 use Rattle.aio_base.specs.declared.names.Dir.{Dir}
-use Rattle.aio_base.specs.declared.names.Dir.TheVariants.{Read, Write}
+use Rattle.aio_base.specs.declared.names.Dir.TheVariants.{Read, Write, Priority}
 use Rattle.aio_base.specs.declared.outcomes.Which.{Which}
 use Rattle.aio_base.specs.declared.outcomes.Which.TheVariants as which
 use Rattle.aio_base.specs.declared.steps.Step.{Step}
@@ -32,8 +32,8 @@ limit_small (Some n) fits = (fits, tt)
 
 step_small : (s : Step) → HasSpelling s → AreSmall (step_words s)
 step_small (step.Del key) fits = (omega arith, tt)
-step_small (step.Poll key dir waker) fits = (let k = fits.0 in omega arith, (let w = fits.1 in omega arith, tt))
-step_small (step.New key dir) fits = (omega arith, tt)
+step_small (step.Poll key dir waker) fits = (let k = fits.0 in omega arith, (let w = fits.2 in omega arith, tt))
+step_small (step.New key dir) fits = (let k = fits.0 in omega arith, tt)
 step_small (step.StepEar number waker) fits = (let n = fits.0 in omega arith, (let w = fits.1 in omega arith, tt))
 step_small (step.DropEar number) fits = (omega arith, tt)
 step_small (step.TimerAt deadline) fits = (fits, tt)
@@ -43,7 +43,7 @@ step_small (step.SetAt number deadline) fits = (let n = fits.0 in omega arith, (
 step_small (step.SetEvery number deadline period) fits = (let n = fits.0 in omega arith, (fits.1, (fits.2.1, tt)))
 step_small (step.End number) fits = (omega arith, tt)
 step_small (step.Now moment) fits = (fits, tt)
-step_small (step.Note event) fits = (omega arith, tt)
+step_small (step.Note event) fits = (let k = fits.0 in omega arith, tt)
 step_small (step.Begin limit) fits = limit_small limit fits
 step_small _ fits = tt
 
@@ -59,6 +59,7 @@ AreShort (suc room) (Number n ∷ ws) = AreShort room ws
 dir_short : (dir : Dir) → leb (length (dir_text dir)) 19 ≡ true
 dir_short Read = refl
 dir_short Write = refl
+dir_short Priority = refl
 
 flags_short : (read write : Bool) → leb (length (flags_of read write)) 19 ≡ true
 flags_short false false = refl

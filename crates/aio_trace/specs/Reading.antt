@@ -4,6 +4,7 @@ use Rattle.std.specs.List.{list_all}
 use Rattle.aio_base.specs.declared.names.Dir.{Dir}
 use Rattle.aio_base.specs.declared.names.Dir.TheVariants.{Read, Write}
 use Rattle.aio_base.specs.declared.names.Interest.{Interest}
+use Rattle.aio_base.specs.declared.names.TheConstants.Interest.{NONE, READ, WRITE, READ_WRITE}
 use Rattle.aio_base.specs.declared.outcomes.Which.TheVariants as which
 use Rattle.aio_base.specs.declared.steps.LineFault.{LineFault}
 use Rattle.aio_base.specs.declared.steps.LineFault.TheVariants as fault
@@ -59,10 +60,10 @@ take_direction (word ∷ words) = with_rest words (dir_of word)
 
 abbrev pub flags_of_word : List ℕ → Result Interest LineFault
 flags_of_word word =
-    if bytes_eq word (codes "-") then Ok (record { read = false; write = false })
-    else (if bytes_eq word (codes "r") then Ok (record { read = true; write = false })
-    else (if bytes_eq word (codes "w") then Ok (record { read = false; write = true })
-    else (if bytes_eq word (codes "rw") then Ok (record { read = true; write = true }) else Err fault.Flags)))
+    if bytes_eq word (codes "-") then Ok NONE
+    else (if bytes_eq word (codes "r") then Ok READ
+    else (if bytes_eq word (codes "w") then Ok WRITE
+    else (if bytes_eq word (codes "rw") then Ok READ_WRITE else Err fault.Flags)))
 
 abbrev pub take_flags : List (List ℕ) → Taken Interest
 take_flags [] = Err fault.Count

@@ -288,7 +288,7 @@ fn event_step(places: &[u8]) -> Option<Step>
     let on = match rest {
         b"r" => Interest::READ,
         b"w" => Interest::WRITE,
-        b"rw" => Interest::BOTH,
+        b"rw" => Interest::READ_WRITE,
         b"-" => Interest::NONE,
         _ => return None,
     };

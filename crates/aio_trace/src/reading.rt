@@ -577,7 +577,7 @@ fn read_flags(word: &[u8]) -> Result<Interest, LineFault>
     } else if word_is(word, b"w") {
         Ok(Interest::WRITE)
     } else if word_is(word, b"rw") {
-        Ok(Interest::BOTH)
+        Ok(Interest::READ_WRITE)
     } else {
         Err(LineFault::Flags)
     }

@@ -64,6 +64,7 @@ fn push_poller(out: &mut Vec<u8>, direction: Dir, waker: Waker) -> Result<(), Al
     match direction {
         Dir::Read => push_numbered(out, b" r ", u64::from(waker.0)),
         Dir::Write => push_numbered(out, b" w ", u64::from(waker.0)),
+        Dir::Priority => push_numbered(out, b" p ", u64::from(waker.0)),
     }
 }
 
@@ -79,6 +80,7 @@ fn push_new(out: &mut Vec<u8>, key: Key, direction: Dir) -> Result<(), AllocErro
     out.extend_from_slice(match direction {
         Dir::Read => b" r\n",
         Dir::Write => b" w\n",
+        Dir::Priority => b" p\n",
     })
 }
 

@@ -2,7 +2,7 @@
 //! block of output.
 
 ghost use Rattle.std.specs.Prelude.{◌≡◌, ◌≤◌, ◌++◌, [], decimal, OnErr, OnOk, vec_capacity};
-ghost use Rattle.aio_base.specs.Lines.{IsInRange, written_line};
+ghost use Rattle.aio_base.specs.Lines.{IsInRange, NamesNoPriority, written_line};
 ghost use Rattle.aio_base.specs.Script.{reply_text};
 ghost use Rattle.aio_base.specs.Text.{answer_line, ended_line};
 ghost use Rattle.aio_trace.specs.Writing.{LacksRoom, Pushes};
@@ -19,7 +19,8 @@ use std::alloc::AllocError;
 ///
 /// `OutOfMemory` only where there was no room for the line, and then `out` holds what it held.
 pub fn write_line(step: &Step, out: &mut Vec<u8>) -> Result<(), OutOfMemory>
-    requires { IsInRange step.now }
+    requires range { IsInRange step.now }
+    requires names { NamesNoPriority step.now }
     ensures ok { OnOk result (out.new.items ≡ out.old.items ++ ended_line (written_line step.now)) }
     ensures err { OnErr result (out.new.items ≡ out.old.items) }
     ensures full { OnErr result (LacksRoom (vec_capacity out.old) out.old.items

@@ -10,7 +10,8 @@ use Rattle.aio_base.specs.Machine.{hand_of}
 use Rattle.aio_base.specs.Runs.{PolledStep, outcome_of, answers_of, world_of}
 use Rattle.aio_laws.specs.Covered.{tells_at, Cover, IsArmed, InHand, FaultIsTold, Covered, HasSource, WaitsForLive}
 use Rattle.aio_base.proofs.Membership.{none_is_in, each_in, any_from}
-use Rattle.aio_base.proofs.WaiterLemmas.{same_dir-from, serial_of-live, waiter_wants}
+use Rattle.aio_base.proofs.DirectionLemmas.{same_dir-from}
+use Rattle.aio_base.proofs.WaiterLemmas.{serial_of-live, waiter_wants}
 use Rattle.aio_laws.proofs.cover.Standing.{parts_of, Holds, Armed, Handed, Broken, BrokenTold, Standing}
 use Rattle.aio_laws.proofs.cover.CoverSteps.{step_result_stands}
 

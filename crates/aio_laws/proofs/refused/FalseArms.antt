@@ -1,5 +1,6 @@
 -- Arms that a wrong machine leaves off, makes for nobody or forgets, and sources that it takes for broken or for whole, each refused by a law of a step.
 use Rattle.std.proofs.Common.{◌≡◌, ℕ, true, false, List, [], ◌∷◌, length, None, refl, ap, sym, arith, ◌<◌}
+use Rattle.aio_base.specs.declared.names.TheConstants.Interest.{WRITE}
 use Rattle.aio_base.specs.declared.names.Dir.{Dir}
 use Rattle.aio_base.specs.declared.names.Dir.TheVariants.{Read, Write}
 use Rattle.aio_base.specs.declared.names.Event.{Event}
@@ -35,7 +36,7 @@ abbrev quiet : World
 quiet = record waiting { poll_waiters = []; marks = [] }
 
 abbrev writable : ℕ → Event
-writable number = record { key = key number; on = record { read = false; write = true } }
+writable number = record { key = key number; on = WRITE }
 
 -- ## Where an arm has to be
 

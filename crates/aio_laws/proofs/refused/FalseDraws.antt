@@ -3,7 +3,8 @@ use Rattle.std.proofs.Common.{◌≡◌, ◌<◌, ◌+◌, ℕ, true, false, [],
 use Rattle.aio_base.specs.declared.names.Dir.TheVariants.{Read}
 use Rattle.aio_base.specs.declared.steps.Step.TheVariants as step
 use Rattle.aio_base.specs.declared.steps.Answer.TheVariants as answer
-use Rattle.aio_base.specs.World.{DueFaults, World, opening}
+use Rattle.aio_base.specs.declared.outcomes.DueFaults.{DueFaults}
+use Rattle.aio_base.specs.World.{World, opening}
 use Rattle.aio_laws.specs.Drawn.{HasRegistration, IdsFollow, DrawsFollow}
 use Rattle.aio_laws.proofs.refused.FalseNotes.{key, readable, task, waiting}
 use Rattle.aio_base.proofs.Membership.{none_is_in}

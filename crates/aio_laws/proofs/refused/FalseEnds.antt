@@ -1,6 +1,7 @@
 -- A round that was stopped and goes on, computed, and ends of rounds that go on wrongly, each refused by the law of stopped rounds.
 use Rattle.std.proofs.Common.{◌≡◌, true, false, List, [], ◌∷◌, ◌++◌, map, None, Some, option_map, refl, ap, sym, ◌∙◌}
 use Rattle.std.proofs.lemmas.List.Elements.{All-nil, All-cons, All-head, All-tail}
+use Rattle.aio_base.specs.declared.names.TheConstants.Interest.{READ, WRITE}
 use Rattle.aio_base.specs.declared.names.Event.{Event}
 use Rattle.aio_base.specs.declared.names.Dir.TheVariants.{Read, Write}
 use Rattle.aio_base.specs.declared.outcomes.EndWord.TheVariants.{Clean, FaultArm}
@@ -15,10 +16,10 @@ use Rattle.aio_laws.proofs.traces.Words.{waker}
 -- ## A round, stopped after its first event
 
 abbrev reads : Event
-reads = record { key = record { 0 = 0 }; on = record { read = true; write = false } }
+reads = record { key = record { 0 = 0 }; on = READ }
 
 abbrev writes : Event
-writes = record { key = record { 0 = 0 }; on = record { read = false; write = true } }
+writes = record { key = record { 0 = 0 }; on = WRITE }
 
 -- a timer is due, and these tasks wait for the one source
 abbrev waits : List PollWaiter → World

@@ -1,5 +1,6 @@
 -- Notes, marks and failed arms of wrong machines, each refused by a law of a step.
 use Rattle.std.proofs.Common.{◌≡◌, ℕ, ◌<◌, true, false, List, [], ◌∷◌, length, None, Some, ap, sym, arith}
+use Rattle.aio_base.specs.declared.names.TheConstants.Interest.{READ, READ_WRITE}
 use Rattle.aio_base.specs.declared.names.Key.{Key}
 use Rattle.aio_base.specs.declared.names.Waker.{Waker}
 use Rattle.aio_base.specs.declared.names.Dir.{Dir}
@@ -25,10 +26,10 @@ key number = record { 0 = number }
 
 -- an event of a key: it is readable, or readable and writable
 abbrev pub readable : ℕ → Event
-readable number = record { key = key number; on = record { read = true; write = false } }
+readable number = record { key = key number; on = READ }
 
 abbrev both : ℕ → Event
-both number = record { key = key number; on = record { read = true; write = true } }
+both number = record { key = key number; on = READ_WRITE }
 
 abbrev pub mark : ℕ → Dir → ℕ → Mark
 mark serial dir position = record { serial = serial; dir = dir; position = position }

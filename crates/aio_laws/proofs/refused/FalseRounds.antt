@@ -1,6 +1,7 @@
 -- Steps of machines that run rounds wrongly, each refused by a law of rounds, of hands or of passes.
 use Rattle.std.proofs.Common.{◌≡◌, ℕ, ◌<◌, ◌≤◌, Bool, true, false, List, [], ◌∷◌, Option, None, Some, refl, ap, ◌∙◌, sym, subst, ⊎_elim, inl, arith}
 use Rattle.std.specs.List.{Contains}
+use Rattle.aio_base.specs.declared.names.TheConstants.Interest.{READ}
 use Rattle.aio_base.specs.declared.names.Key.{Key}
 use Rattle.aio_base.specs.declared.names.Event.{Event}
 use Rattle.aio_base.specs.declared.outcomes.EndWord.{EndWord}
@@ -16,7 +17,7 @@ use Rattle.aio_laws.specs.Between.{IsWaitedOut, RegistrationsFollow}
 use Rattle.aio_base.proofs.Membership.{among_cases, first_is_in, none_is_in}
 
 abbrev event : ℕ → Event
-event key = record { key = record { 0 = key }; on = record { read = true; write = false } }
+event key = record { key = record { 0 = key }; on = READ }
 
 abbrev timer : ℕ → Registration
 timer deadline = record { id = 1; deadline = deadline; waker = record { 0 = 7 } }

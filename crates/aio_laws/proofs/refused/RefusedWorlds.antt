@@ -2,6 +2,7 @@
 use Rattle.std.proofs.Common.{◌≡◌, ◌⊎◌, ℕ, ◌<◌, ◌≤◌, ◌==◌, true, false, List, [], ◌∷◌, map, Option, None, Some, is_some, refl, ap, sym, subst, ⊎_elim, arith, ◌+◌, ◌∙◌}
 use Rattle.std.specs.List.{Contains, list_any}
 use Rattle.std.proofs.lemmas.List.Elements.{All-head}
+use Rattle.aio_base.specs.declared.names.TheConstants.Interest.{READ}
 use Rattle.aio_base.specs.declared.names.Waker.{Waker}
 use Rattle.aio_base.specs.declared.names.Dir.{Dir}
 use Rattle.aio_base.specs.declared.names.Dir.TheVariants.{Read, Write}
@@ -245,7 +246,7 @@ a_poll_that_hides_behind_an_older_fault_is_refused arms =
 
 -- an event that is readable, of key 0
 abbrev readable : Event
-readable = record { key = record { 0 = 0 }; on = record { read = true; write = false } }
+readable = record { key = record { 0 = 0 }; on = READ }
 
 -- a handled event of a broken source whose arm for the waiter that is left fails again, told without a fault
 pub a_handling_that_hides_behind_an_older_fault_is_refused :

@@ -6,17 +6,17 @@ use Rattle.std.specs.Option.{option_map_or}
 use Rattle.std.proofs.lemmas.Bool.{cond_both, lt-ltb}
 use Rattle.std.proofs.lemmas.List.Elements.{Contains-append_left, Contains-append_right}
 use Rattle.aio_base.specs.declared.names.Dir.{Dir}
-use Rattle.aio_base.specs.declared.names.Dir.TheVariants.{Read, Write}
 use Rattle.aio_base.specs.declared.names.Event.{Event}
 use Rattle.aio_base.specs.declared.steps.Step.{Step}
 use Rattle.aio_base.specs.declared.steps.Step.TheVariants as step
-use Rattle.aio_base.specs.World.{PollerAnswer, LiveSource, RoundState, HandledDirection, World, directions, directions_of, has_dir, is_of, serial_of, is_fresh}
+use Rattle.aio_base.specs.World.{PollerAnswer, LiveSource, RoundState, HandledDirection, World, directions_of, has_dir, is_of, serial_of, is_fresh}
 use Rattle.aio_base.specs.Machine.{Outcome, begin_round, wait_round, without_waiters, world_taken, handle_source, handle_first, handle_in, handle_round, handle_each, hand_of, case_of, step_result, next_answer}
 use Rattle.aio_laws.specs.RoundCounts.{RoundName, name_of}
 use Rattle.aio_laws.specs.Succession.{events_given}
 use Rattle.aio_laws.specs.Arming.{handled_events}
 use Rattle.aio_laws.specs.Handling.{begin_of, notes_of, HandledIsNoted}
-use Rattle.aio_base.proofs.Membership.{first_is_in, later_is_in, image_is_in, passing_is_kept, any_from, any_gives, piece_is_in}
+use Rattle.aio_base.proofs.DirectionLemmas.{passing_direction}
+use Rattle.aio_base.proofs.Membership.{image_is_in, any_from, any_gives, piece_is_in}
 use Rattle.aio_base.proofs.WaiterLemmas.{is_of-from}
 use Rattle.aio_laws.proofs.rounds.RoundLemmas.{in_hand_of, event_handled, first_of, ended_of, begun_in_hand}
 use Rattle.aio_laws.proofs.steps.Frames.{Frame, wait_keeps, rearmed_keeps, handle_keeps, finish_keeps, case_keeps}
@@ -145,17 +145,13 @@ case_past w s answers = quiet w.handled _ (ap (λ (f : Frame). f.handled) (case_
 abbrev fresh_for : ℕ → Dir → ℕ → HandledDirection → Bool
 fresh_for serial dir position h = is_of serial dir h.serial h.dir && nat_lt position h.begin
 
-each_direction : (dir : Dir) → Contains directions dir
-each_direction Write = first_is_in Write (Read ∷ [])
-each_direction Read = later_is_in Write (Read ∷ []) Read (first_is_in Read [])
-
 -- an event of a live source is noted with each of its directions
 noted_direction : (w : World) (event : Event) (begin serial : ℕ) (dir : Dir) → serial_of w event.key.0 ≡ Some serial → has_dir event.on dir ≡ true
     → Contains (notes_of w begin event) (note serial begin dir)
 noted_direction w event begin serial dir live has =
     subst (λ (found : Option ℕ). Contains (notes_as begin event found) (note serial begin dir)) (sym live)
     (Contains-append_left (map (note serial begin) (directions_of event.on)) [] (note serial begin dir)
-    (image_is_in (note serial begin) (directions_of event.on) dir (passing_is_kept (has_dir event.on) directions dir has (each_direction dir))))
+    (image_is_in (note serial begin) (directions_of event.on) dir (passing_direction (has_dir event.on) dir has)))
 
 -- an entry of a later round makes its direction fresh
 entry_is_fresh : (past : List HandledDirection) (serial begin : ℕ) (dir : Dir) (position : ℕ) → Contains past (note serial begin dir) → position < begin

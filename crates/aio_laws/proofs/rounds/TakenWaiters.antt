@@ -3,10 +3,10 @@ use Rattle.std.proofs.Common.{◌≡◌, ℕ, Bool, true, false, cond, ◌&&◌,
 use Rattle.std.specs.List.{cons_option, list_any}
 use Rattle.aio_base.specs.declared.names.Waker.{Waker}
 use Rattle.aio_base.specs.declared.names.Dir.{Dir}
-use Rattle.aio_base.specs.declared.names.Dir.TheVariants.{Read, Write}
 use Rattle.aio_base.specs.declared.names.Interest.{Interest}
 use Rattle.aio_base.specs.World.{ListenerEntry, World, directions_of, has_dir, same_dir, is_of, poll_waiter, listener_wakers, is_empty_list, is_idle}
 use Rattle.aio_base.specs.Machine.{without_waiters, world_taken}
+use Rattle.aio_base.proofs.DirectionLemmas.{own_among_directions}
 use Rattle.aio_base.proofs.Searching.{false_unless}
 use Rattle.aio_base.proofs.WaiterLemmas.{is_of-eq, is_of-from}
 use Rattle.aio_laws.proofs.storings.HeldEvents.{polls_cleared}
@@ -91,28 +91,7 @@ idle_taken (dir ∷ dirs) u serial begin n d =
     ∙ ap (λ idle. idle || list_any (λ e. is_of serial e n d) dirs) (idle_without u serial begin dir n d)
     ∙ or_later (is_idle u n d) (is_of serial dir n d) (list_any (λ e. is_of serial e n d) dirs)
 
--- a direction is among those of an interest where the interest has it
-named : (own read write : Bool) (d : Dir)
-    → list_any (λ dir. own && same_dir d dir) (cond write (Write ∷ cond read (Read ∷ []) []) (cond read (Read ∷ []) []))
-    ≡ (own && has_dir (record { read = read; write = write }) d)
-named true true true Read = refl
-named true true true Write = refl
-named true true false Read = refl
-named true true false Write = refl
-named true false true Read = refl
-named true false true Write = refl
-named true false false Read = refl
-named true false false Write = refl
-named false true true Read = refl
-named false true true Write = refl
-named false true false Read = refl
-named false true false Write = refl
-named false false true Read = refl
-named false false true Write = refl
-named false false false Read = refl
-named false false false Write = refl
-
 pub idle_after_event : (u : World) (on : Interest) (serial begin : ℕ) (n : ℕ) (d : Dir)
     → is_idle (world_taken u serial begin (directions_of on)) n d ≡ (is_idle u n d || ((n == serial) && has_dir on d))
 idle_after_event u on serial begin n d =
-    idle_taken (directions_of on) u serial begin n d ∙ ap (λ any. is_idle u n d || any) (named (n == serial) on.read on.write d)
+    idle_taken (directions_of on) u serial begin n d ∙ ap (λ any. is_idle u n d || any) (own_among_directions (n == serial) on d)

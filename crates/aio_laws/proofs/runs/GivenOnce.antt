@@ -13,7 +13,8 @@ use Rattle.aio_base.specs.declared.steps.Step.{Step}
 use Rattle.aio_base.specs.declared.steps.Step.TheVariants as step
 use Rattle.aio_base.specs.declared.steps.Answer.{Answer}
 use Rattle.aio_base.specs.declared.steps.Answer.TheVariants as answer
-use Rattle.aio_base.specs.World.{PollerAnswer, Gives, IsInterrupted, Fails, DueFaults, World, opening}
+use Rattle.aio_base.specs.declared.outcomes.DueFaults.{DueFaults}
+use Rattle.aio_base.specs.World.{PollerAnswer, Gives, IsInterrupted, Fails, World, opening}
 use Rattle.aio_base.specs.Machine.{next_answer, step_result}
 use Rattle.aio_base.specs.Script.{wait_room, wait_answer, script_answers, after_wait, after_call, after_calls, script_step, world_after}
 use Rattle.aio_laws.specs.Calls.{MayArm, OnlyArms, CallsFit}

@@ -12,7 +12,8 @@ use Rattle.aio_base.specs.declared.steps.Step.{Step}
 use Rattle.aio_base.specs.declared.steps.Step.TheVariants as step
 use Rattle.aio_base.specs.declared.steps.Answer.{Answer}
 use Rattle.aio_base.specs.declared.steps.Answer.TheVariants as answer
-use Rattle.aio_base.specs.World.{PollerAnswer, Succeeds, ListenerEntry, TimerEntry, DueFaults, RoundState, World, nothing_due, directions_of, serial_of, key_of, poll_waiter, mark_of, waiters_of, is_empty_list, is_idle, is_broken, wanted, set_armed}
+use Rattle.aio_base.specs.declared.outcomes.DueFaults.{DueFaults}
+use Rattle.aio_base.specs.World.{PollerAnswer, Succeeds, ListenerEntry, TimerEntry, RoundState, World, nothing_due, directions_of, serial_of, key_of, poll_waiter, mark_of, waiters_of, is_empty_list, is_idle, is_broken, wanted, set_armed}
 use Rattle.aio_base.specs.Machine.{Outcome, quiet, source_limit, free_key, with_waiter, with_listening, is_fresh_since, fails, next_answer, later_answers, broken_world, armed_world, after_arm, pending, add, del_source, poll_source, new_listener, is_listener, step_listener, drop_listener, is_timer, is_waker, unregistered, tick_timer, set_timer, end_timer, set_clock, begin_round, wait_answered, wait_in, wait_round, without_waiters, world_taken, wakers_taken, rearmed, handle_source, handle_first, handle_in, handle_round, finish_in, finish_round, handle_each, hand_of, fault_of_round, first_fault, react, case_of, moved_on, step_result, left_as, state_of, tick_answer, worked}
 use Rattle.aio_base.specs.TimerWork.{TimerState, joining, tick_work, reset_work}
 use Rattle.aio_base.specs.Runs.{without_notes, outcome_without_notes}

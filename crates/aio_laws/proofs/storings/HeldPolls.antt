@@ -1,17 +1,17 @@
 -- The storings where sources are taken out and where tasks poll them.
-use Rattle.std.proofs.Common.{◌≡◌, ℕ, Bool, true, false, not, cond, ◌==◌, ◌||◌, List, [], ◌∷◌, ◌++◌, find, Option, None, Some, option_map, option_to_list, refl, ap, ◌∙◌, sym, subst}
+use Rattle.std.proofs.Common.{◌≡◌, ℕ, Bool, true, false, not, cond, ◌==◌, ◌&&◌, ◌||◌, List, [], ◌∷◌, ◌++◌, map, find, Option, None, Some, option_map, option_to_list, refl, ap, ◌∙◌, sym, subst}
 use Rattle.std.specs.List.{filter, list_any}
 use Rattle.std.proofs.lemmas.Bool.{eqb-true, eq-eqb}
 use Rattle.aio_base.specs.declared.names.Waker.{Waker}
 use Rattle.aio_base.specs.declared.names.Dir.{Dir}
-use Rattle.aio_base.specs.declared.names.Dir.TheVariants.{Read, Write}
-use Rattle.aio_base.specs.World.{PollerAnswer, PollWaiter, ListenerEntry, Registration, World, is_of, poll_waiter, without_waiter, mark_of, is_idle, is_broken}
+use Rattle.aio_base.specs.World.{PollerAnswer, PollWaiter, ListenerEntry, Registration, World, directions, same_dir, is_of, poll_waiter, without_waiter, mark_of, is_idle, is_broken}
 use Rattle.aio_base.specs.Machine.{Outcome, fails, next_answer, broken_world, armed_world, after_arm, pending, del_source, is_fresh_since, is_waker, with_waiter, poll_source}
-use Rattle.aio_laws.specs.Storings.{Place, OfPoll, OfListener, OfTimer, Stored, Storings, stored_at, given_up_at, woken_at, poll_moves, del_moves}
+use Rattle.aio_laws.specs.Storings.{Place, OfPoll, OfListener, OfTimer, Stored, Storings, stored_at, given_up_at, each_given_up, woken_at, poll_moves, del_moves}
+use Rattle.aio_base.proofs.DirectionLemmas.{each_named}
 use Rattle.aio_base.proofs.WaiterLemmas.{is_of-eq, is_of-from}
 use Rattle.aio_base.proofs.Searching.{of_not, false_unless, filtered_lost, filtered_found, pushed_found, pushed_passed}
 use Rattle.aio_laws.proofs.storings.Places.{Holder, emptied, filled, same_place-refl}
-use Rattle.aio_laws.proofs.storings.Kept.{held_same, give_up_kept, wake_kept, store_kept, added_wakers}
+use Rattle.aio_laws.proofs.storings.Kept.{Kept, held_same, give_up_kept, wake_kept, store_kept, added_wakers}
 use Rattle.aio_laws.proofs.storings.Holding.{Holding, holding_of, holder, held, Orders, Stands, Leaves, quiet_leaves, either}
 use Rattle.aio_laws.proofs.storings.HeldEvents.{polls_cleared}
 
@@ -38,17 +38,48 @@ serial_found polls serial n d other =
     let there = eqb-true p.serial serial (of_not (p.serial == serial) goes) in
     let same = eq-eqb n serial (sym at.0 ∙ there) in cc)))
 
--- where nothing is held of either direction of a source
+-- where nothing is held at these places
+abbrev each_emptied : List Place → Holder → Holder
+each_emptied [] at = at
+each_emptied (p ∷ ps) at = each_emptied ps (emptied p at)
+
+each_kept : (ps : List Place) (at : Holder) (l : Storings) → Kept at l → Kept (each_emptied ps at) (each_given_up ps l)
+each_kept [] at l k = k
+each_kept (p ∷ ps) at l k = each_kept ps (emptied p at) (given_up_at p l) (give_up_kept at p l k)
+
+emptied_twice : (own here later : Bool) (waker : Option Waker) → cond (own && later) None (cond (own && here) None waker) ≡ cond (own && (here || later)) None waker
+emptied_twice false here later waker = refl
+emptied_twice true true true waker = refl
+emptied_twice true true false waker = refl
+emptied_twice true false later waker = refl
+
+emptied_never : (own : Bool) (waker : Option Waker) → waker ≡ cond (own && false) None waker
+emptied_never true waker = refl
+emptied_never false waker = refl
+
+-- a poll waiter of these directions of a source is held no longer
+polls_emptied : (dirs : List Dir) (serial n : ℕ) (d : Dir) (at : Holder)
+    → each_emptied (map (OfPoll serial) dirs) at (OfPoll n d) ≡ cond ((n == serial) && list_any (same_dir d) dirs) None (at (OfPoll n d))
+polls_emptied [] serial n d at = emptied_never (n == serial) (at (OfPoll n d))
+polls_emptied (dir ∷ dirs) serial n d at =
+    polls_emptied dirs serial n d (emptied (OfPoll serial dir) at) ∙ emptied_twice (n == serial) (same_dir d dir) (list_any (same_dir d) dirs) (at (OfPoll n d))
+
+-- where nothing is held of any direction of a source
 abbrev source_emptied : ℕ → Holder → Holder
-source_emptied serial at = emptied (OfPoll serial Read) (emptied (OfPoll serial Write) at)
+source_emptied serial at = each_emptied (map (OfPoll serial) directions) at
 
 serial_emptied_at : (polls : List PollWaiter) (listeners : List ListenerEntry) (registrations : List Registration) (serial n : ℕ) (d : Dir) (here : Bool)
     → (n == serial) ≡ here
     → poll_waiter (without_serial serial polls) n d ≡ source_emptied serial (holder polls listeners registrations) (OfPoll n d)
-serial_emptied_at polls listeners registrations serial n Read true same = rw same (serial_lost polls serial n Read same)
-serial_emptied_at polls listeners registrations serial n Write true same = rw same (serial_lost polls serial n Write same)
-serial_emptied_at polls listeners registrations serial n Read false other = rw other (serial_found polls serial n Read other)
-serial_emptied_at polls listeners registrations serial n Write false other = rw other (serial_found polls serial n Write other)
+serial_emptied_at polls listeners registrations serial n d true same =
+    serial_lost polls serial n d same
+    ∙ sym (polls_emptied directions serial n d (holder polls listeners registrations)
+    ∙ ap (λ own. cond (own && list_any (same_dir d) directions) None (poll_waiter polls n d)) same
+    ∙ ap (λ named. cond named None (poll_waiter polls n d)) (each_named d))
+serial_emptied_at polls listeners registrations serial n d false other =
+    serial_found polls serial n d other
+    ∙ sym (polls_emptied directions serial n d (holder polls listeners registrations)
+    ∙ ap (λ own. cond (own && list_any (same_dir d) directions) None (poll_waiter polls n d)) other)
 
 serial_emptied : (polls : List PollWaiter) (listeners : List ListenerEntry) (registrations : List Registration) (serial : ℕ) (q : Place)
     → holder (without_serial serial polls) listeners registrations q ≡ source_emptied serial (holder polls listeners registrations) q
@@ -65,12 +96,11 @@ same_orders h polls taken o = record {
 }
 
 removed_stands : (h : Holding) (woken : List (List Stored)) (l : Storings) (serial : ℕ) → Stands h [] woken l
-    → Stands (record h { polls = without_serial serial h.polls }) [] woken (given_up_at (OfPoll serial Read) (given_up_at (OfPoll serial Write) l))
+    → Stands (record h { polls = without_serial serial h.polls }) [] woken (each_given_up (map (OfPoll serial) directions) l)
 removed_stands h woken l serial s = record {
   kept = held_same (source_emptied serial (held h)) (held (record h { polls = without_serial serial h.polls })) _
       (serial_emptied h.polls h.listeners h.registrations serial)
-      (give_up_kept (emptied (OfPoll serial Write) (held h)) (OfPoll serial Read) (given_up_at (OfPoll serial Write) l)
-      (give_up_kept (held h) (OfPoll serial Write) l s.kept));
+      (each_kept (map (OfPoll serial) directions) (held h) l s.kept);
   orders = same_orders h (without_serial serial h.polls) h.taken s.orders;
   taken_is = s.taken_is;
   waking_is = s.waking_is;

@@ -5,7 +5,7 @@ use Rattle.aio_base.specs.declared.names.Waker.{Waker}
 use Rattle.aio_base.specs.World.{same_dir}
 use Rattle.aio_laws.specs.Storings.{Place, OfPoll, OfListener, OfTimer, same_place}
 use Rattle.aio_base.proofs.Searching.{false_unless}
-use Rattle.aio_base.proofs.WaiterLemmas.{same_dir-eq, same_dir-from}
+use Rattle.aio_base.proofs.DirectionLemmas.{same_dir-eq, same_dir-from}
 
 pub same_place-eq : (p q : Place) → same_place p q ≡ true → p ≡ q
 same_place-eq (OfPoll s d) (OfPoll t e) same =

@@ -1,6 +1,7 @@
 -- Worked traces, computed: what the machine writes for each list of steps, and what an input of bytes says.
 use Rattle.std.proofs.Common.{◌≡◌, ℕ, [], ◌∷◌, ◌++◌, true, false, None, Some, codes, refl}
 use Rattle.std.specs.Fmt.{digits}
+use Rattle.aio_base.specs.declared.names.TheConstants.Interest.{READ_WRITE, NONE}
 use Rattle.aio_base.specs.declared.names.Dir.TheVariants.{Read, Write}
 use Rattle.aio_base.specs.declared.names.Interest.{Interest}
 use Rattle.aio_base.specs.declared.outcomes.Which.TheVariants as which
@@ -18,10 +19,10 @@ use Rattle.aio_laws.proofs.traces.Words.{key, reads, writes, poll, new, listen, 
 -- ## Words for steps
 
 abbrev both : Interest
-both = record { read = true; write = true }
+both = READ_WRITE
 
 abbrev neither : Interest
-neither = record { read = false; write = false }
+neither = NONE
 
 abbrev add : Step
 add = step.Add

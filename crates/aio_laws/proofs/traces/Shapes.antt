@@ -6,14 +6,15 @@ use Rattle.std.specs.Option.{option_map, option_or}
 use Rattle.std.proofs.lemmas.Bool.{leb-true, le-leb}
 use Rattle.std.proofs.lemmas.Slice.Eq.{bytes_eq-Decides}
 use Rattle.aio_base.specs.declared.names.Dir.{Dir}
-use Rattle.aio_base.specs.declared.names.Dir.TheVariants.{Read, Write}
+use Rattle.aio_base.specs.declared.names.Dir.TheVariants.{Read, Write, Priority}
 use Rattle.aio_base.specs.declared.names.Interest.{Interest}
+use Rattle.aio_base.specs.declared.names.TheConstants.Interest.{NONE, READ, WRITE, READ_WRITE}
 use Rattle.aio_base.specs.declared.outcomes.Which.TheVariants as which
 use Rattle.aio_base.specs.declared.steps.Step.{Step}
 use Rattle.aio_base.specs.declared.steps.Step.TheVariants as step
 use Rattle.aio_base.specs.World.{last_moment}
 use Rattle.aio_base.specs.Text.{dir_text, flags_text}
-use Rattle.aio_base.specs.Lines.{numeral, is_from_to, is_allowed, body_of, words_in, line_bytes, last_number, IsPeriod, HasSpelling, StepWord, Text, Number, limit_word, step_words, Spells, SpellAll, Reads, Asked, ANumber, AMoment, APeriod, ALimit, ADirection, SomeFlags, Value, within, value_of, Part, Said, PlaceOf, StepBy, Shape, shapes, step_by, step_among, step_read}
+use Rattle.aio_base.specs.Lines.{numeral, is_from_to, is_allowed, body_of, words_in, line_bytes, last_number, IsPeriod, HasWord, HaveWord, HasSpelling, StepWord, Text, Number, limit_word, step_words, Spells, SpellAll, Reads, Asked, ANumber, AMoment, APeriod, ALimit, ADirection, SomeFlags, Value, within, value_of, Part, Said, PlaceOf, StepBy, Shape, shapes, step_by, step_among, step_read}
 
 same_bytes : (a b : List ℕ) → bytes_eq a b ≡ true → a ≡ b
 same_bytes a b = (bytes_eq-Decides a b).0
@@ -30,8 +31,8 @@ Fits ANumber n = n ≤ last_number
 Fits AMoment n = n ≤ last_moment
 Fits APeriod n = IsPeriod n
 Fits ALimit limit = HasSpelling (step.Begin limit)
-Fits ADirection dir = Unit {0}
-Fits SomeFlags on = Unit {0}
+Fits ADirection dir = HasWord dir
+Fits SomeFlags on = HaveWord on
 
 -- the word of a step for a value in a place
 abbrev word_for : (place : Asked) → Value place → StepWord
@@ -60,27 +61,23 @@ number_within low high (Some m) n e = by_test (is_from_to low high m) refl e
 within_is : (low high n : ℕ) (o : Option ℕ) → o ≡ Some n → low ≤ n → n ≤ high → within low high o ≡ Some n
 within_is low high n o is some small = ap (within low high) is ∙ rw (le-leb low n some, le-leb n high small) refl
 
-dir_held : (word : List ℕ) (dir : Dir) → value_of ADirection word ≡ Some dir → word ≡ dir_text dir
+dir_held : (word : List ℕ) (dir : Dir) → value_of ADirection word ≡ Some dir → HasWord dir × (word ≡ dir_text dir)
 dir_held word dir e = by_tests (bytes_eq word (codes "r")) (bytes_eq word (codes "w")) refl refl e
   where
-    by_tests : (r w : Bool) → bytes_eq word (codes "r") ≡ r → bytes_eq word (codes "w") ≡ w → cond r (Some Read) (cond w (Some Write) None) ≡ Some dir → word ≡ dir_text dir
-    by_tests true w is other e = let same : Read ≡ dir = cc in same_bytes word (codes "r") is ∙ ap dir_text same
-    by_tests false true other is e = let same : Write ≡ dir = cc in same_bytes word (codes "w") is ∙ ap dir_text same
+    by_tests : (r w : Bool) → bytes_eq word (codes "r") ≡ r → bytes_eq word (codes "w") ≡ w → cond r (Some Read) (cond w (Some Write) None) ≡ Some dir → HasWord dir × (word ≡ dir_text dir)
+    by_tests true w is other e = let same : Read ≡ dir = cc in (subst HasWord same tt, same_bytes word (codes "r") is ∙ ap dir_text same)
+    by_tests false true other is e = let same : Write ≡ dir = cc in (subst HasWord same tt, same_bytes word (codes "w") is ∙ ap dir_text same)
     by_tests false false one two e = absurd cc
 
-on : Bool → Bool → Interest
-on read write = record { read = read; write = write }
-
-flags_held : (word : List ℕ) (is_on : Interest) → value_of SomeFlags word ≡ Some is_on → word ≡ flags_text is_on
-unfolding on
+flags_held : (word : List ℕ) (is_on : Interest) → value_of SomeFlags word ≡ Some is_on → (is_on.priority ≡ false) × (word ≡ flags_text is_on)
 flags_held word is_on e = by_tests (bytes_eq word (codes "-")) (bytes_eq word (codes "r")) (bytes_eq word (codes "w")) (bytes_eq word (codes "rw")) refl refl refl refl e
   where
     by_tests : (n r w b : Bool) → bytes_eq word (codes "-") ≡ n → bytes_eq word (codes "r") ≡ r → bytes_eq word (codes "w") ≡ w → bytes_eq word (codes "rw") ≡ b
-        → cond n (Some (on false false)) (cond r (Some (on true false)) (cond w (Some (on false true)) (cond b (Some (on true true)) None))) ≡ Some is_on → word ≡ flags_text is_on
-    by_tests true r w b is e2 e3 e4 e = let same : on false false ≡ is_on = cc in same_bytes word (codes "-") is ∙ ap flags_text same
-    by_tests false true w b e1 is e3 e4 e = let same : on true false ≡ is_on = cc in same_bytes word (codes "r") is ∙ ap flags_text same
-    by_tests false false true b e1 e2 is e4 e = let same : on false true ≡ is_on = cc in same_bytes word (codes "w") is ∙ ap flags_text same
-    by_tests false false false true e1 e2 e3 is e = let same : on true true ≡ is_on = cc in same_bytes word (codes "rw") is ∙ ap flags_text same
+        → cond n (Some NONE) (cond r (Some READ) (cond w (Some WRITE) (cond b (Some READ_WRITE) None))) ≡ Some is_on → (is_on.priority ≡ false) × (word ≡ flags_text is_on)
+    by_tests true r w b is e2 e3 e4 e = let same : NONE ≡ is_on = cc in (sym (ap (λ (on : Interest). on.priority) same), same_bytes word (codes "-") is ∙ ap flags_text same)
+    by_tests false true w b e1 is e3 e4 e = let same : READ ≡ is_on = cc in (sym (ap (λ (on : Interest). on.priority) same), same_bytes word (codes "r") is ∙ ap flags_text same)
+    by_tests false false true b e1 e2 is e4 e = let same : WRITE ≡ is_on = cc in (sym (ap (λ (on : Interest). on.priority) same), same_bytes word (codes "w") is ∙ ap flags_text same)
+    by_tests false false false true e1 e2 e3 is e = let same : READ_WRITE ≡ is_on = cc in (sym (ap (λ (on : Interest). on.priority) same), same_bytes word (codes "rw") is ∙ ap flags_text same)
     by_tests false false false false e1 e2 e3 e4 e = absurd cc
 
 limit_held : (word : List ℕ) (limit : Option ℕ) → value_of ALimit word ≡ Some limit → Holds ALimit word limit
@@ -100,18 +97,23 @@ held ANumber word n e = let is = number_within 0 last_number (numeral word) n e 
 held AMoment word n e = let is = number_within 0 last_moment (numeral word) n e in (is.2, is.0)
 held APeriod word n e = let is = number_within 1 last_moment (numeral word) n e in ((is.1, is.2), is.0)
 held ALimit word limit e = limit_held word limit e
-held ADirection word dir e = (tt, dir_held word dir e)
-held SomeFlags word is_on e = (tt, flags_held word is_on e)
+held ADirection word dir e = dir_held word dir e
+held SomeFlags word is_on e = flags_held word is_on e
 
-dir_back : (dir : Dir) → value_of ADirection (dir_text dir) ≡ Some dir
-dir_back Read = refl
-dir_back Write = refl
+dir_back : (dir : Dir) → HasWord dir → value_of ADirection (dir_text dir) ≡ Some dir
+dir_back Read has = refl
+dir_back Write has = refl
+dir_back Priority has = absurd has
 
-flags_back : (read write : Bool) → value_of SomeFlags (flags_text (record { read = read; write = write })) ≡ Some (record { read = read; write = write })
-flags_back false false = refl
-flags_back true false = refl
-flags_back false true = refl
-flags_back true true = refl
+abbrev flags : Bool → Bool → Bool → Interest
+flags read write priority = record { read = read; write = write; priority = priority }
+
+flags_back : (read write priority : Bool) → priority ≡ false → value_of SomeFlags (flags_text (flags read write priority)) ≡ Some (flags read write priority)
+flags_back false false false has = refl
+flags_back true false false has = refl
+flags_back false true false has = refl
+flags_back true true false has = refl
+flags_back read write true has = absurd cc
 
 -- a number is no `none`
 number_is_not_none : (word : List ℕ) (n : ℕ) → numeral word ≡ Some n → bytes_eq word (codes "none") ≡ false
@@ -132,8 +134,8 @@ holds_back ANumber word n holds = within_is 0 last_number n (numeral word) holds
 holds_back AMoment word n holds = within_is 0 last_moment n (numeral word) holds.1 (omega arith) holds.0
 holds_back APeriod word n holds = within_is 1 last_moment n (numeral word) holds.1 holds.0.0 holds.0.1
 holds_back ALimit word limit holds = limit_back word limit holds
-holds_back ADirection word dir holds = ap (value_of ADirection) holds.1 ∙ dir_back dir
-holds_back SomeFlags word is_on holds = ap (value_of SomeFlags) holds.1 ∙ flags_back is_on.read is_on.write
+holds_back ADirection word dir holds = ap (value_of ADirection) holds.1 ∙ dir_back dir holds.0
+holds_back SomeFlags word is_on holds = ap (value_of SomeFlags) holds.1 ∙ flags_back is_on.read is_on.write is_on.priority holds.0
 
 -- ## The values of the words of a line
 
@@ -215,9 +217,9 @@ shapes_of_steps = (
   (
     (λ vs fit. (fit.0, refl)),
     (
-      (λ vs fit. ((fit.0, fit.1.1.0), refl)),
+      (λ vs fit. ((fit.0, fit.1.0, fit.1.1.0), refl)),
       (
-        (λ vs fit. (fit.0, refl)),
+        (λ vs fit. ((fit.0, fit.1.0), refl)),
         (
           (λ vs fit. ((fit.0, fit.1.0), refl)),
           (
@@ -239,7 +241,7 @@ shapes_of_steps = (
                           (
                             (λ vs fit. (fit.0, refl)),
                             (
-                              (λ vs fit. (fit.0, refl)),
+                              (λ vs fit. ((fit.0, fit.1.0), refl)),
                               (
                                 (λ vs fit. (tt, refl)),
                                 (
@@ -338,10 +340,10 @@ step_back (step.Del key) words fits spelled =
     alone (step_by (PlaceOf ANumber ∷ []) (λ k. step.Del (record { 0 = k })) rest) (step.Del key) (shaped_back (PlaceOf ANumber ∷ []) (λ k. step.Del (record { 0 = k })) rest (key.0, tt) (fits, tt) spelled))
 step_back (step.Poll key dir waker) words fits spelled =
     word_back (codes "poll") (step_among shapes) (Number key.0 ∷ Text (dir_text dir) ∷ Number waker.0 ∷ []) (step.Poll key dir waker) words spelled (λ rest spelled.
-    alone (step_by (PlaceOf ANumber ∷ PlaceOf ADirection ∷ PlaceOf ANumber ∷ []) (λ k d w. step.Poll (record { 0 = k }) d (record { 0 = w })) rest) (step.Poll key dir waker) (shaped_back (PlaceOf ANumber ∷ PlaceOf ADirection ∷ PlaceOf ANumber ∷ []) (λ k d w. step.Poll (record { 0 = k }) d (record { 0 = w })) rest (key.0, (dir, (waker.0, tt))) (fits.0, (tt, (fits.1, tt))) spelled))
+    alone (step_by (PlaceOf ANumber ∷ PlaceOf ADirection ∷ PlaceOf ANumber ∷ []) (λ k d w. step.Poll (record { 0 = k }) d (record { 0 = w })) rest) (step.Poll key dir waker) (shaped_back (PlaceOf ANumber ∷ PlaceOf ADirection ∷ PlaceOf ANumber ∷ []) (λ k d w. step.Poll (record { 0 = k }) d (record { 0 = w })) rest (key.0, (dir, (waker.0, tt))) (fits.0, (fits.1, (fits.2, tt))) spelled))
 step_back (step.New key dir) words fits spelled =
     word_back (codes "new") (step_among shapes) (Number key.0 ∷ Text (dir_text dir) ∷ []) (step.New key dir) words spelled (λ rest spelled.
-    alone (step_by (PlaceOf ANumber ∷ PlaceOf ADirection ∷ []) (λ k d. step.New (record { 0 = k }) d) rest) (step.New key dir) (shaped_back (PlaceOf ANumber ∷ PlaceOf ADirection ∷ []) (λ k d. step.New (record { 0 = k }) d) rest (key.0, (dir, tt)) (fits, (tt, tt)) spelled))
+    alone (step_by (PlaceOf ANumber ∷ PlaceOf ADirection ∷ []) (λ k d. step.New (record { 0 = k }) d) rest) (step.New key dir) (shaped_back (PlaceOf ANumber ∷ PlaceOf ADirection ∷ []) (λ k d. step.New (record { 0 = k }) d) rest (key.0, (dir, tt)) (fits.0, (fits.1, tt)) spelled))
 step_back (step.StepEar number waker) words fits spelled =
     word_back (codes "step") (step_among shapes) (Number number ∷ Number waker.0 ∷ []) (step.StepEar number waker) words spelled (λ rest spelled.
     alone (step_by (PlaceOf ANumber ∷ PlaceOf ANumber ∷ []) (λ n w. step.StepEar n (record { 0 = w })) rest) (step.StepEar number waker) (shaped_back (PlaceOf ANumber ∷ PlaceOf ANumber ∷ []) (λ n w. step.StepEar n (record { 0 = w })) rest (number, (waker.0, tt)) (fits.0, (fits.1, tt)) spelled))
@@ -359,7 +361,7 @@ step_back (step.Now moment) words fits spelled =
     alone (step_by (PlaceOf AMoment ∷ []) (λ t. step.Now t) rest) (step.Now moment) (shaped_back (PlaceOf AMoment ∷ []) (λ t. step.Now t) rest (moment, tt) (fits, tt) spelled))
 step_back (step.Note event) words fits spelled =
     word_back (codes "event") (step_among shapes) (Number event.key.0 ∷ Text (flags_text event.on) ∷ []) (step.Note event) words spelled (λ rest spelled.
-    alone (step_by (PlaceOf ANumber ∷ PlaceOf SomeFlags ∷ []) (λ k on. step.Note (record { key = record { 0 = k }; on = on })) rest) (step.Note event) (shaped_back (PlaceOf ANumber ∷ PlaceOf SomeFlags ∷ []) (λ k on. step.Note (record { key = record { 0 = k }; on = on })) rest (event.key.0, (event.on, tt)) (fits, (tt, tt)) spelled))
+    alone (step_by (PlaceOf ANumber ∷ PlaceOf SomeFlags ∷ []) (λ k on. step.Note (record { key = record { 0 = k }; on = on })) rest) (step.Note event) (shaped_back (PlaceOf ANumber ∷ PlaceOf SomeFlags ∷ []) (λ k on. step.Note (record { key = record { 0 = k }; on = on })) rest (event.key.0, (event.on, tt)) (fits.0, (fits.1, tt)) spelled))
 step_back step.Interrupt words fits spelled =
     word_back (codes "interrupt") (step_among shapes) [] step.Interrupt words spelled (λ rest spelled.
     alone (step_by [] (step.Interrupt) rest) step.Interrupt (shaped_back [] (step.Interrupt) rest tt tt spelled))

@@ -1,6 +1,7 @@
 -- Words for the steps of worked traces.
 use Rattle.std.proofs.Common.{ℕ, true, false, List}
 use Rattle.std.specs.Prelude.{flat_map}
+use Rattle.aio_base.specs.declared.names.TheConstants.Interest.{READ, WRITE}
 use Rattle.aio_base.specs.declared.names.Key.{Key}
 use Rattle.aio_base.specs.declared.names.Waker.{Waker}
 use Rattle.aio_base.specs.declared.names.Dir.{Dir}
@@ -16,10 +17,10 @@ abbrev pub waker : ℕ → Waker
 waker number = record { 0 = number }
 
 abbrev pub reads : Interest
-reads = record { read = true; write = false }
+reads = READ
 
 abbrev pub writes : Interest
-writes = record { read = false; write = true }
+writes = WRITE
 
 abbrev pub poll : ℕ → Dir → ℕ → Step
 poll number dir task = step.Poll (key number) dir (waker task)

@@ -61,6 +61,7 @@ impl SourceState {
         Interest {
             read: !on.read && !self.directions.get(Dir::Read).is_idle(),
             write: !on.write && !self.directions.get(Dir::Write).is_idle(),
+            priority: !on.priority && !self.directions.get(Dir::Priority).is_idle(),
         }
     }
 
@@ -71,12 +72,7 @@ impl SourceState {
         if !self.directions.get(dir).is_idle() && !self.arming.broken {
             return None;
         }
-        let mut on = self.directions.wanted();
-        match dir {
-            Dir::Read => on.read = true,
-            Dir::Write => on.write = true,
-        }
-        Some(on)
+        Some(self.directions.wanted().with(dir))
     }
 }
 
@@ -84,8 +80,9 @@ impl SourceState {
 fn asks_for_any(on: Interest) -> Option<Interest>
     ensures { result ≡ asked_for (has_any on) on }
 {
-    if on.read {
-        return Some(on);
+    if on.write || on.read || on.priority {
+        Some(on)
+    } else {
+        None
     }
-    if on.write { Some(on) } else { None }
 }

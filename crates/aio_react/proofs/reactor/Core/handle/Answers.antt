@@ -3,7 +3,12 @@ use Rattle.aio_base.specs.declared.steps.Step.TheVariants as step
 use Rattle.aio_base.specs.Devices.{PollerStep}
 use Rattle.aio_source.specs.Lent.{arm_answer}
 use Rattle.aio_source.specs.InHand.{first_interest, arm_told}
+use Rattle.std.specs.Prelude.{IfOk}
+use Rattle.aio_react.specs.declared.outcomes.Handled.{Handled}
+use Rattle.aio_react.specs.Asking.{UsesPoller, handle_part}
+use Rattle.aio_react.specs.Cores.{CoreValue}
 use Rattle.aio_react.proofs.FirstEvent.{first_of}
+use Rattle.aio_react.proofs.HandleLent.{handled_lent}
 use Rattle.aio_react.proofs.HandleMeets.{handle_idle, handle_empty, handle_dropped, handle_answered, handle_unanswered}
 use Rattle.aio_react.proofs.HeldSources.{HoldsOn, holds_itself, key_is, keyed_on, listed_on, handled_on}
 use Rattle.aio_react.proofs.PartMeets.{part_steps, replies_step}
@@ -85,4 +90,17 @@ returns-after-handle-clause-refused g c =
     elim c.match-handle.branch [
       | in-Ok w ↦ rw w.result-is tt
       | in-Err w ↦ let back = w.in-Err.ensures.refused in rw (w.result-is, ← c.self.view_is, back.0, back.1, back.2, same)
+    ]
+
+pub returns-after-handle-clause-lent : goal.returns-after-handle-clause-lent
+returns-after-handle-clause-lent g c =
+    let i = c.self.inside in
+    let hand = first_of i.round.hand c.in-Some.event (sym c.peek.ensures.value ∙ c.in-Some.is) in
+    let core : CoreValue = record { sources = i.sources; listeners = i.listeners; ticker = i.ticker; book = i.book.entries; ids_drawn = i.ids_drawn; round = i.round } in
+    elim c.match-handle.branch [
+      | in-Ok w ↦ subst (λ s. IfOk c.match-handle.result (λ (handled : Handled).
+          UsesPoller g.P.Arm.arm_step g.P.Arm.interests g.P.Arm.rest g.P.Faults.fault_count g.P.Faults.is_sure (handle_part s.1) (arm_told handled.fault) s.0 c.handle.new.arm)) c.self.view_is
+          (handled_lent g.P.Arm.arm_step g.P.Arm.interests g.P.Arm.rest g.P.Faults.fault_count g.P.Faults.is_sure i.poller c.handle.new.arm core c.in-Some.event c.in-Some-get_mut.entry.now w.in-Ok.fault
+          c.match-handle.result hand (sym c.in-Some-get_mut.ensures.value) w.result-is w.in-Ok.ensures.lent)
+      | in-Err w ↦ rw w.result-is tt
     ]

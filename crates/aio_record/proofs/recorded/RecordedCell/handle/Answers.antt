@@ -5,13 +5,13 @@ use Rattle.aio_history.specs.declared.steps.CellStep.{CellStep}
 use Rattle.aio_history.specs.declared.steps.CellStep.TheVariants as step
 use Rattle.aio_source.specs.Lent.{settled}
 use Rattle.aio_source.specs.Rules.{handling}
-use Rattle.aio_record.proofs.Leaving.{keeps_handle, sure_told, where_done, counted, at_most_two, two_wait, has_room, has_place, fits_few}
+use Rattle.aio_record.proofs.Leaving.{keeps_handle, sure_told, where_done, counted, at_most_three, three_wait, has_room, has_place, fits_few}
 use Rattle.aio_record.proofs.recorded.RecordedCell.handle.Goals as goal
 
 pub handle-never_fails-requires-clause-room : goal.handle-never_fails-requires-clause-room
 handle-never_fails-requires-clause-room c =
     let room = where_done c.reserve-2.result (sym c.is_err-2.ensures.value ∙ c.if-is_err-2.false) c.reserve-2.ensures.ok in
-    has_room _ _ _ room (two_wait (reverse c.self.inside.steps.items) c.self.inside.source.state.directions c.self.invariant.left)
+    has_room _ _ _ room (three_wait (reverse c.self.inside.steps.items) c.self.inside.source.state.directions c.self.invariant.left)
 
 pub overflow_cast-taken : goal.overflow_cast-taken
 overflow_cast-taken c =
@@ -19,7 +19,7 @@ overflow_cast-taken c =
     fits_few _ _
     (counted past c.self.inside.source.state c.args.on c.args.round c.len-taken.result c.clear.new.self.items c.reserve-2.new.self.items c.handle-never_fails.new.taken.items
     c.self.invariant.left c.clear.ensures.items c.reserve-2.ensures.items c.handle-never_fails.ensures.taken (c.len-taken.ensures ∙ c.handle-never_fails.new.taken.ok.0))
-    (at_most_two past c.args.on)
+    (at_most_three past c.args.on)
 
 pub push_reserved-requires : goal.push_reserved-requires
 push_reserved-requires c =

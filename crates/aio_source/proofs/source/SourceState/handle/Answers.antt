@@ -1,4 +1,5 @@
 use Rattle.std.proofs.Common.{rules}
+use Rattle.aio_source.proofs.AskLemmas.{none_left}
 use Rattle.aio_source.proofs.source.SourceState.handle.Goals as goal
 
 pub returns-clause-taken : goal.returns-clause-taken
@@ -12,3 +13,8 @@ returns-clause-after g c = search rules
 
 pub returns-clause-lent : goal.returns-clause-lent
 returns-clause-lent g c = search rules
+
+pub has_waiter_where-left-requires : goal.has_waiter_where-left-requires
+has_waiter_where-left-requires g c =
+    let i = c.self.inside in
+    λ none. none_left i.directions _ i.arming.asked i.arming.broken c.args.e.on c.args.round c.may_wait-may.result c.self.invariant.1 c.may_wait-may.ensures c.take_waiters.ensures.after none
