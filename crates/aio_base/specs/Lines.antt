@@ -1,14 +1,16 @@
--- The language of a line, in words: which step a line reads as, in any of its spellings; the one spelling in which a step is written; what is
--- wrong with a line that reads as none; and the step of a line as a function.
-use Rattle.std.specs.Prelude.{◌≡◌, ℕ, ◌^◌, ◌≤◌, Bool, true, false, ◌&&◌, ◌||◌, ◌==◌, nat_le, nat_lt, if◌then◌else◌, List, [], ◌∷◌, length, filter, find, Option, None, Some, option_and_then, codes, decimal, bytes_eq}
-use Rattle.std.specs.List.{list_all, list_any, slice_split, join_with_byte}
-use Rattle.std.specs.Option.{option_map, option_map_or, option_or}
+-- The language of a line, in words: which step a line reads as, in any of its spellings; the one spelling in which a step is written; and one
+-- table of what may follow the words of a line, of which its step and its fault come.
+use Rattle.std.specs.Prelude.{◌≡◌, ℕ, ◌^◌, ◌≤◌, Bool, true, false, ◌&&◌, ◌||◌, ◌==◌, nat_le, nat_lt, if◌then◌else◌, List, [], ◌∷◌, length, filter, find, Option, None, Some, Result, Ok, Err, codes, decimal, bytes_eq}
+use Rattle.std.specs.List.{list_all, slice_split, join_with_byte}
+use Rattle.std.specs.Option.{ok_or, option_map}
+use Rattle.std.specs.Result.{result_ok, result_err}
 use Rattle.std.specs.Str.{all_ascii_digits}
 use Rattle.std.specs.Str.Parse.{digits_value}
 use Rattle.aio_base.specs.declared.names.Dir.{Dir}
 use Rattle.aio_base.specs.declared.names.Dir.TheVariants.{Read, Write, Priority}
 use Rattle.aio_base.specs.declared.names.Interest.{Interest}
 use Rattle.aio_base.specs.declared.names.TheConstants.Interest.{NONE, READ, WRITE, READ_WRITE}
+use Rattle.aio_base.specs.declared.names.Waker.{Waker}
 use Rattle.aio_base.specs.declared.outcomes.Which.TheVariants as which
 use Rattle.aio_base.specs.declared.steps.LineFault.{LineFault}
 use Rattle.aio_base.specs.declared.steps.LineFault.TheVariants as fault
@@ -124,29 +126,34 @@ abbrev pub limit_word : Option ℕ → StepWord
 limit_word None = Text (codes "none")
 limit_word (Some limit) = Number limit
 
+-- the words of a step, with what is written for its waker
+abbrev pub step_words_for : (ℕ → StepWord) → Step → List StepWord
+step_words_for who step.Add = Text (codes "add") ∷ []
+step_words_for who (step.Del key) = Text (codes "del") ∷ Number key.0 ∷ []
+step_words_for who (step.Poll key dir waker) = Text (codes "poll") ∷ Number key.0 ∷ Text (dir_text dir) ∷ who waker.0 ∷ []
+step_words_for who (step.New key dir) = Text (codes "new") ∷ Number key.0 ∷ Text (dir_text dir) ∷ []
+step_words_for who (step.StepEar number waker) = Text (codes "step") ∷ Number number ∷ who waker.0 ∷ []
+step_words_for who (step.DropEar number) = Text (codes "drop") ∷ Number number ∷ []
+step_words_for who (step.TimerAt deadline) = Text (codes "timer") ∷ Text (codes "at") ∷ Number deadline ∷ []
+step_words_for who (step.TimerEvery deadline period) = Text (codes "timer") ∷ Text (codes "every") ∷ Number deadline ∷ Number period ∷ []
+step_words_for who step.TimerNever = Text (codes "timer") ∷ Text (codes "never") ∷ []
+step_words_for who (step.Tick number waker) = Text (codes "tick") ∷ Number number ∷ who waker.0 ∷ []
+step_words_for who (step.SetAt number deadline) = Text (codes "set") ∷ Number number ∷ Text (codes "at") ∷ Number deadline ∷ []
+step_words_for who (step.SetEvery number deadline period) = Text (codes "set") ∷ Number number ∷ Text (codes "every") ∷ Number deadline ∷ Number period ∷ []
+step_words_for who (step.End number) = Text (codes "end") ∷ Number number ∷ []
+step_words_for who (step.Now moment) = Text (codes "now") ∷ Number moment ∷ []
+step_words_for who (step.Note event) = Text (codes "event") ∷ Number event.key.0 ∷ Text (flags_text event.on) ∷ []
+step_words_for who (step.Fault kind) = Text (codes "fault") ∷ Text (which_text kind) ∷ []
+step_words_for who step.Interrupt = Text (codes "interrupt") ∷ []
+step_words_for who (step.Begin limit) = Text (codes "begin") ∷ limit_word limit ∷ []
+step_words_for who step.Wait = Text (codes "wait") ∷ []
+step_words_for who step.Handle = Text (codes "handle") ∷ []
+step_words_for who step.Finish = Text (codes "finish") ∷ []
+step_words_for who step.React = Text (codes "react") ∷ []
+
+-- the words of a step, whose waker is written as a number
 abbrev pub step_words : Step → List StepWord
-step_words step.Add = Text (codes "add") ∷ []
-step_words (step.Del key) = Text (codes "del") ∷ Number key.0 ∷ []
-step_words (step.Poll key dir waker) = Text (codes "poll") ∷ Number key.0 ∷ Text (dir_text dir) ∷ Number waker.0 ∷ []
-step_words (step.New key dir) = Text (codes "new") ∷ Number key.0 ∷ Text (dir_text dir) ∷ []
-step_words (step.StepEar number waker) = Text (codes "step") ∷ Number number ∷ Number waker.0 ∷ []
-step_words (step.DropEar number) = Text (codes "drop") ∷ Number number ∷ []
-step_words (step.TimerAt deadline) = Text (codes "timer") ∷ Text (codes "at") ∷ Number deadline ∷ []
-step_words (step.TimerEvery deadline period) = Text (codes "timer") ∷ Text (codes "every") ∷ Number deadline ∷ Number period ∷ []
-step_words step.TimerNever = Text (codes "timer") ∷ Text (codes "never") ∷ []
-step_words (step.Tick number waker) = Text (codes "tick") ∷ Number number ∷ Number waker.0 ∷ []
-step_words (step.SetAt number deadline) = Text (codes "set") ∷ Number number ∷ Text (codes "at") ∷ Number deadline ∷ []
-step_words (step.SetEvery number deadline period) = Text (codes "set") ∷ Number number ∷ Text (codes "every") ∷ Number deadline ∷ Number period ∷ []
-step_words (step.End number) = Text (codes "end") ∷ Number number ∷ []
-step_words (step.Now moment) = Text (codes "now") ∷ Number moment ∷ []
-step_words (step.Note event) = Text (codes "event") ∷ Number event.key.0 ∷ Text (flags_text event.on) ∷ []
-step_words (step.Fault kind) = Text (codes "fault") ∷ Text (which_text kind) ∷ []
-step_words step.Interrupt = Text (codes "interrupt") ∷ []
-step_words (step.Begin limit) = Text (codes "begin") ∷ limit_word limit ∷ []
-step_words step.Wait = Text (codes "wait") ∷ []
-step_words step.Handle = Text (codes "handle") ∷ []
-step_words step.Finish = Text (codes "finish") ∷ []
-step_words step.React = Text (codes "react") ∷ []
+step_words s = step_words_for Number s
 
 -- ## Reading and writing
 
@@ -186,232 +193,248 @@ written_line s = join_with_byte 32 (written_words (step_words s))
 abbrev pub Written : Step → List ℕ → Type 0
 Written s line = HasSpelling s × (line ≡ written_line s)
 
--- ## Faults
+-- ## Places
 
 -- what a place of a line asks of its word
 pub data Asked : Type 0 where
   ANumber : Asked
+  AWaker : Asked
   AMoment : Asked
   APeriod : Asked
   ALimit : Asked
   ADirection : Asked
   SomeFlags : Asked
 
-abbrev pub is_one_of : List (List ℕ) → List ℕ → Bool
-is_one_of texts word = list_any (λ text. bytes_eq word text) texts
-
--- a word that spells a number in this range
-abbrev pub is_numeral_of : ℕ → ℕ → List ℕ → Bool
-is_numeral_of low high word = option_map_or (is_from_to low high) (numeral word) false
-
--- whether a word is what the place asks
-abbrev pub suits : Asked → List ℕ → Bool
-suits ANumber word = is_numeral_of 0 last_number word
-suits AMoment word = is_numeral_of 0 last_moment word
-suits APeriod word = is_numeral_of 1 last_moment word
-suits ALimit word = bytes_eq word (codes "none") || is_numeral_of 0 last_moment word
-suits ADirection word = is_one_of (codes "r" ∷ codes "w" ∷ []) word
-suits SomeFlags word = is_one_of (codes "-" ∷ codes "r" ∷ codes "w" ∷ codes "rw" ∷ []) word
-
--- the fault of a word that is not what the place asks
-abbrev pub fault_at : Asked → LineFault
-fault_at ADirection = fault.Direction
-fault_at SomeFlags = fault.Flags
-fault_at _ = fault.Number
-
--- a word that may be chosen, and the places behind it
-pub record Choice : Type 0 where
-  pub word : List ℕ
-  pub places : List Asked
-
--- a form of lines: its command, the places behind that, and then one choice where any is listed
-pub record Form : Type 0 where
-  pub command : List ℕ
-  pub places : List Asked
-  pub choices : List Choice
-
--- a form without a choice
-abbrev pub plain : List ℕ → List Asked → Form
-plain command places = record { command = command; places = places; choices = [] }
-
-abbrev pub choose : List ℕ → List Asked → Choice
-choose word places = record { word = word; places = places }
-
--- the forms of the language
-abbrev pub forms : List Form
-forms =
-    plain (codes "add") []
-    ∷ plain (codes "del") (ANumber ∷ [])
-    ∷ plain (codes "poll") (ANumber ∷ ADirection ∷ ANumber ∷ [])
-    ∷ plain (codes "new") (ANumber ∷ ADirection ∷ [])
-    ∷ plain (codes "step") (ANumber ∷ ANumber ∷ [])
-    ∷ plain (codes "drop") (ANumber ∷ [])
-    ∷ record {
-      command = codes "timer";
-      places = [];
-      choices = choose (codes "at") (AMoment ∷ []) ∷ choose (codes "every") (AMoment ∷ APeriod ∷ []) ∷ choose (codes "never") [] ∷ [];
-    }
-    ∷ plain (codes "tick") (ANumber ∷ ANumber ∷ [])
-    ∷ record {
-      command = codes "set";
-      places = ANumber ∷ [];
-      choices = choose (codes "at") (AMoment ∷ []) ∷ choose (codes "every") (AMoment ∷ APeriod ∷ []) ∷ [];
-    }
-    ∷ plain (codes "end") (ANumber ∷ [])
-    ∷ plain (codes "now") (AMoment ∷ [])
-    ∷ plain (codes "event") (ANumber ∷ SomeFlags ∷ [])
-    ∷ record {
-      command = codes "fault";
-      places = [];
-      choices = choose (codes "add") [] ∷ choose (codes "arm") [] ∷ choose (codes "remove") [] ∷ choose (codes "wait") [] ∷ [];
-    }
-    ∷ plain (codes "interrupt") []
-    ∷ plain (codes "begin") (ALimit ∷ [])
-    ∷ plain (codes "wait") []
-    ∷ plain (codes "handle") []
-    ∷ plain (codes "finish") []
-    ∷ plain (codes "react") []
-    ∷ []
-
-abbrev pub form_named : List ℕ → Option Form
-form_named word = find (λ (form : Form). bytes_eq word form.command) forms
-
-abbrev pub choice_named : List Choice → List ℕ → Option Choice
-choice_named choices word = find (λ (choice : Choice). bytes_eq word choice.word) choices
-
--- no word may follow
-abbrev pub no_more : List (List ℕ) → Option LineFault
-no_more [] = None
-no_more (word ∷ words) = Some fault.Count
-
--- The first fault of these words, the first of which stand in these places: a word that is not what its place asks, or a place without a word;
--- else that of the words behind the places.
-abbrev pub fault_in : List Asked → (List (List ℕ) → Option LineFault) → List (List ℕ) → Option LineFault
-fault_in [] behind words = behind words
-fault_in (place ∷ places) behind [] = Some fault.Count
-fault_in (place ∷ places) behind (word ∷ words) = if suits place word then fault_in places behind words else Some (fault_at place)
-
-abbrev pub fault_of_chosen : Option Choice → List (List ℕ) → Option LineFault
-fault_of_chosen None words = Some fault.Choice
-fault_of_chosen (Some choice) words = fault_in choice.places no_more words
-
--- the first fault of words that begin with one of these choices; where there is nothing to choose no word may follow
-abbrev pub fault_of_choice : List Choice → List (List ℕ) → Option LineFault
-fault_of_choice [] words = no_more words
-fault_of_choice (choice ∷ choices) [] = Some fault.Count
-fault_of_choice (choice ∷ choices) (word ∷ words) = fault_of_chosen (choice_named (choice ∷ choices) word) words
-
-abbrev pub fault_in_form : Option Form → List (List ℕ) → Option LineFault
-fault_in_form None words = Some fault.Command
-fault_in_form (Some form) words = fault_in form.places (fault_of_choice form.choices) words
-
--- the first fault of a line's words, read from left to right
-abbrev pub fault_of_words : List (List ℕ) → Option LineFault
-fault_of_words [] = Some fault.Empty
-fault_of_words (command ∷ words) = fault_in_form (form_named command) words
-
--- The fault of a line without its line feed, or none: that it is too long, then a byte that is not allowed, wherever it stands, then the first
--- fault of its words.
-unfoldable pub fault_of : List ℕ → Option LineFault
-fault_of line =
-    if nat_lt line_bytes (length line) then Some fault.Long
-    else (if list_all is_allowed (body_of line) then fault_of_words (words_in (body_of line)) else Some fault.Byte)
-
--- ## The step of a line
-
--- what a word stands for in a place
-abbrev pub Value : Asked → Type 0
-Value ANumber = ℕ
-Value AMoment = ℕ
-Value APeriod = ℕ
-Value ALimit = Option ℕ
-Value ADirection = Dir
-Value SomeFlags = Interest
+-- what a word stands for in a place; `W` is what it stands for in a waker's
+abbrev pub Value : Type 0 → Asked → Type 0
+Value W ANumber = ℕ
+Value W AWaker = W
+Value W AMoment = ℕ
+Value W APeriod = ℕ
+Value W ALimit = Option ℕ
+Value W ADirection = Dir
+Value W SomeFlags = Interest
 
 -- a number, where it is in this range
 abbrev pub within : ℕ → ℕ → Option ℕ → Option ℕ
 within low high None = None
 within low high (Some n) = if is_from_to low high n then Some n else None
 
+-- the limit that a word names: none, or a number of nanoseconds
+abbrev pub limit_named : List ℕ → Option (Option ℕ)
+limit_named word = if bytes_eq word (codes "none") then Some None else option_map (λ n. Some n) (within 0 last_moment (numeral word))
+
+-- ## What may follow
+
+-- How a line may go on: with no further word, and then it is this line; with a word in a place, and then as its value says; with this word, or else
+-- as another way has it; or with no word at all, and then each word is this fault.
+pub data Rest (L F W : Type 0) : Type 0 where
+  Done : L → Rest L F W
+  Place : (place : Asked) → (Value W place → Rest L F W) → Rest L F W
+  Word : List ℕ → Rest L F W → Rest L F W → Rest L F W
+  Wrong : F → Rest L F W
+
+-- What versions of the language differ in: the directions, and the directions of an event, that have a word; what a word in a waker's place stands
+-- for, or its fault; the line of a step, and of one with such a waker in place of its own; how a fault is told; and the lines that a version alone has.
+pub record Version (L F W : Type 0) : Type 0 where
+  pub directions : List Dir
+  pub flags : List Interest
+  pub waker : List ℕ → Result W F
+  pub line : Step → L
+  pub waking : W → Step → L
+  pub fault : LineFault → F
+  pub own : Rest L F W
+
+-- what a word stands for in a place, or its fault
+abbrev pub value_of : {L F W : Type 0} → Version L F W → (place : Asked) → List ℕ → Result (Value W place) F
+value_of v ANumber word = ok_or (within 0 last_number (numeral word)) (v.fault fault.Number)
+value_of v AWaker word = v.waker word
+value_of v AMoment word = ok_or (within 0 last_moment (numeral word)) (v.fault fault.Number)
+value_of v APeriod word = ok_or (within 1 last_moment (numeral word)) (v.fault fault.Number)
+value_of v ALimit word = ok_or (limit_named word) (v.fault fault.Number)
+value_of v ADirection word = ok_or (find (λ (dir : Dir). bytes_eq word (dir_text dir)) v.directions) (v.fault fault.Direction)
+value_of v SomeFlags word = ok_or (find (λ (on : Interest). bytes_eq word (flags_text on)) v.flags) (v.fault fault.Flags)
+
+abbrev pub and_then : {A B F : Type 0} → Result A F → (A → Result B F) → Result B F
+and_then (Ok x) next = next x
+and_then (Err f) next = Err f
+
+-- what was read of a first word, with the words behind it
+abbrev pub with_rest : {A F : Type 0} → List (List ℕ) → Result A F → Result (A × List (List ℕ)) F
+with_rest words (Ok x) = Ok (x, words)
+with_rest words (Err f) = Err f
+
+-- the value of a first word in a place, with the words behind it
+abbrev pub take_value : {L F W : Type 0} → Version L F W → (place : Asked) → List (List ℕ) → Result (Value W place × List (List ℕ)) F
+take_value v place [] = Err (v.fault fault.Count)
+take_value v place (word ∷ words) = with_rest words (value_of v place word)
+
+-- a line behind which no word may follow
+abbrev pub ended : {L F W : Type 0} → Version L F W → L → List (List ℕ) → Result L F
+ended v l [] = Ok l
+ended v l (word ∷ words) = Err (v.fault fault.Count)
+
+-- what words read as that begin with this word, or else with another
+abbrev pub chosen : {L F W : Type 0} → Version L F W → List ℕ → (first others : List (List ℕ) → Result L F) → List (List ℕ) → Result L F
+chosen v text first others [] = Err (v.fault fault.Count)
+chosen v text first others (word ∷ words) = if bytes_eq word text then first words else others (word ∷ words)
+
+-- words of which none may stand there
+abbrev pub wrong : {L F W : Type 0} → Version L F W → F → List (List ℕ) → Result L F
+wrong v f [] = Err (v.fault fault.Count)
+wrong v f (word ∷ words) = Err f
+
+-- what words read as with which a line goes on so: a line, or the first of their faults, from left to right
+abbrev pub read : {L F W : Type 0} → Version L F W → Rest L F W → List (List ℕ) → Result L F
+read v (Done l) words = ended v l words
+read v (Place place behind) words = and_then (take_value v place words) (λ x. read v (behind x.0) x.1)
+read v (Word text first others) words = chosen v text (λ words. read v first words) (λ words. read v others words) words
+read v (Wrong f) words = wrong v f words
+
+-- ## The lines
+
+-- the line of a step that has no further place
+abbrev pub at_end : {L F W : Type 0} → Version L F W → Step → Rest L F W
+at_end v s = Done (v.line s)
+
+-- of the steps with a waker: it stands last, and comes in place of waker 0
+abbrev pub waker_rest : {L F W : Type 0} → Version L F W → Step → Rest L F W
+waker_rest v s = Place AWaker (λ w. Done (v.waking w s))
+
+abbrev pub del_rest : {L F W : Type 0} → Version L F W → Rest L F W
+del_rest v = Place ANumber (λ k. at_end v (step.Del (record { 0 = k })))
+
+abbrev pub poll_rest : {L F W : Type 0} → Version L F W → Rest L F W
+poll_rest v = Place ANumber (λ k. Place ADirection (λ d. waker_rest v (step.Poll (record { 0 = k }) d (record { 0 = 0 }))))
+
+abbrev pub new_rest : {L F W : Type 0} → Version L F W → Rest L F W
+new_rest v = Place ANumber (λ k. Place ADirection (λ d. at_end v (step.New (record { 0 = k }) d)))
+
+abbrev pub listener_poll_rest : {L F W : Type 0} → Version L F W → Rest L F W
+listener_poll_rest v = Place ANumber (λ n. waker_rest v (step.StepEar n (record { 0 = 0 })))
+
+abbrev pub drop_rest : {L F W : Type 0} → Version L F W → Rest L F W
+drop_rest v = Place ANumber (λ n. at_end v (step.DropEar n))
+
+abbrev pub timer_at_rest : {L F W : Type 0} → Version L F W → Rest L F W
+timer_at_rest v = Place AMoment (λ t. at_end v (step.TimerAt t))
+
+abbrev pub timer_every_rest : {L F W : Type 0} → Version L F W → Rest L F W
+timer_every_rest v = Place AMoment (λ t. Place APeriod (λ p. at_end v (step.TimerEvery t p)))
+
+abbrev pub timer_rest : {L F W : Type 0} → Version L F W → Rest L F W
+timer_rest v =
+    Word (codes "at") (timer_at_rest v)
+    (Word (codes "every") (timer_every_rest v)
+    (Word (codes "never") (at_end v step.TimerNever) (Wrong (v.fault fault.Choice))))
+
+abbrev pub tick_rest : {L F W : Type 0} → Version L F W → Rest L F W
+tick_rest v = Place ANumber (λ n. waker_rest v (step.Tick n (record { 0 = 0 })))
+
+abbrev pub set_at_rest : {L F W : Type 0} → Version L F W → ℕ → Rest L F W
+set_at_rest v n = Place AMoment (λ t. at_end v (step.SetAt n t))
+
+abbrev pub set_every_rest : {L F W : Type 0} → Version L F W → ℕ → Rest L F W
+set_every_rest v n = Place AMoment (λ t. Place APeriod (λ p. at_end v (step.SetEvery n t p)))
+
+abbrev pub set_rest : {L F W : Type 0} → Version L F W → Rest L F W
+set_rest v = Place ANumber (λ n.
+    Word (codes "at") (set_at_rest v n)
+    (Word (codes "every") (set_every_rest v n) (Wrong (v.fault fault.Choice))))
+
+abbrev pub end_rest : {L F W : Type 0} → Version L F W → Rest L F W
+end_rest v = Place ANumber (λ n. at_end v (step.End n))
+
+abbrev pub now_rest : {L F W : Type 0} → Version L F W → Rest L F W
+now_rest v = Place AMoment (λ t. at_end v (step.Now t))
+
+abbrev pub event_rest : {L F W : Type 0} → Version L F W → Rest L F W
+event_rest v = Place ANumber (λ k. Place SomeFlags (λ on. at_end v (step.Note (record { key = record { 0 = k }; on = on }))))
+
+abbrev pub fault_rest : {L F W : Type 0} → Version L F W → Rest L F W
+fault_rest v =
+    Word (codes "add") (at_end v (step.Fault which.Add))
+    (Word (codes "arm") (at_end v (step.Fault which.Arm))
+    (Word (codes "remove") (at_end v (step.Fault which.Remove))
+    (Word (codes "wait") (at_end v (step.Fault which.Wait)) (Wrong (v.fault fault.Choice)))))
+
+abbrev pub begin_rest : {L F W : Type 0} → Version L F W → Rest L F W
+begin_rest v = Place ALimit (λ l. at_end v (step.Begin l))
+
+-- the lines of faults and rounds, and those that the version alone has
+abbrev pub round_lines : {L F W : Type 0} → Version L F W → Rest L F W
+round_lines v =
+    Word (codes "fault") (fault_rest v)
+    (Word (codes "interrupt") (at_end v step.Interrupt)
+    (Word (codes "begin") (begin_rest v)
+    (Word (codes "wait") (at_end v step.Wait)
+    (Word (codes "handle") (at_end v step.Handle)
+    (Word (codes "finish") (at_end v step.Finish)
+    (Word (codes "react") (at_end v step.React) v.own))))))
+
+-- these, and those of timers, of the clock and of events
+abbrev pub clock_lines : {L F W : Type 0} → Version L F W → Rest L F W
+clock_lines v =
+    Word (codes "timer") (timer_rest v)
+    (Word (codes "tick") (tick_rest v)
+    (Word (codes "set") (set_rest v)
+    (Word (codes "end") (end_rest v)
+    (Word (codes "now") (now_rest v)
+    (Word (codes "event") (event_rest v) (round_lines v))))))
+
+-- the lines of the language
+abbrev pub lines : {L F W : Type 0} → Version L F W → Rest L F W
+lines v =
+    Word (codes "add") (at_end v step.Add)
+    (Word (codes "del") (del_rest v)
+    (Word (codes "poll") (poll_rest v)
+    (Word (codes "new") (new_rest v)
+    (Word (codes "step") (listener_poll_rest v)
+    (Word (codes "drop") (drop_rest v) (clock_lines v))))))
+
+-- what the words of a line read as; a line without a word is empty
+abbrev pub words_read : {L F W : Type 0} → Version L F W → List (List ℕ) → Result L F
+words_read v [] = Err (v.fault fault.Empty)
+words_read v (word ∷ words) = read v (lines v) (word ∷ words)
+
+-- What a line without its line feed reads as, or its fault: that it is too long, then a byte that is not allowed, wherever it stands, then the first
+-- fault of its words.
+abbrev pub line_read : {L F W : Type 0} → Version L F W → List ℕ → Result L F
+line_read v line =
+    if nat_lt line_bytes (length line) then Err (v.fault fault.Long)
+    else (if list_all is_allowed (body_of line) then words_read v (words_in (body_of line)) else Err (v.fault fault.Byte))
+
+-- ## The first version
+
+-- a step with this waker in place of its own, where it has one
+abbrev pub with_waker : Step → Waker → Step
+with_waker (step.Poll key dir other) waker = step.Poll key dir waker
+with_waker (step.StepEar number other) waker = step.StepEar number waker
+with_waker (step.Tick number other) waker = step.Tick number waker
+with_waker s waker = s
+
 abbrev pub written_directions : List Dir
 written_directions = Read ∷ Write ∷ []
 
-abbrev pub interests : List Interest
-interests = NONE ∷ READ ∷ WRITE ∷ READ_WRITE ∷ []
+abbrev pub written_flags : List Interest
+written_flags = NONE ∷ READ ∷ WRITE ∷ READ_WRITE ∷ []
 
--- the value of a word that is what the place asks
-abbrev pub value_of : (place : Asked) → List ℕ → Option (Value place)
-value_of ANumber word = within 0 last_number (numeral word)
-value_of AMoment word = within 0 last_moment (numeral word)
-value_of APeriod word = within 1 last_moment (numeral word)
-value_of ALimit word = if bytes_eq word (codes "none") then Some None else option_map (λ n. Some n) (within 0 last_moment (numeral word))
-value_of ADirection word = find (λ (dir : Dir). bytes_eq word (dir_text dir)) written_directions
-value_of SomeFlags word = find (λ (on : Interest). bytes_eq word (flags_text on)) interests
+-- each line is a step, each waker a number, and no line is its own
+abbrev pub first : Version Step LineFault ℕ
+first = record {
+  directions = written_directions;
+  flags = written_flags;
+  waker = λ word. ok_or (within 0 last_number (numeral word)) fault.Number;
+  line = λ s. s;
+  waking = λ w s. with_waker s (record { 0 = w });
+  fault = λ f. f;
+  own = Wrong fault.Command;
+}
 
--- a part of a line: a word that stands there as it is, or a place
-pub data Part : Type 0 where
-  Said : List ℕ → Part
-  PlaceOf : Asked → Part
-
--- a step for the values of the places among these parts
-abbrev pub StepBy : List Part → Type 0
-StepBy [] = Step
-StepBy (Said text ∷ parts) = StepBy parts
-StepBy (PlaceOf place ∷ parts) = Value place → StepBy parts
-
--- the lines of one kind of step: their parts, and the step for the values of the places
-pub record Shape : Type 0 where
-  pub parts : List Part
-  pub step : StepBy parts
-
-abbrev pub shape : (parts : List Part) → StepBy parts → Shape
-shape parts step = record { parts = parts; step = step }
-
--- the lines of the language, with the step of each
-abbrev pub shapes : List Shape
-shapes =
-    shape (Said (codes "add") ∷ []) step.Add
-    ∷ shape (Said (codes "del") ∷ PlaceOf ANumber ∷ []) (λ k. step.Del (record { 0 = k }))
-    ∷ shape (Said (codes "poll") ∷ PlaceOf ANumber ∷ PlaceOf ADirection ∷ PlaceOf ANumber ∷ []) (λ k d w. step.Poll (record { 0 = k }) d (record { 0 = w }))
-    ∷ shape (Said (codes "new") ∷ PlaceOf ANumber ∷ PlaceOf ADirection ∷ []) (λ k d. step.New (record { 0 = k }) d)
-    ∷ shape (Said (codes "step") ∷ PlaceOf ANumber ∷ PlaceOf ANumber ∷ []) (λ n w. step.StepEar n (record { 0 = w }))
-    ∷ shape (Said (codes "drop") ∷ PlaceOf ANumber ∷ []) (λ n. step.DropEar n)
-    ∷ shape (Said (codes "timer") ∷ Said (codes "at") ∷ PlaceOf AMoment ∷ []) (λ t. step.TimerAt t)
-    ∷ shape (Said (codes "timer") ∷ Said (codes "every") ∷ PlaceOf AMoment ∷ PlaceOf APeriod ∷ []) (λ t p. step.TimerEvery t p)
-    ∷ shape (Said (codes "timer") ∷ Said (codes "never") ∷ []) step.TimerNever
-    ∷ shape (Said (codes "tick") ∷ PlaceOf ANumber ∷ PlaceOf ANumber ∷ []) (λ n w. step.Tick n (record { 0 = w }))
-    ∷ shape (Said (codes "set") ∷ PlaceOf ANumber ∷ Said (codes "at") ∷ PlaceOf AMoment ∷ []) (λ n t. step.SetAt n t)
-    ∷ shape (Said (codes "set") ∷ PlaceOf ANumber ∷ Said (codes "every") ∷ PlaceOf AMoment ∷ PlaceOf APeriod ∷ []) (λ n t p. step.SetEvery n t p)
-    ∷ shape (Said (codes "end") ∷ PlaceOf ANumber ∷ []) (λ n. step.End n)
-    ∷ shape (Said (codes "now") ∷ PlaceOf AMoment ∷ []) (λ t. step.Now t)
-    ∷ shape (Said (codes "event") ∷ PlaceOf ANumber ∷ PlaceOf SomeFlags ∷ []) (λ k on. step.Note (record { key = record { 0 = k }; on = on }))
-    ∷ shape (Said (codes "fault") ∷ Said (codes "add") ∷ []) (step.Fault which.Add)
-    ∷ shape (Said (codes "fault") ∷ Said (codes "arm") ∷ []) (step.Fault which.Arm)
-    ∷ shape (Said (codes "fault") ∷ Said (codes "remove") ∷ []) (step.Fault which.Remove)
-    ∷ shape (Said (codes "fault") ∷ Said (codes "wait") ∷ []) (step.Fault which.Wait)
-    ∷ shape (Said (codes "interrupt") ∷ []) step.Interrupt
-    ∷ shape (Said (codes "begin") ∷ PlaceOf ALimit ∷ []) (λ l. step.Begin l)
-    ∷ shape (Said (codes "wait") ∷ []) step.Wait
-    ∷ shape (Said (codes "handle") ∷ []) step.Handle
-    ∷ shape (Said (codes "finish") ∷ []) step.Finish
-    ∷ shape (Said (codes "react") ∷ []) step.React
-    ∷ []
-
--- the step of words that are these parts, one by one
-abbrev pub step_by : (parts : List Part) → StepBy parts → List (List ℕ) → Option Step
-step_by [] s [] = Some s
-step_by [] s (word ∷ words) = None
-step_by (Said text ∷ parts) s [] = None
-step_by (Said text ∷ parts) s (word ∷ words) = if bytes_eq word text then step_by parts s words else None
-step_by (PlaceOf place ∷ parts) s [] = None
-step_by (PlaceOf place ∷ parts) s (word ∷ words) = option_and_then (λ v. step_by parts (s v) words) (value_of place word)
-
--- the step of words that have one of these shapes
-abbrev pub step_among : List Shape → List (List ℕ) → Option Step
-step_among [] words = None
-step_among (first ∷ others) words = option_or (step_by first.parts first.step words) (step_among others words)
-
--- The step that a line without its line feed reads as, where there is one: that whose shape its words have.
+-- the step that a line without its line feed reads as, where there is one
 unfoldable pub step_read : List ℕ → Option Step
-step_read line =
-    if nat_le (length line) line_bytes && list_all is_allowed (body_of line) then step_among shapes (words_in (body_of line)) else None
+step_read line = result_ok (line_read first line)
+
+-- the fault of a line without its line feed, where it reads as no step
+unfoldable pub fault_of : List ℕ → Option LineFault
+fault_of line = result_err (line_read first line)

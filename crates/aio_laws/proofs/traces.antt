@@ -2,6 +2,5 @@
 mod Rows
 mod PriorityRows
 mod RunRows
-pub mod Shapes
 mod TimerRows
 pub mod Words

@@ -38,8 +38,9 @@ ghost use Rattle.aio_base.specs.declared.names.Waker.{Waker};
 ghost use Rattle.aio_base.specs.declared.steps.Answer.{Answer};
 ghost use Rattle.aio_base.specs.declared.steps.Step.{Step};
 
-/// A line reads as a step exactly where this is the step whose shape its words have (`step_read`). So a
-/// line reads as one step at most, and each step of an input is what its line reads as.
+/// A line reads as a step exactly where this is the step that comes of its words by the table of lines
+/// (`step_read`). So a line reads as one step at most, and each step of an input is what its line reads
+/// as.
 pub fn a_line_reads_as_the_step_of_its_words()
     ensures { (s : Step) (line : List ℕ) → Reads s line ↔ (step_read line ≡ Some s) }
 {}
