@@ -99,36 +99,31 @@ impl Interest {
     /// Readability alone.
     pub const READ: Interest = Interest {
         read: true,
-        write: false,
-        priority: false,
+        ..Interest::NONE
     };
 
     /// Writability alone.
     pub const WRITE: Interest = Interest {
-        read: false,
         write: true,
-        priority: false,
+        ..Interest::NONE
     };
 
     /// Readability and writability.
     pub const READ_WRITE: Interest = Interest {
         read: true,
-        write: true,
-        priority: false,
+        ..Interest::WRITE
     };
 
     /// Urgent readiness alone.
     pub const PRIORITY: Interest = Interest {
-        read: false,
-        write: false,
         priority: true,
+        ..Interest::NONE
     };
 
     /// All directions.
     pub const ALL: Interest = Interest {
-        read: true,
-        write: true,
         priority: true,
+        ..Interest::READ_WRITE
     };
 
     /// Whether a direction is among them.
@@ -165,7 +160,7 @@ pub fn interests_have_the_directions_of_their_names()
     ensures none { Interest.NONE ≡ interest_where (λ d. false) }
     ensures read { Interest.READ ≡ interest_where (same_dir Dir.Read) }
     ensures write { Interest.WRITE ≡ interest_where (same_dir Dir.Write) }
-    ensures both { Interest.READ_WRITE ≡ with_dir Interest.READ Dir.Write }
+    ensures read_write { Interest.READ_WRITE ≡ with_dir Interest.READ Dir.Write }
     ensures priority { Interest.PRIORITY ≡ interest_where (same_dir Dir.Priority) }
     ensures all { Interest.ALL ≡ interest_where (λ d. true) }
 {}

@@ -3,7 +3,7 @@
 ghost use Rattle.std.specs.Prelude.{◌≡◌};
 
 use crate::names::Key;
-use std::alloc::AllocFailed;
+use std::alloc::{AllocError, AllocFailed};
 
 /// What a wait that did not fail answers: so many events were given, or it was interrupted.
 #[derive(Clone, Copy, Debug, PartialEq, Eq)]
@@ -31,7 +31,14 @@ pub struct Failed;
 #[derive(Clone, Copy, Debug, PartialEq, Eq)]
 pub struct OutOfMemory;
 
-/// A growth that was refused is told as want of memory by `?`.
+/// An allocation that was refused is told as want of memory by `?`.
+impl From<AllocError> for OutOfMemory {
+    fn from(_refused: AllocError) -> OutOfMemory {
+        OutOfMemory
+    }
+}
+
+/// A growth that was refused is told so too; the value that found no room is let go.
 impl<T: Drop> From<AllocFailed<T>> for OutOfMemory {
     fn from(_refused: AllocFailed<T>) -> OutOfMemory {
         OutOfMemory
