@@ -69,6 +69,10 @@ where_same f g same = λ i. record { read = same Read i; write = same Write i; p
 pub same_interest : (a b : Interest) → ((dir : Dir) → has_dir a dir ≡ has_dir b dir) → a ≡ b
 same_interest a b same = where_same (has_dir a) (has_dir b) same
 
+-- an interest that has the directions that pass a test is theirs
+pub tested : (on : Interest) (test : Dir → Bool) → ((dir : Dir) → has_dir on dir ≡ test dir) → on ≡ interest_where test
+tested on test has = where_same (has_dir on) test has
+
 -- no interest has no direction
 pub none_has : (dir : Dir) → has_dir NONE dir ≡ false
 none_has dir = has_dir-where (λ d. false) dir

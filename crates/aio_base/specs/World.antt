@@ -1,7 +1,7 @@
 -- The world of the machine: everything that has happened and stands, as plain lists and numbers. It keeps the past (who stored a waker when,
 -- which round handled which event), so freshness is a search of the past and needs no remembered numbers.
 use Rattle.std.specs.Prelude.{ℕ, ◌^◌, Bool, true, false, not, ◌&&◌, ◌||◌, ◌==◌, nat_lt, if◌then◌else◌, List, [], ◌∷◌, ◌++◌, map, filter, find, filter_map, Option, None, option_map, option_to_list}
-use Rattle.std.specs.List.{list_any}
+use Rattle.std.specs.List.{list_any, position_or_len}
 use Rattle.std.specs.Option.{option_map_or}
 use Rattle.aio_base.specs.declared.names.Waker.{Waker}
 use Rattle.aio_base.specs.declared.names.Dir.{Dir}
@@ -155,11 +155,19 @@ same_dir Write Write = true
 same_dir Priority Priority = true
 same_dir a b = false
 
+-- the place of a direction among all of them
+abbrev pub index_of : Dir → ℕ
+index_of dir = position_or_len (same_dir dir) directions
+
 -- whether an interest has a direction
 abbrev pub has_dir : Interest → Dir → Bool
 has_dir on Read = on.read
 has_dir on Write = on.write
 has_dir on Priority = on.priority
+
+-- whether it has any
+abbrev pub has_any : Interest → Bool
+has_any on = list_any (has_dir on) directions
 
 -- the interest of the directions that pass a test
 abbrev pub interest_where : (Dir → Bool) → Interest
@@ -168,6 +176,10 @@ interest_where test = record { read = test Read; write = test Write; priority = 
 -- an interest with one more direction
 abbrev pub with_dir : Interest → Dir → Interest
 with_dir on dir = interest_where (λ d. same_dir d dir || has_dir on d)
+
+-- an interest without those of another one
+abbrev pub except : Interest → Interest → Interest
+except on other = interest_where (λ dir. not (has_dir other dir) && has_dir on dir)
 
 -- an interest as the list of its directions
 abbrev pub directions_of : Interest → List Dir

@@ -1,7 +1,7 @@
 //! The names of a reactor: sources, tasks, timers, moments, directions and events.
 
-ghost use Rattle.std.specs.Prelude.{◌≡◌, ℕ, ◌^◌, ◌<◌, ◌≤◌, true, false, [], ◌∷◌, SomeIff};
-ghost use Rattle.aio_base.specs.World.{directions, has_dir, interest_where, same_dir, with_dir};
+ghost use Rattle.std.specs.Prelude.{◌≡◌, ℕ, ◌^◌, ◌<◌, ◌≤◌, true, false, not, [], ◌∷◌, Some, length, slice_get, SomeIff};
+ghost use Rattle.aio_base.specs.World.{directions, except, has_any, has_dir, index_of, interest_where, same_dir, with_dir};
 
 use std::marker::Model;
 
@@ -66,6 +66,21 @@ pub enum Dir {
     Priority,
 }
 
+impl Dir {
+    /// The place of the direction in `DIRS`.
+    pub fn index(self) -> usize
+        ensures value { result ≡ index_of self }
+        ensures bound { result < length DIRS }
+        ensures direction { slice_get DIRS result ≡ Some self }
+    {
+        match self {
+            Dir::Write => 0,
+            Dir::Read => 1,
+            Dir::Priority => 2,
+        }
+    }
+}
+
 /// All directions, in the order in which one event takes waiters: the published reactor looks at
 /// writability first (`async-io` 2, `reactor.rs`, `react`).
 pub const DIRS: [Dir; 3] = [Dir::Write, Dir::Read, Dir::Priority];
@@ -126,6 +141,25 @@ impl Interest {
         ..Interest::READ_WRITE
     };
 
+    /// The directions that pass a test.
+    pub fn from_fn<F: Fn(Dir) -> bool>(test: F) -> Interest
+        requires { F.IsAlwaysCallable test }
+        ensures { (dir : Dir) → F.post test dir (has_dir result dir) }
+    {
+        Interest {
+            read: test(Dir::Read),
+            write: test(Dir::Write),
+            priority: test(Dir::Priority),
+        }
+    }
+
+    /// Whether no direction is among them.
+    pub fn is_none(self) -> bool
+        ensures { result ≡ not (has_any self) }
+    {
+        self == Interest::NONE
+    }
+
     /// Whether a direction is among them.
     pub fn has(self, dir: Dir) -> bool
         ensures { result ≡ has_dir self dir }
@@ -152,6 +186,13 @@ impl Interest {
                 ..self
             },
         }
+    }
+
+    /// These directions without those of another interest.
+    pub fn except(self, other: Interest) -> Interest
+        ensures { result ≡ except self other }
+    {
+        Interest::from_fn(|dir| !other.has(dir) && self.has(dir))
     }
 }
 
