@@ -1,7 +1,7 @@
 //! The commands of the program: which of them its words name, the calls that do each of them but `relay`, and
 //! how the program ends by it.
 //!
-//! It stands on `aio_replay`, which reads a trace and runs its steps, on `aio_trace`, which writes steps, on
+//! It stands on `aio_replay`, which reads a trace and runs its steps, on `aio_writing`, which writes them, on
 //! `aio_generator`, which gives those that a number describes, on `aio_bytes`, on `aio_line` for the words of
 //! a relay and for six devices that are lent as one, and on `aio_record` for two jobs on recorded cells. It
 //! needs no server, so it is proved beside one. It promises a command exactly where the words name one; for

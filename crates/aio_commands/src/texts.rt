@@ -18,7 +18,7 @@ use aio_base::{CountFault, Step};
 use aio_bytes::{BLOCK, Sink, SinkRefusal, flush, write_all};
 use aio_generator::gen_steps;
 use aio_replay::{Summary, summary};
-use aio_trace::write_line;
+use aio_writing::write_line;
 use itoa::Buffer;
 use std::alloc::{AllocError, Global};
 

@@ -4,7 +4,8 @@ use crate::asserts::{MEMORY, moment, same, same_in};
 use crate::steps::{is_in_range, read_back};
 use aio_base::{Answer, Dir, EndWord, Event, Interest, Key, OutOfMemory, Step, Waker, Which};
 use aio_generator::{Steps, gen_steps};
-use aio_trace::{LineFault, read_line, write_answer, write_line, write_reply};
+use aio_trace::{LineFault, read_line};
+use aio_writing::{write_answer, write_line, write_reply};
 use std::alloc::Global;
 use std::process::Abort;
 

@@ -5,7 +5,8 @@ ghost use Rattle.aio_base.specs.Lines.{HasSpelling, IsInRange};
 
 use aio_base::{LineFault, OutOfMemory, Step};
 use aio_trace::laws::a_written_line_reads_as_its_step_alone;
-use aio_trace::{read_line, write_line};
+use aio_trace::read_line;
+use aio_writing::write_line;
 use std::alloc::Global;
 
 /// The longest limit of a wait and the longest period, in nanoseconds.

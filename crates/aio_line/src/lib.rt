@@ -1,7 +1,7 @@
 //! What the command `relay` reads, is lent and writes: the words that ask for it, its six devices, and the
 //! lines of its text.
 //!
-//! It stands on `aio_pairs` for what a pair comes to, on `aio_base` for the devices and on `aio_trace` for
+//! It stands on `aio_pairs` for what a pair comes to, on `aio_base` for the devices, and on `aio_trace` for
 //! numbers. It promises an order exactly where the words name one; that a lender's devices are afterwards as
 //! the borrower left them; and that each line is the one of its port or of its pair's number and end.
 #![tactic(auto)]

@@ -1,7 +1,7 @@
 //! The text of a relay.
 
 ghost use Rattle.std.specs.Prelude.{◌≡◌, ◌++◌, codes, decimal, IfOk, OnErr, OnOk};
-ghost use Rattle.aio_trace.specs.Writing.{KeepsFront};
+ghost use Rattle.aio_writing.specs.Writing.{KeepsFront};
 ghost use Rattle.aio_line.specs.Texts.{listening_line, outcome_text, pair_line, pair_lines, side_text};
 
 use aio_pairs::{PairEnd, Side};

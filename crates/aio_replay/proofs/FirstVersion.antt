@@ -9,11 +9,10 @@ use Rattle.aio_base.specs.Lines.{Reads, fault_of, step_read}
 use Rattle.aio_base.specs.Script.{output, output_from, world_after, script_step, reply_text}
 use Rattle.aio_base.specs.Trace.{Refusal, Trace, refused, lines_of, trace_of, trace_of_lines, trace_from, trace_after, is_header, line_limit}
 use Rattle.aio_base.specs.World.{World, opening}
+use Rattle.aio_base.proofs.FirstLines.{no_fault, read_is}
 use Rattle.aio_bytes.specs.Sinks.{AppendsPart}
-use Rattle.aio_laws.proofs.traces.Shapes.{read_is}
 use Rattle.aio_react.specs.Cores.{CoreValue}
 use Rattle.aio_script.specs.Script.{Script}
-use Rattle.aio_trace.proofs.LineLaws.{no_fault}
 use Rattle.aio_replay.specs.declared.ends.Cause.TheVariants as cause
 use Rattle.aio_replay.specs.declared.ends.Stop.{Stop}
 use Rattle.aio_replay.specs.declared.version.FirstVersion.{FirstVersion}

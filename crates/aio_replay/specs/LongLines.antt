@@ -1,20 +1,21 @@
 -- The first version refuses a line of more than 256 bytes for its length.
-use Rattle.std.specs.Prelude.{◌≡◌, ℕ, ◌<◌, Bool, ◌&&◌, if◌then◌else◌, List, length, Option, Some, bytes_eq}
+use Rattle.std.specs.Prelude.{◌≡◌, ℕ, ◌<◌, Bool, ◌&&◌, if◌then◌else◌, List, length, Option, Some, Err, bytes_eq}
 use Rattle.std.specs.List.{list_all}
 use Rattle.std.specs.Cmp.Lexicographic.{pointwise}
+use Rattle.std.specs.Result.{result_err}
 use Rattle.std.proofs.Common.{ap}
 use Rattle.std.proofs.lemmas.Bool.{lt-leb, lt-ltb}
 use Rattle.aio_base.specs.declared.steps.LineFault.{LineFault}
 use Rattle.aio_base.specs.declared.steps.LineFault.TheVariants as fault
-use Rattle.aio_base.specs.Lines.{body_of, fault_of, fault_of_words, is_allowed, line_bytes, step_read, words_in}
+use Rattle.aio_base.specs.Lines.{body_of, fault_of, first, is_allowed, line_bytes, step_read, words_in, words_read}
 use Rattle.aio_base.specs.Trace.{header_words}
 use Rattle.aio_replay.specs.Language.{RefusesLong, first_reply, first_version}
 
 fault_of_long : (bytes : List ℕ) → 256 < length bytes → fault_of bytes ≡ Some fault.Long
 unfolding fault_of
 fault_of_long bytes long =
-    ap (λ (t : Bool). if t then Some fault.Long
-    else (if list_all is_allowed (body_of bytes) then fault_of_words (words_in (body_of bytes)) else Some fault.Byte)) (lt-ltb line_bytes (length bytes) long)
+    ap (λ (t : Bool). result_err (if t then Err fault.Long
+    else (if list_all is_allowed (body_of bytes) then words_read first (words_in (body_of bytes)) else Err fault.Byte))) (lt-ltb line_bytes (length bytes) long)
 
 pub first_refuses_long : RefusesLong first_version
 first_refuses_long = record {

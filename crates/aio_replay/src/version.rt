@@ -10,7 +10,8 @@ use crate::replayer::Replayer;
 use aio_base::{Reason, Step, Waker};
 use aio_react::Core;
 use aio_script::ScriptPoller;
-use aio_trace::{is_header, read_line, write_reply};
+use aio_trace::{is_header, read_line};
+use aio_writing::write_reply;
 use std::alloc::{AllocError, Global};
 
 /// The first version: a line is read in each of its spellings, or refused for its fault, and its step is

@@ -9,7 +9,7 @@ use Rattle.std.proofs.lemmas.List.{get_or-drop, get_or-take, length-take}
 use Rattle.std.proofs.lemmas.List.Sums.{fails_before_first}
 use Rattle.std.proofs.lemmas.Simd.{bitmask_splat, first_set_mask_l}
 use Rattle.aio_base.specs.Lines.{is_blank, words_in}
-use Rattle.aio_trace.specs.Reading.{IsRun, is_other}
+use Rattle.aio_trace.specs.Words.{IsRun, is_other}
 use Rattle.aio_trace.proofs.LineWords.{words_behind_blank}
 use Rattle.aio_trace.proofs.LineNumbers.{AreDigits, one_more_digit, one_digit_more}
 

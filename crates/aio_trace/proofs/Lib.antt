@@ -6,6 +6,4 @@ pub mod LineNumbers
 pub mod LineWords
 pub mod Printed
 pub mod Ranges
-pub mod ReadBack
-pub mod Telling
 pub mod WrittenLines

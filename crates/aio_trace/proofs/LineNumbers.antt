@@ -1,20 +1,21 @@
 -- The number that a text's first word spells.
-use Rattle.std.proofs.Common.{◌≡◌, ℕ, ◌+◌, ◌*◌, ◌-◌, ◌^◌, ◌<◌, ◌≤◌, Bool, true, false, cond, leb, List, [], ◌∷◌, length, get_or, take, drop, Option, None, Some, Ok, Err, refl, sym, ap, ◌∙◌, subst, inl, inr, ◌⊎◌, arith}
+use Rattle.std.proofs.Common.{◌≡◌, ℕ, ◌+◌, ◌*◌, ◌-◌, ◌^◌, ◌<◌, ◌≤◌, Bool, true, false, cond, List, [], ◌∷◌, length, get_or, take, drop, Option, None, Some, Ok, Err, refl, sym, ap, ◌∙◌, subst, inl, inr, ◌⊎◌, arith}
 use Rattle.std.specs.List.{All}
 use Rattle.std.specs.Int.{IsInRange}
+use Rattle.std.specs.Option.{ok_or}
 use Rattle.std.specs.Str.{all_ascii_digits}
 use Rattle.std.specs.Str.Parse.{digits_value}
 use Rattle.std.proofs.lemmas.List.{take_all, take-append-le, take-append-drop, length-take-le, get_or-take}
 use Rattle.std.proofs.lemmas.List.Elements.{All-more}
 use Rattle.std.proofs.lemmas.Grind.{get_or_default_zero}
 use Rattle.std.proofs.lemmas.Bool.Decides.{nat_tests}
-use Rattle.std.proofs.lemmas.Bool.{leb-true, le-leb}
 use Rattle.std.proofs.lemmas.Str.Parse.{IsNumeralModel, numerals_by_value, tells_all_ascii_digits, digit_at, digits_value-take-le, digits_value_short}
 use Rattle.std.proofs.lemmas.Str.{digit_value_digit}
 use Rattle.std.proofs.lemmas.Int.Digits.{digits_more, digits_value_more}
 use Rattle.aio_base.specs.declared.steps.LineFault.TheVariants as fault
-use Rattle.aio_base.specs.Lines.{is_blank, numeral, words_in}
-use Rattle.aio_trace.specs.Reading.{take_number, up_to, with_rest}
+use Rattle.aio_base.specs.Lines.{is_blank, numeral, with_rest, within, words_in}
+use Rattle.aio_base.proofs.LineTables.{number_within, within_is}
+use Rattle.aio_trace.specs.Words.{take_number, up_to}
 use Rattle.aio_trace.proofs.LineWords.{FirstWord, first_word, words_of_text, reaches, byte_of_word, front_of_word, words_at_blank, words_of_one, words_past_blank}
 
 abbrev pub AreDigits : List ℕ → Type 0
@@ -70,19 +71,15 @@ numeral_digits (b ∷ bytes) n e = numeral_digits_by (b ∷ bytes) n (all_ascii_
 
 -- ## Numbers up to a greatest one
 
-pub up_to_most : (most n : ℕ) → n ≤ most → up_to most (Some n) ≡ Ok n
-up_to_most most n small = ap (λ t. cond t (Ok n) (Err fault.Number)) (le-leb n most small)
+up_to_most : (most : ℕ) (word : List ℕ) (n : ℕ) → numeral word ≡ Some n → n ≤ most → up_to most word ≡ Ok n
+up_to_most most word n is small = ap (λ o. ok_or o fault.Number) (within_is 0 most n (numeral word) is (omega arith) small)
 
-up_to_none_by : (most : ℕ) (o : Option ℕ) → ((n : ℕ) → o ≡ Some n → n ≤ most → ⊥) → up_to most o ≡ Err fault.Number
-up_to_none_by most None never = refl
-up_to_none_by most (Some n) never = by_test (leb n most) refl
+up_to_none : (most : ℕ) (word : List ℕ) → ((n : ℕ) → IsNumeral word n → n ≤ most → ⊥) → up_to most word ≡ Err fault.Number
+up_to_none most word never = by_case (within 0 most (numeral word)) refl
   where
-    by_test : (t : Bool) → leb n most ≡ t → up_to most (Some n) ≡ Err fault.Number
-    by_test true e = absurd (never n refl (leb-true n most e))
-    by_test false e = ap (λ t. cond t (Ok n) (Err fault.Number)) e
-
-pub up_to_none : (most : ℕ) (word : List ℕ) → ((n : ℕ) → IsNumeral word n → n ≤ most → ⊥) → up_to most (numeral word) ≡ Err fault.Number
-up_to_none most word never = up_to_none_by most (numeral word) (λ n e small. never n (numeral_digits word n e) small)
+    by_case : (o : Option ℕ) → within 0 most (numeral word) ≡ o → ok_or o fault.Number ≡ Err fault.Number
+    by_case None e = refl
+    by_case (Some n) e = let is = number_within 0 most (numeral word) n e in absurd (never n (numeral_digits word n is.0) is.2)
 
 -- ## At the front of a text
 
@@ -92,7 +89,7 @@ pub number_at_blank : (text : List ℕ) (at value most : ℕ) → 0 < at → at 
 number_at_blank text at value most some within digits is small blank =
     let word = take at text in
     let long : 0 < length word = omega (arith, length-take-le at text (omega arith)) in
-    let read : up_to most (numeral word) ≡ Ok value = ap (up_to most) (numeral_of_digits word long digits ∙ ap Some (sym is)) ∙ up_to_most most value small in
+    let read : up_to most word ≡ Ok value = up_to_most most word value (numeral_of_digits word long digits ∙ ap Some (sym is)) small in
     ap (take_number most) (words_at_blank text at some within (digits_are_solid word digits) blank) ∙ ap (with_rest (words_in (drop at text))) read
 
 -- digits up to the end
@@ -101,8 +98,7 @@ pub number_at_end : (text : List ℕ) (at value most : ℕ) → 0 < length text 
 number_at_end text at value most some past digits is small =
     let whole : take at text ≡ text = take_all at text past in
     let all : AreDigits text = subst AreDigits whole digits in
-    let read : up_to most (numeral text) ≡ Ok value =
-    ap (up_to most) (numeral_of_digits text some all ∙ ap Some (sym (is ∙ ap (digits_value 10) whole))) ∙ up_to_most most value small in
+    let read : up_to most text ≡ Ok value = up_to_most most text value (numeral_of_digits text some all ∙ ap Some (sym (is ∙ ap (digits_value 10) whole))) small in
     ap (take_number most) (words_of_one text some (digits_are_solid text all)) ∙ ap (with_rest []) read
 
 -- a first word that is no number up to the greatest one

@@ -1,3 +1,2 @@
-pub mod Reading
 pub mod Taking
-pub mod Writing
+pub mod Words

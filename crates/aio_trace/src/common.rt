@@ -3,13 +3,12 @@
 //! the arm that read a step hands it on; every other line is left to `reading`.
 
 ghost use Rattle.std.specs.Prelude.{◌≡◌, ◌++◌, ◌∷◌, ◌↔◌, ◌<◌, ◌≤◌, ◌+◌, ◌^◌, ℕ, true, [], None, Ok, Some, IfSome, MatchOption, OnSome, length};
-ghost use Rattle.aio_base.specs.World.{last_moment};
-ghost use Rattle.aio_base.specs.Lines.{last_number, words_in};
+ghost use Rattle.aio_base.specs.Lines.{ADirection, AMoment, ANumber, begin_rest, event_rest, fault_rest, first, listener_poll_rest, new_rest, poll_rest, read, set_every_rest, set_rest, take_value, tick_rest, timer_every_rest, timer_rest, words_in, words_read};
 ghost use Rattle.aio_base.specs.declared.steps.Step.{Step};
-ghost use Rattle.aio_trace.specs.Reading.{begin_of, event_of, fault_line_of, listener_poll_of, new_of, poll_of, set_every_of, set_of, step_of_words, take_direction, take_number, tick_of, timer_every_of, timer_of};
+ghost use Rattle.aio_trace.specs.Words.{take_number};
 ghost use Rattle.aio_trace.specs.Taking.{HandsStep};
 
-use crate::reading::moment_at;
+use crate::places::moment_at;
 use crate::taking::StepTaker;
 use aio_base::{Dir, Event, Interest, Key, Moment, Step, Waker, Which};
 
@@ -195,8 +194,8 @@ fn behind_word(text: &[u8], word: [u8; 5]) -> Option<&[u8]>
 #[inline(always)]
 fn take_timer<T: StepTaker>(line: &[u8], choice: &[u8], taker: &mut T) -> Option<T::Answer>
     requires ready { T.is_ready taker.old }
-    requires line { (s : Step) → timer_of (words_in choice.now) ≡ Ok s
-        → step_of_words (words_in line.now) ≡ Ok s }
+    requires line { (s : Step) → read first (timer_rest first) (words_in choice.now) ≡ Ok s
+        → words_read first (words_in line.now) ≡ Ok s }
     requires short { length line.now ≤ length choice.now + 6 }
     ensures { MatchOption result (taker.new ≡ taker.old)
         (λ answer. HandsStep T.takes taker.old line.now answer taker.new) }
@@ -223,8 +222,8 @@ fn take_timer<T: StepTaker>(line: &[u8], choice: &[u8], taker: &mut T) -> Option
 #[inline(always)]
 fn take_set<T: StepTaker>(line: &[u8], places: &[u8], taker: &mut T) -> Option<T::Answer>
     requires ready { T.is_ready taker.old }
-    requires line { (s : Step) → set_of (words_in places.now) ≡ Ok s
-        → step_of_words (words_in line.now) ≡ Ok s }
+    requires line { (s : Step) → read first (set_rest first) (words_in places.now) ≡ Ok s
+        → words_read first (words_in line.now) ≡ Ok s }
     requires short { length line.now ≤ length places.now + 4 }
     ensures { MatchOption result (taker.new ≡ taker.old)
         (λ answer. HandsStep T.takes taker.old line.now answer taker.new) }
@@ -251,7 +250,7 @@ fn take_set<T: StepTaker>(line: &[u8], places: &[u8], taker: &mut T) -> Option<T
 #[inline(always)]
 fn hand<T: StepTaker>(line: &[u8], step: Step, taker: &mut T) -> T::Answer
     requires ready { T.is_ready taker.old }
-    requires read { step_of_words (words_in line.now) ≡ Ok step }
+    requires read { words_read first (words_in line.now) ≡ Ok step }
     requires short { length line.now ≤ 256 }
     ensures { HandsStep T.takes taker.old line.now result taker.new }
 {
@@ -261,7 +260,7 @@ fn hand<T: StepTaker>(line: &[u8], step: Step, taker: &mut T) -> T::Answer
 /// The step of a line `poll K D W`, read behind its command.
 #[inline(always)]
 fn poll_step(places: &[u8]) -> Option<Step>
-    ensures read { IfSome result (λ s. poll_of (words_in places.now) ≡ Ok s) }
+    ensures read { IfSome result (λ s. read first (poll_rest first) (words_in places.now) ≡ Ok s) }
     ensures short { OnSome result (length places.now ≤ 22) }
 {
     let Some((key, rest)) = first_number(places) else {
@@ -279,7 +278,7 @@ fn poll_step(places: &[u8]) -> Option<Step>
 /// The step of a line `event K F`, read behind its command.
 #[inline(always)]
 fn event_step(places: &[u8]) -> Option<Step>
-    ensures read { IfSome result (λ s. event_of (words_in places.now) ≡ Ok s) }
+    ensures read { IfSome result (λ s. read first (event_rest first) (words_in places.now) ≡ Ok s) }
     ensures short { OnSome result (length places.now ≤ 12) }
 {
     let Some((key, rest)) = first_number(places) else {
@@ -300,8 +299,9 @@ fn event_step(places: &[u8]) -> Option<Step>
 #[inline(always)]
 fn number_and_waker(places: &[u8]) -> Option<(u32, Waker)>
     ensures listener { IfSome result (λ r.
-        listener_poll_of (words_in places.now) ≡ Ok (Step.StepEar r.0 r.1)) }
-    ensures timer { IfSome result (λ r. tick_of (words_in places.now) ≡ Ok (Step.Tick r.0 r.1)) }
+        read first (listener_poll_rest first) (words_in places.now) ≡ Ok (Step.StepEar r.0 r.1)) }
+    ensures timer { IfSome result (λ r.
+        read first (tick_rest first) (words_in places.now) ≡ Ok (Step.Tick r.0 r.1)) }
     ensures short { OnSome result (length places.now ≤ 20) }
 {
     let Some((number, rest)) = first_number(places) else {
@@ -316,7 +316,7 @@ fn number_and_waker(places: &[u8]) -> Option<(u32, Waker)>
 /// The step of a line `new K D`, read behind its command.
 #[inline(always)]
 fn new_step(places: &[u8]) -> Option<Step>
-    ensures read { IfSome result (λ s. new_of (words_in places.now) ≡ Ok s) }
+    ensures read { IfSome result (λ s. read first (new_rest first) (words_in places.now) ≡ Ok s) }
     ensures short { OnSome result (length places.now ≤ 11) }
 {
     let Some((key, rest)) = first_number(places) else {
@@ -332,7 +332,7 @@ fn new_step(places: &[u8]) -> Option<Step>
 /// The step of a line `begin L`, read behind its command.
 #[inline(always)]
 fn begin_step(places: &[u8]) -> Option<Step>
-    ensures read { IfSome result (λ s. begin_of (words_in places.now) ≡ Ok s) }
+    ensures read { IfSome result (λ s. read first (begin_rest first) (words_in places.now) ≡ Ok s) }
     ensures short { OnSome result (length places.now ≤ 19) }
 {
     match places {
@@ -347,7 +347,7 @@ fn begin_step(places: &[u8]) -> Option<Step>
 /// The step of a line `fault X`, read behind its command.
 #[inline(always)]
 fn fault_step(kind: &[u8]) -> Option<Step>
-    ensures read { IfSome result (λ s. fault_line_of (words_in kind.now) ≡ Ok s) }
+    ensures read { IfSome result (λ s. read first (fault_rest first) (words_in kind.now) ≡ Ok s) }
     ensures short { OnSome result (length kind.now ≤ 6) }
 {
     match kind {
@@ -363,7 +363,7 @@ fn fault_step(kind: &[u8]) -> Option<Step>
 #[inline(always)]
 fn first_number(text: &[u8]) -> Option<(u32, &[u8])>
     ensures read { IfSome result (λ r.
-        take_number last_number (words_in text.now) ≡ Ok (r.0, words_in r.1.now)) }
+        take_value first ANumber (words_in text.now) ≡ Ok (r.0, words_in r.1.now)) }
     ensures short { IfSome result (λ r. length text.now ≤ length r.1.now + 10) }
 {
     match few_digits(text, NUMBER_DIGITS) {
@@ -376,7 +376,7 @@ fn first_number(text: &[u8]) -> Option<(u32, &[u8])>
 #[inline(always)]
 fn whole_number(text: &[u8]) -> Option<u32>
     ensures read { IfSome result (λ n.
-        take_number last_number (words_in text.now) ≡ Ok (n, [])) }
+        take_value first ANumber (words_in text.now) ≡ Ok (n, [])) }
     ensures short { OnSome result (length text.now ≤ 10) }
 {
     match first_number(text) {
@@ -389,7 +389,7 @@ fn whole_number(text: &[u8]) -> Option<u32>
 #[inline(always)]
 fn first_nanoseconds(text: &[u8]) -> Option<(u64, &[u8])>
     ensures read { IfSome result (λ r.
-        take_number last_moment (words_in text.now) ≡ Ok (r.0, words_in r.1.now)) }
+        take_value first AMoment (words_in text.now) ≡ Ok (r.0, words_in r.1.now)) }
     ensures bound { IfSome result (λ r. r.0 ≤ 10 ^ 18) }
     ensures short { IfSome result (λ r. length text.now ≤ length r.1.now + 19) }
 {
@@ -400,7 +400,7 @@ fn first_nanoseconds(text: &[u8]) -> Option<(u64, &[u8])>
 #[inline(always)]
 fn whole_nanoseconds(text: &[u8]) -> Option<u64>
     ensures read { IfSome result (λ n.
-        take_number last_moment (words_in text.now) ≡ Ok (n, [])) }
+        take_value first AMoment (words_in text.now) ≡ Ok (n, [])) }
     ensures bound { IfSome result (λ n. n ≤ 10 ^ 18) }
     ensures short { OnSome result (length text.now ≤ 19) }
 {
@@ -414,7 +414,7 @@ fn whole_nanoseconds(text: &[u8]) -> Option<u64>
 #[inline(always)]
 fn whole_moment(text: &[u8]) -> Option<Moment>
     ensures read { IfSome result (λ m.
-        take_number last_moment (words_in text.now) ≡ Ok (m, [])) }
+        take_value first AMoment (words_in text.now) ≡ Ok (m, [])) }
     ensures short { OnSome result (length text.now ≤ 19) }
 {
     match whole_nanoseconds(text) {
@@ -427,9 +427,10 @@ fn whole_moment(text: &[u8]) -> Option<Moment>
 #[inline(always)]
 fn first_and_period(text: &[u8]) -> Option<(Moment, u64)>
     ensures timer { IfSome result (λ r.
-        timer_every_of (words_in text.now) ≡ Ok (Step.TimerEvery r.0 r.1)) }
+        read first (timer_every_rest first) (words_in text.now) ≡ Ok (Step.TimerEvery r.0 r.1)) }
     ensures set { IfSome result (λ r. (timer : ℕ)
-        → set_every_of timer (words_in text.now) ≡ Ok (Step.SetEvery timer r.0 r.1)) }
+        → read first (set_every_rest first timer) (words_in text.now)
+        ≡ Ok (Step.SetEvery timer r.0 r.1)) }
     ensures short { OnSome result (length text.now ≤ 38) }
 {
     let Some((first, rest)) = first_nanoseconds(text) else {
@@ -472,7 +473,8 @@ fn few_digits(text: &[u8], digits: usize) -> Option<(u64, &[u8])>
 /// The direction at the front of a text, with a space behind it, and what follows that.
 #[inline(always)]
 fn first_direction(text: &[u8]) -> Option<(Dir, &[u8])>
-    ensures read { IfSome result (λ r. take_direction (words_in text.now) ≡ Ok (r.0, words_in r.1.now)) }
+    ensures read { IfSome result (λ r.
+        take_value first ADirection (words_in text.now) ≡ Ok (r.0, words_in r.1.now)) }
     ensures short { IfSome result (λ r. length text.now ≤ length r.1.now + 2) }
 {
     match text {

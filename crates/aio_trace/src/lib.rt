@@ -1,22 +1,22 @@
-//! The language of traces in writing: which step a line reads as and what is wrong with a line that
-//! reads as none, and the line of each step and of each answer.
+//! The language of traces as it is read: which step a line reads as, and what is wrong with a line that
+//! reads as none.
 //!
-//! It stands on `aio_base`, whose `specs/Lines.antt` says what a line reads as, by its words. It
-//! promises both ways: a line reads as a step exactly where that definition says so and otherwise has
-//! the fault that it names, and a step that is written reads as itself and as no other.
+//! It stands on `aio_base`, whose `specs/Lines.antt` says what a line reads as, by its words and by one
+//! table of what may follow them. It promises both ways: a line reads as a step exactly where that
+//! definition says so and otherwise has the fault that it names; and as laws, that a written line reads
+//! as its step and as no other. `aio_writing` writes lines.
 #![tactic(auto)]
 
-mod answer_lines;
+mod commands;
 mod common;
+mod dialect;
 pub mod laws;
+mod places;
 mod reading;
 mod runs;
-mod step_lines;
 mod taking;
 mod words;
-mod writing;
 
 pub use aio_base::LineFault;
 pub use reading::{hand_line, is_header, read_line};
 pub use taking::{HandsOut, StepTaker};
-pub use writing::{write_answer, write_line, write_reply};

@@ -1,12 +1,12 @@
 //! The words of a line's body, taken from its front one after the other. It takes no memory, and
 //! looks at each byte once, at those of a long run of spaces or zeros by blocks.
 
-ghost use Rattle.std.specs.Prelude.{◌≡◌, ◌<◌, ◌≤◌, ◌^◌, [], ◌∷◌, Ok, Err, false, length, slice_index, MatchOption, MatchResult};
+ghost use Rattle.std.specs.Prelude.{◌≡◌, ◌↔◌, ◌<◌, ◌≤◌, ◌^◌, [], ◌∷◌, Ok, Err, false, true, length, slice_index, MatchOption, MatchResult};
 ghost use Rattle.aio_base.specs.Lines.{is_blank, words_in};
-ghost use Rattle.aio_trace.specs.Reading.{ended, take_number};
+ghost use Rattle.aio_trace.specs.Words.{take_number};
 
 use crate::runs::leading_run;
-use aio_base::{LineFault, Step};
+use aio_base::LineFault;
 
 /// Whether a byte parts words: a space or a tab.
 fn is_blank(byte: u8) -> bool
@@ -75,13 +75,9 @@ pub(crate) fn next_number(text: &[u8], most: u64) -> Result<(u64, &[u8]), LineFa
     Ok((value, &[]))
 }
 
-/// A step behind whose words no word may follow.
-pub(crate) fn ended(step: Step, text: &[u8]) -> Result<Step, LineFault>
-    ensures { result ≡ ended step (words_in text.now) }
+/// Whether a text has no word.
+pub(crate) fn has_ended(text: &[u8]) -> bool
+    ensures { (result ≡ true) ↔ (words_in text.now ≡ []) }
 {
-    if skip_blanks(text).is_empty() {
-        Ok(step)
-    } else {
-        Err(LineFault::Count)
-    }
+    skip_blanks(text).is_empty()
 }

@@ -1,4 +1,4 @@
-use Rattle.aio_trace.proofs.LineLaws.{reads_one, no_fault, some_step}
+use Rattle.aio_base.proofs.FirstLines.{reads_one, no_fault, some_step}
 use Rattle.aio_trace.proofs.laws.a_line_reads_as_one_step_or_has_a_fault.Goals as goal
 
 pub returns-clause-one : goal.returns-clause-one

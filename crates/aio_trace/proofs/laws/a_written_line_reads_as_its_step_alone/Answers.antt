@@ -1,4 +1,4 @@
-use Rattle.aio_trace.proofs.LineLaws.{reads_one}
+use Rattle.aio_base.proofs.FirstLines.{reads_one}
 use Rattle.aio_trace.proofs.WrittenLines.{reads}
 use Rattle.aio_trace.proofs.laws.a_written_line_reads_as_its_step_alone.Goals as goal
 

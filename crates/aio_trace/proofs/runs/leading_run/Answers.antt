@@ -1,7 +1,7 @@
 use Rattle.std.proofs.Common.{◌≡◌, ◌∙◌, ap, arith, drop, take}
 use Rattle.std.specs.List.{position_or_len}
 use Rattle.std.proofs.lemmas.List.{take_rest}
-use Rattle.aio_trace.specs.Reading.{is_other}
+use Rattle.aio_trace.specs.Words.{is_other}
 use Rattle.aio_trace.proofs.LeadingRuns.{run_on}
 use Rattle.aio_trace.proofs.runs.leading_run.Goals as goal
 

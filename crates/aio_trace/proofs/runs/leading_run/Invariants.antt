@@ -1,5 +1,5 @@
 use Rattle.std.proofs.Common.{◌-◌, ◌≤◌, length}
-use Rattle.aio_trace.specs.Reading.{IsRun}
+use Rattle.aio_trace.specs.Words.{IsRun}
 use Rattle.aio_trace.proofs.runs.leading_run.Given as goal
 
 -- nothing but this byte so far

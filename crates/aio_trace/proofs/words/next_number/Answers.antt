@@ -2,7 +2,7 @@ use Rattle.std.proofs.Common.{◌≡◌, ◌+◌, ◌<◌, ◌∙◌, true, fals
 use Rattle.std.proofs.lemmas.List.{take_rest}
 use Rattle.std.proofs.lemmas.Bool.Decides.{nat_tests}
 use Rattle.aio_base.specs.Lines.{is_blank, words_in}
-use Rattle.aio_trace.specs.Reading.{take_number}
+use Rattle.aio_trace.specs.Words.{take_number}
 use Rattle.aio_trace.proofs.LineWords.{not_at_first, words_past_blank}
 use Rattle.aio_trace.proofs.LineNumbers.{number_at_blank, number_at_end, number_with_other, number_too_great, one_more_digit, one_digit_more}
 use Rattle.aio_trace.proofs.LeadingRuns.{zeros_of_number}

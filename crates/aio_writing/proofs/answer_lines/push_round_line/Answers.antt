@@ -5,7 +5,7 @@ use Rattle.std.proofs.lemmas.Grind.{common_steps}
 use Rattle.std.proofs.lemmas.Fmt.{length-decimal-le}
 use Rattle.std.proofs.lemmas.Slice.{take-put_mid_below}
 use borrow.Rule.Slice.PartMut.{put_mid}
-use Rattle.aio_trace.proofs.answer_lines.push_round_line.Goals as goal
+use Rattle.aio_writing.proofs.answer_lines.push_round_line.Goals as goal
 
 -- what was in front of a write is in front of it still
 front : (a k : ℕ) (xs ys : List ℕ) → a ≤ length xs → a ≤ length (put_mid a k xs ys)

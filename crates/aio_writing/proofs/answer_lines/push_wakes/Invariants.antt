@@ -1,7 +1,7 @@
 use Rattle.std.proofs.Common.{◌≡◌, ◌≤◌, ◌++◌, take, flat_map, vec_capacity}
 use Rattle.aio_base.specs.declared.steps.Answer.TheVariants.{Wake}
 use Rattle.aio_base.specs.Text.{answer_line, ended_line}
-use Rattle.aio_trace.proofs.answer_lines.push_wakes.Given as goal
+use Rattle.aio_writing.proofs.answer_lines.push_wakes.Given as goal
 
 -- the lines of the wakes so far, and no room is lost
 abbrev pub invariant-loop-waker : goal.invariant-loop-waker

@@ -5,8 +5,8 @@ use Rattle.std.proofs.lemmas.List.Folds.{length-flat_map-take}
 use Rattle.aio_base.specs.declared.names.Waker.{Waker}
 use Rattle.aio_base.specs.declared.steps.Answer.TheVariants.{Wake}
 use Rattle.aio_base.specs.Text.{answer_line, ended_line}
-use Rattle.aio_trace.specs.Writing.{LacksRoom}
-use Rattle.aio_trace.proofs.answer_lines.push_wakes.Goals as goal
+use Rattle.aio_writing.specs.Writing.{LacksRoom}
+use Rattle.aio_writing.proofs.answer_lines.push_wakes.Goals as goal
 
 on_err : {T E : Type 0} (r : Result T E) (P : Type 0) → P → OnErr r P
 on_err (Ok x) P p = tt

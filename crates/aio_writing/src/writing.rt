@@ -5,7 +5,7 @@ ghost use Rattle.std.specs.Prelude.{◌≡◌, ◌≤◌, ◌++◌, [], decimal,
 ghost use Rattle.aio_base.specs.Lines.{IsInRange, NamesNoPriority, written_line};
 ghost use Rattle.aio_base.specs.Script.{reply_text};
 ghost use Rattle.aio_base.specs.Text.{answer_line, ended_line};
-ghost use Rattle.aio_trace.specs.Writing.{LacksRoom, Pushes};
+ghost use Rattle.aio_writing.specs.Writing.{LacksRoom, Pushes};
 
 use crate::answer_lines::{push_answer, push_reply};
 use crate::step_lines::push_step;

@@ -3,7 +3,7 @@
 ghost use Rattle.std.specs.Prelude.{◌≡◌, ◌≤◌, ◌++◌, [], codes, decimal, flat_map, OnErr, OnOk};
 ghost use Rattle.aio_base.specs.Script.{reply_text};
 ghost use Rattle.aio_base.specs.Text.{answer_line, end_text, ended_line, fault_text, limit_text};
-ghost use Rattle.aio_trace.specs.Writing.{Pushes};
+ghost use Rattle.aio_writing.specs.Writing.{Pushes};
 
 use crate::writing::{push_before, push_numbered};
 use aio_base::{Answer, EndWord, Key, Waker};

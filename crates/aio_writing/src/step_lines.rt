@@ -3,7 +3,7 @@
 ghost use Rattle.std.specs.Prelude.{◌++◌, codes, decimal};
 ghost use Rattle.aio_base.specs.Lines.{IsInRange, written_line};
 ghost use Rattle.aio_base.specs.Text.{dir_text, ended_line, flags_text, limit_text, which_text};
-ghost use Rattle.aio_trace.specs.Writing.{Pushes};
+ghost use Rattle.aio_writing.specs.Writing.{Pushes};
 
 use crate::writing::{push_before, push_numbered};
 use aio_base::{Dir, Event, Key, Moment, Step, Waker, Which};

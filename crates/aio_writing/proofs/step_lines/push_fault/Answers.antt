@@ -1,6 +1,6 @@
 use Rattle.std.proofs.Common.{arith}
 use Rattle.std.proofs.lemmas.Grind.{common_steps}
-use Rattle.aio_trace.proofs.step_lines.push_fault.Goals as goal
+use Rattle.aio_writing.proofs.step_lines.push_fault.Goals as goal
 
 pub returns : goal.returns
 returns c = grind (arith, common_steps)
