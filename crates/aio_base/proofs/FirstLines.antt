@@ -15,13 +15,13 @@ use Rattle.aio_base.specs.declared.steps.LineFault.TheVariants as fault
 use Rattle.aio_base.specs.declared.steps.Step.{Step}
 use Rattle.aio_base.specs.declared.steps.Step.TheVariants as step
 use Rattle.aio_base.specs.Text.{dir_text, flags_text}
-use Rattle.aio_base.specs.Lines.{body_of, is_allowed, last_number, line_bytes, numeral, words_in, HasWord, HaveWord, HasSpelling, Number, step_words, SpellAll, Reads, Asked, ADirection, SomeFlags, value_of, read, lines, words_read, line_read, first, written_directions, written_flags, step_read, fault_of}
+use Rattle.aio_base.specs.Lines.{body_of, is_allowed, last_number, line_bytes, numeral, words_in, HasWord, FlagsHaveWord, HasSpelling, Number, step_words, SpellAll, Reads, Asked, ADirection, SomeFlags, value_of, read, lines, words_read, line_read, first, written_directions, written_flags, step_read, fault_of}
 use Rattle.aio_base.proofs.LineTables.{Spelling, Held, HeldBack, Says, Comes, Leads, same_bytes, is_some, number_within, within_is, held, held_back, comes, leads}
 
 -- ## Places
 
 abbrev pub spelling : Spelling ℕ
-spelling = record { waker_word = Number; Waker = λ w. w ≤ last_number; Direction = HasWord; Flags = HaveWord }
+spelling = record { waker_word = Number; Waker = λ w. w ≤ last_number; Direction = HasWord; Flags = FlagsHaveWord }
 
 dir_held : (word : List ℕ) (dir : Dir) → find (λ (dir : Dir). bytes_eq word (dir_text dir)) written_directions ≡ Some dir → HasWord dir × (word ≡ dir_text dir)
 dir_held word dir e = by_tests (bytes_eq word (codes "r")) (bytes_eq word (codes "w")) refl refl e

@@ -86,14 +86,14 @@ HasWord Write = Unit {0}
 HasWord Priority = ⊥
 
 -- flags that a line may name: those without Priority
-abbrev pub HaveWord : Interest → Type 0
-HaveWord on = on.priority ≡ false
+abbrev pub FlagsHaveWord : Interest → Type 0
+FlagsHaveWord on = on.priority ≡ false
 
 -- a step that names no Priority: it polls no such direction, makes no listener of it, and notes no event of it
 abbrev pub NamesNoPriority : Step → Type 0
 NamesNoPriority (step.Poll key dir waker) = HasWord dir
 NamesNoPriority (step.New key dir) = HasWord dir
-NamesNoPriority (step.Note event) = HaveWord event.on
+NamesNoPriority (step.Note event) = FlagsHaveWord event.on
 NamesNoPriority _ = Unit {0}
 
 -- A step that a line can spell: each number is in the range of its place, and no direction is Priority. What this asks beside `IsInRange` and
@@ -111,7 +111,7 @@ HasSpelling (step.SetAt number deadline) = (number ≤ last_number) × IsMoment 
 HasSpelling (step.SetEvery number deadline period) = (number ≤ last_number) × IsMoment deadline × IsPeriod period
 HasSpelling (step.End number) = number ≤ last_number
 HasSpelling (step.Now moment) = IsMoment moment
-HasSpelling (step.Note event) = (event.key.0 ≤ last_number) × HaveWord event.on
+HasSpelling (step.Note event) = (event.key.0 ≤ last_number) × FlagsHaveWord event.on
 HasSpelling (step.Begin (Some limit)) = limit ≤ 10 ^ 18
 HasSpelling _ = Unit {0}
 

@@ -4,7 +4,7 @@ use Rattle.std.specs.List.{All}
 use Rattle.aio_base.specs.declared.steps.Step.{Step}
 use Rattle.aio_base.specs.declared.names.Dir.TheVariants.{Read, Write}
 use Rattle.aio_base.specs.declared.names.TheConstants.Interest.{READ, WRITE, READ_WRITE}
-use Rattle.aio_base.specs.Lines.{HasWord, HaveWord, HasSpelling}
+use Rattle.aio_base.specs.Lines.{HasWord, FlagsHaveWord, HasSpelling}
 use Rattle.aio_base.specs.Generated.{Generator, Generated, dir_drawn, interest_drawn, draw, first_generator, generated_by, generated_of, generated_steps, steps_from, after_draws}
 
 -- so many steps more keep a generator's counts and its moment small
@@ -29,12 +29,12 @@ either_word false = tt
 dir_has_word : (n : ℕ) → HasWord (dir_drawn n)
 dir_has_word n = either_word (n % 2 == 0)
 
-either_words : (read write : Bool) → HaveWord (cond read READ (cond write WRITE READ_WRITE))
+either_words : (read write : Bool) → FlagsHaveWord (cond read READ (cond write WRITE READ_WRITE))
 either_words true write = refl
 either_words false true = refl
 either_words false false = refl
 
-interest_has_word : (n : ℕ) → HaveWord (interest_drawn n)
+interest_has_word : (n : ℕ) → FlagsHaveWord (interest_drawn n)
 interest_has_word n = either_words (n % 3 == 0) (n % 3 == 1)
 
 one_given : (kind n : ℕ) (g : Generator) → Fits (suc n) g → IsGiven n (generated_of kind g)

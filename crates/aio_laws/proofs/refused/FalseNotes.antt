@@ -86,7 +86,7 @@ pub a_direction_noted_that_the_event_does_not_have_is_refused : (answers : List 
     → HandledIsNoted (running (readable 0 ∷ [])) step.Handle answers (after (entry 1 Write 2 ∷ entry 1 Read 2 ∷ [])) → ⊥
 a_direction_noted_that_the_event_does_not_have_is_refused answers h = two_noted (entry 1 Write 2) (entry 1 Read 2) (entry 1 Read 2) [] h.handled
 
--- of an event of both directions one alone is noted
+-- of an event of reading and writing one alone is noted
 pub a_direction_that_is_not_noted_is_refused : (answers : List PollerAnswer)
     → HandledIsNoted (running (both 0 ∷ [])) step.Handle answers (after (entry 1 Read 2 ∷ [])) → ⊥
 a_direction_that_is_not_noted_is_refused answers h = two_noted (entry 1 Write 2) (entry 1 Read 2) (entry 1 Read 2) [] (sym h.handled)

@@ -178,7 +178,7 @@ other_way same = cc
 same_step : (a b : Dir) (j k : Key) → step.New j a ≡ step.New k b → a ≡ b
 same_step a b j k same = cc
 
--- a listener is made of the other direction
+-- a listener is made of another direction
 turned : (l : ListenerEntry) → l.dir ≡ Write → ComesFrom sourced (step.New (record { 0 = 0 }) Read) l → ⊥
 turned l dir (Stood old among same) = none_is_in old among
 turned l dir (FirstPolled old among none polls same) = none_is_in old among

@@ -64,7 +64,7 @@ pub an_event_of_the_running_round_is_not_fresh :
 unfolding step_result script_step reply_text answer_line digits
 an_event_of_the_running_round_is_not_fresh = refl
 
--- the second event has both directions
+-- the second event is of reading and writing
 pub the_rest_is_armed_again_and_write_goes_first :
     output (add ∷ poll 0 Read 1 ∷ poll 0 Write 2 ∷ event 0 reads ∷ step.React ∷ poll 0 Read 1 ∷ poll 0 Read 1 ∷ event 0 both ∷ step.React ∷ [])
     ≡ lines (codes "key 0" ∷ codes "pending" ∷ codes "pending" ∷ codes "noted" ∷ codes "round 1 events 1 ok" ∷ codes "wake 1" ∷ codes "ready" ∷
