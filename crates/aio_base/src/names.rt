@@ -142,6 +142,7 @@ impl Interest {
     };
 
     /// The directions that pass a test.
+    #[inline(always)]
     pub fn from_fn<F: Fn(Dir) -> bool>(test: F) -> Interest
         requires { F.IsAlwaysCallable test }
         ensures { (dir : Dir) → F.post test dir (has_dir result dir) }
@@ -154,6 +155,7 @@ impl Interest {
     }
 
     /// Whether no direction is among them.
+    #[inline(always)]
     pub fn is_none(self) -> bool
         ensures { result ≡ not (has_any self) }
     {

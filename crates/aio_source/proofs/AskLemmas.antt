@@ -10,20 +10,18 @@ use Rattle.aio_source.specs.Answers.{poll_answer, armed_in}
 use Rattle.aio_base.specs.declared.names.Dir.{Dir}
 use Rattle.aio_base.specs.declared.names.Waker.{Waker}
 use Rattle.aio_base.specs.declared.names.Interest.{Interest}
-use Rattle.aio_base.specs.World.{directions, same_dir, has_dir, with_dir, is_empty_list}
+use Rattle.aio_base.specs.World.{directions, same_dir, has_any, has_dir, with_dir, is_empty_list}
 use Rattle.aio_base.specs.Machine.{is_waker}
 use Rattle.aio_listen.specs.declared.ticket.Ticket.{Ticket}
 use Rattle.aio_listen.specs.Tickets.{same_ticket}
 use Rattle.aio_listen.specs.Listening.{Entry, Holds, has_ticket, wakers_of, with_waker}
 use Rattle.aio_source.specs.Values.{DirectionValue, DirectionValues, SourceValue}
 use Rattle.aio_source.specs.declared.answers.Listened.{Listened}
-use Rattle.aio_source.specs.Rules.{Polling, is_idle, is_ready, is_above, wanted, has_any, direction_of, with_direction, with_source_direction, seen, listening, listening_again, stored, handled, handled_in, handled_along, part_of, polling, listening_first, polling_again, handling, Covers}
+use Rattle.aio_source.specs.Rules.{Polling, is_idle, is_ready, is_above, wanted, direction_of, with_direction, with_source_direction, seen, listening, listening_again, stored, handled, handled_in, handled_along, part_of, polling, listening_first, polling_again, handling, Covers}
 use Rattle.aio_source.specs.Lent.{UsesArm, arm_answer, asked_by, asked_for, asked_with, left_of}
-use Rattle.aio_base.proofs.DirectionLemmas.{same_dir-refl, each_direction, where_same, has_dir-where, named_where}
-use Rattle.aio_base.proofs.Membership.{any_from}
-use Rattle.aio_base.proofs.Searching.{false_unless}
+use Rattle.aio_base.proofs.DirectionLemmas.{same_dir-refl, where_same, has_dir-where, named_where}
 use Rattle.aio_source.proofs.DirectionCases.{each_put, put_itself}
-use Rattle.aio_source.proofs.WaiterLemmas.{held_waits, none_emptied}
+use Rattle.aio_source.proofs.WaiterLemmas.{held_waits, none_emptied, unasked}
 
 -- once a direction has a waiter, it is wanted beside what was wanted before
 wanted_with : (ds : DirectionValues) (dir : Dir) (d : DirectionValue) → is_idle d ≡ false → wanted (with_direction ds dir d) ≡ with_dir (wanted ds) dir
@@ -177,12 +175,6 @@ or_parts false b e = (refl, e)
 or_always : (b : Bool) → (b || true) ≡ true
 or_always true = refl
 or_always false = refl
-
-unasked : (asked : Interest) → has_any asked ≡ false → (dir : Dir) → has_dir asked dir ≡ false
-unasked asked none dir =
-    false_unless (has_dir asked dir) (λ has.
-    let any = any_from (has_dir asked) directions dir (each_direction dir) has in
-    let wrong : true ≡ false = sym any ∙ none in cc)
 
 idle_step : (idle has broken : Bool) → (IsTrue (not idle) → IsTrue (has || broken)) → has ≡ false → broken ≡ false → idle ≡ true
 idle_step true has broken covers none whole = refl

@@ -1,17 +1,20 @@
 -- Who waits for a direction, and what its calls make of that.
-use Rattle.std.specs.Prelude.{◌≡◌, ◌==◌, Bool, true, false, not, ◌||◌, IsTrue, if◌then◌else◌, List, [], ◌∷◌, ◌++◌, length, Option, None, Some, option_to_list, refl}
-use Rattle.std.proofs.Common.{ap, arith}
+use Rattle.std.specs.Prelude.{◌≡◌, ◌==◌, ◌≤◌, Bool, true, false, not, ◌||◌, IsTrue, if◌then◌else◌, List, [], ◌∷◌, ◌++◌, length, Option, None, Some, option_to_list, refl}
+use Rattle.std.proofs.Common.{ap, sym, ◌∙◌, arith, length-append}
 use Rattle.std.proofs.lemmas.Bool.Decides.{nat_tests}
 use Rattle.aio_base.specs.declared.names.Dir.{Dir}
 use Rattle.aio_base.specs.declared.names.Waker.{Waker}
 use Rattle.aio_base.specs.declared.names.Interest.{Interest}
-use Rattle.aio_base.specs.World.{has_dir, is_empty_list}
+use Rattle.aio_base.specs.World.{directions, has_any, has_dir, is_empty_list}
 use Rattle.aio_base.specs.Machine.{is_waker}
 use Rattle.aio_listen.specs.declared.ticket.Ticket.{Ticket}
 use Rattle.aio_listen.specs.Tickets.{same_ticket}
 use Rattle.aio_listen.specs.Listening.{Entry, Holds, has_ticket, wakers_of, with_waker, without, emptied}
 use Rattle.aio_source.specs.Values.{DirectionValue, DirectionValues}
-use Rattle.aio_source.specs.Rules.{is_idle, without_listener, direction_of, with_direction, Covers}
+use Rattle.aio_source.specs.Rules.{is_idle, waiters_of, waiters_in, without_listener, direction_of, with_direction, Covers}
+use Rattle.aio_base.proofs.DirectionLemmas.{each_direction}
+use Rattle.aio_base.proofs.Membership.{any_from}
+use Rattle.aio_base.proofs.Searching.{false_unless}
 use Rattle.aio_source.proofs.DirectionCases.{each_put}
 
 pub empty_by_length : {A : Type 0} (xs : List A) → (length xs == 0) ≡ is_empty_list xs
@@ -75,3 +78,24 @@ last_with_waker (e ∷ entries) ticket waker fresh =
 pub none_emptied : (entries : List (Entry Waker)) → wakers_of (emptied entries) ≡ []
 none_emptied [] = refl
 none_emptied (e ∷ entries) = none_emptied entries
+
+-- where nothing was asked for, no direction is
+pub unasked : (asked : Interest) → has_any asked ≡ false → (dir : Dir) → has_dir asked dir ≡ false
+unasked asked none dir =
+    false_unless (has_dir asked dir) (λ has.
+    let any = any_from (has_dir asked) directions dir (each_direction dir) has in
+    let wrong : true ≡ false = sym any ∙ none in cc)
+
+-- where each direction has one waiter at most, they are no more than the directions
+at_most_one : (ds : DirectionValues) (dirs : List Dir) → ((dir : Dir) → length (waiters_of (direction_of ds dir)) ≤ 1) → length (waiters_in dirs ds) ≤ length dirs
+at_most_one ds [] each = omega arith
+at_most_one ds (dir ∷ dirs) each =
+    let sum = length-append (waiters_of (direction_of ds dir)) (waiters_in dirs ds) in
+    let here = each dir in
+    let later = at_most_one ds dirs each in
+    omega (arith, sum, here, later)
+
+-- and each has where none is among those that may have more
+pub only_polled : (ds : DirectionValues) (more : Interest) → ((dir : Dir) → has_dir more dir ≡ false → length (waiters_of (direction_of ds dir)) ≤ 1) → has_any more ≡ false
+    → length (waiters_in directions ds) ≤ length directions
+only_polled ds more few none = at_most_one ds directions (λ dir. few dir (unasked more none dir))

@@ -1,6 +1,5 @@
 -- What the calls on a source come to (`async-io` 2, `reactor.rs`, `Source` and `Direction`).
 use Rattle.std.specs.Prelude.{ℕ, ◌+◌, Bool, true, false, not, ◌&&◌, ◌||◌, IsTrue, nat_lt, if◌then◌else◌, List, [], ◌∷◌, ◌++◌, max, Option, None, Some, option_to_list}
-use Rattle.std.specs.List.{list_any}
 use Rattle.aio_base.specs.declared.names.Dir.{Dir}
 use Rattle.aio_base.specs.declared.names.Dir.TheVariants.{Read, Write, Priority}
 use Rattle.aio_base.specs.declared.names.Key.{Key}
@@ -8,6 +7,7 @@ use Rattle.aio_base.specs.declared.names.Waker.{Waker}
 use Rattle.aio_base.specs.declared.names.Interest.{Interest}
 use Rattle.aio_base.specs.declared.names.TheConstants.Interest.{NONE}
 use Rattle.aio_base.specs.World.{directions, has_dir, interest_where, is_empty_list}
+pub use Rattle.aio_base.specs.World.{has_any}
 use Rattle.aio_base.specs.Machine.{is_waker}
 use Rattle.aio_listen.specs.declared.ticket.Ticket.{Ticket}
 use Rattle.aio_source.specs.declared.answers.Listened.{Listened}
@@ -84,10 +84,6 @@ with_direction ds Priority d = record ds { priority = d }
 -- the interest made of the directions that have a waiter
 abbrev pub wanted : DirectionValues → Interest
 wanted ds = interest_where (λ dir. not (is_idle (direction_of ds dir)))
-
--- an interest has some direction
-abbrev pub has_any : Interest → Bool
-has_any on = list_any (has_dir on) directions
 
 -- all waiters, direction by direction
 abbrev pub waiters_in : List Dir → DirectionValues → List Waker

@@ -2,7 +2,8 @@
 
 ghost use Rattle.std.specs.Prelude.{◌≡◌, ◌<◌, ◌||◌};
 ghost use Rattle.aio_base.specs.Devices.{ArmOf};
-ghost use Rattle.aio_source.specs.Rules.{has_any, wanted};
+ghost use Rattle.aio_base.specs.World.{has_any};
+ghost use Rattle.aio_source.specs.Rules.{wanted};
 ghost use Rattle.aio_source.specs.Lent.{arm_answer, fault_of, UsesArm, asked_after, broken_after};
 
 use crate::directions::Directions;
@@ -20,7 +21,7 @@ impl Arming {
     pub(crate) fn may_wait(&self) -> bool
         ensures { result ≡ (self.now.broken || has_any self.now.asked) }
     {
-        self.broken || self.asked.write || self.asked.read || self.asked.priority
+        self.broken || !self.asked.is_none()
     }
 
     /// Arms the poller for this key and the directions that have a waiter, where `arms` says so.

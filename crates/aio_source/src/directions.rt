@@ -2,8 +2,8 @@
 
 ghost use Rattle.std.specs.Prelude.{◌≡◌, ◌+◌, ◌≤◌, ◌++◌, false, true, length, vec_len, vec_capacity};
 ghost use Rattle.std.specs.Borrow.{sem};
-ghost use Rattle.aio_base.specs.World.{directions};
-ghost use Rattle.aio_source.specs.Rules.{new_directions, direction_of, wanted, has_any, waiters_in, handled_along, taken_along};
+ghost use Rattle.aio_base.specs.World.{directions, has_any};
+ghost use Rattle.aio_source.specs.Rules.{new_directions, direction_of, wanted, waiters_in, handled_along, taken_along};
 ghost use Rattle.aio_source.specs.Lending.{LendsDirection};
 
 use crate::direction::Direction;
@@ -12,6 +12,7 @@ use std::alloc::Global;
 use std::marker::Model;
 
 /// The directions of a source.
+#[derive(Drop)]
 pub(crate) struct Directions {
     read: Direction,
     write: Direction,
@@ -24,16 +25,6 @@ impl Model for Directions {
     ghost Value = { DirectionValues };
 
     ghost view = { λ ds. record { read = ds.read; write = ds.write; priority = ds.priority } };
-}
-
-impl Drop for Directions {
-    fn drop(self) {
-        let Directions {
-            read: _,
-            write: _,
-            priority: _,
-        } = self;
-    }
 }
 
 impl Directions {
@@ -72,18 +63,14 @@ impl Directions {
     pub(crate) fn wanted(&self) -> Interest
         ensures { result ≡ wanted self.now }
     {
-        Interest {
-            read: !self.read.is_idle(),
-            write: !self.write.is_idle(),
-            priority: !self.priority.is_idle(),
-        }
+        Interest::from_fn(|dir| !self.get(dir).is_idle())
     }
 
     /// Whether any direction has a waiter.
     pub(crate) fn has_waiter(&self) -> bool
         ensures { result ≡ has_any (wanted self.now) }
     {
-        !self.write.is_idle() || !self.read.is_idle() || !self.priority.is_idle()
+        !self.wanted().is_none()
     }
 
     /// The same, where `may` is false only if none has.
@@ -98,9 +85,7 @@ impl Directions {
     pub(crate) fn are_only_polled(&self) -> bool
         ensures { result ≡ true → length (waiters_in directions self.now) ≤ length directions }
     {
-        self.write.is_only_polled()
-            && self.read.is_only_polled()
-            && self.priority.is_only_polled()
+        Interest::from_fn(|dir| !self.get(dir).is_only_polled()).is_none()
     }
 
     /// Moves the waiters of the directions that an event of this round names to the end of `taken`,

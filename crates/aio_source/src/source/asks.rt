@@ -1,11 +1,12 @@
 //! What the next call of a source would ask of the poller that it is lent.
 
 ghost use Rattle.std.specs.Prelude.{◌≡◌, ℕ, None, Some};
+ghost use Rattle.aio_base.specs.World.{has_any};
 ghost use Rattle.aio_base.specs.declared.names.Waker.{Waker};
 ghost use Rattle.aio_listen.specs.declared.ticket.Ticket.{Ticket};
 ghost use Rattle.aio_listen.specs.Listening.{Holds};
 ghost use Rattle.aio_source.specs.Lent.{asked_by, asked_for, asked_with, left_of};
-ghost use Rattle.aio_source.specs.Rules.{direction_of, has_any, part_of, polling, listening_first, polling_again, handling};
+ghost use Rattle.aio_source.specs.Rules.{direction_of, part_of, polling, listening_first, polling_again, handling};
 
 use super::SourceState;
 use crate::answers::Listened;
@@ -58,11 +59,7 @@ impl SourceState {
     fn left_by(&self, on: Interest) -> Interest
         ensures { result ≡ left_of on self.now.directions }
     {
-        Interest {
-            read: !on.read && !self.directions.get(Dir::Read).is_idle(),
-            write: !on.write && !self.directions.get(Dir::Write).is_idle(),
-            priority: !on.priority && !self.directions.get(Dir::Priority).is_idle(),
-        }
+        self.directions.wanted().except(on)
     }
 
     /// What a new waiter of a direction would ask.
@@ -80,9 +77,5 @@ impl SourceState {
 fn asks_for_any(on: Interest) -> Option<Interest>
     ensures { result ≡ asked_for (has_any on) on }
 {
-    if on.write || on.read || on.priority {
-        Some(on)
-    } else {
-        None
-    }
+    if on.is_none() { None } else { Some(on) }
 }
