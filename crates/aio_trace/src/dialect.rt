@@ -69,7 +69,7 @@ impl Dialect for First {
 
     ghost table = { first };
 
-    #[inline]
+    #[inline(always)]
     fn take_waker(text: &[u8]) -> Result<(u32, &[u8]), LineFault> {
         match next_number(text, u64::from(u32::MAX)) {
             Ok((number, rest)) => Ok((number as u32, rest)),
@@ -108,7 +108,7 @@ impl Dialect for First {
         step
     }
 
-    #[inline]
+    #[inline(always)]
     fn waking(waker: u32, step: Step) -> Step {
         with_waker(step, Waker(waker))
     }
@@ -125,7 +125,7 @@ impl Dialect for First {
 }
 
 /// A step with this waker in place of its own, where it has one.
-#[inline]
+#[inline(always)]
 fn with_waker(step: Step, waker: Waker) -> Step
     ensures { result ≡ with_waker step waker }
 {

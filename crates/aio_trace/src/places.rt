@@ -123,6 +123,7 @@ pub(crate) fn end<D: Dialect>(step: Step, text: &[u8]) -> Result<D::Line, D::Fau
 }
 
 /// The line of a step with a waker, which is the last word, in place of its own.
+#[inline(always)]
 pub(crate) fn end_with_waker<D: Dialect>(step: Step, text: &[u8]) -> Result<D::Line, D::Fault>
     ensures { result ≡ read D.table (waker_rest D.table step) (words_in text.now) }
 {
