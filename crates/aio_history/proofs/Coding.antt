@@ -1,18 +1,18 @@
 -- The numbers of a step tell it.
-use Rattle.std.proofs.Common.{◌≡◌, ℕ, Bool, true, false, ◌==◌, if◌then◌else◌, List, [], ◌∷◌, ◌++◌, length, refl, sym, ap, ◌∙◌}
+use Rattle.std.proofs.Common.{◌≡◌, ℕ, Bool, true, false, ◌==◌, if◌then◌else◌, List, [], ◌∷◌, ◌++◌, length, get_or, refl, sym, ap, ◌∙◌}
 use Rattle.aio_base.specs.declared.names.Dir.{Dir}
 use Rattle.aio_base.specs.declared.names.Dir.TheVariants.{Read, Write, Priority}
 use Rattle.aio_base.specs.declared.outcomes.Poll.{Poll}
 use Rattle.aio_base.specs.declared.outcomes.Poll.TheVariants.{Ready, Pending}
 use Rattle.aio_base.specs.declared.names.Interest.{Interest}
-use Rattle.aio_base.specs.World.{has_dir}
+use Rattle.aio_base.specs.World.{directions, has_dir, index_of}
 use Rattle.aio_base.proofs.DirectionLemmas.{where_same}
 use Rattle.aio_history.specs.declared.steps.CellStep.{CellStep}
 use Rattle.aio_history.specs.declared.steps.CellStep.TheVariants as step
-use Rattle.aio_history.specs.StepNumbers.{number_of_dir, number_of_answer, number_of_flag, step_numbers, numbers_of}
+use Rattle.aio_history.specs.StepNumbers.{number_of_answer, number_of_flag, step_numbers, numbers_of}
 
 abbrev dir_told : ℕ → Dir
-dir_told n = if n == 0 then Read else (if n == 1 then Write else Priority)
+dir_told n = get_or directions n Write
 
 abbrev answer_told : ℕ → Poll (Unit {0})
 answer_told n = if n == 0 then Ready tt else Pending
@@ -34,7 +34,7 @@ steps_told (kind ∷ a ∷ b ∷ []) = []
 steps_told (kind ∷ a ∷ b ∷ c ∷ []) = []
 steps_told (kind ∷ a ∷ b ∷ c ∷ d ∷ []) = []
 
-dir_back : (d : Dir) → dir_told (number_of_dir d) ≡ d
+dir_back : (d : Dir) → dir_told (index_of d) ≡ d
 dir_back Read = refl
 dir_back Write = refl
 dir_back Priority = refl

@@ -1,17 +1,10 @@
 -- The numbers by which a note holds steps: as many for each step.
 use Rattle.std.specs.Prelude.{ℕ, Bool, true, false, List, [], ◌∷◌, ◌++◌, map}
-use Rattle.aio_base.specs.declared.names.Dir.{Dir}
-use Rattle.aio_base.specs.declared.names.Dir.TheVariants.{Read, Write, Priority}
 use Rattle.aio_base.specs.declared.outcomes.Poll.{Poll}
 use Rattle.aio_base.specs.declared.outcomes.Poll.TheVariants.{Ready, Pending}
-use Rattle.aio_base.specs.World.{directions, has_dir}
+use Rattle.aio_base.specs.World.{directions, has_dir, index_of}
 use Rattle.aio_history.specs.declared.steps.CellStep.{CellStep}
 use Rattle.aio_history.specs.declared.steps.CellStep.TheVariants as step
-
-abbrev pub number_of_dir : Dir → ℕ
-number_of_dir Read = 0
-number_of_dir Write = 1
-number_of_dir Priority = 2
 
 abbrev pub number_of_answer : Poll (Unit {0}) → ℕ
 number_of_answer (Ready done) = 0
@@ -23,7 +16,7 @@ number_of_flag true = 1
 
 -- of an event a flag for each direction
 abbrev pub step_numbers : CellStep → List ℕ
-step_numbers (step.Poll dir waker ticker answer) = 0 ∷ number_of_dir dir ∷ waker.0 ∷ ticker ∷ number_of_answer answer ∷ 0 ∷ []
+step_numbers (step.Poll dir waker ticker answer) = 0 ∷ index_of dir ∷ waker.0 ∷ ticker ∷ number_of_answer answer ∷ 0 ∷ []
 step_numbers (step.Handle on round taken) = 1 ∷ round ∷ taken ∷ map (λ dir. number_of_flag (has_dir on dir)) directions
 
 abbrev pub numbers_of : List CellStep → List ℕ

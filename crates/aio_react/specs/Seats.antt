@@ -1,6 +1,6 @@
 -- The listeners of a core as they lie in memory: for each number a seat, and what the first poll remembered beside that.
-use Rattle.std.specs.Prelude.{◌≡◌, ℕ, ◌/◌, ◌%◌, ◌==◌, min, if◌then◌else◌, List, [], ◌∷◌, Option, None, Some, IfSome, ⊤}
-use Rattle.aio_base.specs.declared.names.Dir.TheVariants as dir
+use Rattle.std.specs.Prelude.{◌≡◌, ℕ, ◌/◌, ◌%◌, min, List, [], ◌∷◌, ◌++◌, map, slice_index_or, Option, None, Some, IfSome, ⊤}
+use Rattle.aio_base.specs.World.{directions}
 use Rattle.aio_source.specs.declared.answers.Listened.{Listened}
 use Rattle.aio_react.specs.declared.entries.Listener.{Listener}
 use Rattle.aio_react.specs.declared.listener_table.Seat.{Seat}
@@ -72,15 +72,13 @@ AreEarly (s ∷ seats) (p ∷ polls) = IsEarly s p × AreEarly seats polls
 
 -- ## Seats in eight bytes
 
+-- the kinds of a seat in their order: none, one for each direction that is not polled, one for each that is
+abbrev pub kinds : ℕ → ℕ → ℕ → List Seat
+kinds key place early =
+    seat.Gone ∷ map (λ dir. seat.Unpolled dir key) directions ++ map (λ dir. seat.Polled dir key place early) directions
+
 abbrev pub opened_by : ℕ → ℕ → ℕ → ℕ → Seat
-opened_by kind key place early =
-    if kind == 1 then seat.Unpolled dir.Read key else
-    if kind == 2 then seat.Unpolled dir.Write key else
-    if kind == 3 then seat.Unpolled dir.Priority key else
-    if kind == 4 then seat.Polled dir.Read key place early else
-    if kind == 5 then seat.Polled dir.Write key place early else
-    if kind == 6 then seat.Polled dir.Priority key place early else
-    seat.Gone
+opened_by kind key place early = slice_index_or (kinds key place early) kind seat.Gone
 
 -- the seat that lies in eight bytes
 abbrev pub opened : PackedSeat → Seat

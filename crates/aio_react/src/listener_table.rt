@@ -6,7 +6,7 @@ ghost use Rattle.aio_react.specs.Seats.{listener_in, listened_in, opened, seat_o
 ghost use Rattle.aio_react.specs.declared.listener_table.Seat.TheVariants as seat;
 
 use crate::entries::Listener;
-use aio_base::{Dir, Key, OutOfMemory};
+use aio_base::{DIRS, Dir, Key, OutOfMemory};
 use aio_listen::Ticket;
 use aio_source::Listened;
 use std::alloc::Global;
@@ -38,7 +38,8 @@ pub(crate) enum Seat {
 #[derive(Clone, Copy)]
 struct PackedSeat {
     place: u32,
-    /// Eight times the key, and 1 to 3 of a listener that was not polled, 4 to 6 of one that was.
+    /// Eight times the key, and of a listener 1 and the place of its direction, beyond all of these
+    /// where it was polled.
     code: u16,
     early: u16,
 }
@@ -61,38 +62,21 @@ impl PackedSeat {
         ensures { result ≡ opened self }
     {
         let key = self.code / 8;
-        match self.code % 8 {
-            1 => Seat::Unpolled {
-                dir: Dir::Read,
+        let kind = usize::from(self.code % 8);
+        if kind == 0 || kind > 2 * DIRS.len() {
+            return Seat::Gone;
+        }
+        if kind <= DIRS.len() {
+            return Seat::Unpolled {
+                dir: DIRS[kind - 1],
                 key,
-            },
-            2 => Seat::Unpolled {
-                dir: Dir::Write,
-                key,
-            },
-            3 => Seat::Unpolled {
-                dir: Dir::Priority,
-                key,
-            },
-            4 => Seat::Polled {
-                dir: Dir::Read,
-                key,
-                place: self.place,
-                early: self.early,
-            },
-            5 => Seat::Polled {
-                dir: Dir::Write,
-                key,
-                place: self.place,
-                early: self.early,
-            },
-            6 => Seat::Polled {
-                dir: Dir::Priority,
-                key,
-                place: self.place,
-                early: self.early,
-            },
-            _ => Seat::Gone,
+            };
+        }
+        Seat::Polled {
+            dir: DIRS[kind - 1 - DIRS.len()],
+            key,
+            place: self.place,
+            early: self.early,
         }
     }
 }
@@ -274,32 +258,18 @@ fn seat_of(listener: Listener) -> PackedSeat
     requires { listener.key.0 < 2 ^ 13 }
     ensures { opened result ≡ seat_of listener }
 {
-    let code = 8 * listener.key.0 as u16;
+    let code = 8 * listener.key.0 as u16 + 1 + listener.dir.index() as u16;
     match listener.first {
-        None => {
-            let kind = match listener.dir {
-                Dir::Read => 1,
-                Dir::Write => 2,
-                Dir::Priority => 3,
-            };
-            PackedSeat {
-                place: 0,
-                code: code + kind,
-                early: 0,
-            }
-        }
-        Some(first) => {
-            let kind = match listener.dir {
-                Dir::Read => 4,
-                Dir::Write => 5,
-                Dir::Priority => 6,
-            };
-            PackedSeat {
-                place: first.ticket.place,
-                code: code + kind,
-                early: first.a.min(65_535) as u16,
-            }
-        }
+        None => PackedSeat {
+            place: 0,
+            code,
+            early: 0,
+        },
+        Some(first) => PackedSeat {
+            place: first.ticket.place,
+            code: code + DIRS.len() as u16,
+            early: first.a.min(65_535) as u16,
+        },
     }
 }
 
