@@ -16,7 +16,8 @@ ghost use Rattle.aio_c.specs.declared.held.Held.{Held};
 ghost use Rattle.aio_c.specs.Owning.{held_coded, handle_owns};
 ghost use Rattle.aio_c.specs.Promises.{tells};
 ghost use Rattle.aio_react.specs.Cores.{new_core};
-ghost use Rattle.aio_react.specs.Standing.{AgreesWithArmed, Stands};
+ghost use Rattle.aio_react.specs.Standing.{Stands};
+ghost use Rattle.aio_facts.specs.Armed.{AgreesWithArmed};
 ghost use Rattle.aio_script.specs.Script.{new_script};
 
 mod answers;

@@ -1,14 +1,14 @@
 -- Connections in memory, and their port.
-use Rattle.std.specs.Prelude.{◌≡◌, ℕ, ◌^◌, ◌<◌, ◌==◌, ◌&&◌, not, Bool, true, false, IsTrue, if◌then◌else◌, nat_lt, List, length, replicate, slice_index_or, slice_set, Option, None, Some, Result, Ok, OnOk, OnErr, is_err, IfSome, refl}
+use Rattle.std.specs.Prelude.{◌≡◌, ℕ, ◌^◌, ◌<◌, ◌==◌, ◌&&◌, not, Bool, true, false, IsTrue, if◌then◌else◌, nat_lt, List, length, Option, None, Some, Result, Ok, OnOk, OnErr, is_err, IfSome, refl}
 use Rattle.std.proofs.lemmas.Bool.{ltb-true}
 use Rattle.std.specs.List.{list_any}
 use Rattle.aio_base.specs.Connections.{ConnMove, ReadOf, WriteOf, Telling}
-use Rattle.aio_base.specs.Devices.{ArmCall, AddOf, ArmOf, RemoveOf, Interests}
+use Rattle.aio_base.specs.Devices.{ArmCall}
 use Rattle.aio_base.specs.declared.connections.Did.{Did}
 use Rattle.aio_base.specs.declared.names.Interest.{Interest}
-use Rattle.aio_base.specs.declared.names.TheConstants.Interest.{NONE}
 use Rattle.aio_base.specs.declared.outcomes.Failed.{Failed}
 use Rattle.aio_devices.specs.Scripts.{ScriptValue, after_call, is_next_failing, new_script}
+use Rattle.aio_script.specs.Interests.{none_armed, entries_after}
 use Rattle.aio_conns.specs.declared.pieces.Piece.{Piece}
 use Rattle.aio_conns.specs.Given.{GivingValue, Reads, NeverBlocks, bytes_left, is_block, turns_of}
 use Rattle.aio_conns.specs.Sent.{SendingValue, Writes, new_sending, told_sent}
@@ -25,10 +25,6 @@ pub record ConnValue : Type 0 where
 -- it is prompt where no piece is that a read would block, it ends after them, and what it takes has no bound
 abbrev pub is_prompt : List Piece → Bool → ℕ → Bool
 is_prompt pieces ends room = not (list_any is_block pieces) && (ends && (room == 4294967295))
-
--- no interest for each of the 4,096 keys
-unfoldable pub none_armed : List Interest
-none_armed = replicate 4096 NONE
 
 -- a connection that was just made
 abbrev pub new_conn : List Piece → Bool → ℕ → ℕ → ConnValue
@@ -60,9 +56,6 @@ told_left_is_bounded bytes = bounded_where (nat_lt (length bytes) (2 ^ 64)) byte
 abbrev pub telling_of : ConnValue → Telling
 telling_of c = record { left = told_left (bytes_left c.giving.turns); ends = c.giving.ends; sent = told_sent c.sending; prompt = c.prompt }
 
-abbrev pub interests_of : List Interest → Interests
-interests_of armed key = slice_index_or armed key NONE
-
 -- the relation of a read and of a write: none fails
 abbrev pub ConnMoves : ConnValue → ConnMove → ConnValue → Type 0
 ConnMoves old (ReadOf room answer bytes) new =
@@ -70,16 +63,10 @@ ConnMoves old (ReadOf room answer bytes) new =
 ConnMoves old (WriteOf piece answer) new =
     (did : Did) × (answer ≡ Ok did) × Writes old.sending piece did new.sending × (new ≡ record old { sending = new.sending })
 
--- the interests after a call that did not fail
-abbrev pub armed_by : ArmCall → List Interest → List Interest
-armed_by (AddOf key) armed = slice_set armed key.0 NONE
-armed_by (ArmOf key on) armed = slice_set armed key.0 on
-armed_by (RemoveOf key) armed = slice_set armed key.0 NONE
-
 -- the relation of a call that changes one key's interest: none fails
 pub record ConnArms (old : ConnValue) (call : ArmCall) (answer : Result (Unit {0}) Failed) (new : ConnValue) : Type 0 where
   pub done : answer ≡ Ok tt
-  pub after : new ≡ record old { armed = armed_by call old.armed }
+  pub after : new ≡ record old { armed = entries_after call old.armed }
 
 -- ## A connection whose calls fail by a script
 

@@ -4,12 +4,12 @@ ghost use Rattle.std.specs.Prelude.{◌≡◌, ◌^◌, ◌<◌, IfOk};
 ghost use Rattle.aio_conns.specs.Connections.{is_prompt, new_conn, new_scripted};
 ghost use Rattle.aio_conns.specs.Given.{total_bytes};
 
-use crate::armed::ArmedKeys;
 use crate::giving::Giving;
 use crate::pieces::{Piece, any_blocks};
 use crate::sending::Sending;
 use aio_base::{Arm, Conn, Did, Failed, Faults, Interest, Key, OutOfMemory, Tells};
 use aio_devices::Script;
+use aio_script::InterestTable;
 use std::alloc::Global;
 use std::marker::Model;
 
@@ -23,7 +23,7 @@ pub struct SureConn {
     giving: Giving,
     sending: Sending,
     prompt: bool,
-    armed: ArmedKeys,
+    armed: InterestTable,
 }
 
 impl Model for SureConn {
@@ -76,9 +76,7 @@ impl SureConn {
         requires bounded { total_bytes reads.items < 2 ^ 64 }
         ensures { IfOk result (λ c. c ≡ new_conn reads.items ends at_once room) }
     {
-        let Ok(armed) = ArmedKeys::new(alloc) else {
-            return Err(OutOfMemory);
-        };
+        let armed = InterestTable::new(alloc)?;
         let prompt = is_prompt(&reads, ends, room);
         Ok(SureConn {
             giving: Giving::new(alloc, reads, ends),
@@ -127,9 +125,10 @@ impl Faults for SureConn {
 impl Arm for SureConn {
     ghost use Rattle.std.specs.Prelude.{true, Some};
     ghost use Rattle.aio_base.specs.Connections.{rest_of};
-    ghost use Rattle.aio_conns.specs.Connections.{ConnArms, interests_of, telling_of};
+    ghost use Rattle.aio_conns.specs.Connections.{ConnArms, telling_of};
+    ghost use Rattle.aio_script.specs.Interests.{interests_in};
 
-    ghost interests = { λ c. Some (interests_of c.armed) };
+    ghost interests = { λ c. Some (interests_in c.armed) };
 
     ghost rest = { λ c. rest_of true (telling_of c) };
 
@@ -257,10 +256,11 @@ impl Faults for MemConn {
 impl Arm for MemConn {
     ghost use Rattle.std.specs.Prelude.{Some};
     ghost use Rattle.aio_base.specs.Connections.{rest_of};
-    ghost use Rattle.aio_conns.specs.Connections.{ScriptedArms, interests_of, telling_of};
+    ghost use Rattle.aio_conns.specs.Connections.{ScriptedArms, telling_of};
     ghost use Rattle.aio_devices.specs.Scripts.{fails_never};
+    ghost use Rattle.aio_script.specs.Interests.{interests_in};
 
-    ghost interests = { λ c. Some (interests_of c.conn.armed) };
+    ghost interests = { λ c. Some (interests_in c.conn.armed) };
 
     ghost rest = { λ c. rest_of (fails_never c.script) (telling_of c.conn) };
 

@@ -346,6 +346,9 @@ fn react_blocking<R: Wait, N: Notify, C: Clock, A: Arm, W: EventWait>(
 /// Makes rounds until slots of the parker that the cell's seat blocks are woken. Before each round
 /// the seat looks at the mask, so that it waits only where no slot is woken; it blocks the same
 /// parker again on every answer.
+///
+/// It looks after it blocks, and anew before each wait, since only a wake that comes after it blocks calls
+/// the notifier: one that came before is in the mask, and would not end the wait.
 fn react_until_woken<R: Wait, N: Notify, C: Clock, A: Arm, W: EventWait>(
     rt: &R,
     shared: &Shared<A, W>,

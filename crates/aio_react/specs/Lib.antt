@@ -2,7 +2,6 @@ pub mod Rounds
 pub mod Numbers
 pub mod Seats
 pub mod Cores
-pub mod Facts
 pub mod Standing
 pub mod Meeting
 pub mod Replies

@@ -1,7 +1,7 @@
--- How a core stands for a world of the machine, part by part: what it keeps of the sources, the listeners, the timers and the round, and what is
--- so of the world alone.
-use Rattle.std.specs.Prelude.{◌≡◌, ℕ, ◌+◌, ◌<◌, ◌≤◌, Bool, true, false, ◌||◌, ◌==◌, nat_eq, IsTrue, List, [], ◌∷◌, map, find, length, Option, None, Some, IfSome, is_some, option_map, ⊤}
-use Rattle.std.specs.List.{All, IsDistinct, list_any}
+-- How a core stands for a world of the machine, part by part: what it keeps of the sources, the listeners, the timers and the round. The world is
+-- sound by itself.
+use Rattle.std.specs.Prelude.{◌≡◌, ℕ, ◌+◌, ◌≤◌, Bool, true, false, ◌||◌, ◌==◌, IsTrue, List, [], ◌∷◌, map, find, length, Option, None, Some, IfSome, option_map, ⊤}
+use Rattle.std.specs.List.{list_any}
 use Rattle.aio_base.specs.declared.names.Dir.{Dir}
 use Rattle.aio_base.specs.declared.names.Event.{Event}
 use Rattle.aio_base.specs.declared.names.Waker.{Waker}
@@ -9,10 +9,9 @@ use Rattle.aio_base.specs.declared.outcomes.EndWord.{EndWord}
 use Rattle.aio_base.specs.declared.outcomes.EndWord.TheVariants.{Clean, FaultWait, FaultArm}
 use Rattle.aio_base.specs.Devices.{Interests}
 use Rattle.aio_base.specs.Machine.{is_listener, hand_of}
-use Rattle.aio_base.specs.Moves.{interests_of}
-use Rattle.aio_base.specs.Rounds.{rounds_at, HasBegun, AllBegun}
+use Rattle.aio_base.specs.Rounds.{rounds_at}
 use Rattle.aio_base.specs.Timers.{in_order}
-use Rattle.aio_base.specs.World.{World, LiveSource, ListenerEntry, Mark, ArmedDirection, HandledDirection, Registration, RoundState, is_armed, is_broken, has_dir}
+use Rattle.aio_base.specs.World.{World, LiveSource, ListenerEntry, ArmedDirection, Registration, RoundState, is_armed, is_broken, has_dir}
 use Rattle.aio_listen.specs.declared.ticket.Ticket.{Ticket}
 use Rattle.aio_source.specs.declared.answers.Listened.{Listened}
 use Rattle.aio_source.specs.Rules.{direction_of}
@@ -22,7 +21,9 @@ use Rattle.aio_react.specs.declared.entries.SourceEntry.{SourceEntry}
 use Rattle.aio_source.specs.declared.in_hand.RoundFault.{RoundFault}
 use Rattle.aio_source.specs.declared.in_hand.RoundFault.TheVariants.{Wait, Arm}
 use Rattle.aio_react.specs.Cores.{CoreValue, entry_at, ticket_of}
-use Rattle.aio_react.specs.Facts.{Facts, facts_in, no_facts}
+use Rattle.aio_facts.specs.Armed.{AgreesWithArmed}
+use Rattle.aio_facts.specs.Facts.{Facts, facts_in, serial_in}
+use Rattle.aio_facts.specs.Sound.{Sound}
 use Rattle.aio_react.specs.Numbers.{value_of}
 use Rattle.aio_source.specs.InHand.{RoundValue}
 
@@ -61,9 +62,6 @@ PlaceStands listeners None (Some serial) broken facts = ⊥
 PlaceStands listeners (Some e) None broken facts = ⊥
 PlaceStands listeners (Some e) (Some serial) broken facts = SourceStands listeners e.source (broken serial) (facts serial)
 
-abbrev pub serial_in : List LiveSource → ℕ → Option ℕ
-serial_in live key = option_map (λ (s : LiveSource). s.serial) (find (λ (s : LiveSource). s.key == key) live)
-
 abbrev pub SourcesStand : List (Option SourceEntry) → List (Option Listener) → List LiveSource → (ℕ → Bool) → (ℕ → Dir → Facts) → Type 0
 SourcesStand sources listeners live broken facts = (key : ℕ) → PlaceStands listeners (entry_at sources key) (serial_in live key) broken facts
 
@@ -94,11 +92,6 @@ pub record ListenersStand (listeners : List (Option Listener)) (entries : List L
   pub drawn_is : drawn ≡ length listeners
 
 -- ## The poller
-
--- what a poller tells are the armed directions
-abbrev pub AgreesWithArmed : Option Interests → List ArmedDirection → Type 0
-AgreesWithArmed None armed = ⊤
-AgreesWithArmed (Some interests) armed = (key : ℕ) → interests key ≡ interests_of armed key
 
 abbrev pub is_in_hand : List Event → ℕ → Bool
 is_in_hand hand key = list_any (λ (event : Event). event.key.0 == key) hand
@@ -133,57 +126,6 @@ RoundStands r (Some s) = Runs r s
 pub record BookStands (book : List Registration) (ids : ℕ) (registrations : List Registration) (drawn : ℕ) : Type 0 where
   pub book_is : in_order registrations ≡ book
   pub ids_are : drawn ≡ ids
-
--- ## Of the world alone
-
--- no key and no serial lives twice, and each serial was given
-pub record LiveSound (live : List LiveSource) (serials : ℕ) : Type 0 where
-  pub keys : IsDistinct nat_eq (map (λ (s : LiveSource). s.key) live)
-  pub serials_differ : IsDistinct nat_eq (map (λ (s : LiveSource). s.serial) live)
-  pub given : All (λ (s : LiveSource). s.serial ≤ serials) live
-
--- nothing stands or has happened of a serial that was not given yet
-pub record UnusedSound (serials : ℕ) (broken : ℕ → Bool) (facts : ℕ → Dir → Facts) : Type 0 where
-  pub unbroken : (serial : ℕ) → serials < serial → broken serial ≡ false
-  pub nothing : (serial : ℕ) (dir : Dir) → serials < serial → facts serial dir ≡ no_facts
-
--- no number stands twice, and each was drawn, of a source that was registered; a listener that was not polled holds no waker
-pub record ListenersSound (entries : List ListenerEntry) (drawn serials : ℕ) : Type 0 where
-  pub numbers : IsDistinct nat_eq (map (λ (l : ListenerEntry). l.number) entries)
-  pub given : All (λ (l : ListenerEntry). l.number ≤ drawn) entries
-  pub registered : All (λ (l : ListenerEntry). l.serial ≤ serials) entries
-  pub only_polled_hold : All (λ (l : ListenerEntry). IsTrue (is_some l.waker) → IsTrue (is_some l.position)) entries
-
--- what happened at a position happened before the bound
-abbrev pub IsBefore : ℕ → Option ℕ → Type 0
-IsBefore bound position = IfSome position (λ p. p < bound)
-
--- rounds are counted, whatever was stored was stored before the bound, and each handled event belongs to a round that began
-pub record PastSound (bound rounds : ℕ) (begun : List ℕ) (marks : List Mark) (entries : List ListenerEntry) (handled : List HandledDirection) : Type 0 where
-  pub counted : length begun ≡ rounds
-  pub rounds_before : All (λ p. p < bound) begun
-  pub marks_before : All (λ (m : Mark). m.position < bound) marks
-  pub polls_before : All (λ (l : ListenerEntry). IsBefore bound l.position) entries
-  pub of_rounds : AllBegun handled begun
-
--- the running round began, and its number says which it is
-abbrev pub RunningSound : List ℕ → Option RoundState → Type 0
-RunningSound begun None = ⊤
-RunningSound begun (Some round) = (rounds_at begun round.begin ≡ round.number) × HasBegun round.begin begun
-
--- no id is registered twice, and each was drawn
-pub record TimersSound (registrations : List Registration) (drawn : ℕ) : Type 0 where
-  pub ids : IsDistinct nat_eq (map (λ (r : Registration). r.id) registrations)
-  pub given : All (λ (r : Registration). r.id ≤ drawn) registrations
-
--- A world whose past lies before the bound: its own position between two steps, and one more inside a step that begins a round.
-pub record Sound (bound : ℕ) (w : World) : Type 0 where
-  pub live : LiveSound w.live w.serials
-  pub unused : UnusedSound w.serials (is_broken w) (facts_in w)
-  pub listeners : ListenersSound w.listeners w.listeners_drawn w.serials
-  pub past : PastSound bound w.rounds w.begun w.marks w.listeners w.handled
-  pub running : RunningSound w.begun w.round
-  pub timers : TimersSound w.registrations w.ids_drawn
 
 -- ## The whole
 

@@ -1,12 +1,13 @@
 //! The reactor on one thread.
 
-ghost use Rattle.std.specs.Prelude.{◌≡◌, List, [], Some, true, is_some, IfOk, IfErr, OnOk};
+ghost use Rattle.std.specs.Prelude.{◌≡◌, List, [], Some, false, true, is_some, IfOk, IfErr, OnOk};
 ghost use Rattle.std.specs.Borrow.{sem};
-ghost use Rattle.aio_base.specs.Machine.{is_live};
+ghost use Rattle.aio_base.specs.Machine.{hand_of, is_live};
 ghost use Rattle.aio_base.specs.World.{World, ArmedDirection, opening};
 ghost use Rattle.aio_react.specs.Cores.{new_core, entry_at};
 ghost use Rattle.aio_react.specs.Replies.{empty_hand_refusal};
-ghost use Rattle.aio_react.specs.Standing.{AgreesWithArmed, Stands};
+ghost use Rattle.aio_react.specs.Standing.{Stands};
+ghost use Rattle.aio_facts.specs.Armed.{AgreesWithArmed};
 
 mod asks;
 mod listeners;
@@ -20,7 +21,7 @@ use crate::listener_table::ListenerTable;
 use crate::refusals::CoreRefusal;
 use crate::round::Round;
 use aio_base::{
-    EventWait, InsertRefusal, Key, Later, Moment, OutOfMemory, Poller, TimerHost, TimerId, Waited,
+    Event, EventWait, InsertRefusal, Key, Later, Moment, OutOfMemory, Poller, TimerHost, TimerId, Waited,
     Waker,
 };
 use aio_source::{InHand, KeyTable};
@@ -90,7 +91,7 @@ impl<P: Poller> Core<P> {
     /// A reactor with no source, no listener, no timer and no round, and with room for 4,096
     /// sources. It stands for the opening world with the interests that the poller tells. Where
     /// memory ran out the poller is handed back.
-    #[tactic(auto, using(crate::proofs::Opening::opening_stands))]
+    #[tactic(auto, using(crate::proofs::steps::Opening::opening_stands))]
     pub fn new(alloc: Global, poller: P) -> Result<Core<P>, P>
         ensures core { IfOk result (λ core. core ≡ (poller, new_core)) }
         ensures stands { (armed : List ArmedDirection) → AgreesWithArmed (P.interests poller) armed
@@ -126,7 +127,7 @@ impl<P: Poller> Core<P> {
     }
 
     /// Whether a source has this key.
-    #[tactic(auto, using(crate::proofs::Living::live_stands))]
+    #[tactic(auto, using(crate::proofs::sources::Living::live_stands))]
     pub fn live(&self, key: Key) -> bool
         ensures value { result ≡ is_some (entry_at self.now.1.sources key.0) }
         ensures world { (w : World) → Stands (P.interests self.now.0) self.now.1 w
@@ -169,6 +170,19 @@ impl<P: Poller> Core<P> {
             Ok(waited) => Ok(waited),
             Err(fault) => Err(CoreRefusal::WaitFault(fault)),
         }
+    }
+
+    /// The events in hand, in order: those of the running round's last wait that were not handled yet. None
+    /// where no round runs.
+    #[tactic(auto, using(crate::proofs::rounds::IdleRounds::hand_stands))]
+    pub fn in_hand(&self) -> &[Event]
+        ensures value { result.now ≡ self.now.1.round.hand }
+        ensures bound { length result.now ≤ 1024 }
+        ensures idle { self.now.1.round.running ≡ false → result.now ≡ [] }
+        ensures world { (w : World) → Stands (P.interests self.now.0) self.now.1 w
+            → result.now ≡ hand_of w.round }
+    {
+        self.round.hand()
     }
 
     /// Where no round runs, the wakers that are to be woken for the last one, in order.

@@ -250,7 +250,7 @@ impl Round {
     }
 
     /// The events in hand.
-    fn hand(&self) -> &[Event]
+    pub(crate) fn hand(&self) -> &[Event]
         ensures value { result.now ≡ self.now.hand }
         ensures bound { length result.now ≤ 1024 }
         ensures idle { self.now.running ≡ false → result.now ≡ [] }

@@ -1,5 +1,5 @@
-//! Tests of the relay of lines and of what it is made of: connections in memory and their port, entered
-//! sources, and pairs, each over the devices in memory.
+//! Tests of the relay of lines and of what it is made of: entered sources, and pairs, over the devices in
+//! memory.
 //!
 //! They stand above those crates, so that none of them is proved a second time for its tests, and all belong to
 //! the test build. What is done is a table of acts with what comes of each; what the other end of a connection
@@ -8,8 +8,6 @@
 
 #[cfg(test)]
 mod asserts;
-#[cfg(test)]
-mod connections;
 #[cfg(test)]
 mod ends;
 #[cfg(test)]
@@ -22,8 +20,6 @@ mod lines;
 mod listening;
 #[cfg(test)]
 mod peers;
-#[cfg(test)]
-mod ports;
 #[cfg(test)]
 mod relays;
 #[cfg(test)]

@@ -1,11 +1,9 @@
 //! Tests of whole traces, row by row: traces and their answers through the top call, the spellings in which
-//! a line is read, traces that a number describes, relays, two jobs on shared cells, and a replay with its
-//! core.
+//! a line is read, traces that a number describes, relays, and two jobs on shared cells.
 //!
 //! They stand in the crate of the top call, so that no more crates are below them than below that call.
 
 mod asserts;
-mod cores;
 mod failing_calls;
 mod generated;
 mod kits;

@@ -1,2 +1,3 @@
+pub mod Interests
 pub mod Script
 pub mod ToldInterests

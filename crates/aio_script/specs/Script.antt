@@ -1,5 +1,5 @@
 -- A poller in memory as contracts see it, and what its calls make of it.
-use Rattle.std.specs.Prelude.{◌≡◌, ℕ, Bool, true, false, if◌then◌else◌, List, [], ◌∷◌, Result, Ok, Err, length, take, drop, min, replicate, slice_index_or, slice_set}
+use Rattle.std.specs.Prelude.{◌≡◌, ℕ, Bool, false, if◌then◌else◌, List, [], Result, Ok, Err, length, take, drop, min}
 use Rattle.aio_base.specs.declared.names.Interest.{Interest}
 use Rattle.aio_base.specs.declared.names.Event.{Event}
 use Rattle.aio_base.specs.declared.outcomes.DueFaults.{DueFaults}
@@ -8,7 +8,7 @@ use Rattle.aio_base.specs.declared.outcomes.Waited.{Waited}
 use Rattle.aio_base.specs.declared.outcomes.Waited.TheVariants.{Given, Interrupted}
 use Rattle.aio_base.specs.Devices.{Interests, raised, ArmCall, AddOf, ArmOf, RemoveOf, WaitCall}
 use Rattle.aio_base.specs.World.{nothing_due}
-use Rattle.aio_base.specs.declared.names.TheConstants.Interest.{NONE}
+use Rattle.aio_script.specs.Interests.{interests_in, none_armed, entries_after, cleared}
 
 -- A poller in memory: the interest of each key in the order of the keys, the events that are noted and not yet given, what its next calls are told to answer, and its counts of faults and of waits.
 pub record Script : Type 0 where
@@ -20,11 +20,7 @@ pub record Script : Type 0 where
 
 -- the interest of each key; a key past the last entry has none
 abbrev pub interests_of : Script → Interests
-interests_of script key = slice_index_or script.armed key NONE
-
--- no interest for each of the 4,096 keys
-unfoldable pub none_armed : List Interest
-none_armed = replicate 4096 NONE
+interests_of script = interests_in script.armed
 
 -- a poller that was just made
 abbrev pub new_script : Script
@@ -41,12 +37,6 @@ abbrev pub without_failure : ArmCall → DueFaults → DueFaults
 without_failure (AddOf key) due = record due { add = false }
 without_failure (ArmOf key on) due = record due { arm = false }
 without_failure (RemoveOf key) due = record due { remove = false }
-
--- the entries after a call that did not fail
-abbrev pub entries_after : ArmCall → List Interest → List Interest
-entries_after (AddOf key) armed = slice_set armed key.0 NONE
-entries_after (ArmOf key on) armed = slice_set armed key.0 on
-entries_after (RemoveOf key) armed = slice_set armed key.0 NONE
 
 -- what a call that changes one key's interest comes to: its answer, and the poller after it
 pub record ArmOutcome : Type 0 where
@@ -66,11 +56,6 @@ script_arm old call = if is_due call old.due then failed_arm old call else done_
 -- the relation of an arming call: answer and poller after it are those that `script_arm` names
 abbrev pub ScriptArms : Script → ArmCall → Result (Unit {0}) Failed → Script → Type 0
 ScriptArms old call result new = script_arm old call ≡ record { answer = result; after = new }
-
--- the entries once these events were given: the entry of each key that they name is none
-abbrev pub cleared : List Event → List Interest → List Interest
-cleared [] armed = armed
-cleared (event ∷ events) armed = cleared events (slice_set armed event.key.0 NONE)
 
 -- what a wait comes to: its answer, the events that it adds, and the poller after it
 pub record WaitOutcome : Type 0 where

@@ -9,7 +9,8 @@ use Rattle.aio_base.specs.declared.outcomes.Failed.{Failed}
 use Rattle.aio_base.specs.declared.outcomes.Waited.{Waited}
 use Rattle.aio_base.specs.Devices.{Interests, with_interest, clear_interests, WaitCall}
 use Rattle.aio_base.specs.declared.names.TheConstants.Interest.{NONE}
-use Rattle.aio_script.specs.Script.{Script, WaitOutcome, interests_of, cleared, failed_wait, interrupted_wait, giving_wait, ScriptWaits}
+use Rattle.aio_script.specs.Interests.{interests_in, cleared}
+use Rattle.aio_script.specs.Script.{Script, WaitOutcome, interests_of, failed_wait, interrupted_wait, giving_wait, ScriptWaits}
 
 -- an entry that was cleared is none, and so is one past the end
 none-at_cleared : (armed : List Interest) (key : ℕ) → slice_index_or (slice_set armed key NONE) key NONE ≡ NONE
@@ -29,10 +30,10 @@ interest-after_clearing armed gone key =
     (cases_eq key gone)
 
 -- the entries tell what `clear_interests` makes of the interests that they told before
-interests-cleared : (events : List Event) (armed : List Interest) (interests : Interests) → ((key : ℕ) → slice_index_or armed key NONE ≡ interests key) → (key : ℕ) → slice_index_or (cleared events armed) key NONE ≡ clear_interests events interests key
-interests-cleared [] armed interests told key = told key
-interests-cleared (event ∷ events) armed interests told key =
-    interests-cleared events (slice_set armed event.key.0 NONE) (with_interest event.key.0 NONE interests)
+pub interests_cleared : (events : List Event) (armed : List Interest) (interests : Interests) → ((key : ℕ) → interests_in armed key ≡ interests key) → (key : ℕ) → interests_in (cleared events armed) key ≡ clear_interests events interests key
+interests_cleared [] armed interests told key = told key
+interests_cleared (event ∷ events) armed interests told key =
+    interests_cleared events (slice_set armed event.key.0 NONE) (with_interest event.key.0 NONE interests)
     (λ k. interest-after_clearing armed event.key.0 k ∙ ap (λ (on : Interest). if k == event.key.0 then NONE else on) (told k))
     key
 
@@ -40,7 +41,7 @@ interests-wait : (fails interrupted : Bool) (old : Script) (room key : ℕ) → 
 interests-wait true interrupted old room key = refl
 interests-wait false true old room key = refl
 interests-wait false false old room key =
-    interests-cleared (take room old.noted) old.armed (interests_of old) (λ k. refl) key
+    interests_cleared (take room old.noted) old.armed (interests_of old) (λ k. refl) key
 
 -- after a wait the interests of the keys that its events name are none, and no other has changed
 pub wait_clears_interests : (old new : Script) (call : WaitCall) (answer : Result Waited Failed) (added : List Event) → ScriptWaits old call answer added new → (key : ℕ) → interests_of new key ≡ clear_interests added (interests_of old) key

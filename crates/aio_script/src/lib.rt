@@ -9,7 +9,9 @@
 
 mod clock;
 mod events;
+mod interests;
 mod poller;
 
 pub use clock::{Back, ScriptClock};
+pub use interests::InterestTable;
 pub use poller::ScriptPoller;

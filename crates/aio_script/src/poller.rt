@@ -1,24 +1,22 @@
 //! The poller in memory and its calls.
 
 ghost use Rattle.std.specs.Prelude.{◌≡◌, ℕ, ◌+◌, ◌≤◌, [], ◌∷◌, ◌++◌, true, false, OnOk, OnErr, IfOk, length, vec_len, vec_capacity};
-ghost use Rattle.aio_script.specs.Script.{cleared};
 
 use crate::events::NotedEvents;
+use crate::interests::InterestTable;
 use aio_base::{
-    Arm, DueFaults, Event, EventWait, Failed, Faults, Interest, Key, OutOfMemory, Poller, Waited, Which,
+    Arm, DueFaults, Event, EventWait, Failed, Faults, Interest, Key, OutOfMemory, Poller, Waited,
+    Which,
 };
 use std::alloc::Global;
 use std::marker::Model;
 use std::mem;
 
-/// How many keys have an interest: one for each source that a reactor can hold.
-const KEYS: usize = 4096;
-
 /// A poller in memory in oneshot mode (`polling` 3, `lib.rs`, `Poller`): its events, failures and
 /// interrupts are told to it before the calls that answer them. It looks at no clock.
 #[derive(Drop)]
 pub struct ScriptPoller {
-    armed: Vec<Interest>,
+    armed: InterestTable,
     noted: NotedEvents,
     due: DueFaults,
     faults: u64,
@@ -26,20 +24,20 @@ pub struct ScriptPoller {
 }
 
 impl Model for ScriptPoller {
-    ghost use Rattle.std.specs.Prelude.{◌≡◌, vec_len};
+    ghost use Rattle.std.specs.Prelude.{◌<◌, ◌^◌};
     ghost use Rattle.aio_script.specs.Script.{Script};
 
     ghost Value = { Script };
 
     ghost view = { λ p. record {
-      armed = p.armed.items;
+      armed = p.armed;
       noted = p.noted;
       due = p.due;
       faults = p.faults;
       waits = p.waits;
     } };
 
-    ghost invariant = { λ p. vec_len p.armed ≡ 4096 };
+    ghost invariant = { λ p. p.faults < 2 ^ 64 };
 }
 
 impl ScriptPoller {
@@ -53,11 +51,8 @@ impl ScriptPoller {
         ensures fresh { IfOk result (λ p. p ≡ new_script) }
         ensures unarmed { IfOk result (λ p. (key : ℕ) → interests_of p key ≡ Interest.NONE) }
     {
-        let Ok(armed) = vec![in alloc; Interest::NONE; KEYS] else {
-            return Err(OutOfMemory);
-        };
         Ok(ScriptPoller {
-            armed,
+            armed: InterestTable::new(alloc)?,
             noted: NotedEvents::new(alloc),
             due: DueFaults::none(),
             faults: 0,
@@ -94,12 +89,7 @@ impl ScriptPoller {
         ensures value { result ≡ interests_of self.now key.0 }
         ensures entries { length self.now.armed ≡ 4096 }
     {
-        let index = key.0 as usize;
-        if index < self.armed.len() {
-            self.armed[index]
-        } else {
-            Interest::NONE
-        }
+        self.armed.get(key)
     }
 
     /// The events that are noted and not yet given, in order.
@@ -152,7 +142,7 @@ impl Arm for ScriptPoller {
         if mem::replace(&mut self.due.add, false) {
             return Err(self.fault());
         }
-        self.armed[key.0 as usize] = Interest::NONE;
+        self.armed.set(key, Interest::NONE);
         Ok(())
     }
 
@@ -162,7 +152,7 @@ impl Arm for ScriptPoller {
         if mem::replace(&mut self.due.arm, false) {
             return Err(self.fault());
         }
-        self.armed[key.0 as usize] = on;
+        self.armed.set(key, on);
         Ok(())
     }
 
@@ -172,7 +162,7 @@ impl Arm for ScriptPoller {
         if mem::replace(&mut self.due.remove, false) {
             return Err(self.fault());
         }
-        self.armed[key.0 as usize] = Interest::NONE;
+        self.armed.set(key, Interest::NONE);
         Ok(())
     }
 }
@@ -206,7 +196,8 @@ impl EventWait for ScriptPoller {
         }
         let count = noted.len().min(room as usize);
         let given = &noted[..count];
-        give_out(&mut self.armed, given, out);
+        self.armed.disarm(given);
+        give_out(given, out);
         self.noted.skip(count);
         Ok(Waited::Given(count as u32))
     }
@@ -226,19 +217,13 @@ impl Poller for ScriptPoller {
     ghost waits_in_rest = { λ a b same. ap (λ rest. slice_index_or rest 0 0) same };
 }
 
-/// Puts events at the end of `out`, and clears the interest of each key that one of them names; a key
-/// past the last entry has none.
-fn give_out(armed: &mut [Interest], events: &[Event], out: &mut Vec<Event>)
+/// Puts events at the end of `out`.
+fn give_out(events: &[Event], out: &mut Vec<Event>)
     requires { vec_len out.old + length events.now ≤ vec_capacity out.old }
-    ensures armed { armed.new ≡ cleared events.now armed.old }
     ensures out { out.new.items ≡ out.old.items ++ events.now }
     ensures capacity { vec_capacity out.new ≡ vec_capacity out.old }
 {
     for event in events {
-        let index = event.key.0 as usize;
-        if index < armed.len() {
-            armed[index] = Interest::NONE;
-        }
         out.push_reserved(*event);
     }
 }

@@ -61,9 +61,28 @@ impl<A: Arm, W: EventWait> Shared<A, W> {
     /// in order. The cell's round seat is idle, or waits for the parker whose thread calls; it is idle
     /// afterwards, or blocks that parker.
     ///
-    /// A round that begins raises the ticker once, and then makes one wait, for at most `limit`
-    /// nanoseconds where a limit is given. The queue of operations is drained before each pass over the
-    /// timers, and the pass is made at the moment that the clock then answers.
+    /// What it does, in order; a round that an earlier call left running goes on at step 7:
+    ///
+    /// 1. The ticker is read, and the round gets the next number, so that no number is given twice.
+    /// 2. The queue of operations is drained into the book of timers, whose lock is held up to step 4,
+    ///    so that the pass sees each timer that was registered before it and none that was taken out.
+    /// 3. The clock is looked at after the drain, so that what the drain brought and is due by then
+    ///    fires in this pass.
+    /// 4. The round begins by a pass, which takes the timers that are due. Where it took one, the wait
+    ///    has the limit 0, so that no waker in hand sleeps with the thread; else it lasts to the first
+    ///    deadline at most, and to `limit`, in nanoseconds, where one is given.
+    /// 5. The ticker is raised before the wait, so that who polls meanwhile stores the new number: an
+    ///    event of this wait may be older than that poll, and is no news to it.
+    /// 6. One wait is made, under no lock but the cell's, so that others use timers and sources
+    ///    meanwhile.
+    /// 7. A seat that waits clears `notified` and blocks again, after the wait: the notification that it
+    ///    stood for has ended that, so the next wake has to call the notifier anew.
+    /// 8. Each event in hand takes the waiters of its source, which is then armed for those that are
+    ///    left, since an event that was given leaves its source unarmed.
+    /// 9. The queue is drained and the clock looked at once more, and the round ends. Where its wait
+    ///    had time and gave no event, it makes a second pass, since a deadline may have ended that wait.
+    /// 10. Each waker is woken last and under no lock but the cell's, so that a task that is woken finds
+    ///     what the round did, and nobody waits for a lock while a notifier is called.
     ///
     /// # Errors
     ///

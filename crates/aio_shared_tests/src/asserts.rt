@@ -24,9 +24,3 @@ pub(crate) fn same_in<T: Debug + Drop + PartialEq>(
 ) {
     same(rt, (row, found), (row, wanted));
 }
-
-/// Takes a type of which threads may share a value.
-pub(crate) fn may_be_shared<T: Send + Sync>() {}
-
-/// Takes a type of which a value may go to another thread.
-pub(crate) fn may_be_sent<T: Send>() {}

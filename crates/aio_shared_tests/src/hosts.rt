@@ -37,12 +37,12 @@ fn clock(rt: &impl Abort, alloc: Global, now: u64) -> MemClock {
 }
 
 /// The first way into a new reactor of so many parkers over this wait, with this notifier.
-pub(crate) fn enter_inside<
-    R: Wait + Abort + Copy,
-    N: Notify + Drop,
-    A: Arm + Drop,
-    W: EventWait + Drop,
->(rt: R, alloc: Global, parkers: u32, devices: (W, N)) -> Inside<R, N, A, W>
+fn enter_inside<R: Wait + Abort + Copy, N: Notify + Drop, A: Arm + Drop, W: EventWait + Drop>(
+    rt: R,
+    alloc: Global,
+    parkers: u32,
+    devices: (W, N),
+) -> Inside<R, N, A, W>
     requires { (1 ≤ parkers) × (parkers ≤ 16) }
     ensures number { result.member.ops.number ≡ 0 }
     ensures parkers { result.shared.words.parkers ≡ parkers }

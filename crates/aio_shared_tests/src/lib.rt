@@ -17,8 +17,6 @@ mod events;
 #[cfg(test)]
 mod floods;
 #[cfg(test)]
-mod hand_over;
-#[cfg(test)]
 mod hosts;
 #[cfg(test)]
 mod owners;

@@ -17,7 +17,7 @@ use std::sync::Wait;
 
 /// Blocks parker 0 and looks at its mask. Whether the seat waits now: then the look found no woken slot. Else
 /// it blocks.
-pub(crate) fn waits_for_first(words: &Words, seat: &mut RoundSeat) -> bool
+fn waits_for_first(words: &Words, seat: &mut RoundSeat) -> bool
     requires { Belongs words.now seat.old × (seat.old.view.mode ≡ mode.Idle) × (0 < words.now.parkers) }
     ensures words { seat.new.words ≡ seat.old.words }
     ensures mode { seat.new.view.mode ≡ (if result then mode.Wait 0 else mode.Block 0) }
@@ -27,7 +27,7 @@ pub(crate) fn waits_for_first(words: &Words, seat: &mut RoundSeat) -> bool
 }
 
 /// Unblocks parker 0.
-pub(crate) fn unblock_first(words: &Words, seat: &mut RoundSeat)
+fn unblock_first(words: &Words, seat: &mut RoundSeat)
     requires belongs { Belongs words.now seat.old }
     requires blocks { seat.old.view.mode ≡ mode.Block 0 }
     ensures words { seat.new.words ≡ seat.old.words }

@@ -80,17 +80,13 @@ fn tally_of(came: Came) -> Tally {
     }
 }
 
-fn one_if(holds: bool) -> u64 {
-    if holds { 1 } else { 0 }
-}
-
 /// What the poll of this turn comes to, which left the connection with this number: one waker is stored where
 /// it is pending.
 fn polled_as(polled: Polled, number: u64, turn: u32) -> Tally {
     Tally {
-        stored: one_if(polled.answer == Poll::Pending),
-        came: one_if(polled.replaced.is_some()),
-        known: one_if(number == FIRST_NUMBER + 1 + u64::from(turn)),
+        stored: u64::from(polled.answer == Poll::Pending),
+        came: u64::from(polled.replaced.is_some()),
+        known: u64::from(number == FIRST_NUMBER + 1 + u64::from(turn)),
     }
 }
 
@@ -180,7 +176,13 @@ fn work_beside<R: Threads + Wait + Sync + Abort>(
 fn keys_in_turn(rt: &impl Abort, alloc: Global, pairs: u32) -> ScriptedWait {
     let mut answers = Vec::new(alloc);
     for round in 0..pairs.saturating_mul(2) {
-        give(rt, alloc, &mut answers, (round % 2 * 2, 2), Interest::READ_WRITE);
+        give(
+            rt,
+            alloc,
+            &mut answers,
+            (round % 2 * 2, 2),
+            Interest::READ_WRITE,
+        );
     }
     ScriptedWait::new(answers)
 }

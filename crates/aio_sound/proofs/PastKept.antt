@@ -16,9 +16,9 @@ use Rattle.aio_base.specs.Machine.{Outcome, fails, next_answer, later_answers, a
 use Rattle.aio_base.specs.Runs.{PolledStep, outcome_of, world_of}
 use Rattle.aio_base.proofs.Membership.{none_is_in, each_in, filtered_is_in, mapped_from, found_is_in}
 use Rattle.aio_laws.proofs.steps.Frames.{either, either_world, react_any, tick_timers, set_timers, end_timers}
-use Rattle.aio_react.specs.Standing.{RunningSound}
-use Rattle.aio_react.proofs.RoundPast.{rounds_last, last_has_begun, all_begun_longer}
-use Rattle.aio_react.proofs.Taking.{begun_more}
+use Rattle.aio_facts.specs.Sound.{RunningSound}
+use Rattle.aio_facts.proofs.RoundPast.{rounds_last, last_has_begun, all_begun_longer}
+use Rattle.aio_facts.proofs.RoundPast.{begun_more}
 
 -- ## Numbers that were given
 

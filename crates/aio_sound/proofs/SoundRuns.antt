@@ -14,10 +14,10 @@ use Rattle.aio_laws.proofs.runs.FirstPolls.{run_polls_in_order}
 use Rattle.aio_base.proofs.Membership.{first_is_in, later_is_in, each_in, any_gives}
 use Rattle.aio_base.proofs.Searching.{false_unless, nothing_found}
 use Rattle.aio_laws.proofs.runs.Singles.{run_has_no_doubles}
-use Rattle.aio_react.specs.Facts.{facts_in, no_facts, is_polled_of}
-use Rattle.aio_react.specs.Standing.{IsBefore, Sound, UnusedSound}
+use Rattle.aio_facts.specs.Facts.{facts_in, no_facts, is_polled_of}
+use Rattle.aio_facts.specs.Sound.{IsBefore, Sound, UnusedSound}
 use Rattle.aio_sound.proofs.PastKept.{KeptBefore, run_keeps}
-use Rattle.aio_react.proofs.Waiting.{facts_are, serial_apart}
+use Rattle.aio_facts.proofs.Waiting.{facts_are, serial_apart}
 
 -- ## Nothing twice
 

@@ -6,7 +6,8 @@ ghost use Rattle.aio_base.specs.Runs.{PolledStep, world_of};
 ghost use Rattle.aio_base.specs.World.{World, opening};
 ghost use Rattle.aio_react.specs.Cores.{CoreValue};
 ghost use Rattle.aio_react.specs.Reacting.{Stopped};
-ghost use Rattle.aio_react.specs.Standing.{Sound, Stands};
+ghost use Rattle.aio_react.specs.Standing.{Stands};
+ghost use Rattle.aio_facts.specs.Sound.{Sound};
 ghost use Rattle.aio_sound.specs.Stopping.{StoppedFrom};
 
 use aio_base::Poller;

@@ -8,7 +8,7 @@ use crate::calls::{insert, new_reactor};
 use crate::closing::close_beside_rounds;
 use aio_base::{Arm, CountFault, EventWait, Key};
 use aio_devices::{FailingArm, MemNotify, MemWait, SureArm, fault_after};
-use aio_shared::{InsertFault, Member, Shared, SourceRef};
+use aio_shared::{InsertFault, Member, RoundCell, Shared, SourceRef};
 use std::alloc::Global;
 use std::process::Abort;
 use std::sync::Wait;
@@ -233,4 +233,11 @@ fn a_failed_add_is_told_and_leaves_the_key_free(rt: HostRuntime) {
 #[test]
 fn a_failed_remove_is_told_and_leaves_the_key_free(rt: HostRuntime) {
     leaves_the_first_key(&rt, rt.alloc(), 6, 2);
+}
+
+#[test]
+fn a_reactor_and_its_members_go_to_other_threads() {
+    may_be_shared::<Sure>();
+    may_be_sent::<SureMember>();
+    may_be_sent::<RoundCell<MemWait>>();
 }

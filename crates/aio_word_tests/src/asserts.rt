@@ -1,9 +1,6 @@
 //! Assertions as calls: what stands in the body of a test makes its proof longer by the square, and an
 //! assertion is long.
 
-ghost use Rattle.std.specs.Prelude.{◌≡◌};
-
-use aio_base::Moment;
 use std::fmt::Debug;
 use std::process::Abort;
 
@@ -15,17 +12,10 @@ pub(crate) fn same<T: Debug + Drop + PartialEq>(rt: &impl Abort, found: T, wante
     assert_eq!(rt; found, wanted);
 }
 
-/// The moment so many nanoseconds after the clock's start.
-pub(crate) fn moment(rt: &impl Abort, nanoseconds: u64) -> Moment
-    ensures { result ≡ nanoseconds }
-{
-    Moment::new(nanoseconds).expect(rt, "the moment is at most 10^18")
-}
-
 /// Asserts the same of one row of a table, which is told where the two differ.
-pub(crate) fn same_in<T: Debug + Drop + PartialEq>(
+pub(crate) fn same_in<T: Debug + Drop + PartialEq, U: Copy + Debug + PartialEq>(
     rt: &impl Abort,
-    row: &str,
+    row: U,
     found: T,
     wanted: T,
 ) {

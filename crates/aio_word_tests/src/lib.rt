@@ -1,5 +1,6 @@
 //! Tests of what threads share below the shared reactor: the words, the lock whose tokens know what it holds,
-//! and the queue of operations on timers.
+//! and sources in such locks that record their calls, with the calls that a seed gives and two jobs on eight of
+//! them.
 //!
 //! They stand above those crates, so that none of them is proved a second time for its tests. All of them
 //! belong to the test build.
@@ -8,11 +9,13 @@
 #[cfg(test)]
 mod asserts;
 #[cfg(test)]
-mod draining;
+mod cells;
+#[cfg(test)]
+mod draws;
+#[cfg(test)]
+mod jobs;
 #[cfg(test)]
 mod locks;
-#[cfg(test)]
-mod queue;
 #[cfg(test)]
 mod waiters;
 #[cfg(test)]

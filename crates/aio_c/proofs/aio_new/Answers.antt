@@ -1,7 +1,8 @@
 use Rattle.std.proofs.Common.{rules, ◌≡◌, sym, subst}
 use Rattle.aio_base.specs.World.{opening}
 use Rattle.aio_script.specs.Script.{Script}
-use Rattle.aio_react.specs.Standing.{AgreesWithArmed, Stands}
+use Rattle.aio_react.specs.Standing.{Stands}
+use Rattle.aio_facts.specs.Armed.{AgreesWithArmed}
 use Rattle.aio_c.specs.declared.held.Held.{Held}
 use Rattle.aio_c.specs.Promises.{tells}
 use Rattle.aio_c.proofs.aio_new.Goals as goal

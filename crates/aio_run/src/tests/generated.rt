@@ -3,9 +3,8 @@
 //! model that was written apart from this program.
 
 use crate::tests::asserts::same;
-use crate::tests::runs::{FIRST_FAULT, Failing, NOTHING_FAILS, Ran, ends, run_over};
+use crate::tests::runs::{FIRST_FAULT, Failing, NOTHING_FAILS, ends, run_over};
 use crate::{Status, Why};
-use aio_replay::{Summary, summary};
 use std::process::Abort;
 use std::sync::Wait;
 use std::thread::Threads;
@@ -66,53 +65,6 @@ fn a_trace_is_made_and_summed_without_the_input(rt: HostRuntime) {
     }
 }
 
-/// The number of steps, a seed, and what a run of its steps counts to.
-const COUNTED: [(u32, u64, Summary); 3] = [
-    (
-        2,
-        0,
-        Summary {
-            steps: 2,
-            ready: 0,
-            pending: 0,
-            wakes: 0,
-            rounds: 0,
-            refused: 0,
-        },
-    ),
-    (
-        1000,
-        1,
-        Summary {
-            steps: 1000,
-            ready: 81,
-            pending: 207,
-            wakes: 181,
-            rounds: 136,
-            refused: 149,
-        },
-    ),
-    (
-        1000,
-        0,
-        Summary {
-            steps: 1000,
-            ready: 68,
-            pending: 197,
-            wakes: 174,
-            rounds: 124,
-            refused: 177,
-        },
-    ),
-];
-
-#[test]
-fn a_run_is_counted(rt: HostRuntime) {
-    for (count, seed, counted) in COUNTED {
-        same(&rt, summary(rt.alloc(), count, seed), Ok(counted));
-    }
-}
-
 /// The words that make the trace.
 const MADE: &[&str] = &["gen", "20000", "1"];
 
@@ -127,7 +79,9 @@ fn make_front<R: Wait + Threads + Sync + Send + Copy + AllocGlobal + Abort>(
         ..NOTHING_FAILS
     };
     let ran = run_over(rt, MADE, b"", 1, failing);
-    let found = (is_front(&ran, trace), ran.status, ran.err.bytes());
+    let out = ran.out.bytes();
+    let is_front = trace.starts_with(out) && trace != out;
+    let found = (is_front, ran.status, ran.err.bytes());
     same(rt, found, (true, NOT_WRITTEN, b"write fault\n".as_slice()));
 }
 
@@ -136,11 +90,6 @@ const NOT_WRITTEN: Status = Status {
     exit: 4,
     why: Why::WriteFault(FIRST_FAULT),
 };
-
-/// Whether a front of the trace was written, and not all of it.
-fn is_front(ran: &Ran, trace: &[u8]) -> bool {
-    trace.starts_with(ran.out.bytes()) && trace != ran.out.bytes()
-}
 
 /// Asserts that the trace is replayed to its end.
 fn replay_made<R: Wait + Threads + Sync + Send + Copy + AllocGlobal + Abort>(rt: &R, trace: &[u8]) {

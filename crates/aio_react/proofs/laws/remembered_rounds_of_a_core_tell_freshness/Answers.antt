@@ -1,4 +1,4 @@
-use Rattle.aio_react.proofs.FreshCores.{ready_tells, above_tells}
+use Rattle.aio_react.proofs.sources.FreshCores.{ready_tells, above_tells}
 use Rattle.aio_react.proofs.laws.remembered_rounds_of_a_core_tell_freshness.Goals as goal
 
 pub returns-clause-poll : goal.returns-clause-poll

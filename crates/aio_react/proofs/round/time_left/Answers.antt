@@ -1,5 +1,5 @@
 use Rattle.std.proofs.Common.{◌<◌, sym, ◌∙◌, arith}
-use Rattle.aio_react.proofs.FirstDeadline.{first_above}
+use Rattle.aio_react.proofs.rounds.FirstDeadline.{first_above}
 use Rattle.aio_react.proofs.round.time_left.Goals as goal
 
 pub overflow_sub-left : goal.overflow_sub-left

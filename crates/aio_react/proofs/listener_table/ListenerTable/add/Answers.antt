@@ -5,7 +5,7 @@ use Rattle.aio_react.specs.declared.entries.Listener.{Listener}
 use Rattle.aio_react.specs.declared.listener_table.PackedSeat.{PackedSeat}
 use Rattle.aio_react.specs.declared.listener_table.FirstPoll.{FirstPoll}
 use Rattle.aio_react.specs.Seats.{listener_in, listeners_in, opened, IsEarly}
-use Rattle.aio_react.proofs.SeatLemmas.{listeners-length, listeners-more, listener-again, early-more, early-again}
+use Rattle.aio_react.proofs.polls.SeatLemmas.{listeners-length, listeners-more, listener-again, early-more, early-again}
 use Rattle.aio_react.proofs.listener_table.ListenerTable.add.Goals as goal
 
 pub returns-clause-number : goal.returns-clause-number

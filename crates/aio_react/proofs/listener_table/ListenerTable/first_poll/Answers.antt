@@ -2,7 +2,7 @@
 use Rattle.std.proofs.Common.{◌-◌, map, length, ap, sym, ◌∙◌, arith}
 use Rattle.std.proofs.lemmas.List.{length-map}
 use Rattle.aio_react.specs.Seats.{opened}
-use Rattle.aio_react.proofs.SeatLemmas.{listeners-length, beside-there}
+use Rattle.aio_react.proofs.polls.SeatLemmas.{listeners-length, beside-there}
 use Rattle.aio_react.proofs.listener_table.ListenerTable.first_poll.Goals as goal
 
 pub index-requires : goal.index-requires

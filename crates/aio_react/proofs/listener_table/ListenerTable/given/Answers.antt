@@ -1,7 +1,7 @@
 use Rattle.std.proofs.Common.{map, arith}
 use Rattle.std.proofs.lemmas.List.{length-map}
 use Rattle.aio_react.specs.Seats.{opened}
-use Rattle.aio_react.proofs.SeatLemmas.{listeners-length}
+use Rattle.aio_react.proofs.polls.SeatLemmas.{listeners-length}
 use Rattle.aio_react.proofs.listener_table.ListenerTable.given.Goals as goal
 
 pub returns-clause-value : goal.returns-clause-value

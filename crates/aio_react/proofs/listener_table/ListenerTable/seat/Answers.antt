@@ -5,7 +5,7 @@ use Rattle.aio_react.specs.declared.listener_table.Seat.{Seat}
 use Rattle.aio_react.specs.declared.listener_table.Seat.TheVariants as seat
 use Rattle.aio_react.specs.Numbers.{value_of}
 use Rattle.aio_react.specs.Seats.{seat_in, opened}
-use Rattle.aio_react.proofs.SeatLemmas.{opened-read, seat-there, value-past, value-zero}
+use Rattle.aio_react.proofs.polls.SeatLemmas.{opened-read, seat-there, value-past, value-zero}
 use Rattle.aio_react.proofs.listener_table.ListenerTable.seat.Goals as goal
 use Rattle.aio_react.proofs.listener_table.ListenerTable.seat.Goals.{then-number-eq0-via-then-number-eq0, then-number-eq0-via-else-number-eq0+then-number-len}
 

@@ -4,7 +4,7 @@ use Rattle.std.proofs.lemmas.List.{length-map, map-set}
 use Rattle.aio_react.specs.declared.entries.Listener.{Listener}
 use Rattle.aio_react.specs.Numbers.{with_value}
 use Rattle.aio_react.specs.Seats.{listener_in, listeners_in, opened, IsEarly}
-use Rattle.aio_react.proofs.SeatLemmas.{early-again, early-set, listener-again, value-set, value-unset, value-zero-unset}
+use Rattle.aio_react.proofs.polls.SeatLemmas.{early-again, early-set, listener-again, value-set, value-unset, value-zero-unset}
 use Rattle.aio_react.proofs.listener_table.ListenerTable.set.Goals as goal
 use Rattle.aio_react.proofs.listener_table.ListenerTable.set.Goals.{then-number-eq0-via-then-number-eq0, then-number-eq0-via-else-number-eq0+then-number-len}
 

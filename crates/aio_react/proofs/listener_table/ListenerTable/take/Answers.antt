@@ -5,7 +5,7 @@ use Rattle.aio_react.specs.declared.entries.Listener.{Listener}
 use Rattle.aio_react.specs.declared.listener_table.Seat.{Seat}
 use Rattle.aio_react.specs.Seats.{listener_in, opened}
 use Rattle.aio_react.specs.Numbers.{value_of, with_value}
-use Rattle.aio_react.proofs.SeatLemmas.{early-gone, opened-read, value-there, value-past, value-zero, value-gone, value-unset, value-zero-unset}
+use Rattle.aio_react.proofs.polls.SeatLemmas.{early-gone, opened-read, value-there, value-past, value-zero, value-gone, value-unset, value-zero-unset}
 use Rattle.aio_react.proofs.listener_table.ListenerTable.take.Goals as goal
 use Rattle.aio_react.proofs.listener_table.ListenerTable.take.Goals.{then-number-eq0-via-then-number-eq0, then-number-eq0-via-else-number-eq0+then-number-len}
 

@@ -1,10 +1,10 @@
 use Rattle.std.proofs.Common.{◌≡◌, ◌≤◌, ◌∙◌, length, None, refl, ap, arith}
 use Rattle.aio_react.specs.Cores.{CoreValue, entry_at}
 use Rattle.aio_react.specs.Sources.{free_key}
-use Rattle.aio_react.proofs.AddMeets.{full_meets, added_meets, unadded_meets}
+use Rattle.aio_react.proofs.sources.AddMeets.{full_meets, added_meets, unadded_meets}
 use Rattle.aio_source.proofs.KeyPlaces.{free_within}
-use Rattle.aio_react.proofs.Listed.{listed_placed}
-use Rattle.aio_react.proofs.Places.{free_few, free_is_none, has_free, keyed_placed}
+use Rattle.aio_react.proofs.listeners.Listed.{listed_placed}
+use Rattle.aio_react.proofs.sources.Places.{free_few, free_is_none, has_free, keyed_placed}
 use Rattle.aio_react.proofs.reactor.Core.add.Goals as goal
 
 pub returns-in_default-clause-meets : goal.returns-in_default-clause-meets

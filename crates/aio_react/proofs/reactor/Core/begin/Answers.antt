@@ -1,8 +1,8 @@
 use Rattle.std.proofs.Common.{◌≡◌, ◌+◌, Some, true, false, rules}
 use Rattle.aio_base.specs.Devices.{PollerStep}
 use Rattle.aio_react.specs.Cores.{CoreValue}
-use Rattle.aio_react.proofs.BeginMeets.{begin_done, locked_meets}
-use Rattle.aio_react.proofs.RoundPast.{told_running, told_idle}
+use Rattle.aio_react.proofs.rounds.BeginMeets.{begin_done, locked_meets}
+use Rattle.aio_react.proofs.rounds.IdleRounds.{told_running, told_idle}
 use Rattle.aio_react.proofs.reactor.Core.begin.Goals as goal
 
 pub returns-then-not-is_idle-clause-meets : goal.returns-then-not-is_idle-clause-meets

@@ -1,10 +1,10 @@
 use Rattle.std.proofs.Common.{◌≡◌, ◌∙◌, sym, ap, arith}
 use Rattle.aio_react.specs.Cores.{CoreValue}
 use Rattle.aio_react.specs.Sources.{del_reply}
-use Rattle.aio_react.proofs.DelMeets.{missing_meets, used_meets, removed_meets, gone_reply, as_counted}
-use Rattle.aio_react.proofs.Hearing.{uncounted_others}
-use Rattle.aio_react.proofs.Listed.{listed_left}
-use Rattle.aio_react.proofs.Places.{keyed_left}
+use Rattle.aio_react.proofs.sources.DelMeets.{missing_meets, used_meets, removed_meets, gone_reply, as_counted}
+use Rattle.aio_react.proofs.listeners.Hearing.{uncounted_others}
+use Rattle.aio_react.proofs.listeners.Listed.{listed_left}
+use Rattle.aio_react.proofs.sources.Places.{keyed_left}
 use Rattle.aio_react.proofs.reactor.Core.del.Goals as goal
 use Rattle.aio_react.proofs.reactor.Core.del.Goals.{in-Ok, in-Err}
 

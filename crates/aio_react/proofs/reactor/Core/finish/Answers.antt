@@ -2,8 +2,8 @@ use Rattle.std.proofs.Common.{None, Some}
 use Rattle.aio_base.specs.declared.steps.Step.TheVariants as step
 use Rattle.aio_base.specs.Devices.{PollerStep}
 use Rattle.aio_react.specs.Cores.{CoreValue}
-use Rattle.aio_react.proofs.FinishMeets.{finish_refused, finish_answered, finish_unanswered}
-use Rattle.aio_react.proofs.PartMeets.{replies_step}
+use Rattle.aio_react.proofs.rounds.FinishMeets.{finish_refused, finish_answered, finish_unanswered}
+use Rattle.aio_react.proofs.steps.PartMeets.{replies_step}
 use Rattle.aio_react.proofs.reactor.Core.finish.Goals as goal
 use Rattle.aio_react.proofs.reactor.Core.finish.Goals.{in-Ok-finish, in-Err-finish}
 

@@ -7,13 +7,13 @@ use Rattle.std.specs.Prelude.{IfOk}
 use Rattle.aio_react.specs.declared.outcomes.Handled.{Handled}
 use Rattle.aio_react.specs.Asking.{UsesPoller, handle_part}
 use Rattle.aio_react.specs.Cores.{CoreValue}
-use Rattle.aio_react.proofs.FirstEvent.{first_of}
-use Rattle.aio_react.proofs.HandleLent.{handled_lent}
-use Rattle.aio_react.proofs.HandleMeets.{handle_idle, handle_empty, handle_dropped, handle_answered, handle_unanswered}
-use Rattle.aio_react.proofs.HeldSources.{HoldsOn, holds_itself, key_is, keyed_on, listed_on, handled_on}
-use Rattle.aio_react.proofs.PartMeets.{part_steps, replies_step}
-use Rattle.aio_react.proofs.RoundPast.{told_running, told_idle}
-use Rattle.aio_react.proofs.SourceChanges.{placed_again}
+use Rattle.aio_react.proofs.rounds.FirstEvent.{first_of}
+use Rattle.aio_react.proofs.handling.HandleLent.{handled_lent}
+use Rattle.aio_react.proofs.handling.HandleMeets.{handle_idle, handle_empty, handle_dropped, handle_answered, handle_unanswered}
+use Rattle.aio_react.proofs.listeners.HeldSources.{HoldsOn, holds_itself, key_is, keyed_on, listed_on, handled_on}
+use Rattle.aio_react.proofs.steps.PartMeets.{part_steps, replies_step}
+use Rattle.aio_react.proofs.rounds.IdleRounds.{told_running, told_idle}
+use Rattle.aio_react.proofs.sources.SourceChanges.{placed_again}
 use Rattle.aio_react.proofs.reactor.Core.handle.Goals as goal
 use Rattle.aio_react.proofs.reactor.Core.handle.Goals.{in-Ok, in-Err}
 

@@ -2,8 +2,8 @@ use Rattle.std.proofs.Common.{refl, length, length-drop, sym, ap, subst, ◌∙�
 use Rattle.aio_base.specs.Devices.{PollerStep}
 use Rattle.aio_react.specs.Cores.{CoreValue}
 use Rattle.aio_react.specs.Reacting.{Handles, FaultsSince}
-use Rattle.aio_react.proofs.HandleRows.{rest_before, rest_none, handles_before, handles_none}
-use Rattle.aio_react.proofs.RoundFaults.{handle_since}
+use Rattle.aio_react.proofs.handling.HandleRows.{rest_before, rest_none, handles_before, handles_none}
+use Rattle.aio_react.proofs.rounds.RoundFaults.{handle_since}
 use Rattle.aio_react.proofs.reactor.Core.handle_all.Goals as goal
 
 pub loop-self-init : goal.loop-self-init

@@ -2,7 +2,7 @@ use Rattle.std.proofs.Common.{◌≡◌, true, length}
 use Rattle.aio_base.specs.Devices.{PollerStep}
 use Rattle.aio_react.specs.Cores.{CoreValue}
 use Rattle.aio_react.specs.Reacting.{Handles, FaultsSince}
-use Rattle.aio_react.proofs.HandleRows.{HandlesRest}
+use Rattle.aio_react.proofs.handling.HandleRows.{HandlesRest}
 use Rattle.aio_react.proofs.reactor.Core.handle_all.Given as goal
 
 -- whatever comes of the events that are left comes of all

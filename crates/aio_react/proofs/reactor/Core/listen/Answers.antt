@@ -1,10 +1,10 @@
 use Rattle.std.proofs.Common.{refl, sym, arith}
 use Rattle.aio_base.specs.Devices.{PollerStep}
-use Rattle.aio_react.proofs.HeldSources.{keyed_again}
-use Rattle.aio_react.proofs.ListenMeets.{listen_meets, listen_misses, next_number, listed_more, few_listeners}
-use Rattle.aio_react.proofs.NewListeners.{counted}
-use Rattle.aio_react.proofs.SeatLemmas.{within-sources}
-use Rattle.aio_react.proofs.SourceChanges.{placed_again}
+use Rattle.aio_react.proofs.listeners.HeldSources.{keyed_again}
+use Rattle.aio_react.proofs.listeners.ListenMeets.{listen_meets, listen_misses, next_number, listed_more, few_listeners}
+use Rattle.aio_react.proofs.listeners.NewListeners.{counted}
+use Rattle.aio_react.proofs.polls.SeatLemmas.{within-sources}
+use Rattle.aio_react.proofs.sources.SourceChanges.{placed_again}
 use Rattle.aio_react.proofs.reactor.Core.listen.Goals as goal
 
 pub returns-in_default-clause-meets : goal.returns-in_default-clause-meets

@@ -1,7 +1,7 @@
 use Rattle.std.proofs.Common.{refl, sym, arith}
 use Rattle.aio_base.specs.Devices.{PollerStep}
-use Rattle.aio_react.proofs.HeldSources.{key_is, keyed_again, listed_again, polled_keeps}
-use Rattle.aio_react.proofs.PollMeets.{poll_meets, poll_misses}
+use Rattle.aio_react.proofs.listeners.HeldSources.{key_is, keyed_again, listed_again, polled_keeps}
+use Rattle.aio_react.proofs.sources.PollMeets.{poll_meets, poll_misses}
 use Rattle.aio_react.proofs.reactor.Core.poll.Goals as goal
 
 pub invariant_of-self : goal.invariant_of-self

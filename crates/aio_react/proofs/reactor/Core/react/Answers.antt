@@ -5,8 +5,8 @@ use Rattle.aio_base.specs.Timers.{due_wakers}
 use Rattle.aio_react.specs.Cores.{CoreValue}
 use Rattle.aio_react.specs.Reacting.{Handles}
 use Rattle.aio_react.specs.Replies.{empty_hand_refusal, wait_phase, wait_given}
-use Rattle.aio_react.proofs.BookPasses.{none_due_left}
-use Rattle.aio_react.proofs.ReactMeets.{react_meets, round_alone, react_refused, react_stopped, not_busy, open_hand}
+use Rattle.aio_facts.proofs.BookPasses.{none_due_left}
+use Rattle.aio_react.proofs.rounds.ReactMeets.{react_meets, round_alone, react_refused, react_stopped, not_busy, open_hand}
 use Rattle.aio_react.proofs.reactor.Core.react.Goals as goal
 use Rattle.aio_react.proofs.reactor.Core.react.Goals.{in-Ok-Given, in-Ok-Interrupted, in-Err-wait}
 

@@ -10,13 +10,13 @@ use Rattle.aio_react.specs.Listeners.{step_refusal_of}
 use Rattle.aio_react.specs.Standing.{ticket_in}
 use Rattle.aio_react.specs.Numbers.{value_of}
 use Rattle.aio_react.specs.Seats.{listened_in}
-use Rattle.aio_react.proofs.Asked.{first_asked, first_fault, again_asked}
-use Rattle.aio_react.proofs.HeardAgain.{keyed_changed}
-use Rattle.aio_react.proofs.HeldSources.{key_is}
-use Rattle.aio_react.proofs.SeatLemmas.{within-sources, seated, gone-seat, gone-else, polled-seat, unpolled-seat}
-use Rattle.aio_react.proofs.StepKeeps.{again_key, listed_again_polled, listed_first_polled, listed_unpolled, first_key, first_unrefused, drew, drew_none, drew_unspent, source_unchanged, poller_unchanged, places_unchanged}
-use Rattle.aio_react.proofs.StepMeets.{again_meets, first_meets, step_misses}
-use Rattle.aio_react.proofs.LaterPolls.{again_read, listed_within, polled_given}
+use Rattle.aio_react.proofs.polls.Asked.{first_asked, first_fault, again_asked}
+use Rattle.aio_react.proofs.listeners.HeardAgain.{keyed_changed}
+use Rattle.aio_react.proofs.listeners.HeldSources.{key_is}
+use Rattle.aio_react.proofs.polls.SeatLemmas.{within-sources, seated, gone-seat, gone-else, polled-seat, unpolled-seat}
+use Rattle.aio_react.proofs.polls.StepKeeps.{again_key, listed_again_polled, listed_first_polled, listed_unpolled, first_key, first_unrefused, drew, drew_none, drew_unspent, source_unchanged, poller_unchanged, places_unchanged}
+use Rattle.aio_react.proofs.polls.StepMeets.{again_meets, first_meets, step_misses}
+use Rattle.aio_react.proofs.polls.LaterPolls.{again_read, listed_within, polled_given}
 use Rattle.aio_react.proofs.reactor.Core.step.Goals as goal
 
 -- ## A later poll

@@ -2,10 +2,10 @@ use Rattle.std.proofs.Common.{◌≡◌, None, Some, refl, sym, arith}
 use Rattle.aio_base.specs.Devices.{PollerStep}
 use Rattle.aio_react.specs.Cores.{CoreValue}
 use Rattle.aio_react.specs.Numbers.{value_of}
-use Rattle.aio_react.proofs.DropMeets.{drop_meets, drop_misses}
-use Rattle.aio_react.proofs.HeardAgain.{value_untaken, counts_mine, listed_changed, keyed_changed, gives_up, left_key}
-use Rattle.aio_react.proofs.LaterPolls.{listed_within}
-use Rattle.aio_react.proofs.ListenMeets.{count_at}
+use Rattle.aio_react.proofs.listeners.DropMeets.{drop_meets, drop_misses}
+use Rattle.aio_react.proofs.listeners.HeardAgain.{value_untaken, counts_mine, listed_changed, keyed_changed, gives_up, left_key}
+use Rattle.aio_react.proofs.polls.LaterPolls.{listed_within}
+use Rattle.aio_react.proofs.listeners.ListenMeets.{count_at}
 use Rattle.aio_react.proofs.reactor.Core.unlisten.Goals as goal
 
 pub returns-in_default-clause-meets : goal.returns-in_default-clause-meets

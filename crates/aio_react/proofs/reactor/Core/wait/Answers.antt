@@ -2,8 +2,8 @@ use Rattle.std.proofs.Common.{◌≡◌, ◌∙◌, [], None, sym, ap}
 use Rattle.aio_base.specs.declared.steps.Step.TheVariants as step
 use Rattle.aio_react.specs.Cores.{CoreValue}
 use Rattle.aio_base.specs.Devices.{PollerStep}
-use Rattle.aio_react.proofs.WaitMeets.{core_wait, wait_done, refused_meets}
-use Rattle.aio_react.proofs.PartMeets.{part_steps}
+use Rattle.aio_react.proofs.rounds.WaitMeets.{core_wait, wait_done, refused_meets}
+use Rattle.aio_react.proofs.steps.PartMeets.{part_steps}
 use Rattle.aio_react.proofs.reactor.Core.wait.Goals as goal
 use Rattle.aio_react.proofs.reactor.Core.wait.Goals.{in-Ok-wait, in-Err-wait}
 

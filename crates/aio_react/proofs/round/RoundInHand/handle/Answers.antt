@@ -6,7 +6,7 @@ use Rattle.aio_base.specs.World.{directions}
 use Rattle.aio_source.specs.Rules.{taken_along}
 use Rattle.aio_source.specs.InHand.{RoundValue}
 use Rattle.aio_react.specs.Rounds.{wait_answer}
-use Rattle.aio_react.proofs.FirstEvent.{first_on, handled_is, none_kept}
+use Rattle.aio_react.proofs.rounds.FirstEvent.{first_on, handled_is, none_kept}
 use Rattle.aio_react.proofs.round.RoundInHand.handle.Goals as goal
 
 pub returns-in-Ok-handle-clause-lent : goal.returns-in-Ok-handle-clause-lent

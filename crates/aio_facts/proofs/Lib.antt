@@ -1,0 +1,9 @@
+pub mod RoundPast
+pub mod Waiting
+pub mod BookPasses
+pub mod Arrivals
+pub mod Departures
+pub mod Serials
+pub mod PolledEntries
+pub mod Rearming
+pub mod Taken
