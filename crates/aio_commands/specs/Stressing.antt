@@ -1,7 +1,7 @@
 -- The command `stress`: what it writes, and which device it touches.
 use Rattle.std.specs.Prelude.{◌≡◌, ℕ, ◌*◌, List, ◌++◌, codes, decimal}
 use Rattle.aio_base.specs.Text.{ended_line}
-use Rattle.aio_line.specs.declared.kit.SixDevices.{SixDevices}
+use Rattle.aio_jobs.specs.declared.kit.SixDevices.{SixDevices}
 
 -- The line of two jobs that made so many calls each: how many both made, and how many steps the cells have.
 abbrev pub stress_line : ℕ → ℕ → List ℕ

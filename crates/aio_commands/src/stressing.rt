@@ -12,7 +12,7 @@ use crate::status::Why;
 use crate::texts::{cause_of_text, push_count};
 use aio_base::{Port, Spawner};
 use aio_bytes::{Sink, SinkRefusal, write_all};
-use aio_line::Devices;
+use aio_jobs::Devices;
 use aio_record::{StressCell, stress};
 use std::alloc::{AllocError, Global};
 use std::sync::Wait;

@@ -7,7 +7,7 @@ use Rattle.aio_base.specs.Script.{output}
 use Rattle.aio_base.specs.Trace.{trace_of}
 use Rattle.aio_base.specs.declared.steps.Step.{Step}
 use Rattle.aio_laws.specs.Between.{StandsAfter}
-use Rattle.aio_line.specs.declared.kit.SixDevices.{SixDevices}
+use Rattle.aio_jobs.specs.declared.kit.SixDevices.{SixDevices}
 use Rattle.aio_line.specs.declared.words.RelayOrder.{RelayOrder}
 use Rattle.aio_serve.specs.Relays.{MayEndSo, TakesAfterFirst, terms_of}
 use Rattle.aio_bytes.specs.Unread.{LeavesAllBut}

@@ -13,7 +13,7 @@ use aio_bytes::{Sink, Source};
 use aio_commands::{
     Command, Status, Why, command_of, exit_status, run_gen, run_replay, run_stress, run_sum, tell,
 };
-use aio_line::Devices;
+use aio_jobs::Devices;
 use std::alloc::Global;
 use std::sync::Wait;
 use std::thread::Threads;

@@ -9,14 +9,14 @@ use Rattle.aio_base.specs.ClockBounds.{ClockBounds}
 use Rattle.aio_pairs.specs.Fits.{Fits, ToGive}
 use Rattle.aio_pairs.specs.declared.outcomes.PairEnd.{PairEnd}
 use Rattle.aio_pairs.specs.declared.outcomes.PairEnd.TheVariants as pair
-use Rattle.aio_places.specs.Dealing.{GivesInTurn}
+use Rattle.aio_jobs.specs.Dealing.{GivesInTurn}
 use Rattle.aio_places.specs.Places.{PlaceValue, end_gives}
 use Rattle.aio_park.specs.Stopping.{StopsFor}
 use Rattle.aio_serve.specs.Places.{AllServeUnder, HaveParkers, PlaceFits, ServesUnder, Terms, WorkerEnds, WorkerValue, earliest_of, latest_of}
 use Rattle.aio_serve.specs.Servers.{IsFaultOf, IsRowOf, OneStopsFor}
 use Rattle.aio_park.specs.declared.to_end.WorkerFault.{WorkerFault}
 use Rattle.aio_park.specs.declared.to_end.WorkerFault.TheVariants as stop
-use Rattle.aio_places.proofs.Turns.{alike_in_turn}
+use Rattle.aio_jobs.proofs.Turns.{alike_in_turn}
 
 -- ## Under the lent devices
 

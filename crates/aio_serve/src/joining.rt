@@ -2,16 +2,16 @@
 
 ghost use Rattle.std.specs.Prelude.{List, Bool, map, IfOk, IfErr};
 ghost use Rattle.std.specs.List.{AllZip};
-ghost use Rattle.aio_places.specs.Dealing.{GivesInTurn};
+ghost use Rattle.aio_jobs.specs.Dealing.{GivesInTurn};
 ghost use Rattle.aio_places.specs.Places.{PlaceValue};
 ghost use Rattle.aio_serve.specs.Places.{AllServeUnder, HaveParkers, PlaceFits, Terms, WorkerValue};
 ghost use Rattle.aio_serve.specs.Servers.{IsFaultOf, IsRowOf, OneStopsFor};
 
 use crate::worker::Worker;
 use aio_base::{Clock, Conn, EventWait, Gate, Notify, Spawner};
+use aio_jobs::{Rows, gather};
 use aio_pairs::PairEnd;
 use aio_park::WorkerFault;
-use aio_places::{Rows, gather};
 use std::alloc::Global;
 use std::collections::VecDeque;
 use std::sync::Wait;

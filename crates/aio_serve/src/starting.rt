@@ -5,13 +5,14 @@ ghost use Rattle.std.specs.List.{AllByRecursion};
 ghost use Rattle.std.specs.VecDeque.{deque_len};
 ghost use Rattle.std.specs.Arc.{arc_value};
 ghost use Rattle.aio_shared.specs.Members.{IsMemberOf};
-ghost use Rattle.aio_places.specs.Dealing.{GivesInTurn};
+ghost use Rattle.aio_jobs.specs.Dealing.{GivesInTurn};
 ghost use Rattle.aio_serve.specs.Places.{AllServeUnder, HaveParkers, IsFellowMember, WorkerValue};
 
 use crate::worker::Worker;
 use aio_base::{Clock, Conn, EventWait, Notify, OutOfMemory};
+use aio_jobs::deal;
 use aio_ops::PassRefusal;
-use aio_places::{Begun, Place, deal};
+use aio_places::{Begun, Place};
 use aio_shared::{Member, Shared};
 use std::alloc::Global;
 use std::collections::VecDeque;

@@ -4,7 +4,7 @@ ghost use Rattle.std.specs.Prelude.{◌≡◌};
 
 use crate::asserts::{MEMORY, same};
 use aio_base::{Gate, Job, Spawner};
-use aio_places::{CallerSpawner, OpenGate, ThreadSpawner};
+use aio_jobs::{CallerSpawner, OpenGate, ThreadSpawner};
 use std::alloc::Global;
 use std::process::Abort;
 use std::sync::Wait;

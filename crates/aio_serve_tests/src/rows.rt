@@ -1,7 +1,7 @@
 //! What is dealt to rows comes back in its order.
 
 use crate::asserts::{MEMORY, same};
-use aio_places::{Rows, deal, gather};
+use aio_jobs::{Rows, deal, gather};
 use std::alloc::Global;
 use std::process::Abort;
 

@@ -4,7 +4,8 @@
 use crate::asserts::same;
 use crate::clients::{Seen, joined, pass_a_line};
 use aio_bytes::StdSink;
-use aio_line::{Kit, RelayOrder, SixDevices};
+use aio_jobs::{Kit, SixDevices};
+use aio_line::RelayOrder;
 use aio_mio::{RealClock, mio_parts};
 use aio_serve::{CallerSpawner, OpenGate, RelayStop, relay};
 use std::alloc::Global;

@@ -3,7 +3,7 @@
 use crate::tests::asserts::MEMORY;
 use aio_base::{EventWait, Faults, Moment, Notify, Placement, Port, Spawner};
 use aio_devices::{FailingWait, MemClock, MemNotify, clock_until};
-use aio_line::{Kit, SixDevices};
+use aio_jobs::{Kit, SixDevices};
 use aio_serve::OpenGate;
 use std::alloc::Global;
 use std::cell::Cell;

@@ -4,10 +4,10 @@ use Rattle.std.specs.List.{AllByRecursion}
 use Rattle.std.specs.Arc.{arc_value}
 use Rattle.std.proofs.lemmas.List.{nil_from_length}
 use Rattle.aio_shared.specs.Members.{IsMemberOf}
-use Rattle.aio_places.specs.Dealing.{GivesInTurn}
+use Rattle.aio_jobs.specs.Dealing.{GivesInTurn}
 use Rattle.aio_places.specs.Places.{PlaceValue}
 use Rattle.aio_serve.specs.Places.{AllServeUnder, HaveParkers, IsFellowMember, ServesUnder, Terms, WorkerValue}
-use Rattle.aio_places.proofs.Turns.{each_at_most}
+use Rattle.aio_jobs.proofs.Turns.{each_at_most}
 use Rattle.aio_serve.proofs.WorkerRows.{one_more_parker, one_more_serves, row_goes_over}
 use Rattle.aio_serve.proofs.starting.workers_of.Goals as goal
 

@@ -2,7 +2,7 @@ use Rattle.std.proofs.Common.{◌≡◌, ◌+◌, ◌++◌, ◌≤◌, length, m
 use Rattle.std.specs.Prelude.{vec_capacity}
 use Rattle.std.specs.List.{AllByRecursion}
 use Rattle.std.specs.Arc.{arc_value}
-use Rattle.aio_places.specs.Dealing.{GivesInTurn}
+use Rattle.aio_jobs.specs.Dealing.{GivesInTurn}
 use Rattle.aio_serve.specs.Places.{AllServeUnder, HaveParkers, IsFellowMember, WorkerValue}
 use Rattle.aio_serve.proofs.starting.workers_of.Given as goal
 

@@ -1,7 +1,7 @@
 //! Items that are dealt to rows in turn, and gathered again.
 
 ghost use Rattle.std.specs.Prelude.{◌≡◌, ◌+◌, ◌<◌, ◌++◌, ◌∷◌, [], ℕ, List, length, map, IfOk, OnOk, IfSome, IfNone};
-ghost use Rattle.aio_places.specs.Dealing.{GivesInTurn, HaveShares, IsAtTurn, IsOver};
+ghost use Rattle.aio_jobs.specs.Dealing.{GivesInTurn, HaveShares, IsAtTurn, IsOver};
 
 use aio_base::OutOfMemory;
 use std::alloc::Global;

@@ -1,6 +1,6 @@
 use Rattle.std.proofs.Common.{List, ◌++◌}
-use Rattle.aio_places.specs.Dealing.{GivesInTurn, count_all}
-use Rattle.aio_places.proofs.rows.gather.Given as goal
+use Rattle.aio_jobs.specs.Dealing.{GivesInTurn, count_all}
+use Rattle.aio_jobs.proofs.rows.gather.Given as goal
 
 -- whatever the rows that are left still give comes behind what was taken
 abbrev pub invariant-loop-next : goal.invariant-loop-next

@@ -1,6 +1,6 @@
 use Rattle.std.proofs.Common.{◌≡◌, List, ◌++◌, length, vec_len}
-use Rattle.aio_places.specs.Dealing.{GivesInTurn, HaveShares}
-use Rattle.aio_places.proofs.rows.deal.Given as goal
+use Rattle.aio_jobs.specs.Dealing.{GivesInTurn, HaveShares}
+use Rattle.aio_jobs.proofs.rows.deal.Given as goal
 
 -- the rows give what was dealt so far, which stands behind what is left
 abbrev pub invariant-loop-last : goal.invariant-loop-last

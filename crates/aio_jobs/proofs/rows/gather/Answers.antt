@@ -1,7 +1,7 @@
 use Rattle.std.proofs.Common.{◌∷◌, [], ◌++◌, sym, ap, ◌∙◌, subst, append-nil, append_assoc}
-use Rattle.aio_places.specs.Dealing.{GivesInTurn}
-use Rattle.aio_places.proofs.Turns.{gives_one, one_less}
-use Rattle.aio_places.proofs.rows.gather.Goals as goal
+use Rattle.aio_jobs.specs.Dealing.{GivesInTurn}
+use Rattle.aio_jobs.proofs.Turns.{gives_one, one_less}
+use Rattle.aio_jobs.proofs.rows.gather.Goals as goal
 
 pub loop-next-preserved : goal.loop-next-preserved
 loop-next-preserved g c more gives =

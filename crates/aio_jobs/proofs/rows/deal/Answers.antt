@@ -1,6 +1,6 @@
 use Rattle.std.proofs.Common.{◌≡◌, ◌+◌, [], ◌∷◌, ◌++◌, length, sym, ap, ◌∙◌, subst, append-nil, append_assoc, arith, rules}
-use Rattle.aio_places.specs.Dealing.{HaveShares}
-use Rattle.aio_places.proofs.rows.deal.Goals as goal
+use Rattle.aio_jobs.specs.Dealing.{HaveShares}
+use Rattle.aio_jobs.proofs.rows.deal.Goals as goal
 
 pub loop-last-init : goal.loop-last-init
 loop-last-init g c = record {

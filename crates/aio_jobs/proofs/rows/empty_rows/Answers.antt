@@ -1,6 +1,6 @@
 use Rattle.std.proofs.Common.{◌≡◌, [], ◌∷◌, ◌++◌, length, sym, ap, ◌∙◌, subst, arith, length-append}
-use Rattle.aio_places.proofs.Turns.{HaveNone, none_have, none_more}
-use Rattle.aio_places.proofs.rows.empty_rows.Goals as goal
+use Rattle.aio_jobs.proofs.Turns.{HaveNone, none_have, none_more}
+use Rattle.aio_jobs.proofs.rows.empty_rows.Goals as goal
 
 pub loop-made-preserved : goal.loop-made-preserved
 loop-made-preserved g c =

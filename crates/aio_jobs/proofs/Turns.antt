@@ -4,7 +4,7 @@ use Rattle.std.specs.Prelude.{⊤, suc}
 use Rattle.std.proofs.Math.Nat.{lt_of_mul-lt-mul_right, suc-mul}
 use Rattle.std.specs.List.{AllByRecursion, AllZip}
 use Rattle.std.proofs.lemmas.List.{map-append}
-use Rattle.aio_places.specs.Dealing.{GivesInTurn, HaveShares, IsAtTurn, IsOver, count_all}
+use Rattle.aio_jobs.specs.Dealing.{GivesInTurn, HaveShares, IsAtTurn, IsOver, count_all}
 
 -- ## Rows behind a structure whose items they are
 

@@ -1,4 +1,4 @@
-//! The six devices of a relay, and what lends them.
+//! Six devices, and what lends them.
 
 use aio_base::{Clock, EventWait, Gate, Notify, Port, Spawner};
 
@@ -26,8 +26,8 @@ pub struct SixDevices<P, W, N, C, G, T> {
 pub trait Devices {
     ghost use Rattle.std.specs.Prelude.{◌≡◌};
     ghost use Rattle.std.specs.Borrow.{sem};
-    ghost use Rattle.aio_line.specs.Lending.{LendsSix};
-    ghost use Rattle.aio_line.specs.declared.kit.SixDevices.{SixDevices};
+    ghost use Rattle.aio_jobs.specs.Lending.{LendsSix};
+    ghost use Rattle.aio_jobs.specs.declared.kit.SixDevices.{SixDevices};
 
     /// What hands out connections.
     type P: Port;

@@ -1,7 +1,7 @@
 use Rattle.std.proofs.Common.{length, sym, subst}
-use Rattle.aio_places.specs.Dealing.{HaveShares}
-use Rattle.aio_places.proofs.Turns.{shares_with_one}
-use Rattle.aio_places.proofs.rows.Rows.put_first.Goals as goal
+use Rattle.aio_jobs.specs.Dealing.{HaveShares}
+use Rattle.aio_jobs.proofs.Turns.{shares_with_one}
+use Rattle.aio_jobs.proofs.rows.Rows.put_first.Goals as goal
 
 pub returns-clause-shares : goal.returns-clause-shares
 returns-clause-shares g c total have = shares_with_one (λ row. row.items) c.self.inside.rows.items c.pop_back.new.self.items c.in-Some.row c.push_front.new.self
