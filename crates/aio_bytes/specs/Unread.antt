@@ -1,5 +1,5 @@
 -- What is unread of a source, with the bytes that lie ahead of it, and what is found next of that.
-use Rattle.std.specs.Prelude.{◌≡◌, ℕ, ◌+◌, ◌-◌, ◌≤◌, List, [], ◌∷◌, ◌++◌, length, take, Option, None, Some, Result, Ok, Err}
+use Rattle.std.specs.Prelude.{◌≡◌, ℕ, ◌+◌, ◌-◌, ◌≤◌, List, [], ◌∷◌, ◌++◌, length, take, Option, Some, Result, Ok, Err}
 use Rattle.std.specs.Io.KnownBytes.{IsAtEnd}
 use Rattle.aio_base.specs.Trace.{lines_of}
 use Rattle.aio_bytes.specs.Held.{HasNoLineFeed}
@@ -50,6 +50,10 @@ Finds next.End told line ahead unread = (unread ≡ []) × (told ≡ Some [])
 abbrev pub FindsNext : {E : Type 0} → Result Next E → Option (List ℕ) → List ℕ → List ℕ → List ℕ → Type 0
 FindsNext (Ok found) told line ahead unread = Finds found told line ahead unread
 FindsNext (Err e) told line ahead unread = LeavesAllBut 257 told unread
+
+-- what was unread still is: no byte of it is lost
+abbrev pub KeepsUnread : (told_old told_new : Option (List ℕ)) → (ahead_old ahead_new : List ℕ) → Type 0
+KeepsUnread told_old told_new ahead_old ahead_new = (unread : List ℕ) → Unread told_old ahead_old unread → Unread told_new ahead_new unread
 
 -- what is found next, whatever a source has left behind these bytes that lay ahead
 abbrev pub FindsAhead : Next → List ℕ → List ℕ → List ℕ → Type 0

@@ -1,12 +1,12 @@
 //! A reader of the lines of a source, which holds a bounded number of bytes of it.
 
-ghost use Rattle.std.specs.Prelude.{◌≡◌, ◌≢◌, ◌+◌, ◌-◌, ◌<◌, ◌≤◌, ◌==◌, ◌++◌, ◌∷◌, [], ◌↔◌, length, take, drop, slice_range, position, IsTrue, IsErr, IfOk, IfSome, None, OnErr};
+ghost use Rattle.std.specs.Prelude.{◌≡◌, ◌≢◌, ℕ, List, ◌+◌, ◌-◌, ◌<◌, ◌≤◌, ◌==◌, ◌++◌, ◌∷◌, [], ◌↔◌, length, take, drop, slice_range, position, IsTrue, IsErr, IfOk, IfSome, None, OnErr};
 ghost use Rattle.std.specs.List.{position_or_len};
 ghost use Rattle.std.specs.Bool.{OnTrue, OnFalse};
 ghost use Rattle.std.specs.Io.KnownBytes.{Keeps, ReadConsumes};
 ghost use Rattle.aio_base.specs.Devices.{TellsFaults};
 ghost use Rattle.aio_bytes.specs.Held.{HasNoLineFeed, PutsAhead, with_bytes};
-ghost use Rattle.aio_bytes.specs.Unread.{FindsAhead, FindsLast};
+ghost use Rattle.aio_bytes.specs.Unread.{FindsAhead, FindsLast, FindsNext, KeepsUnread, Unread};
 
 use crate::traits::Source;
 use aio_base::Failed;
@@ -118,6 +118,53 @@ impl LineReader {
             return Some(Next::Long);
         }
         None
+    }
+
+    /// Finds the next line of a source, or its end, or the first bytes of a line that is too long; more
+    /// of the source is read only where no line lies ahead. `Failed` only where the source failed: then
+    /// no byte is lost, and the next call goes on with the line that this one looked for. It takes no
+    /// memory, and waits only where a read of the source does.
+    pub fn next<S: Source>(&mut self, source: &mut S) -> Result<Next, Failed>
+        ensures found { (unread : List ℕ)
+            → Unread (S.remaining source.old) self.old.ahead unread
+            → FindsNext result (S.remaining source.new) self.new.line self.new.ahead unread }
+        ensures kept { OnErr result (KeepsUnread (S.remaining source.old)
+            (S.remaining source.new) self.old.ahead self.new.ahead) }
+        ensures unasked { (HasNoLineFeed self.old.ahead → ⊥) → source.new ≡ source.old }
+        ensures bound { length self.new.ahead ≤ LONGEST }
+        ensures faults { TellsFaults S.Faults.fault_count S.Faults.is_sure
+            source.old source.new (IsErr result) }
+    {
+        match self.next_ahead() {
+            Some(next) => Ok(next),
+            None => self.read_next(source),
+        }
+    }
+
+    /// The same where no line lies ahead: more is read until there is one.
+    fn read_next<S: Source>(&mut self, source: &mut S) -> Result<Next, Failed>
+        requires room { length self.old.ahead < LONGEST }
+        requires no_line { HasNoLineFeed self.old.ahead }
+        ensures found { (unread : List ℕ)
+            → Unread (S.remaining source.old) self.old.ahead unread
+            → FindsNext result (S.remaining source.new) self.new.line self.new.ahead unread }
+        ensures kept { OnErr result (KeepsUnread (S.remaining source.old)
+            (S.remaining source.new) self.old.ahead self.new.ahead) }
+        ensures bound { length self.new.ahead ≤ LONGEST }
+        ensures faults { TellsFaults S.Faults.fault_count S.Faults.is_sure
+            source.old source.new (IsErr result) }
+    {
+        loop {
+            match self.read(source) {
+                Ok(0) => return Ok(self.last()),
+                Ok(_) => {}
+                Err(failed) => return Err(failed),
+            }
+            match self.next_ahead() {
+                Some(next) => return Ok(next),
+                None => {}
+            }
+        }
     }
 
     /// What is found at the end of the source: the bytes ahead, which become the last line, or
