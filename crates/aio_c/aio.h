@@ -96,6 +96,7 @@ struct aio_ask_answer {
     bool arms;
     bool read;
     bool write;
+    bool priority;
 };
 
 /* A core with nothing registered; false where memory ran out, and `out` is as it was. */
@@ -119,6 +120,15 @@ uint32_t aio_step(struct aio_handle h, struct aio_handle *out, uint64_t listener
 struct aio_ask_answer aio_step_asks(struct aio_handle h, struct aio_handle *out, uint64_t listener);
 uint32_t aio_unlisten(struct aio_handle h, struct aio_handle *out, uint64_t listener);
 
+/* The same for urgent readiness, a third direction of each source. Of a source whose urgent
+ * readiness is neither polled nor listened for, no call asks it of the poller. */
+struct aio_poll_answer aio_poll_priority(struct aio_handle h, struct aio_handle *out,
+    uint32_t key, uint32_t waker);
+struct aio_ask_answer aio_poll_priority_asks(struct aio_handle h, struct aio_handle *out,
+    uint32_t key);
+struct aio_number_answer aio_listen_priority(struct aio_handle h, struct aio_handle *out,
+    uint32_t key);
+
 /* A round: begin, the system's wait, aio_give for each of its events, aio_wait, aio_handle until
  * nothing is in hand, finish, and the wakers, each to be woken. */
 uint64_t aio_ticker(struct aio_handle h, struct aio_handle *out);
@@ -135,11 +145,14 @@ struct aio_number_answer aio_insert_timer(struct aio_handle h, struct aio_handle
     uint64_t at, uint32_t waker);
 uint32_t aio_remove_timer(struct aio_handle h, struct aio_handle *out, uint64_t at, uint64_t id);
 
-/* What the system's poller answered: an event; a failure of the next call of a kind (0 a
- * registration, 1 an arm, 2 a removal, 3 a wait); a wait that was interrupted. A failure stays due
- * until the poller in memory is asked for such a call: where the call that follows is refused, or
- * asks for none, the next one that asks takes it, of whatever source. */
+/* What the system's poller answered: an event, without urgent readiness or with it; a failure of
+ * the next call of a kind (0 a registration, 1 an arm, 2 a removal, 3 a wait); a wait that was
+ * interrupted. A failure stays due until the poller in memory is asked for such a call: where the
+ * call that follows is refused, or asks for none, the next one that asks takes it, of whatever
+ * source. */
 uint32_t aio_give(struct aio_handle h, struct aio_handle *out, uint32_t key, bool read, bool write);
+uint32_t aio_give_priority(struct aio_handle h, struct aio_handle *out, uint32_t key, bool read,
+    bool write);
 void aio_fail_next(struct aio_handle h, struct aio_handle *out, uint32_t kind);
 void aio_interrupt_next(struct aio_handle h, struct aio_handle *out);
 

@@ -73,6 +73,8 @@ pub(super) struct AskAnswer {
     pub arms: bool,
     pub read: bool,
     pub write: bool,
+    /// Urgent readiness, which no call of this reactor waits for.
+    pub priority: bool,
 }
 
 extern "C" {

@@ -680,6 +680,7 @@ impl Source {
     }
 
     fn modify(&self, asked: &AskAnswer) -> io::Result<()> {
+        debug_assert!(!asked.priority, "nobody waits for urgent readiness");
         let mut event = Event::none(self.place.load(Ordering::SeqCst) as usize);
         event.readable = asked.read;
         event.writable = asked.write;

@@ -134,11 +134,12 @@ abbrev pub no_id : NumberAnswer
 no_id = record { code = 18; number = 0 }
 
 abbrev pub ask_answer : Option Interest → AskAnswer
-ask_answer None = record { arms = false; read = false; write = false }
-ask_answer (Some on) = record { arms = true; read = on.read; write = on.write }
+ask_answer None = record { arms = false; read = false; write = false; priority = false }
+ask_answer (Some on) = record { arms = true; read = on.read; write = on.write; priority = on.priority }
 
 -- ## Arguments
 
+-- the direction of a call for reading and writing
 abbrev pub dir_of : Bool → Dir
 dir_of false = Read
 dir_of true = Write

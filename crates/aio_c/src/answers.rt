@@ -85,6 +85,7 @@ pub struct AskAnswer {
     pub arms: bool,
     pub read: bool,
     pub write: bool,
+    pub priority: bool,
 }
 
 /// The code of a refusal, from 3 on.
@@ -324,16 +325,18 @@ pub(crate) fn ask_answer(told: Option<Interest>) -> AskAnswer
             arms: false,
             read: false,
             write: false,
+            priority: false,
         },
         Some(on) => AskAnswer {
             arms: true,
             read: on.read,
             write: on.write,
+            priority: on.priority,
         },
     }
 }
 
-/// The direction that is meant: writability where `write` says so.
+/// The direction that is meant, of reading and writing: writability where `write` says so.
 pub(crate) fn dir_of(write: bool) -> Dir
     ensures { result ≡ dir_of write }
 {

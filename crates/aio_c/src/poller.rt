@@ -9,7 +9,18 @@ use crate::Handle;
 use crate::answers::{memory_code, which_of};
 use aio_base::{Event, Interest, Key};
 
-/// An event of the system's poller, for the next wait.
+/// Tells the poller in memory an event of this source.
+fn give(h: Handle, out: &mut Handle, event: Event) -> u32
+    ensures { Crossed memory_code
+        (λ told. GivePromises h.home.core event told out.new.home.core) result }
+{
+    let mut held = h.open();
+    let told = held.core.poller().give(event);
+    *out = Handle::close(held);
+    memory_code(told)
+}
+
+/// An event of the system's poller without urgent readiness, for the next wait.
 #[unsafe(no_mangle)]
 pub extern "C" fn aio_give(h: Handle, out: &mut Handle, key: u32, read: bool, write: bool) -> u32
     ensures { Crossed memory_code (λ told. GivePromises h.home.core (record {
@@ -17,18 +28,40 @@ pub extern "C" fn aio_give(h: Handle, out: &mut Handle, key: u32, read: bool, wr
       on = record { read = read; write = write; priority = false };
     }) told out.new.home.core) result }
 {
-    let mut held = h.open();
     let event = Event {
         key: Key(key),
         on: Interest {
             read,
             write,
-            priority: false,
+            ..Interest::NONE
         },
     };
-    let told = held.core.poller().give(event);
-    *out = Handle::close(held);
-    memory_code(told)
+    give(h, out, event)
+}
+
+/// An event of the system's poller that tells urgent readiness, and of these directions too.
+#[unsafe(no_mangle)]
+pub extern "C" fn aio_give_priority(
+    h: Handle,
+    out: &mut Handle,
+    key: u32,
+    read: bool,
+    write: bool,
+) -> u32
+    ensures { Crossed memory_code (λ told. GivePromises h.home.core (record {
+      key = record { 0 = key };
+      on = record { read = read; write = write; priority = true };
+    }) told out.new.home.core) result }
+{
+    let event = Event {
+        key: Key(key),
+        on: Interest {
+            read,
+            write,
+            ..Interest::PRIORITY
+        },
+    };
+    give(h, out, event)
 }
 
 /// The next call of this kind of the poller fails, as the system's did: 0 for a registration, 1

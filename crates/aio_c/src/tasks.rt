@@ -1,6 +1,7 @@
 //! Tasks wait for the sources: poll waiters and listeners.
 
 ghost use Rattle.std.specs.Prelude.{◌≡◌, Some};
+ghost use Rattle.aio_base.specs.declared.names.Dir.TheVariants.{Priority};
 ghost use Rattle.aio_base.specs.declared.names.Waker.{Waker as Task};
 ghost use Rattle.aio_listen.specs.declared.ticket.Ticket.{Ticket};
 ghost use Rattle.aio_react.specs.Asking.{asked_of, poll_part, step_part_of};
@@ -15,9 +16,9 @@ use crate::answers::{
     AskAnswer, NumberAnswer, PollAnswer, ask_answer, dir_of, done_code, listener_answer,
     poll_answer, step_code,
 };
-use aio_base::{Key, Waker};
+use aio_base::{Dir, Key, Waker};
 
-/// Polls a direction of a source with a waker.
+/// Polls whether a source is readable, or writable where `write` says so, with a waker.
 #[unsafe(no_mangle)]
 pub extern "C" fn aio_poll(
     h: Handle,
@@ -48,7 +49,32 @@ pub extern "C" fn aio_poll_asks(h: Handle, out: &mut Handle, key: u32, write: bo
     ask_answer(asked)
 }
 
-/// A new listener of a direction of a source.
+/// Polls whether a source is urgently ready, with a waker.
+#[unsafe(no_mangle)]
+pub extern "C" fn aio_poll_priority(h: Handle, out: &mut Handle, key: u32, waker: u32) -> PollAnswer
+    ensures { Crossed poll_answer (λ told. PollPromises h.home.core (record { 0 = key })
+        Priority (record { 0 = waker }) told out.new.home.core) result }
+{
+    let mut held = h.open();
+    let told = held.core.poll(Key(key), Dir::Priority, Waker(waker));
+    *out = Handle::close(held);
+    poll_answer(told)
+}
+
+/// What `aio_poll_priority` would ask of the poller now.
+#[unsafe(no_mangle)]
+pub extern "C" fn aio_poll_priority_asks(h: Handle, out: &mut Handle, key: u32) -> AskAnswer
+    ensures asks { (w : Task) → result
+        ≡ ask_answer (asked_of (poll_part h.home.core.1 key Priority w)) }
+    ensures same { out.new.home ≡ h.home }
+{
+    let held = h.open();
+    let asked = held.core.poll_asks(Key(key), Dir::Priority);
+    *out = Handle::close(held);
+    ask_answer(asked)
+}
+
+/// A new listener of a source for reading, or for writing where `write` says so.
 #[unsafe(no_mangle)]
 pub extern "C" fn aio_listen(h: Handle, out: &mut Handle, key: u32, write: bool) -> NumberAnswer
     ensures { Crossed listener_answer (λ told. ListenPromises h.home.core (record { 0 = key })
@@ -56,6 +82,18 @@ pub extern "C" fn aio_listen(h: Handle, out: &mut Handle, key: u32, write: bool)
 {
     let mut held = h.open();
     let told = held.core.listen(Key(key), dir_of(write));
+    *out = Handle::close(held);
+    listener_answer(told)
+}
+
+/// A new listener of a source for urgent readiness.
+#[unsafe(no_mangle)]
+pub extern "C" fn aio_listen_priority(h: Handle, out: &mut Handle, key: u32) -> NumberAnswer
+    ensures { Crossed listener_answer (λ told. ListenPromises h.home.core (record { 0 = key })
+        Priority told out.new.home.core) result }
+{
+    let mut held = h.open();
+    let told = held.core.listen(Key(key), Dir::Priority);
     *out = Handle::close(held);
     listener_answer(told)
 }

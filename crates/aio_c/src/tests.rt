@@ -1,10 +1,10 @@
 //! A walk through the exports, as a program outside of Rattle calls them.
 
 use crate::held::Held;
-use crate::poller::aio_give;
+use crate::poller::{aio_give, aio_give_priority};
 use crate::rounds::{aio_begin, aio_finish, aio_handle, aio_ticker, aio_wait, aio_woken};
 use crate::sources::{aio_add, aio_del, aio_live};
-use crate::tasks::aio_poll;
+use crate::tasks::{aio_listen_priority, aio_poll, aio_poll_priority, aio_poll_priority_asks};
 use crate::timers::{aio_insert_timer, aio_remove_timer};
 use crate::{Handle, aio_free, aio_new};
 use aio_react::Core;
@@ -20,10 +20,14 @@ enum Call {
     Del(u32),
     Live(u32),
     Poll(u32, u32),
+    PollWrite(u32, u32),
+    PollPriority(u32, u32),
+    ListenPriority(u32),
     Insert(u64, u32),
     Remove(u64, u64),
     Begin(u64),
     Give(u32),
+    GiveAll(u32),
     Wait,
     Handle,
     Finish(u64),
@@ -73,12 +77,19 @@ fn answer(h: Handle, out: &mut Handle, call: Call) -> Told {
         Call::Del(key) => Told(aio_del(h, out, key), 0),
         Call::Live(key) => Told(0, aio_live(h, out, key) as u64),
         Call::Poll(key, waker) => Told(aio_poll(h, out, key, false, waker).code, 0),
+        Call::PollWrite(key, waker) => Told(aio_poll(h, out, key, true, waker).code, 0),
+        Call::PollPriority(key, waker) => Told(aio_poll_priority(h, out, key, waker).code, 0),
+        Call::ListenPriority(key) => {
+            let listener = aio_listen_priority(h, out, key);
+            Told(listener.code, listener.number)
+        }
         Call::Insert(at, waker) => {
             let timer = aio_insert_timer(h, out, at, waker);
             Told(timer.code, timer.number)
         }
         Call::Remove(at, id) => Told(aio_remove_timer(h, out, at, id), 0),
         Call::Give(key) => Told(aio_give(h, out, key, true, false), 0),
+        Call::GiveAll(key) => Told(aio_give_priority(h, out, key, true, true), 0),
         round => answer_in_a_round(h, out, round),
     }
 }
@@ -140,5 +151,46 @@ fn calls_go_through_a_round(rt: HostRuntime) -> Result<(), Fail> {
     aio_woken(ended, &mut next, &mut wakers);
     assert_eq!(rt; wakers, [9, 7, 0]);
     aio_free(walked(&rt, rt.alloc(), next, AN_END)?);
+    Ok(())
+}
+
+/// One event of a source for which three tasks wait, one in each direction.
+const THREE_WAIT: &[(Call, Told)] = &[
+    (Call::Add, Told(0, 0)),
+    (Call::PollPriority(0, 3), Told(0, 0)),
+    (Call::Poll(0, 1), Told(0, 0)),
+    (Call::PollWrite(0, 2), Told(0, 0)),
+    (Call::Begin(0), Told(0, 1)),
+    (Call::GiveAll(0), Told(0, 0)),
+    (Call::Wait, Told(0, 1)),
+    (Call::Handle, Told(0, 0)),
+    (Call::Finish(0), Told(0, 3)),
+];
+
+/// The source is urgently ready once.
+const READY_ONCE: &[(Call, Told)] = &[
+    (Call::PollPriority(0, 3), Told(1, 0)),
+    (Call::ListenPriority(0), Told(0, 1)),
+    (Call::ListenPriority(1), Told(9, 0)),
+];
+
+/// What the next poll for urgent readiness would ask: urgent readiness alone.
+fn asks_for_priority_alone(rt: &impl Abort, h: Handle, out: &mut Handle) {
+    let asked = aio_poll_priority_asks(h, out, 0);
+    let told = [asked.arms, asked.read, asked.write, asked.priority];
+    assert_eq!(rt; told, [true, false, false, true]);
+}
+
+#[test]
+fn urgent_readiness_is_woken_last_and_asked_for(rt: HostRuntime) -> Result<(), Fail> {
+    let ended = walked(&rt, rt.alloc(), spare(rt.alloc())?, THREE_WAIT)?;
+    let mut next = spare(rt.alloc())?;
+    let mut wakers: [u32; 3] = [0; 3];
+    aio_woken(ended, &mut next, &mut wakers);
+    assert_eq!(rt; wakers, [2, 1, 3]);
+    let ready = walked(&rt, rt.alloc(), next, READY_ONCE)?;
+    let mut last = spare(rt.alloc())?;
+    asks_for_priority_alone(&rt, ready, &mut last);
+    aio_free(last);
     Ok(())
 }

@@ -15,7 +15,7 @@ use std::process::Abort;
 enum Act {
     /// Adds it under key 5.
     Add,
-    /// Arms both directions.
+    /// Arms it for reading and writing.
     Arm,
     /// Takes it out again.
     Remove,

@@ -277,6 +277,12 @@ fn a_wait_gives_each_event_and_ends_by_a_notify_or_its_limit(rt: HostRuntime) {
     }
 }
 
+/// Urgent readiness beside reading.
+const URGENT_READING: Interest = Interest {
+    priority: true,
+    ..Interest::READ
+};
+
 /// Arms, reads and writes.
 const CONNECTIONS: &[Row] = &[
     Row {
@@ -298,6 +304,29 @@ const CONNECTIONS: &[Row] = &[
             (Wait(LONG), Event(4_095, Interest::WRITE)),
             (Arm(4_095, Interest::READ_WRITE), Done),
             (Wait(LONG), Event(4_095, Interest::READ_WRITE)),
+        ],
+    },
+    Row {
+        shows: "for urgent readiness alone the system is not asked",
+        acts: &[
+            (Send(1), Done),
+            (Watch(7, Interest::PRIORITY), Done),
+            (Wait(Some(0)), Nothing),
+            (Remove(7), Done),
+            (Faults, Number(0)),
+        ],
+    },
+    Row {
+        shows: "beside reading and writing the system is not asked for it either",
+        acts: &[
+            (Send(1), Done),
+            (Watch(7, URGENT_READING), Done),
+            (Wait(LONG), Event(7, Interest::READ)),
+            (Arm(7, Interest::PRIORITY), Done),
+            (Wait(Some(0)), Nothing),
+            (Arm(7, Interest::ALL), Done),
+            (Wait(LONG), Event(7, Interest::READ_WRITE)),
+            (Faults, Number(0)),
         ],
     },
     Row {

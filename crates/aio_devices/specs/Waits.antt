@@ -8,14 +8,14 @@ use Rattle.aio_base.specs.declared.outcomes.Waited.{Waited}
 use Rattle.aio_base.specs.declared.outcomes.Waited.TheVariants.{Given}
 use Rattle.aio_devices.specs.Scripts.{ScriptValue, after_call, is_next_failing}
 
--- an event of both directions
-abbrev pub both_of : ℕ → Event
-both_of key = record { key = record { 0 = key }; on = READ_WRITE }
+-- an event of reading and writing, without urgent readiness
+abbrev pub read_write_of : ℕ → Event
+read_write_of key = record { key = record { 0 = key }; on = READ_WRITE }
 
--- an event of both directions for each of the first keys, in order
+-- such an event for each of the first keys, in order
 abbrev pub key_events : ℕ → List Event
 key_events zero = []
-key_events (suc n) = key_events n ++ both_of n ∷ []
+key_events (suc n) = key_events n ++ read_write_of n ∷ []
 
 -- for how many keys a wait gives events, and how many waits there were
 pub record KeyWaits : Type 0 where

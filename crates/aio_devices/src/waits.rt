@@ -8,8 +8,8 @@ use crate::script::Script;
 use aio_base::{Event, EventWait, Failed, Faults, Interest, Key, Waited};
 use std::marker::Model;
 
-/// Adds an event of both directions for each of the first keys, as many as there is room for. How many it
-/// added.
+/// Adds an event of reading and writing for each of the first keys, as many as there is room for. How many
+/// it added.
 fn give_keys(out: &mut Vec<Event>, keys: u32, room: u32) -> u32
     requires { vec_len out.old + room ≤ vec_capacity out.old }
     ensures count { result ≡ min keys room }
@@ -26,8 +26,9 @@ fn give_keys(out: &mut Vec<Event>, keys: u32, room: u32) -> u32
     count
 }
 
-/// A half of a poller of which each wait gives one event of both directions for each of its keys, from 0
-/// on: only the first of these where there is room for no more. No wait ever fails.
+/// A half of a poller of which each wait gives one event of reading and writing, without urgent readiness,
+/// for each of its keys, from 0 on: only the first of these where there is room for no more. No wait ever
+/// fails.
 #[derive(Clone, Copy, Debug, PartialEq, Eq)]
 pub struct MemWait {
     keys: u32,

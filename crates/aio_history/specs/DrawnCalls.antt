@@ -12,7 +12,7 @@ pub record Drawing : Type 0 where
   pub after : ℕ
 
 -- The call that follows a state. Each place of it is a draw of its own: the source, the kind, and then of an event its round, of a poll its direction
--- and its waker. One call of four is an event of both directions.
+-- and its waker. One call of four is an event of reading and writing.
 abbrev pub call_drawn : ℕ → Drawing
 call_drawn state =
     let cell = draw 0 state % 8 in

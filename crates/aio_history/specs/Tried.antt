@@ -36,7 +36,7 @@ abbrev pub wrong_pasts : List (List CellStep)
 wrong_pasts =
     -- ready without an event
     (goes_on Read 1 0 ∷ waits Read 1 0 ∷ [])
-    -- ready by an event of the other direction
+    -- ready by an event of another direction
     ∷ (goes_on Write 1 0 ∷ step.Handle reading 1 1 ∷ waits Write 2 0 ∷ waits Read 1 0 ∷ [])
     -- ready by a round that had begun before the poll
     ∷ (goes_on Read 1 3 ∷ step.Handle reading 3 1 ∷ waits Read 1 3 ∷ [])

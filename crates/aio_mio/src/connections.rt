@@ -110,7 +110,8 @@ impl MioConn {
     }
 
     /// Registers the stream under its key, or registers it again, by which the system tells anew what is
-    /// ready. The system is not asked for no direction. An error leaves what it watches as it was.
+    /// ready. The system is asked to watch for reading and writing alone, and not asked for neither. An
+    /// error leaves what it watches as it was.
     fn register(&mut self, on: Interest) -> io::Result<()>
         ensures watched { OnOk result (self.new.watched ≡ watched_after self.old.watched on) }
         ensures stays { OnErr result (self.new.watched ≡ self.old.watched) }
@@ -235,7 +236,8 @@ impl Arm for MioConn {
     }
 
     /// Registers the stream at the first call, and again at each later one, so that the system tells what
-    /// is ready by then. For an interest of no direction it is not asked, and goes on to watch as before.
+    /// is ready by then. For urgent readiness it is never asked. For an interest without reading and
+    /// writing it is not asked at all, and goes on to watch as before.
     fn arm(&mut self, key: Key, on: Interest) -> Result<(), Failed> {
         if key != self.key {
             self.take_key(key);

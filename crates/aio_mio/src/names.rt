@@ -14,7 +14,8 @@ pub(crate) fn token_of(key: Key) -> Token {
     Token(key.0 as usize)
 }
 
-/// What the system is asked to watch for an interest; it cannot be asked to watch for no direction.
+/// What the system is asked to watch for an interest: reading and writing, and never urgent readiness. It
+/// cannot be asked to watch for no direction.
 pub(crate) fn watch_of(on: Interest) -> Option<mio::Interest>
     ensures { Watches on result }
 {
@@ -26,8 +27,8 @@ pub(crate) fn watch_of(on: Interest) -> Option<mio::Interest>
     }
 }
 
-/// The event of a source. A direction is named for its end and for an error as well, of which a read or a
-/// write then tells. What names no source, as the waker does, is `None`.
+/// The event of a source, which tells no urgent readiness. A direction is named for its end and for an error
+/// as well, of which a read or a write then tells. What names no source, as the waker does, is `None`.
 pub(crate) fn source_event(event: &mio::event::Event) -> Option<Event>
     ensures { result ≡ source_event event.now }
 {

@@ -6,7 +6,7 @@
 //! event of a source that is watched for the direction. A call that is answered without the system is
 //! followed by a poll, and an arm makes the system tell anew what is ready.
 
-use aio_base::{Dir, Interest, Key, OutOfMemory};
+use aio_base::{DIRS, Dir, Interest, Key, OutOfMemory};
 use std::alloc::Global;
 use std::sync::atomic::{AtomicBool, Ordering};
 
@@ -24,20 +24,19 @@ fn place_of(key: Key) -> usize {
     }
 }
 
-/// Whether each direction of one source may be ready.
+/// Whether each direction of one source may be ready. Urgent readiness has no flag, since no event tells it.
 #[derive(Drop)]
 struct Flags {
     read: AtomicBool,
     write: AtomicBool,
-    priority: AtomicBool,
 }
 
 impl Flags {
-    fn of(&self, dir: Dir) -> &AtomicBool {
+    fn of(&self, dir: Dir) -> Option<&AtomicBool> {
         match dir {
-            Dir::Read => &self.read,
-            Dir::Write => &self.write,
-            Dir::Priority => &self.priority,
+            Dir::Read => Some(&self.read),
+            Dir::Write => Some(&self.write),
+            Dir::Priority => None,
         }
     }
 }
@@ -58,7 +57,6 @@ impl Readiness {
             let of_one = Flags {
                 read: AtomicBool::new(true),
                 write: AtomicBool::new(true),
-                priority: AtomicBool::new(true),
             };
             if flags.push(of_one).is_err() {
                 return Err(OutOfMemory);
@@ -67,29 +65,33 @@ impl Readiness {
         Ok(Readiness { flags })
     }
 
+    /// The flag of a direction, where it has one.
+    fn flag(&self, key: Key, dir: Dir) -> Option<&AtomicBool> {
+        self.flags.get(place_of(key))?.of(dir)
+    }
+
     /// A direction may be ready from now on.
     pub(crate) fn set(&self, key: Key, dir: Dir) {
-        if let Some(flags) = self.flags.get(place_of(key)) {
-            flags.of(dir).store(true, Ordering::SeqCst);
+        if let Some(flag) = self.flag(key, dir) {
+            flag.store(true, Ordering::SeqCst);
         }
     }
 
     /// These directions may be ready from now on.
     pub(crate) fn set_all(&self, key: Key, on: Interest) {
-        if on.read {
-            self.set(key, Dir::Read);
-        }
-        if on.write {
-            self.set(key, Dir::Write);
+        for dir in DIRS {
+            if on.has(dir) {
+                self.set(key, dir);
+            }
         }
     }
 
     /// Whether a direction may be ready, which is asked once: then it is not, until it is set again. A key
-    /// beyond all sources is always ready.
+    /// beyond all sources and a direction without a flag are always ready.
     pub(crate) fn take(&self, key: Key, dir: Dir) -> bool {
-        match self.flags.get(place_of(key)) {
+        match self.flag(key, dir) {
             None => true,
-            Some(flags) => flags.of(dir).swap(false, Ordering::SeqCst),
+            Some(flag) => flag.swap(false, Ordering::SeqCst),
         }
     }
 }

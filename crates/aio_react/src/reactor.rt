@@ -21,8 +21,8 @@ use crate::listener_table::ListenerTable;
 use crate::refusals::CoreRefusal;
 use crate::round::Round;
 use aio_base::{
-    Event, EventWait, InsertRefusal, Key, Later, Moment, OutOfMemory, Poller, TimerHost, TimerId, Waited,
-    Waker,
+    Event, EventWait, InsertRefusal, Key, Later, Moment, OutOfMemory, Poller, TimerHost, TimerId,
+    Waited, Waker,
 };
 use aio_source::{InHand, KeyTable};
 use aio_timers::{TimerBook, TimerOp};

@@ -4,7 +4,7 @@
 ghost use Rattle.std.specs.Prelude.{◌≡◌};
 
 use crate::asserts::{MEMORY, same_in};
-use crate::tries::Act::{Event, Listen, PollReadable, PollWritable, Read, Write};
+use crate::tries::Act::{Event, Listen, PollPriority, PollReadable, PollWritable, Read, Write};
 use crate::tries::Came::{Failed, Other, Ready, Took, Waits, Went};
 use aio_base::{ArmFault, CountFault, Dir, Interest, Key, Waker};
 use aio_conns::{ENDS, MemConn, Peer, SILENT};
@@ -24,8 +24,10 @@ enum Act {
     PollReadable(u32),
     /// Polls whether it is writable, with this waker.
     PollWritable(u32),
-    /// Polls a new listener of the read direction, with this waker, and lets it go.
-    Listen(u32),
+    /// Polls whether it is urgently ready, with this waker.
+    PollPriority(u32),
+    /// Polls a new listener of a direction, with this waker, and lets it go.
+    Listen(Dir, u32),
     /// Handles an event of these directions in round 1.
     Event(Interest),
 }
@@ -111,16 +113,19 @@ pub(crate) fn listened(answer: Poll<Result<(), ListenRefusal>>) -> Came {
 }
 
 /// Polls a new listener. Letting it go leaves it in the source.
-fn listen(source: &mut Async<'_, MemConn>, waker: u32) -> Came {
-    let mut ready = aio_future::Ready::new(Dir::Read);
+fn listen(source: &mut Async<'_, MemConn>, dir: Dir, waker: u32) -> Came {
+    let mut ready = aio_future::Ready::new(dir);
     listened(ready.poll(source, Waker(waker)))
 }
 
 /// Handles an event of a source in round 1.
 pub(crate) fn handle(cell: &mut SourceCell<MemConn>, on: Interest, taken: &mut Vec<Waker>) -> Came {
     taken.clear();
-    let reads = cell.state.waiting(Dir::Read);
-    let waiting = cell.state.waiting(Dir::Write).saturating_add(reads);
+    let waiting = cell
+        .state
+        .waiting(Dir::Write)
+        .saturating_add(cell.state.waiting(Dir::Read))
+        .saturating_add(cell.state.waiting(Dir::Priority));
     if waiting as usize > taken.capacity() - taken.len() {
         return Other;
     }
@@ -145,7 +150,8 @@ fn comes_of(act: Act, cell: &mut SourceCell<MemConn>, taken: &mut Vec<Waker>) ->
         Write(text, waker) => write(&mut source, text, waker),
         PollReadable(waker) => polled(source.poll_readable(Waker(waker))),
         PollWritable(waker) => polled(source.poll_writable(Waker(waker))),
-        Listen(waker) => listen(&mut source, waker),
+        PollPriority(waker) => polled(source.poll_priority(Waker(waker))),
+        Listen(dir, waker) => listen(&mut source, dir, waker),
         Event(_) => Other,
     }
 }
@@ -330,17 +336,39 @@ const ROWS: &[Row] = &[
         shows: "a listener stays where its arm failed",
         peer: FIRST_ARM_FAILS,
         acts: &[
-            (Listen(1), Failed(TryFault::Arm(FIRST_ARM))),
+            (Listen(Dir::Read, 1), Failed(TryFault::Arm(FIRST_ARM))),
             (Event(Interest::READ), Took(Some(1))),
             (Event(Interest::READ), Took(None)),
+        ],
+    },
+    Row {
+        shows: "a poll of urgent readiness arms, and waits until an event of it",
+        peer: FIRST_ARM_FAILS,
+        acts: &[
+            (PollPriority(1), Failed(TryFault::Arm(FIRST_ARM))),
+            (PollPriority(1), Waits(None)),
+            (Event(Interest::READ_WRITE), Took(None)),
+            (PollPriority(1), Waits(None)),
+            (Event(Interest::PRIORITY), Took(Some(1))),
+            (PollPriority(1), Ready),
+            (PollPriority(1), Waits(None)),
+        ],
+    },
+    Row {
+        shows: "a listener of urgent readiness waits until an event of it",
+        peer: SILENT,
+        acts: &[
+            (Listen(Dir::Priority, 1), Waits(None)),
+            (Event(Interest::READ_WRITE), Took(None)),
+            (Event(Interest::PRIORITY), Took(Some(1))),
         ],
     },
     Row {
         shows: "a listener waits until an event of its direction",
         peer: SILENT,
         acts: &[
-            (Listen(1), Waits(None)),
-            (Listen(2), Waits(None)),
+            (Listen(Dir::Read, 1), Waits(None)),
+            (Listen(Dir::Read, 2), Waits(None)),
             (Event(Interest::WRITE), Took(None)),
             (Event(Interest::READ), Took(Some(1))),
             (Event(Interest::READ), Took(None)),

@@ -15,8 +15,8 @@ pub(crate) const KEY: Key = Key(7);
 pub(crate) enum Act {
     /// Polls a direction with this waker, while so many rounds have begun.
     Poll(Dir, u32, u64),
-    /// Polls the read direction for a new listener with this waker, while so many rounds have begun.
-    Listen(u32, u64),
+    /// Polls a direction for a new listener with this waker, while so many rounds have begun.
+    Listen(Dir, u32, u64),
     /// Polls it again for the listener before which so many came, with this waker.
     ListenAgain(usize, u32),
     /// Gives that listener up.
@@ -133,7 +133,7 @@ pub(crate) const THIRD_FAULT: ArmFault = ArmFault {
 pub(crate) struct Polling<A: Arm> {
     source: SourceState,
     arm: A,
-    listened: Vec<Listened>,
+    listened: Vec<(Dir, Listened)>,
     pub(crate) taken: Vec<Waker>,
 }
 
@@ -147,7 +147,8 @@ fn handle<A: Arm>(
 ) -> Option<Result<(), ArmFault>> {
     let waiting = source
         .waiting(Dir::Write)
-        .saturating_add(source.waiting(Dir::Read));
+        .saturating_add(source.waiting(Dir::Read))
+        .saturating_add(source.waiting(Dir::Priority));
     if waiting as usize > taken.capacity() - taken.len() {
         return None;
     }
@@ -162,10 +163,11 @@ fn handle<A: Arm>(
 fn listen<A: Arm>(
     source: &mut SourceState,
     arm: &mut A,
+    dir: Dir,
     waker: u32,
     ticker: u64,
 ) -> Option<(Listened, Option<ArmFault>)> {
-    match source.first_listen(arm, Dir::Read, Waker(waker), ticker) {
+    match source.first_listen(arm, dir, Waker(waker), ticker) {
         Ok(listened) => Some((listened, None)),
         Err(ListenRefusal::ArmFault { fault, listened }) => Some((listened, Some(fault))),
         Err(_) => None,
@@ -176,24 +178,25 @@ fn listen<A: Arm>(
 fn listen_again<A: Arm>(
     source: &mut SourceState,
     arm: &mut A,
+    dir: Dir,
     listened: Listened,
     waker: u32,
 ) -> Came {
-    if !source.holds(Dir::Read, listened.ticket) {
+    if !source.holds(dir, listened.ticket) {
         return Came::Gone;
     }
     Came::Polled(Polled {
-        answer: source.listen_again(arm, Dir::Read, listened, Waker(waker)),
+        answer: source.listen_again(arm, dir, listened, Waker(waker)),
         replaced: None,
     })
 }
 
 /// Gives a listener of a source up.
-fn unlisten(source: &mut SourceState, listened: Listened) -> Came {
-    if !source.holds(Dir::Read, listened.ticket) {
+fn unlisten(source: &mut SourceState, dir: Dir, listened: Listened) -> Came {
+    if !source.holds(dir, listened.ticket) {
         return Came::Gone;
     }
-    source.unlisten(Dir::Read, listened.ticket);
+    source.unlisten(dir, listened.ticket);
     Came::Done
 }
 
@@ -210,11 +213,12 @@ impl<A: Told + Drop> Polling<A> {
     }
 
     /// Polls for a new listener.
-    fn listen(&mut self, waker: u32, ticker: u64) -> Came {
-        let Some((listened, fault)) = listen(&mut self.source, &mut self.arm, waker, ticker) else {
+    fn listen(&mut self, dir: Dir, waker: u32, ticker: u64) -> Came {
+        let (source, arm) = (&mut self.source, &mut self.arm);
+        let Some((listened, fault)) = listen(source, arm, dir, waker, ticker) else {
             return Came::Other;
         };
-        match (self.listened.push(listened), fault) {
+        match (self.listened.push((dir, listened)), fault) {
             (Ok(()), None) => Came::Listened(listened.a, listened.b),
             (Ok(()), Some(fault)) => Came::Failed(fault),
             _ => Came::Other,
@@ -233,21 +237,21 @@ impl<A: Told + Drop> Polling<A> {
 
     /// Does this with the listener before which so many came.
     fn act_on(&mut self, index: usize, act: Act) -> Came {
-        let Some(listened) = self.listened.get(index) else {
+        let Some((dir, listened)) = self.listened.get(index).copied() else {
             return Came::Gone;
         };
         match act {
             Act::ListenAgain(_, waker) => {
-                listen_again(&mut self.source, &mut self.arm, *listened, waker)
+                listen_again(&mut self.source, &mut self.arm, dir, listened, waker)
             }
-            _ => unlisten(&mut self.source, *listened),
+            _ => unlisten(&mut self.source, dir, listened),
         }
     }
 
     /// Whether the listener before which so many came is there.
     fn holds(&self, index: usize) -> bool {
         match self.listened.get(index) {
-            Some(listened) => self.source.holds(Dir::Read, listened.ticket),
+            Some((dir, listened)) => self.source.holds(*dir, listened.ticket),
             None => false,
         }
     }
@@ -278,7 +282,7 @@ impl<A: Told + Drop> Polling<A> {
                     .poll_dir(&mut self.arm, dir, Waker(waker), ticker);
                 Came::Polled(polled)
             }
-            Act::Listen(waker, ticker) => self.listen(waker, ticker),
+            Act::Listen(dir, waker, ticker) => self.listen(dir, waker, ticker),
             Act::ListenAgain(index, _) | Act::Unlisten(index) => self.act_on(index, act),
             Act::Handle(on, round) => self.handle(on, round),
             Act::FailNext => {

@@ -27,6 +27,11 @@ const EMPTY: Event = Event {
     on: Interest::NONE,
 };
 
+const URGENT: Event = Event {
+    key: Key(3),
+    on: Interest::PRIORITY,
+};
+
 /// A key that no test adds.
 const STRANGER: Event = Event {
     key: Key(9),
@@ -63,6 +68,22 @@ const IN_ORDER: [(Act, Came); 9] = [
 #[test]
 fn events_come_in_order_and_clear_their_keys(rt: HostRuntime) {
     plays(&rt, rt.alloc(), &IN_ORDER, &[READABLE, WRITABLE], &[EMPTY]);
+}
+
+const OF_ALL_DIRECTIONS: [(Act, Came); 8] = [
+    (Add(3), Done),
+    (ArmFor(3, Interest::PRIORITY), Done),
+    (Armed(3), Is(Interest::PRIORITY)),
+    (ArmFor(3, Interest::ALL), Done),
+    (Armed(3), Is(Interest::ALL)),
+    (Give(URGENT), Done),
+    (Wait(1, None), Given(1)),
+    (Armed(3), Is(Interest::NONE)),
+];
+
+#[test]
+fn an_event_of_urgent_readiness_clears_all_directions_of_its_key(rt: HostRuntime) {
+    plays(&rt, rt.alloc(), &OF_ALL_DIRECTIONS, &[URGENT], &[]);
 }
 
 const STRANGERS: [(Act, Came); 6] = [

@@ -79,9 +79,9 @@ fn an_event_arms_what_still_waits(rt: HostRuntime) {
 }
 
 const LISTENS: [(Act, Came); 13] = [
-    (Listen(11, 4), Listened(4, 0)),
-    (Listen(12, 4), Listened(4, 0)),
-    (Listen(13, 4), Listened(4, 0)),
+    (Listen(Dir::Read, 11, 4), Listened(4, 0)),
+    (Listen(Dir::Read, 12, 4), Listened(4, 0)),
+    (Listen(Dir::Read, 13, 4), Listened(4, 0)),
     (Arms, Armed(1, Interest::READ)),
     (Unlisten(1), Done),
     (Unlisten(1), Gone),
@@ -110,7 +110,7 @@ const TELLS_A_FAILED_ARM: [(Act, Came); 14] = [
     (FailNext, Done),
     (Poll(Dir::Write, 2, 1), TOLD),
     (FailNext, Done),
-    (Listen(5, 1), Failed(THIRD_FAULT)),
+    (Listen(Dir::Read, 5, 1), Failed(THIRD_FAULT)),
     (Holds(0), Is(true)),
     (Look(Dir::Read), Looked(1, 1)),
     (Poll(Dir::Write, 2, 1), WAITS),
@@ -126,7 +126,7 @@ fn a_failed_arm_is_told_and_made_again(rt: HostRuntime) {
 // An event of no direction takes nobody, and arms what still waits. One of a later round takes the waker; one
 // of an earlier round lowers no tick.
 const LISTENS_TO_THE_POLLER: [(Act, Came); 11] = [
-    (Listen(11, 4), Listened(4, 0)),
+    (Listen(Dir::Read, 11, 4), Listened(4, 0)),
     (Arms, Armed(0, Interest::READ)),
     (Handle(Interest::NONE, 5), Done),
     (Taken, Count(0)),
@@ -164,6 +164,66 @@ const FAILS_BY_THE_POLLER: [(Act, Came); 6] = [
 fn a_failed_arm_keeps_the_taken_wakers(rt: HostRuntime) {
     let poller = ScriptPoller::new(rt.alloc()).expect(&rt, MEMORY);
     plays(&rt, rt.alloc(), poller, &FAILS_BY_THE_POLLER, &[Waker(1)]);
+}
+
+/// What is left of the directions once the waiter of reading is taken.
+const WITHOUT_READING: Interest = Interest {
+    priority: true,
+    ..Interest::WRITE
+};
+
+const ALL_THREE_WAIT: [(Act, Came); 10] = [
+    (Poll(Dir::Priority, 3, 0), WAITS),
+    (Poll(Dir::Read, 1, 0), WAITS),
+    (Poll(Dir::Write, 2, 0), WAITS),
+    (Arms, Armed(0, Interest::ALL)),
+    (Handle(Interest::READ, 1), Done),
+    (Arms, Armed(0, WITHOUT_READING)),
+    (Poll(Dir::Read, 1, 1), READY),
+    (Poll(Dir::Read, 1, 1), WAITS),
+    (Handle(Interest::ALL, 2), Done),
+    (Poll(Dir::Priority, 3, 2), READY),
+];
+
+#[test]
+fn an_event_leaves_the_waiters_of_other_directions_and_takes_urgent_ones_last(rt: HostRuntime) {
+    let poller = ScriptPoller::new(rt.alloc()).expect(&rt, MEMORY);
+    let taken = [Waker(1), Waker(2), Waker(1), Waker(3)];
+    plays(&rt, rt.alloc(), poller, &ALL_THREE_WAIT, &taken);
+}
+
+const LISTENS_FOR_PRIORITY: [(Act, Came); 7] = [
+    (Listen(Dir::Priority, 11, 4), Listened(4, 0)),
+    (Arms, Armed(0, Interest::PRIORITY)),
+    (Handle(Interest::READ_WRITE, 5), Done),
+    (Taken, Count(0)),
+    (Arms, Armed(0, Interest::PRIORITY)),
+    (Handle(Interest::PRIORITY, 6), Done),
+    (ListenAgain(0, 12), READY),
+];
+
+#[test]
+fn a_listener_waits_for_urgent_readiness(rt: HostRuntime) {
+    let poller = ScriptPoller::new(rt.alloc()).expect(&rt, MEMORY);
+    let rows = &LISTENS_FOR_PRIORITY;
+    plays(&rt, rt.alloc(), poller, rows, &[Waker(11)]);
+}
+
+const FAILS_WITH_PRIORITY_LEFT: [(Act, Came); 7] = [
+    (Poll(Dir::Read, 1, 0), WAITS),
+    (Poll(Dir::Priority, 3, 0), WAITS),
+    (FailNext, Done),
+    (Handle(Interest::READ, 1), Failed(FIRST_FAULT)),
+    (Asked, Came::Asked(Interest::NONE, true)),
+    (Poll(Dir::Priority, 3, 1), WAITS),
+    (Arms, Armed(0, Interest::PRIORITY)),
+];
+
+#[test]
+fn a_failed_arm_is_made_again_for_urgent_readiness_alone(rt: HostRuntime) {
+    let poller = ScriptPoller::new(rt.alloc()).expect(&rt, MEMORY);
+    let rows = &FAILS_WITH_PRIORITY_LEFT;
+    plays(&rt, rt.alloc(), poller, rows, &[Waker(1)]);
 }
 
 /// Takes what several threads may share, and lets it go.

@@ -28,7 +28,8 @@ fn handle<A: Arm>(
     let waiting = cell
         .state
         .waiting(Dir::Write)
-        .saturating_add(cell.state.waiting(Dir::Read));
+        .saturating_add(cell.state.waiting(Dir::Read))
+        .saturating_add(cell.state.waiting(Dir::Priority));
     assert!(rt; waiting as usize <= taken.capacity() - taken.len());
     let event = Event {
         key: cell.state.key(),

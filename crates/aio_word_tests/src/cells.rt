@@ -9,11 +9,7 @@ use aio_record::RecordedCell;
 use std::process::Abort;
 
 /// An event that names one direction.
-const READING: Interest = Interest {
-    read: true,
-    write: false,
-    priority: false,
-};
+const READING: Interest = Interest::READ;
 
 /// The greatest waker, and the greatest round or ticker.
 const LAST_WAKER: u32 = u32::MAX;
@@ -40,7 +36,7 @@ const HISTORIES: &[&[Told]] = &[
         Takes(READING, 1, 1),
         Waits(Dir::Read, 2, 1),
     ],
-    // An event of no direction takes nobody, and one of both takes both.
+    // An event of no direction takes nobody, and one of reading and writing takes both who wait for these.
     &[
         Waits(Dir::Read, 1, 0),
         Waits(Dir::Write, 2, 0),
@@ -72,6 +68,19 @@ const HISTORIES: &[&[Told]] = &[
         Waits(Dir::Read, 1, 0),
         Takes(READING, 8, 1),
         GoesOn(Dir::Read, 1, 0),
+    ],
+    // One event takes the waiters of all directions, and one of reading tells nothing of urgent readiness.
+    &[
+        Waits(Dir::Priority, 3, 0),
+        Waits(Dir::Read, 1, 0),
+        Waits(Dir::Write, 2, 0),
+        Takes(Interest::ALL, 1, 3),
+        GoesOn(Dir::Priority, 3, 1),
+        Waits(Dir::Priority, 3, 1),
+        Takes(READING, 2, 0),
+        Waits(Dir::Priority, 3, 2),
+        Takes(Interest::PRIORITY, 2, 1),
+        GoesOn(Dir::Priority, 3, 2),
     ],
     // The ends of the ranges.
     &[

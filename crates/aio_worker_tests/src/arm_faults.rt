@@ -23,7 +23,7 @@ fn gives_once(rt: &impl Abort, alloc: Global, key: u32, on: Interest) -> Scripte
 /// Two pairs of one worker.
 ///
 /// Side A of the first takes two bytes of a line and sends nothing: so its add, two reads, two writes and an
-/// arm for each direction come to seven calls, and then it waits in both directions. The eighth is the arm
+/// arm for each direction come to seven calls, and then it waits to read and to write. The eighth is the arm
 /// of a round that had an event of one of them. It fails, and so does the read after it.
 ///
 /// Side A of the second is blocked once. No event comes for it: its slot is woken for the fault alone.
