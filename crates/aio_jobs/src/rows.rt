@@ -32,6 +32,18 @@ impl<X: Drop> Rows<X> {
         }
     }
 
+    /// Rows with these items, in this order. `OutOfMemory` where there was no room for them; they are let go.
+    pub fn of(alloc: Global, rows: VecDeque<Vec<X>>) -> Result<Rows<X>, OutOfMemory>
+        ensures { IfOk result (λ made. made ≡ map (λ row. row.items) rows.items) }
+    {
+        let mut made = Rows::new(alloc);
+        let mut left = rows;
+        while let Some(row) = left.pop_front() {
+            made.add(VecDeque::from(row))?;
+        }
+        Ok(made)
+    }
+
     /// One more row, whose turn comes last. `OutOfMemory` where there is no room for it; it is let go.
     pub fn add(&mut self, row: VecDeque<X>) -> Result<(), OutOfMemory>
         ensures { OnOk result (self.new ≡ self.old ++ row.items ∷ []) }

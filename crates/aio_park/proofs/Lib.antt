@@ -6,3 +6,5 @@ pub mod Looking
 pub mod Asking
 pub mod Polling
 pub mod Turning
+pub mod Fellows
+pub mod Stops

@@ -5,3 +5,4 @@ pub mod Polls
 pub mod Groups
 pub mod Until
 pub mod Stopping
+pub mod Posts

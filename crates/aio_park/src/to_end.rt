@@ -1,13 +1,13 @@
 //! A task that a thread serves to its end, whatever its rounds fault.
 
-ghost use Rattle.std.specs.Prelude.{◌≡◌, false, ℕ, IfOk, IfErr};
+ghost use Rattle.std.specs.Prelude.{◌≡◌, false, ℕ, Ok, IfOk, IfErr};
 ghost use Rattle.aio_base.specs.Devices.{Rose};
 ghost use Rattle.aio_park.specs.Blocking.{IsPast};
 ghost use Rattle.aio_shared.specs.Inside.{IsLaterInside};
 ghost use Rattle.aio_park.specs.Stopping.{StopsFor};
 
 use crate::thread::Thread;
-use aio_base::{Arm, Clock, CountFault, Cx, EventWait, Notify, Poll, Task};
+use aio_base::{Arm, Clock, CountFault, Cx, EventWait, Notify, OutOfMemory, Poll, Task};
 use aio_shared::{Inside, ReactFault};
 use std::sync::Wait;
 
@@ -64,6 +64,63 @@ pub fn run_to_end<
         }
     }
     unreachable!()
+}
+
+/// Runs a task to its end as `run_to_end` does, where there was memory for it; and then, whatever came of
+/// it, wakes a slot of each other parker, so that one of them makes rounds in place of this thread. A
+/// fault of these wakes is passed over, as the slots are woken all the same.
+///
+/// # Errors
+///
+/// Those of `run_to_end`; and `OutOfMemory` where there was none for the task.
+pub fn run_then_hand_over<
+    R: Wait + Copy,
+    N: Notify,
+    C: Clock,
+    A: Arm,
+    W: EventWait,
+    T: Task<Inside<R, N, A, W>> + Drop,
+>(
+    thread: &mut Thread<R, N, A, W, C>,
+    task: Result<T, OutOfMemory>,
+) -> Result<T::Output, WorkerFault>
+    ensures output { IfOk result (λ output. (ran : T) × (task ≡ Ok ran)
+        × ((moment : ℕ) → IsPast (C.bounds thread.old.clock) moment
+        → T.gives ran (N.is_sure thread.old.host.member.notifier) moment output)) }
+    ensures cause { IfErr result (StopsFor thread.old.host.member.claim.sure_of_wait
+        (N.is_sure thread.old.host.member.notifier)) }
+    ensures later { IsLaterInside N.fault_count N.is_sure thread.old.host thread.new.host }
+    ensures parker { thread.new.parker ≡ thread.old.parker }
+{
+    let ended = run_made(thread, task);
+    let _passed_over = thread.hand_over();
+    ended
+}
+
+/// Runs a task to its end as `run_to_end` does, where there was memory for it.
+fn run_made<
+    R: Wait + Copy,
+    N: Notify,
+    C: Clock,
+    A: Arm,
+    W: EventWait,
+    T: Task<Inside<R, N, A, W>> + Drop,
+>(
+    thread: &mut Thread<R, N, A, W, C>,
+    task: Result<T, OutOfMemory>,
+) -> Result<T::Output, WorkerFault>
+    ensures output { IfOk result (λ output. (ran : T) × (task ≡ Ok ran)
+        × ((moment : ℕ) → IsPast (C.bounds thread.old.clock) moment
+        → T.gives ran (N.is_sure thread.old.host.member.notifier) moment output)) }
+    ensures cause { IfErr result (StopsFor thread.old.host.member.claim.sure_of_wait
+        (N.is_sure thread.old.host.member.notifier)) }
+    ensures later { IsLaterInside N.fault_count N.is_sure thread.old.host thread.new.host }
+    ensures parker { thread.new.parker ≡ thread.old.parker }
+{
+    match task {
+        Err(_) => Err(WorkerFault::OutOfMemory),
+        Ok(mut task) => run_to_end(thread, &mut task),
+    }
 }
 
 /// Wakes every slot of every parker. `Err` is the first fault of the notifier.
