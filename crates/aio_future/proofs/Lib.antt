@@ -1,3 +1,3 @@
 pub mod Works
 pub mod Rests
-pub mod Waits
+pub mod Trying

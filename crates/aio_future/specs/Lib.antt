@@ -3,3 +3,4 @@ pub mod NumbersOrNone
 pub mod Sleeping
 pub mod Tries
 pub mod Listens
+pub mod Visits

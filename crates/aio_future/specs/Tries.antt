@@ -1,6 +1,6 @@
 -- Polls, reads and writes of an entered source: what they answer, and which calls of its connection they made for that, in which order.
-use Rattle.std.specs.Prelude.{◌≡◌, ◌⊎◌, ℕ, ◌<◌, ◌≤◌, Bool, true, false, List, Option, None, Some, IfSome, IsSome, Result, Ok, Err, take, ⊤}
-use Rattle.aio_base.specs.Connections.{ConnMove, ReadOf, WriteOf, did_count}
+use Rattle.std.specs.Prelude.{◌≡◌, ℕ, ◌<◌, ◌≤◌, Bool, List, length, Option, None, Some, IfSome, IsSome, Result, Ok, Err, take, ⊤}
+use Rattle.aio_base.specs.Connections.{ConnMove, ReadOf, WriteOf, ReadTells, Telling, WriteTells, did_count}
 use Rattle.aio_base.specs.Devices.{ArmCall, HasCause, Interests, Rose}
 use Rattle.aio_base.specs.declared.connections.Did.{Did}
 use Rattle.aio_base.specs.declared.connections.Did.TheVariants.{Bytes, Blocked}
@@ -13,12 +13,14 @@ use Rattle.aio_base.specs.declared.outcomes.Poll.{Poll}
 use Rattle.aio_base.specs.declared.outcomes.Poll.TheVariants.{Ready, Pending}
 use Rattle.aio_source.specs.Answers.{poll_answer, armed_in}
 use Rattle.aio_source.specs.Lent.{UsesArm, arm_of, fault_of, settled, arm_answer}
-use Rattle.aio_source.specs.Rules.{direction_of, is_ready, polling}
+use Rattle.aio_source.specs.Rules.{polling}
 use Rattle.aio_source.specs.Values.{SourceValue}
 use Rattle.aio_source.specs.declared.answers.Polled.{Polled}
+use Rattle.aio_future.specs.Visits.{TriesCell}
 use Rattle.aio_future.specs.declared.tried.Tried.{Tried}
 use Rattle.aio_future.specs.declared.tried.TryFault.{TryFault}
 use Rattle.aio_future.specs.declared.tried.TryFault.TheVariants as fault
+use Rattle.aio_future.specs.declared.visits.Visited.{Visited}
 
 -- ## Answers of a read or a write
 
@@ -87,18 +89,23 @@ pub record Polls {C : Type 0} (step : C → ArmCall → Result (Unit {0}) Failed
 
 -- ## A try
 
--- what the connection's own answer comes to: blocked is pending, and a failure is told as this fault with the two counts
-abbrev pub try_answer : (CountFault → TryFault) → (before after : ℕ) → Result Did Failed → Poll (Result ℕ TryFault)
-try_answer fails before after (Ok Blocked) = Pending
-try_answer fails before after (Ok (Bytes n)) = Ready (Ok n)
-try_answer fails before after (Err failed) = Ready (Err (fails (record { before = before; after = after })))
+-- what an attempt gives by the connection's own answer: nothing where it was blocked, and where it failed this fault with the two counts
+abbrev pub given_by : (CountFault → TryFault) → (before after : ℕ) → Result Did Failed → Option (Result ℕ TryFault)
+given_by fails before after (Ok Blocked) = None
+given_by fails before after (Ok (Bytes n)) = Some (Ok n)
+given_by fails before after (Err failed) = Some (Err (fails (record { before = before; after = after })))
+
+-- the same as the answer of a call, which is pending where the attempt gave nothing
+abbrev pub answer_so_far : Option (Result ℕ TryFault) → Poll (Result ℕ TryFault)
+answer_so_far None = Pending
+answer_so_far (Some given) = Ready given
 
 -- One try is one call of the connection, by its own relation. `call` is that call by its answer.
 pub record TriesNow {C : Type 0} (conn : C → ConnMove → C → Type 0) (count : C → ℕ) (call : Result Did Failed → ConnMove) (fails : CountFault → TryFault)
-    (io : C) (answer : Poll (Result ℕ TryFault)) (io_left : C) : Type 0 where
+    (io : C) (given : Option (Result ℕ TryFault)) (io_left : C) : Type 0 where
   pub did : Result Did Failed
   pub made : conn io (call did) io_left
-  pub answers : answer ≡ try_answer fails (count io) (count io_left) did
+  pub gives : given ≡ given_by fails (count io) (count io_left) did
 
 -- a read with this room that left the buffer so, and a write of this piece, each by its answer
 abbrev pub read_call : (room : ℕ) → (buf : List ℕ) → Result Did Failed → ConnMove
@@ -107,62 +114,40 @@ read_call room buf did = ReadOf room did (take (did_count did) buf)
 abbrev pub write_call : List ℕ → Result Did Failed → ConnMove
 write_call piece did = WriteOf piece did
 
--- ## Waiting for a direction
+-- A try to read into a buffer, which was left so; and a try to write a piece. What each tells is what the call of the connection tells.
+pub record ReadsNow {C : Type 0} (conn : C → ConnMove → C → Type 0) (telling : C → Telling) (count : C → ℕ) (is_sure : C → Bool)
+    (buf : List ℕ) (io : C) (given : Option (Result ℕ TryFault)) (buf_left : List ℕ) (io_left : C) : Type 0 where
+  pub tries : TriesNow conn count (read_call (length buf) buf_left) fault.Read io given io_left
+  pub room : length buf_left ≡ length buf
+  pub most : bytes_over (answer_so_far given) ≤ length buf_left
+  pub kind : IsReadAnswer (answer_so_far given)
+  pub told : ReadTells (telling io) (telling io_left) (take (bytes_over (answer_so_far given)) buf_left) (given ≡ None) (given ≡ Some (Ok 0))
+  pub faults : FaultsWithin (count io) (count io_left) (is_sure io) (is_sure io_left) (fault_counts (answer_so_far given))
 
--- how a call whose last try was blocked ends by a poll with this answer and this replaced waker; one that found the direction ready does not end
-abbrev pub end_by_poll : Poll (Result (Unit {0}) ArmFault) → Option Waker → Option Tried
-end_by_poll Pending replaced = Some (record { answer = Pending; replaced = replaced })
-end_by_poll (Ready (Err why)) replaced = Some (record { answer = Ready (Err (fault.Arm why)); replaced = replaced })
-end_by_poll (Ready (Ok done)) replaced = None
+pub record WritesNow {C : Type 0} (conn : C → ConnMove → C → Type 0) (telling : C → Telling) (count : C → ℕ) (is_sure : C → Bool)
+    (piece : List ℕ) (io : C) (given : Option (Result ℕ TryFault)) (io_left : C) : Type 0 where
+  pub tries : TriesNow conn count (write_call piece) fault.Write io given io_left
+  pub most : MovesWithin (length piece) (answer_so_far given)
+  pub kind : IsWriteAnswer (answer_so_far given)
+  pub told : WriteTells (telling io) (telling io_left) (take (bytes_over (answer_so_far given)) piece) (given ≡ None)
+  pub faults : FaultsWithin (count io) (count io_left) (is_sure io) (is_sure io_left) (fault_counts (answer_so_far given))
 
--- the answer as far as it is known: a call that does not end yet was blocked
-abbrev pub answer_so_far : Option Tried → Poll (Result ℕ TryFault)
-answer_so_far None = Pending
-answer_so_far (Some tried) = tried.answer
+-- ## A whole call
 
--- such an end has no bytes, and no fault but that of an arm
-abbrev pub IsWaitAnswer : Poll (Result ℕ TryFault) → Type 0
-IsWaitAnswer Pending = ⊤
-IsWaitAnswer (Ready (Err (fault.Arm why))) = ⊤
-IsWaitAnswer (Ready (Err (fault.Read why))) = ⊥
-IsWaitAnswer (Ready (Err (fault.Write why))) = ⊥
-IsWaitAnswer (Ready (Ok bytes)) = ⊥
+-- what a try inside a source comes to, as the answer of a read or a write
+abbrev pub try_answer : Poll (Result (Result ℕ TryFault) ArmFault) → Poll (Result ℕ TryFault)
+try_answer Pending = Pending
+try_answer (Ready (Err why)) = Ready (Err (fault.Arm why))
+try_answer (Ready (Ok given)) = Ready given
 
--- One poll of the direction after a blocked try, and how the call ends by it.
-pub record WaitsFor {C : Type 0} (step : C → ArmCall → Result (Unit {0}) Failed → C → Type 0) (tells : C → Option Interests) (rest : C → List ℕ)
-    (count : C → ℕ) (is_sure : C → Bool) (dir : Dir) (w : Waker) (ticker : ℕ) (old : SourceValue) (io_old : C) (end : Option Tried) (new : SourceValue) (io_new : C) : Type 0 where
-  pub polled : Polled
-  pub polls : Polls step tells rest count is_sure dir w ticker old io_old polled new io_new
-  pub ends : end ≡ end_by_poll polled.answer polled.replaced
+abbrev pub tried_of : Visited (Result ℕ TryFault) → Tried
+tried_of visited = record { answer = try_answer visited.answer; replaced = visited.replaced }
 
--- the direction was ready before, and is no longer
-pub record SpendsReadiness (dir : Dir) (old new : SourceValue) : Type 0 where
-  pub was : is_ready (direction_of old.directions dir) ≡ true
-  pub is_no_more : is_ready (direction_of new.directions dir) ≡ false
-
--- ## A try, and a wait where it was blocked
-
-module _ {C : Type 0} (conn : C → ConnMove → C → Type 0) (step : C → ArmCall → Result (Unit {0}) Failed → C → Type 0) (tells : C → Option Interests)
+-- A try and, where it was blocked, a poll of the direction; both once more where that was ready. Each try is such a call of the connection.
+pub record Tries {C : Type 0} (conn : C → ConnMove → C → Type 0) (step : C → ArmCall → Result (Unit {0}) Failed → C → Type 0) (tells : C → Option Interests)
     (rest : C → List ℕ) (count : C → ℕ) (is_sure : C → Bool) (call : Result Did Failed → ConnMove) (fails : CountFault → TryFault)
-    (dir : Dir) (w : Waker) (ticker : ℕ) where
-  -- what followed on a try with this answer
-  abbrev pub FollowsTry : Poll (Result ℕ TryFault) → SourceValue → (tried : C) → Option Tried → SourceValue → (io_new : C) → Type 0
-  FollowsTry Pending old tried end new io_new = WaitsFor step tells rest count is_sure dir w ticker old tried end new io_new
-  FollowsTry (Ready done) old tried end new io_new = (end ≡ Some (record { answer = Ready done; replaced = None })) × (new ≡ old) × (io_new ≡ tried)
-
-  pub record TriesThenWaits (old : SourceValue) (io_old : C) (end : Option Tried) (new : SourceValue) (io_new : C) : Type 0 where
-    pub answer : Poll (Result ℕ TryFault)
-    pub tried : C
-    pub tries : TriesNow conn count call fails io_old answer tried
-    pub follows : FollowsTry answer old tried end new io_new
-
-  -- both were done twice: the first time the direction was ready, the second time not
-  pub record TriesTwice (old : SourceValue) (io_old : C) (result : Tried) (new : SourceValue) (io_new : C) : Type 0 where
-    pub between : SourceValue
-    pub io_between : C
-    pub first : TriesThenWaits old io_old None between io_between
-    pub second : TriesThenWaits between io_between (Some result) new io_new
-
-  -- A whole call: a try and a wait, once or twice.
-  abbrev pub Tries : SourceValue → C → Tried → SourceValue → C → Type 0
-  Tries old io_old result new io_new = TriesThenWaits old io_old (Some result) new io_new ⊎ TriesTwice old io_old result new io_new
+    (dir : Dir) (w : Waker) (ticker : ℕ) (old : SourceValue) (io_old : C) (result : Tried) (new : SourceValue) (io_new : C) : Type 0 where
+  pub visited : Visited (Result ℕ TryFault)
+  pub tries : TriesCell step tells rest count is_sure (λ (one : Unit {0}) io given (same : Unit {0}) io_left. TriesNow conn count call fails io given io_left)
+      (record { dir = dir; waker = w }) tt (record { state = old; io = io_old }) ticker visited tt (record { state = new; io = io_new })
+  pub result_is : result ≡ tried_of visited

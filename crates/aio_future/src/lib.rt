@@ -1,5 +1,6 @@
 //! A timer: fires once at a moment, or again and again after a period, or never; a task that sleeps
-//! until a moment; and an entered source, whose directions are polled, read and written.
+//! until a moment; and an entered source, whose directions are polled, read and written, by visits that
+//! poll a direction or attempt something on the connection first.
 //!
 //! It stands on `aio_base` and `aio_source`, and works with whatever hosts timers. It
 //! promises for each call on a timer, by the rules of `specs/`, which registration the host lost and
@@ -9,6 +10,7 @@
 #![tactic(auto)]
 
 pub mod answers;
+mod attempts;
 pub mod entered;
 mod listens;
 mod number_or_none;
@@ -16,12 +18,14 @@ pub mod ready;
 mod sleep;
 pub mod timer;
 pub mod tried;
-mod tries;
+mod visits;
 
 pub use aio_base::Poll;
 pub use answers::TimerFault;
+pub use attempts::{Attempt, Read, Write};
 pub use entered::Async;
 pub use ready::Ready;
 pub use sleep::Sleep;
 pub use timer::Timer;
 pub use tried::{Tried, TryFault};
+pub use visits::{PollDir, TryDir, Visit, Visited};

@@ -1,5 +1,9 @@
 //! The answers of a read or a write over an entered source.
 
+ghost use Rattle.std.specs.Prelude.{◌≡◌};
+ghost use Rattle.aio_future.specs.Tries.{tried_of};
+
+use crate::visits::Visited;
 use aio_base::{ArmFault, CountFault, Poll, Waker};
 
 /// How a read or a write of an entered source failed. Each case has the counts of the connection's
@@ -23,4 +27,22 @@ pub struct Tried {
     /// The waker of another task that waited by polls of this direction, and does no longer. It is to
     /// be woken.
     pub replaced: Option<Waker>,
+}
+
+impl Tried {
+    /// What a read or a write comes to, by what its try inside the source came to.
+    #[inline(always)]
+    pub fn of(visited: Visited<Result<usize, TryFault>>) -> Tried
+        ensures { result ≡ tried_of visited }
+    {
+        let answer = match visited.answer {
+            Poll::Ready(Ok(given)) => Poll::Ready(given),
+            Poll::Ready(Err(fault)) => Poll::Ready(Err(TryFault::Arm(fault))),
+            Poll::Pending => Poll::Pending,
+        };
+        Tried {
+            answer,
+            replaced: visited.replaced,
+        }
+    }
 }

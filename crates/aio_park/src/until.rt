@@ -59,7 +59,7 @@ impl<R: Wait, N: Notify, A: Arm, W: EventWait, T: Attempt<A> + Copy + Drop> Task
     ghost use Rattle.aio_base.specs.Tasks.{own_waker};
     ghost use Rattle.aio_base.specs.declared.names.Waker.{Waker};
     ghost use Rattle.aio_shared.specs.Polling.{WorksOn};
-    ghost use Rattle.aio_sources.specs.Visits.{TriesCell};
+    ghost use Rattle.aio_future.specs.Visits.{TriesCell};
     ghost use Rattle.aio_park.specs.Until.{EndsBy, TriesThenSleeps, ends_later};
 
     /// What the operation gave, or `None` where the moment came first.
@@ -72,10 +72,10 @@ impl<R: Wait, N: Notify, A: Arm, W: EventWait, T: Attempt<A> + Copy + Drop> Task
         (λ slept sleep after host_old host_left. ⟦<Sleep as Task<Inside<R, N, A, W>>>⟧.poll_step
         sleep host_old cx slept after host_left)
         (λ tried token token_left host_old between. (waker : Waker)
-        × (waker.0 ≡ own_waker cx.parker cx.mask)
-        × WorksOn N.call_count N.notify_step A.rest
-        (TriesCell A.arm_step A.interests A.rest A.fault_count A.is_sure T.attempts)
-        (record { attempt = old.attempt; poll = record { dir = old.dir; waker = waker } })
+        × (waker.0 ≡ own_waker cx.parker cx.mask) × (attempt : T)
+        × WorksOn N.call_count N.notify_step A.rest (λ found ticker visited put.
+        TriesCell A.arm_step A.interests A.rest A.fault_count A.is_sure T.attempts
+        (record { dir = old.dir; waker = waker }) old.attempt found ticker visited attempt put)
         token token_left host_old between tried)
         old.source new.source host left old.sleep new.sleep answer };
 
@@ -91,7 +91,8 @@ impl<R: Wait, N: Notify, A: Arm, W: EventWait, T: Attempt<A> + Copy + Drop> Task
         let parker = cx.parker;
         let mask = cx.mask;
         let waker = cx.own_waker();
-        match host.try_source(&mut self.source, self.dir, waker, self.attempt) {
+        let mut attempt = self.attempt;
+        match host.try_source(&mut self.source, self.dir, waker, &mut attempt) {
             Poll::Ready(Ok(output)) => return Poll::Ready(Ok(Some(output))),
             Poll::Ready(Err(fault)) => return Poll::Ready(Err(UntilFault::Source(fault))),
             Poll::Pending => {}

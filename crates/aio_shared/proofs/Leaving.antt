@@ -1,15 +1,20 @@
 -- What work inside a source leaves of the host: a visit, and then the wake of whom it replaced.
-use Rattle.std.proofs.Common.{◌≡◌, sym, ap, ◌∙◌, subst, ℕ, Bool, true≢false, IfSome, None, Option, Result, Ok, Err}
+use Rattle.std.proofs.Common.{◌≡◌, sym, ap, ◌∙◌, subst, ℕ, Bool, true≢false, IfSome, List, None, Option, Result, Ok, Err}
 use Rattle.aio_base.specs.declared.outcomes.ArmFault.{ArmFault}
 use Rattle.aio_base.specs.declared.outcomes.CountFault.{CountFault}
+use Rattle.aio_base.specs.declared.outcomes.Failed.{Failed}
 use Rattle.aio_base.specs.declared.outcomes.Poll.{Poll}
 use Rattle.aio_base.specs.declared.outcomes.Poll.TheVariants.{Ready, Pending}
 use Rattle.aio_base.specs.Hosts.{NotifierTells, wake_fault}
-use Rattle.aio_sources.specs.Visits.{IsUnsureArm, arm_fault_of}
+use Rattle.aio_rules.specs.declared.seats.SeatView.{SeatView}
+use Rattle.aio_source.specs.declared.source.SourceCell.{SourceCell}
+use Rattle.aio_future.specs.Visits.{IsUnsureArm, arm_fault_of}
+use Rattle.aio_future.specs.declared.visits.Visited.{Visited}
+use Rattle.aio_sources.specs.Sources.{SourceRefValue}
 use Rattle.aio_shared.specs.declared.polling.PollFault.{PollFault}
 use Rattle.aio_shared.specs.Inside.{InsideValue, IsLaterInside, with_seat}
 use Rattle.aio_shared.specs.Later.{later_further}
-use Rattle.aio_shared.specs.Polling.{LeavesInside, answer_of, arm_fault_in, notify_fault_in}
+use Rattle.aio_shared.specs.Polling.{LeavesInside, VisitsOnce, WorksOn, answer_of, arm_fault_in, notify_fault_in}
 
 module _ (sure : Bool) (before after : ℕ) where
   tells_none : (told : Option CountFault) → NotifierTells sure before after told → NotifierTells sure before after None
@@ -39,4 +44,35 @@ leaves {N} {O} faults is_sure all_sure key old mid new answer woken result one f
       (subst (λ (n : N). NotifierTells (is_sure n) (faults n) (faults new.member.notifier) (wake_fault woken)) (ap (λ (x : InsideValue N). x.member.notifier) one) tells));
   kept = two ∙ (λ i. with_seat (one i) new.member.pass new.member.notifier);
   later = later_further faults is_sure old mid new first second;
+}
+
+-- the same visit, and the same work, by what it says besides
+pub visits_alike : {S B : Type 0} (rest : S → List ℕ) (visits visits_too : SourceCell S → ℕ → B → SourceCell S → Type 0)
+    → ((found : SourceCell S) (ticker : ℕ) (visited : B) (put : SourceCell S) → visits found ticker visited put → visits_too found ticker visited put)
+    → (token left : SourceRefValue) (view next : SeatView) (answer : B)
+    → VisitsOnce rest visits token left view next answer → VisitsOnce rest visits_too token left view next answer
+visits_alike rest visits visits_too alike token left view next answer v = record {
+  ticker = v.ticker;
+  loaded = v.loaded;
+  least = v.least;
+  found = v.found;
+  key_is = v.key_is;
+  rest_is = v.rest_is;
+  put = v.put;
+  visited = alike v.found v.ticker answer v.put v.visited;
+  token_is = v.token_is;
+}
+
+pub works_alike : {N S O : Type 0} (calls : N → ℕ) (notifies : N → Result (Unit {0}) Failed → N → Type 0) (rest : S → List ℕ)
+    (visits visits_too : SourceCell S → ℕ → Visited O → SourceCell S → Type 0)
+    → ((found : SourceCell S) (ticker : ℕ) (visited : Visited O) (put : SourceCell S) → visits found ticker visited put → visits_too found ticker visited put)
+    → (token left : SourceRefValue) (old new : InsideValue N) (answer : Poll (Result O PollFault))
+    → WorksOn calls notifies rest visits token left old new answer → WorksOn calls notifies rest visits_too token left old new answer
+works_alike calls notifies rest visits visits_too alike token left old new answer w = record {
+  tried = w.tried;
+  between = w.between;
+  visit = visits_alike rest visits visits_too alike token left old.member.pass.view w.between w.tried w.visit;
+  woken = w.woken;
+  woke = w.woke;
+  answer_is = w.answer_is;
 }

@@ -14,18 +14,18 @@ use Rattle.aio_source.specs.declared.source.SourceCell.{SourceCell}
 use Rattle.aio_words.specs.Calls.{Offers}
 use Rattle.aio_shared.specs.Inside.{InsideValue, IsLaterInside, with_seat}
 use Rattle.aio_base.specs.Hosts.{NotifierTells}
-use Rattle.aio_sources.specs.Visits.{IsUnsureArm}
+use Rattle.aio_future.specs.Visits.{IsUnsureArm}
 use Rattle.aio_sources.specs.Sources.{SourceRefValue}
 use Rattle.aio_shared.specs.declared.polling.PollFault.{PollFault}
 use Rattle.aio_shared.specs.declared.polling.PollFault.TheVariants as poll_fault
-use Rattle.aio_sources.specs.declared.visits.Tried.{Tried}
+use Rattle.aio_future.specs.declared.visits.Visited.{Visited}
 
 -- ## A visit of a source
 
-module _ {S V B : Type 0} (rest : S → List ℕ) (visits : V → SourceCell S → ℕ → B → SourceCell S → Type 0) where
+module _ {S B : Type 0} (rest : S → List ℕ) (visits : SourceCell S → ℕ → B → SourceCell S → Type 0) where
   -- A thread loaded the number of rounds begun, once; then it took the source of this token out of its lock, made one visit with that number, and put
   -- back what the visit left. The token then knows the rest of the connection as it was left.
-  pub record VisitsOnce (v : V) (token left : SourceRefValue) (view next : SeatView) (answer : B) : Type 0 where
+  pub record VisitsOnce (token left : SourceRefValue) (view next : SeatView) (answer : B) : Type 0 where
     pub ticker : ℕ
     pub loaded : next ≡ after (word_step.LoadTicker ticker) view
     pub least : view.seen ≤ ticker
@@ -33,7 +33,7 @@ module _ {S V B : Type 0} (rest : S → List ℕ) (visits : V → SourceCell S �
     pub key_is : found.state.key.0 ≡ token.key
     pub rest_is : rest found.io ≡ token.rest
     pub put : SourceCell S
-    pub visited : visits v found ticker answer put
+    pub visited : visits found ticker answer put
     pub token_is : left ≡ record token { rest = rest put.io }
 
 -- ## The waker that was replaced
@@ -52,13 +52,13 @@ answer_of (Ready (Err fault)) woken = Ready (Err (poll_fault.Arm fault))
 answer_of Pending (Ok done) = Pending
 answer_of Pending (Err fault) = Ready (Err (poll_fault.Notify fault))
 
-module _ {N S V O : Type 0} (calls : N → ℕ) (notifies : N → Result (Unit {0}) Failed → N → Type 0) (rest : S → List ℕ)
-    (visits : V → SourceCell S → ℕ → Tried O → SourceCell S → Type 0) where
+module _ {N S O : Type 0} (calls : N → ℕ) (notifies : N → Result (Unit {0}) Failed → N → Type 0) (rest : S → List ℕ)
+    (visits : SourceCell S → ℕ → Visited O → SourceCell S → Type 0) where
   -- A thread visited a source once; and then the waker that this visit replaced, if it replaced one, was woken.
-  pub record WorksOn (v : V) (token left : SourceRefValue) (old new : InsideValue N) (answer : Poll (Result O PollFault)) : Type 0 where
-    pub tried : Tried O
+  pub record WorksOn (token left : SourceRefValue) (old new : InsideValue N) (answer : Poll (Result O PollFault)) : Type 0 where
+    pub tried : Visited O
     pub between : SeatView
-    pub visit : VisitsOnce rest visits v token left old.member.pass.view between tried
+    pub visit : VisitsOnce rest visits token left old.member.pass.view between tried
     pub woken : Result (Unit {0}) CountFault
     pub woke : WakesReplaced calls notifies old.shared.words.parkers tried.replaced between new.member.pass.view old.member.notifier new.member.notifier woken
     pub answer_is : answer ≡ answer_of tried.answer woken

@@ -27,7 +27,8 @@ mod timers;
 mod waiting;
 mod waking;
 
-pub use aio_sources::{Attempt, InsertFault, PollDir, SourceRef, Sources, Tried, TryDir, Visit};
+pub use aio_future::{Attempt, PollDir, TryDir, Visit, Visited};
+pub use aio_sources::{InsertFault, SourceRef, Sources};
 pub use cell::RoundCell;
 pub use inside::Inside;
 pub use members::Member;

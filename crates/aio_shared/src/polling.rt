@@ -4,13 +4,14 @@
 ghost use Rattle.std.specs.Prelude.{◌≡◌, ℕ, false, List, length, None, Some, IfOk, IfErr, IfSome};
 ghost use Rattle.aio_base.specs.Hosts.{NotifierTells, wake_fault};
 ghost use Rattle.aio_shared.specs.Inside.{IsLaterInside, with_seat};
-ghost use Rattle.aio_sources.specs.Visits.{IsUnsureArm, PollsCell, TriesCell, arm_fault_of};
+ghost use Rattle.aio_future.specs.Visits.{IsUnsureArm, PollsCell, TriesCell, arm_fault_of};
 ghost use Rattle.aio_shared.specs.Polling.{LeavesInside, VisitsOnce, WakesReplaced, WorksOn, answer_of, arm_fault_in};
 ghost use Rattle.aio_sources.specs.Sources.{Adds, HandsBack, outside, refusal_of};
 
 use crate::inside::Inside;
 use aio_base::{Arm, ArmFault, CountFault, Dir, EventWait, Host, Notify, Poll, Waker};
-use aio_sources::{Attempt, InsertFault, PollDir, SourceRef, Tried, TryDir, Visit};
+use aio_future::{Attempt, PollDir, TryDir, Visit, Visited};
+use aio_sources::{InsertFault, SourceRef};
 use std::sync::Wait;
 
 /// Why what a thread waits for at a source did not come. Its waker waits all the same.
@@ -26,20 +27,27 @@ pub enum PollFault {
 impl<R: Wait, N: Notify, A: Arm, W: EventWait> Inside<R, N, A, W> {
     /// Loads the number of rounds begun, takes a source out of its lock, as soon as no round visits it,
     /// makes one visit with that number, and puts the source back.
-    fn enter_and_leave<V: Visit<A>>(&mut self, s: &mut SourceRef<A>, visit: V) -> Tried<V::Output>
+    fn enter_and_leave<V: Visit<A>>(
+        &mut self,
+        s: &mut SourceRef<A>,
+        visit: &mut V,
+    ) -> Visited<V::Output>
         requires outside { s.old.inside ≡ false }
-        ensures visits { VisitsOnce A.rest V.visits visit s.old s.new
+        ensures visits { VisitsOnce A.rest (λ found ticker visited put.
+            V.visits visit.old found ticker visited visit.new put) s.old s.new
             self.old.member.pass.view self.new.member.pass.view result }
         ensures arm { IfSome (arm_fault_of result.answer) (IsUnsureArm A.all_sure s.old.key) }
         ensures kept { self.new
             ≡ with_seat self.old self.new.member.pass self.old.member.notifier }
+        ensures notifier { NotifierTells (N.is_sure self.old.member.notifier)
+            (N.fault_count self.old.member.notifier) (N.fault_count self.new.member.notifier) None }
         ensures later { IsLaterInside N.fault_count N.is_sure self.old self.new }
     {
         let ticker = self.ticker();
         let mut cell = s.take(&self.rt);
-        let tried = visit.visit(&mut cell, ticker);
+        let visited = visit.visit(&mut cell, ticker);
         s.give(cell);
-        tried
+        visited
     }
 
     /// Wakes the waker that a poll replaced, where it replaced one.
@@ -65,17 +73,18 @@ impl<R: Wait, N: Notify, A: Arm, W: EventWait> Inside<R, N, A, W> {
     pub fn visit_source<V: Visit<A>>(
         &mut self,
         s: &mut SourceRef<A>,
-        visit: V,
+        visit: &mut V,
     ) -> Poll<Result<V::Output, PollFault>>
         requires outside { s.old.inside ≡ false }
-        ensures works { WorksOn N.call_count N.notify_step A.rest V.visits
-            visit s.old s.new self.old self.new result }
+        ensures works { WorksOn N.call_count N.notify_step A.rest (λ found ticker visited put.
+            V.visits visit.old found ticker visited visit.new put)
+            s.old s.new self.old self.new result }
         ensures leaves { LeavesInside N.fault_count N.is_sure A.all_sure s.old.key
             self.old self.new result }
     {
-        let tried = self.enter_and_leave(s, visit);
-        let woken = self.wake_replaced(tried.replaced);
-        told(tried.answer, woken)
+        let visited = self.enter_and_leave(s, visit);
+        let woken = self.wake_replaced(visited.replaced);
+        told(visited.answer, woken)
     }
 
     /// Polls a direction of a source of this reactor with a waker, and wakes the waker that this one
@@ -89,37 +98,86 @@ impl<R: Wait, N: Notify, A: Arm, W: EventWait> Inside<R, N, A, W> {
     ) -> Poll<Result<(), PollFault>>
         requires outside { s.old.inside ≡ false }
         ensures polls { WorksOn N.call_count N.notify_step A.rest
-            (PollsCell A.arm_step A.interests A.rest A.fault_count A.is_sure)
-            (record { dir = dir; waker = w }) s.old s.new self.old self.new result }
+            (PollsCell A.arm_step A.interests A.rest A.fault_count A.is_sure
+            (record { dir = dir; waker = w })) s.old s.new self.old self.new result }
         ensures token { s.new ≡ s.old }
         ensures leaves { LeavesInside N.fault_count N.is_sure A.all_sure s.old.key
             self.old self.new result }
     {
-        self.visit_source(s, PollDir { dir, waker: w })
+        let mut poll = PollDir { dir, waker: w };
+        self.visit_source(s, &mut poll)
+    }
+
+    /// Makes such a visit, whose attempt stays lent.
+    fn try_by<T: Attempt<A>>(
+        &mut self,
+        s: &mut SourceRef<A>,
+        trying: &mut TryDir<'_, T>,
+    ) -> Visited<T::Output>
+        requires outside { s.old.inside ≡ false }
+        ensures tries { VisitsOnce A.rest (λ found ticker tried put.
+            TriesCell A.arm_step A.interests A.rest A.fault_count A.is_sure T.attempts
+            trying.old.poll trying.old.attempt.now found ticker tried trying.new.attempt.now put)
+            s.old s.new self.old.member.pass.view self.new.member.pass.view result }
+        ensures lent { trying.new.attempt.ghost_name ≡ trying.old.attempt.ghost_name }
+        ensures arm { IfSome (arm_fault_of result.answer) (IsUnsureArm A.all_sure s.old.key) }
+        ensures kept { self.new
+            ≡ with_seat self.old self.new.member.pass self.old.member.notifier }
+        ensures notifier { NotifierTells (N.is_sure self.old.member.notifier)
+            (N.fault_count self.old.member.notifier) (N.fault_count self.new.member.notifier) None }
+        ensures later { IsLaterInside N.fault_count N.is_sure self.old self.new }
+    {
+        self.enter_and_leave(s, trying)
+    }
+
+    /// Makes an attempt as `try_source` does, and hands the waker out that it replaced, to be woken.
+    pub fn try_entered<T: Attempt<A>>(
+        &mut self,
+        s: &mut SourceRef<A>,
+        dir: Dir,
+        w: Waker,
+        attempt: &mut T,
+    ) -> Visited<T::Output>
+        requires outside { s.old.inside ≡ false }
+        ensures tries { VisitsOnce A.rest (λ found ticker tried put.
+            TriesCell A.arm_step A.interests A.rest A.fault_count A.is_sure T.attempts
+            (record { dir = dir; waker = w }) attempt.old found ticker tried attempt.new put)
+            s.old s.new self.old.member.pass.view self.new.member.pass.view result }
+        ensures arm { IfSome (arm_fault_of result.answer) (IsUnsureArm A.all_sure s.old.key) }
+        ensures kept { self.new
+            ≡ with_seat self.old self.new.member.pass self.old.member.notifier }
+        ensures notifier { NotifierTells (N.is_sure self.old.member.notifier)
+            (N.fault_count self.old.member.notifier) (N.fault_count self.new.member.notifier) None }
+        ensures later { IsLaterInside N.fault_count N.is_sure self.old self.new }
+    {
+        let poll = PollDir { dir, waker: w };
+        let mut trying = TryDir { attempt, poll };
+        self.try_by(s, &mut trying)
     }
 
     /// Makes an attempt on the connection of a source of this reactor; where it would block, polls a
     /// direction with a waker, and wakes the waker that this one replaced (`async-io` 2, `lib.rs`,
     /// `Async::read_with` and `write_with`). Where the direction is ready both are done once more, and the
     /// second poll is never ready. So it is pending only where the last attempt would block.
-    pub fn try_source<T: Attempt<A> + Drop>(
+    pub fn try_source<T: Attempt<A>>(
         &mut self,
         s: &mut SourceRef<A>,
         dir: Dir,
         w: Waker,
-        attempt: T,
+        attempt: &mut T,
     ) -> Poll<Result<T::Output, PollFault>>
         requires outside { s.old.inside ≡ false }
-        ensures tries { WorksOn N.call_count N.notify_step A.rest
-            (TriesCell A.arm_step A.interests A.rest A.fault_count A.is_sure T.attempts)
-            (record { attempt = attempt; poll = record { dir = dir; waker = w } })
+        ensures tries { WorksOn N.call_count N.notify_step A.rest (λ found ticker tried put.
+            TriesCell A.arm_step A.interests A.rest A.fault_count A.is_sure T.attempts
+            (record { dir = dir; waker = w }) attempt.old found ticker tried attempt.new put)
             s.old s.new self.old self.new result }
         ensures token { s.new ≡ record s.old { rest = s.new.rest } }
         ensures leaves { LeavesInside N.fault_count N.is_sure A.all_sure s.old.key
             self.old self.new result }
     {
-        let poll = PollDir { dir, waker: w };
-        self.visit_source(s, TryDir { attempt, poll })
+        let tried = self.try_entered(s, dir, w, attempt);
+        let woken = self.wake_replaced(tried.replaced);
+        told(tried.answer, woken)
     }
 }
 

@@ -1,4 +1,3 @@
 pub mod Sources
 pub mod Events
 pub mod Starting
-pub mod Visits

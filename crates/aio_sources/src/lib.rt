@@ -4,7 +4,7 @@
 //! `aio_lock`, and on the words of `aio_words`, by which the token of a source names its reactor. It promises under which
 //! key each source joins, and that the keys of a table rise; that the token of a source knows the rest of
 //! its connection whatever rounds did in between; of each event of a round whether a source handled it;
-//! what a poll or a try makes of the source that it is done in; and why a call refuses.
+//! and why a call refuses.
 //!
 //! Whoever has the table may wait for one source, so whoever is inside a source does not ask for the
 //! table.
@@ -15,9 +15,7 @@ mod sealed;
 mod source_table;
 mod sources;
 mod starting;
-mod visits;
 
 pub use source_table::SourceTable;
 pub use sources::{InsertFault, SourceRef, Sources};
 pub use starting::Places;
-pub use visits::{Attempt, PollDir, Tried, TryDir, Visit};

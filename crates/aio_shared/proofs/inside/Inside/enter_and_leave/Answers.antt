@@ -9,7 +9,7 @@ returns-clause-visits g c = record {
   found = c.take-cell.result;
   key_is = c.take-cell.ensures.key;
   rest_is = c.take-cell.ensures.rest;
-  put = c.visit-tried.new.cell;
-  visited = c.visit-tried.ensures.visits;
+  put = c.visit-visited.new.cell;
+  visited = c.visit-visited.ensures.visits;
   token_is = search rules;
 }

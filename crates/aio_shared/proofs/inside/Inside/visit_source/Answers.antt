@@ -4,9 +4,9 @@ use Rattle.aio_shared.proofs.inside.Inside.visit_source.Goals as goal
 
 pub returns-clause-works : goal.returns-clause-works
 returns-clause-works g c = record {
-  tried = c.enter_and_leave-tried.result;
-  between = c.enter_and_leave-tried.new.self.member.pass.view;
-  visit = c.enter_and_leave-tried.ensures.visits;
+  tried = c.enter_and_leave-visited.result;
+  between = c.enter_and_leave-visited.new.self.member.pass.view;
+  visit = c.enter_and_leave-visited.ensures.visits;
   woken = c.wake_replaced-woken.result;
   woke = search rules;
   answer_is = c.told.ensures.answer;
@@ -14,7 +14,7 @@ returns-clause-works g c = record {
 
 pub returns-clause-leaves : goal.returns-clause-leaves
 returns-clause-leaves g c =
-    let visit = c.enter_and_leave-tried.ensures in
+    let visit = c.enter_and_leave-visited.ensures in
     let wake = c.wake_replaced-woken.ensures in
-    leaves _ _ _ _ _ c.enter_and_leave-tried.new.self _ c.enter_and_leave-tried.result.answer c.wake_replaced-woken.result _ visit.kept visit.later wake.kept wake.later wake.notifier visit.arm
+    leaves _ _ _ _ _ c.enter_and_leave-visited.new.self _ c.enter_and_leave-visited.result.answer c.wake_replaced-woken.result _ visit.kept visit.later wake.kept wake.later wake.notifier visit.arm
     c.told.ensures.answer c.told.ensures.arm

@@ -1,58 +1,42 @@
-//! What a thread does inside a source: one visit of it, with the number of rounds begun.
+//! What is done inside a source while it is entered: one visit of it, with the number of rounds begun.
 
 ghost use Rattle.std.specs.Prelude.{◌≡◌, ◌≢◌, ℕ, false, None, Some, IfSome};
 ghost use Rattle.aio_source.specs.Rules.{direction_of, is_ready};
-ghost use Rattle.aio_sources.specs.Visits.{IsUnsureArm, PollsCell, TriesCell, TriesOnce, arm_fault_of};
+ghost use Rattle.aio_future.specs.Visits.{IsUnsureArm, PollsCell, TriesCell, TriesOnce, arm_fault_of};
 
+use crate::attempts::Attempt;
 use aio_base::{Arm, ArmFault, Dir, Poll, Waker};
 use aio_source::SourceCell;
 
-/// What work inside a source came to.
+/// What a visit of a source came to.
 #[derive(Clone, Copy, Debug, Drop, PartialEq, Eq)]
-pub struct Tried<O> {
-    /// What it came to, or the fault of an arm. Pending where a waker waits.
+pub struct Visited<O> {
+    /// What it gave, or the fault of an arm. Pending where a waker waits.
     pub answer: Poll<Result<O, ArmFault>>,
     /// The poll waiter that another one took the place of, to be woken.
     pub replaced: Option<Waker>,
 }
 
-/// What a thread does inside a source, once.
+/// What is done inside a source, once.
 pub trait Visit<A: Arm> {
     ghost use Rattle.std.specs.Prelude.{ℕ, IfSome};
     ghost use Rattle.aio_source.specs.declared.source.SourceCell.{SourceCell};
-    ghost use Rattle.aio_sources.specs.declared.visits.Tried.{Tried};
-    ghost use Rattle.aio_sources.specs.Visits.{IsUnsureArm, arm_fault_of};
+    ghost use Rattle.aio_future.specs.declared.visits.Visited.{Visited};
+    ghost use Rattle.aio_future.specs.Visits.{IsUnsureArm, arm_fault_of};
 
     /// What it gives.
     type Output;
 
-    /// The visit, the source before it, the number of rounds begun, what it came to, and the source after
-    /// it.
-    ghost visits: { Self → SourceCell A → ℕ → Tried Self.Output → SourceCell A → Type 0 };
+    /// The visit, the source before it, the number of rounds begun, what it came to, the visit after it,
+    /// and the source after it.
+    ghost visits: { Self → SourceCell A → ℕ → Visited Self.Output → Self → SourceCell A → Type 0 };
 
-    /// Works on a source that was taken out of its lock, after `ticker` rounds have begun. It keeps the
-    /// source's key.
-    fn visit(self, cell: &mut SourceCell<A>, ticker: u64) -> Tried<Self::Output>
-        ensures visits { visits self cell.old ticker result cell.new }
+    /// Works on an entered source, after `ticker` rounds have begun. It keeps the source's key.
+    fn visit(&mut self, cell: &mut SourceCell<A>, ticker: u64) -> Visited<Self::Output>
+        ensures visits { visits self.old cell.old ticker result self.new cell.new }
         ensures arm { IfSome (arm_fault_of result.answer)
             (IsUnsureArm A.all_sure cell.old.state.key.0) }
         ensures key { cell.new.state.key ≡ cell.old.state.key };
-}
-
-/// What a thread attempts on the connection of a source.
-pub trait Attempt<A: Arm> {
-    ghost use Rattle.std.specs.Prelude.{Option};
-
-    /// What it gives.
-    type Output;
-
-    /// The attempt, the connection before it, what it gave, the attempt after it, and the connection after
-    /// it.
-    ghost attempts: { Self → A → Option Self.Output → Self → A → Type 0 };
-
-    /// Makes the attempt. `None` where it would block.
-    fn attempt(&mut self, io: &mut A) -> Option<Self::Output>
-        ensures { attempts self.old io.old result self.new io.new };
 }
 
 /// One poll of a direction of a source with a waker.
@@ -65,28 +49,32 @@ pub struct PollDir {
 }
 
 impl<A: Arm> Visit<A> for PollDir {
-    ghost use Rattle.aio_sources.specs.Visits.{PollsCell};
+    ghost use Rattle.std.specs.Prelude.{◌≡◌};
+    ghost use Rattle.aio_future.specs.Visits.{PollsCell};
 
     type Output = ();
 
-    ghost visits = { PollsCell A.arm_step A.interests A.rest A.fault_count A.is_sure };
+    ghost visits = { λ poll found ticker polled left put. (left ≡ poll)
+        × PollsCell A.arm_step A.interests A.rest A.fault_count A.is_sure
+        poll found ticker polled put };
 
-    fn visit(self, cell: &mut SourceCell<A>, ticker: u64) -> Tried<()> {
+    fn visit(&mut self, cell: &mut SourceCell<A>, ticker: u64) -> Visited<()> {
         let polled = cell
             .state
             .poll_dir(&mut cell.io, self.dir, self.waker, ticker);
-        Tried {
+        Visited {
             answer: polled.answer,
             replaced: polled.replaced,
         }
     }
 }
 
-/// An attempt on the connection of a source, and a poll of a direction where it would block.
+/// An attempt on the connection of a source, and a poll of a direction where it would block. Where the
+/// direction is ready both are done once more, and the second poll is never ready.
 #[derive(Drop)]
-pub struct TryDir<T> {
+pub struct TryDir<'a, T> {
     /// The attempt.
-    pub attempt: T,
+    pub attempt: &'a mut T,
     /// The poll.
     pub poll: PollDir,
 }
@@ -94,10 +82,10 @@ pub struct TryDir<T> {
 /// Makes one attempt, and one poll where it would block. `None` where the direction was ready then.
 fn try_once<A: Arm, T: Attempt<A>>(
     attempt: &mut T,
-    poll: PollDir,
+    mut poll: PollDir,
     cell: &mut SourceCell<A>,
     ticker: u64,
-) -> Option<Tried<T::Output>>
+) -> Option<Visited<T::Output>>
     ensures tries { TriesOnce A.arm_step A.interests A.rest A.fault_count A.is_sure T.attempts
         poll attempt.old cell.old ticker result attempt.new cell.new }
     ensures arm { IfSome result (λ tried.
@@ -109,7 +97,7 @@ fn try_once<A: Arm, T: Attempt<A>>(
         → result ≢ None }
 {
     if let Some(output) = attempt.attempt(&mut cell.io) {
-        return Some(Tried {
+        return Some(Visited {
             answer: Poll::Ready(Ok(output)),
             replaced: None,
         });
@@ -120,25 +108,28 @@ fn try_once<A: Arm, T: Attempt<A>>(
         Poll::Ready(Err(fault)) => Poll::Ready(Err(fault)),
         Poll::Pending => Poll::Pending,
     };
-    Some(Tried {
+    Some(Visited {
         answer,
         replaced: polled.replaced,
     })
 }
 
-impl<A: Arm, T: Attempt<A> + Drop> Visit<A> for TryDir<T> {
-    ghost use Rattle.aio_sources.specs.Visits.{TriesCell};
+impl<A: Arm, T: Attempt<A>> Visit<A> for TryDir<'_, T> {
+    ghost use Rattle.std.specs.Prelude.{◌≡◌};
+    ghost use Rattle.aio_future.specs.Visits.{TriesCell};
 
     type Output = T::Output;
 
-    ghost visits = { TriesCell A.arm_step A.interests A.rest A.fault_count A.is_sure T.attempts };
+    ghost visits = { λ trying found ticker tried left put.
+        (left.attempt.ghost_name ≡ trying.attempt.ghost_name) × (left.poll ≡ trying.poll)
+        × TriesCell A.arm_step A.interests A.rest A.fault_count A.is_sure T.attempts
+        trying.poll trying.attempt.now found ticker tried left.attempt.now put };
 
-    fn visit(self, cell: &mut SourceCell<A>, ticker: u64) -> Tried<T::Output> {
-        let TryDir { mut attempt, poll } = self;
-        if let Some(tried) = try_once(&mut attempt, poll, cell, ticker) {
+    fn visit(&mut self, cell: &mut SourceCell<A>, ticker: u64) -> Visited<T::Output> {
+        if let Some(tried) = try_once(self.attempt, self.poll, cell, ticker) {
             return tried;
         }
-        match try_once(&mut attempt, poll, cell, ticker) {
+        match try_once(self.attempt, self.poll, cell, ticker) {
             Some(tried) => tried,
             None => unreachable!(),
         }

@@ -1,5 +1,5 @@
 use Rattle.std.proofs.Common.{rules}
-use Rattle.aio_sources.proofs.visits.PollDirVisit.visit.Goals as goal
+use Rattle.aio_future.proofs.visits.PollDirVisit.visit.Goals as goal
 
 pub returns-clause-visits : goal.returns-clause-visits
 returns-clause-visits g c = search rules

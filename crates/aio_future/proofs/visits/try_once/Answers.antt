@@ -1,6 +1,6 @@
 use Rattle.std.proofs.Common.{rules, inr, refl}
-use Rattle.aio_sources.proofs.visits.try_once.Goals as goal
-use Rattle.aio_sources.proofs.visits.try_once.Goals.{in-Ready-Err, in-Pending}
+use Rattle.aio_future.proofs.visits.try_once.Goals as goal
+use Rattle.aio_future.proofs.visits.try_once.Goals.{in-Ready-Err, in-Pending}
 
 pub returns-in-Ready-Ok-clause-tries : goal.returns-in-Ready-Ok-clause-tries
 returns-in-Ready-Ok-clause-tries g c = record {
@@ -8,7 +8,7 @@ returns-in-Ready-Ok-clause-tries g c = record {
   blocks = record {
     between = record { state = c.args.cell.now.state; io = c.attempt.new.io };
     blocked = record { attempted = search rules; state = refl };
-    polls = c.visit-polled.ensures.visits;
+    polls = c.visit-polled.ensures.visits.1;
   };
   ready = search rules;
 }
@@ -20,7 +20,7 @@ returns-clause-tries g c = elim c.match-polled.branch [
     blocks = record {
       between = record { state = c.args.cell.now.state; io = c.attempt.new.io };
       blocked = record { attempted = search rules; state = refl };
-      polls = c.visit-polled.ensures.visits;
+      polls = c.visit-polled.ensures.visits.1;
     };
     unready = search rules;
     tried_is = search rules;
@@ -30,7 +30,7 @@ returns-clause-tries g c = elim c.match-polled.branch [
     blocks = record {
       between = record { state = c.args.cell.now.state; io = c.attempt.new.io };
       blocked = record { attempted = search rules; state = refl };
-      polls = c.visit-polled.ensures.visits;
+      polls = c.visit-polled.ensures.visits.1;
     };
     unready = search rules;
     tried_is = search rules;

@@ -1,5 +1,0 @@
-use Rattle.std.proofs.Common.{inr}
-use Rattle.aio_sources.proofs.visits.TryDirVisit.visit.Goals as goal
-
-pub returns-clause-visits : goal.returns-clause-visits
-returns-clause-visits g c = (c.try_once-2.new.attempt, inr (c.try_once.new.attempt, c.try_once.new.cell, c.in_default.ensures.tries, c.in-Some-try_once.ensures.tries))
