@@ -7,9 +7,10 @@ use Rattle.std.proofs.KnownBytes.{Appends-trans, Appends-nil}
 use Rattle.std.proofs.lemmas.Grind.{flat_map-append}
 use Rattle.std.proofs.lemmas.List.Elements.{All-head, All-tail}
 use Rattle.aio_base.specs.declared.steps.Step.{Step}
+use Rattle.aio_base.specs.declared.steps.Step.TheVariants as step
 use Rattle.aio_base.specs.Devices.{TellsFaults}
 use Rattle.aio_base.specs.Generated.{generated_steps}
-use Rattle.aio_base.specs.Lines.{HasSpelling, IsInRange, written_line}
+use Rattle.aio_base.specs.Lines.{HasSpelling, IsInRange, NamesNoPriority, written_line}
 use Rattle.aio_base.specs.Text.{ended_line}
 use Rattle.aio_bytes.specs.declared.traits.SinkRefusal.{SinkRefusal}
 use Rattle.aio_bytes.specs.Sinks.{AppendsPart, HasFailed, Writes}
@@ -37,6 +38,12 @@ behind : (done : List Step) (s : Step) (rest : List Step) → All HasSpelling (d
 behind [] s rest all = All-head HasSpelling s rest all
 behind (d ∷ done) s rest all = behind done s rest (All-tail HasSpelling d (done ++ s ∷ rest) all)
 
+names_no_priority : (s : Step) → HasSpelling s → NamesNoPriority s
+names_no_priority (step.Poll key dir waker) spelled = spelled.1
+names_no_priority (step.New key dir) spelled = spelled.1
+names_no_priority (step.Note event) spelled = spelled.1
+names_no_priority _ spelled = tt
+
 -- the steps done so far are the first of the seed's, and those that are left the others; what was sent, with the text that is kept, is their trace
 pub record Tracing (n seed : ℕ) (left : StepsLeft) (first now : Option (List ℕ)) (text : List ℕ) : Type 0 where
   pub done : List Step
@@ -60,8 +67,15 @@ module _ (n seed : ℕ) (left rest : StepsLeft) (first now : Option (List ℕ)) 
   with_next : generated_steps n seed ≡ traces.done ++ next ∷ steps_left rest
   with_next = traces.whole ∙ ap (λ more. traces.done ++ more) is_next
 
+  next_spelled : n ≤ 999999 → HasSpelling next
+  next_spelled few = behind traces.done next (steps_left rest) (subst (All HasSpelling) with_next (all_spelled n seed few))
+
+  -- it may be written
   pub next_in_range : n ≤ 999999 → IsInRange next
-  next_in_range few = in_range next (behind traces.done next (steps_left rest) (subst (All HasSpelling) with_next (all_spelled n seed few)))
+  next_in_range few = in_range next (next_spelled few)
+
+  pub next_no_priority : n ≤ 999999 → NamesNoPriority next
+  next_no_priority few = names_no_priority next (next_spelled few)
 
   buffered : (line : List ℕ) → line ≡ ended_line (written_line next) → traces.sent ++ (text ++ line) ≡ trace_text (traces.done ++ next ∷ [])
   buffered line is =

@@ -1,12 +1,11 @@
 -- Which words name a command; and what a status says: its number, its text, and what became of input and output.
-use Rattle.std.specs.Prelude.{◌≡◌, ℕ, ◌-◌, ◌^◌, Bool, false, List, [], ◌∷◌, ◌++◌, flat_map, Option, None, Some, MatchOption, Result, Ok, Err, IfErr, codes, decimal, ⊤}
+use Rattle.std.specs.Prelude.{◌≡◌, ℕ, ◌-◌, ◌^◌, Bool, true, false, List, [], ◌∷◌, ◌++◌, flat_map, Option, None, Some, MatchOption, Result, Ok, Err, IfErr, codes, decimal, ⊤}
 use Rattle.std.specs.Io.KnownBytes.{Appends}
 use Rattle.std.specs.Option.{option_map_or}
 use Rattle.aio_base.specs.declared.outcomes.CountFault.{CountFault}
 use Rattle.aio_base.specs.declared.steps.Step.{Step}
 use Rattle.aio_base.specs.Generated.{counts_line, run_counts}
 use Rattle.aio_base.specs.Lines.{written_line}
-use Rattle.aio_base.specs.Script.{output}
 use Rattle.aio_base.specs.declared.steps.Reason.{Reason}
 use Rattle.aio_base.specs.Text.{ended_line, reason_text}
 use Rattle.aio_base.specs.Devices.{TellsFaults}
@@ -22,6 +21,7 @@ use Rattle.aio_replay.specs.declared.ends.ReplayEnd.{ReplayEnd}
 use Rattle.aio_replay.specs.declared.ends.ReplayEnd.TheVariants as ends
 use Rattle.aio_replay.specs.Ends as replay_ends
 use Rattle.aio_replay.specs.Ends.{tells_read_fault, tells_write_fault}
+use Rattle.aio_replay.specs.Language.{Told}
 
 -- ## The words of commands
 
@@ -103,14 +103,14 @@ end_of (why.WriteFault fault) = Some (ends.WriteFault fault)
 end_of why.OutOfMemory = Some ends.OutOfMemory
 end_of (why.DeviceFault which fault) = None
 
--- What a command that reads this input as a trace and writes a text of its steps has done where the program ended so; no other cause comes of such a
--- command.
-abbrev pub WritesOf : (List Step → List ℕ) → Why → List ℕ → Option (List ℕ) → Option (List ℕ) → Option (List ℕ) → Type 0
-WritesOf text w input left out_old out_new = MatchOption (end_of w) ⊥ (λ end. replay_ends.WritesOf text end input left out_old out_new)
+-- What a command that answers the lines of an input, which come to this, has done where the program ended so; no other cause comes of such a command.
+abbrev pub WritesTold : {State : Type 0} → Told State → Why → (left out_old out_new : Option (List ℕ)) → Type 0
+WritesTold told w left out_old out_new = MatchOption (end_of w) ⊥ (λ end. replay_ends.WritesTold told end left out_old out_new)
 
--- a replay writes the answers and wakes of the machine run over the steps
-abbrev pub Replays : Why → List ℕ → Option (List ℕ) → Option (List ℕ) → Option (List ℕ) → Type 0
-Replays = WritesOf output
+-- whether the program ends for a device
+abbrev pub is_device_fault : Why → Bool
+is_device_fault (why.DeviceFault which fault) = true
+is_device_fault _ = false
 
 abbrev pub is_read_fault : Why → Bool
 is_read_fault w = option_map_or tells_read_fault (end_of w) false
@@ -123,9 +123,9 @@ abbrev pub TellsCounts : Why → ℕ → ℕ → ℕ → ℕ → Type 0
 TellsCounts w reads_old reads_new writes_old writes_new =
     MatchOption (end_of w) ⊤ (λ end. replay_ends.TellsCounts end reads_old reads_new writes_old writes_new)
 
--- the bytes that are taken of a source at most
-abbrev pub bytes_taken : Why → List ℕ → ℕ
-bytes_taken w input = option_map_or (λ end. replay_ends.bytes_taken end input) (end_of w) 0
+-- the bytes that are taken of a source at most, where its input may have so many lines
+abbrev pub bytes_taken : ℕ → Why → List ℕ → ℕ
+bytes_taken limit w input = option_map_or (λ end. replay_ends.bytes_taken limit end input) (end_of w) 0
 
 -- ## A text that is written
 

@@ -1,10 +1,12 @@
 //! The command `replay`, as the program ends by it.
 
-ghost use Rattle.std.specs.Prelude.{◌≡◌, ◌≢◌, ℕ, ◌<◌, List, Some};
+ghost use Rattle.std.specs.Prelude.{◌≡◌, ◌≢◌, ℕ, List, Some, false};
+ghost use Rattle.aio_base.specs.Trace.{line_limit, trace_of};
 ghost use Rattle.aio_bytes.specs.Unread.{LeavesAllBut};
-ghost use Rattle.aio_commands.specs.Commands.{Replays, TellsCounts, bytes_taken, exit_of, why_of};
-ghost use Rattle.aio_commands.specs.Commands.{is_read_fault, is_write_fault};
-ghost use Rattle.aio_replay.specs.Driving.{Causes};
+ghost use Rattle.aio_commands.specs.Commands.{TellsCounts, WritesTold, bytes_taken, why_of};
+ghost use Rattle.aio_commands.specs.Commands.{is_device_fault, is_read_fault, is_write_fault};
+ghost use Rattle.aio_replay.specs.Driving.{Causes, most_bytes};
+ghost use Rattle.aio_replay.specs.Language.{run_of};
 
 use crate::status::Why;
 use aio_bytes::{Sink, Source};
@@ -15,13 +17,14 @@ use std::alloc::Global;
 /// no runtime, so it can't wait.
 pub fn run_replay<S: Source, K: Sink>(alloc: Global, input: &mut S, out: &mut K) -> Why
     ensures usage { result ≢ Why.Usage }
-    ensures no_device { exit_of result < 6 }
+    ensures no_device { is_device_fault result ≡ false }
     ensures replays { (bytes : List ℕ) → S.remaining input.old ≡ Some bytes
-        → Replays result bytes (S.remaining input.new) (K.contents out.old) (K.contents out.new) }
+        → WritesTold (run_of (trace_of bytes)) result (S.remaining input.new)
+        (K.contents out.old) (K.contents out.new) }
     ensures taken { (bytes : List ℕ) → S.remaining input.old ≡ Some bytes
-        → LeavesAllBut (bytes_taken result bytes) (S.remaining input.new) bytes }
+        → LeavesAllBut (bytes_taken line_limit result bytes) (S.remaining input.new) bytes }
     ensures most { (bytes : List ℕ) → S.remaining input.old ≡ Some bytes
-        → LeavesAllBut 257000257 (S.remaining input.new) bytes }
+        → LeavesAllBut (most_bytes line_limit) (S.remaining input.new) bytes }
     ensures counts { TellsCounts result (S.fault_count input.old) (S.fault_count input.new)
         (K.fault_count out.old) (K.fault_count out.new) }
     ensures read_cause { Causes S.fault_count S.is_sure

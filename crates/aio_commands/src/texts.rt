@@ -4,7 +4,7 @@
 ghost use Rattle.std.specs.Prelude.{◌≡◌, ℕ, ◌<◌, ◌≤◌, ◌^◌, ◌++◌, ◌⊎◌, IfOk, OnOk, decimal};
 ghost use Rattle.aio_base.specs.Devices.{TellsFaults};
 ghost use Rattle.aio_base.specs.Generated.{counts_line, generated_steps};
-ghost use Rattle.aio_base.specs.Lines.{IsInRange, written_line};
+ghost use Rattle.aio_base.specs.Lines.{IsInRange, NamesNoPriority, written_line};
 ghost use Rattle.aio_base.specs.Text.{ended_line};
 ghost use Rattle.aio_bytes.specs.Sinks.{HasFailed, Writes};
 ghost use Rattle.aio_commands.specs.Commands.{TellsCounts, WritesText, is_write_fault};
@@ -78,7 +78,8 @@ fn header(alloc: Global) -> Result<Vec<u8>, AllocError>
 /// block, and not before. Where memory runs out, the text before is written as far as the output
 /// takes it.
 fn buffer_line<K: Sink>(step: &Step, text: &mut Vec<u8>, out: &mut K) -> Result<(), SinkRefusal>
-    requires { IsInRange step.now }
+    requires range { IsInRange step.now }
+    requires names { NamesNoPriority step.now }
     ensures buffers { Buffers result (K.contents out.old) (K.contents out.new)
         text.old.items text.new.items (ended_line (written_line step.now)) }
     ensures blocks { OnOk result ((out.new ≡ out.old)

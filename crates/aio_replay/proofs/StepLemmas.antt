@@ -14,7 +14,7 @@ use Rattle.aio_replay.specs.declared.ends.Stop.{Stop}
 use Rattle.aio_replay.specs.declared.ends.End.{End}
 use Rattle.aio_replay.specs.declared.ends.End.TheVariants as ends
 use Rattle.aio_replay.specs.Answering.{AnswerRules, Replied}
-use Rattle.aio_replay.specs.Language.{Language, LeadsTo, RefusesLong, Reply, Told, ends_in, refused_in, refusal_at, with_text, told_after, told_from, told_of}
+use Rattle.aio_replay.specs.Language.{Language, LanguageRules, LeadsTo, Reply, Told, ends_in, limit_behind, lines_in, refused_in, refusal_at, with_text, told_after, told_behind, told_from, told_of, unopened}
 use Rattle.aio_replay.specs.Driving.{EndsSo, Sends, StoppedBehind, ToldWhole, UnlessMemory, bytes_of_end, most_bytes}
 use Rattle.aio_replay.specs.Steps.{Answered, Closes, Closing, Finishes, IsRead, LacksMemory, LineTaken, Opens, Standing, TakesLines, end_before, refusal_of}
 use Rattle.aio_replay.proofs.DrivingLemmas.{Sends-behind, Sends-trans, Sends-writes, long_is_refused}
@@ -22,26 +22,26 @@ use Rattle.aio_replay.proofs.DrivingLemmas.{Sends-behind, Sends-trans, Sends-wri
 -- ## What lines come to
 
 -- a line within the limit is answered or refused
-told_within : {S : Type 0} (l : Language S) (line : ℕ) (s : S) (bytes : List ℕ) (lines : List (List ℕ)) → line ≤ l.limit
+told_within : {S : Type 0} (l : Language S) (line : ℕ) (s : S) (bytes : List ℕ) (lines : List (List ℕ)) → line ≤ l.limit s
     → told_from l line s (bytes ∷ lines) ≡ told_after l s line (l.line s bytes) (λ behind. told_from l (line + 1) behind lines)
 told_within l line s bytes lines le =
-    let test : nat_lt l.limit line ≡ false = grind (arith, nat_tests) in
+    let test : nat_lt (l.limit s) line ≡ false = grind (arith, nat_tests) in
     ap (λ t. if t then refused_in l s line reason.Lines else told_after l s line (l.line s bytes) (λ behind. told_from l (line + 1) behind lines)) test
 
-told_answered : {S : Type 0} (l : Language S) (line : ℕ) (s : S) (bytes : List ℕ) (lines : List (List ℕ)) (added : List ℕ) (t : S) → line ≤ l.limit
+told_answered : {S : Type 0} (l : Language S) (line : ℕ) (s : S) (bytes : List ℕ) (lines : List (List ℕ)) (added : List ℕ) (t : S) → line ≤ l.limit s
     → l.line s bytes ≡ Ok (added, t) → told_from l line s (bytes ∷ lines) ≡ with_text added (told_from l (line + 1) t lines)
 told_answered l line s bytes lines added t le is =
     told_within l line s bytes lines le ∙ ap (λ (reply : Reply _). told_after l s line reply (λ behind. told_from l (line + 1) behind lines)) is
 
-told_refused : {S : Type 0} (l : Language S) (line : ℕ) (s : S) (bytes : List ℕ) (lines : List (List ℕ)) (why : Reason) → line ≤ l.limit
+told_refused : {S : Type 0} (l : Language S) (line : ℕ) (s : S) (bytes : List ℕ) (lines : List (List ℕ)) (why : Reason) → line ≤ l.limit s
     → l.line s bytes ≡ Err why → told_from l line s (bytes ∷ lines) ≡ refused_in l s line why
 told_refused l line s bytes lines why le is =
     told_within l line s bytes lines le ∙ ap (λ (reply : Reply _). told_after l s line reply (λ behind. told_from l (line + 1) behind lines)) is
 
-told_past : {S : Type 0} (l : Language S) (line : ℕ) (s : S) (bytes : List ℕ) (lines : List (List ℕ)) → l.limit < line
+told_past : {S : Type 0} (l : Language S) (line : ℕ) (s : S) (bytes : List ℕ) (lines : List (List ℕ)) → l.limit s < line
     → told_from l line s (bytes ∷ lines) ≡ refused_in l s line reason.Lines
 told_past l line s bytes lines lt =
-    let test : nat_lt l.limit line ≡ true = grind (arith, nat_tests) in
+    let test : nat_lt (l.limit s) line ≡ true = grind (arith, nat_tests) in
     ap (λ t. if t then refused_in l s line reason.Lines else told_after l s line (l.line s bytes) (λ behind. told_from l (line + 1) behind lines)) test
 
 with_texts : {S : Type 0} (x y : List ℕ) (t : Told S) → with_text x (with_text y t) ≡ with_text (x ++ y) t
@@ -49,7 +49,7 @@ with_texts x y t = ap (λ text. let r : Told _ = record { text = text; state = t
 
 -- lines that lead to a state lead with one more to the state behind it
 leads_on : {S : Type 0} (l : Language S) (header : List ℕ) (front : List (List ℕ)) (text : List ℕ) (s : S) (bytes added : List ℕ) (t : S)
-    → LeadsTo l (header ∷ front) text s → length front + 2 ≤ l.limit → l.line s bytes ≡ Ok (added, t) → LeadsTo l (header ∷ front ++ bytes ∷ []) (text ++ added) t
+    → LeadsTo l (header ∷ front) text s → length front + 2 ≤ l.limit s → l.line s bytes ≡ Ok (added, t) → LeadsTo l (header ∷ front ++ bytes ∷ []) (text ++ added) t
 leads_on l header front text s bytes added t leads le is = λ more.
     let longer : length front + 2 + 1 ≡ length (front ++ bytes ∷ []) + 2 = omega (arith, length-append front (bytes ∷ [])) in
     ap (λ x. told_of l (header ∷ x)) (append_assoc front (bytes ∷ []) more)
@@ -162,6 +162,7 @@ takes r input told now first old new line ahead bytes left text kept_text a s t 
   rest = t.rest;
   is_rest = t.is_rest;
   answered = sends_more r (s.header ∷ s.front) first old new text kept_text a s.answered sends;
+  limit = s.limit;
   count = omega (arith, s.before.count);
   before = takes_one input (s.header ∷ s.front) now line bytes left s.rest s.before t;
   held = held_behind input (s.header ∷ s.front) now line s.rest s.before t.held;
@@ -170,11 +171,11 @@ takes r input told now first old new line ahead bytes left text kept_text a s t 
 
 -- the line is answered, and its text stands behind that of the lines before
 pub goes_on : {A : Type 0} (r : AnswerRules A) (input : List ℕ) (told first out : Option (List ℕ)) (line : ℕ) (bytes ahead text new : List ℕ) (a after : A)
-    → (t : LineTaken r input told first out line bytes ahead text a) → line ≤ r.language.limit
+    → LanguageRules r.language → (t : LineTaken r input told first out line bytes ahead text a) → line ≤ lines_in r.language (lines_of input)
     → Replied r (r.language.line t.answered.state bytes) text new after → Standing r input told first out (line + 1) ahead new after
-goes_on r input told first out line bytes ahead text new a after t le reply =
+goes_on r input told first out line bytes ahead text new a after laws t le reply =
     let d = t.answered in
-    let few : length t.front + 2 ≤ r.language.limit = omega (arith, t.count, le) in
+    let few : length t.front + 2 ≤ r.language.limit d.state = omega (arith, t.count, le, t.limit) in
     record {
       header = t.header;
       front = t.front ++ bytes ∷ [];
@@ -191,6 +192,7 @@ goes_on r input told first out line bytes ahead text new a after t le reply =
           whole = ap (λ x. x ++ reply.added) d.written.whole ∙ append_assoc d.written.sent text reply.added ∙ ap (λ x. d.written.sent ++ x) (sym reply.text);
         };
       };
+      limit = laws.same_limit d.state bytes reply.added reply.state reply.is ∙ t.limit;
       before = t.before;
     }
 
@@ -203,6 +205,7 @@ flushed r input told first old new line ahead text kept_text a s sends = record 
   rest = s.rest;
   is_rest = s.is_rest;
   answered = sends_more r (s.header ∷ s.front) first old new text kept_text a s.answered sends;
+  limit = s.limit;
   before = s.before;
 }
 
@@ -229,22 +232,22 @@ stops_behind r input first old new text front back left e a after lines d says k
 }
 
 stops : {A : Type 0} (r : AnswerRules A) (input : List ℕ) (now first new : Option (List ℕ)) (e : Stop) (a : A)
-    → StoppedBehind r e input first new a → LeavesAllBut (most_bytes r.language.limit) now input → EndsSo r (ends.Stopped e) input now first new a
+    → StoppedBehind r e input first new a → LeavesAllBut (most_bytes (lines_in r.language (lines_of input))) now input → EndsSo r (ends.Stopped e) input now first new a
 stops r input now first new e a b taken = record { says = b; taken = taken; few = taken }
 
 -- while a line was looked for
 pub stops_before : {A : Type 0} (r : AnswerRules A) (input : List ℕ) (told now first old new : Option (List ℕ)) (line : ℕ) (ahead text : List ℕ) (a : A) (e : Stop)
-    → (s : Standing r input told first old line ahead text a) → line ≤ r.language.limit + 1 → LeavesAllBut 257 now s.rest → Writes e.sent old new text
+    → (s : Standing r input told first old line ahead text a) → line ≤ lines_in r.language (lines_of input) + 1 → LeavesAllBut 257 now s.rest → Writes e.sent old new text
     → EndsSo r (ends.Stopped e) input now first new a
 stops_before r input told now first old new line ahead text a e s le h part =
     stops r input now first new e a
     (stops_behind r input first old new text (s.header ∷ s.front) (lines_of s.rest) _ e a a s.before.lines s.answered
     (told_standing r input told first old line ahead text a s) (λ other. s.answered.stands) part)
-    (held_at_last r.language.limit input (s.header ∷ s.front) now line s.rest le s.before h)
+    (held_at_last (lines_in r.language (lines_of input)) input (s.header ∷ s.front) now line s.rest le s.before h)
 
 -- memory ran out for a line
 pub stops_in_line : {A : Type 0} (r : AnswerRules A) (result : End) (input : List ℕ) (told first old new : Option (List ℕ)) (line : ℕ) (bytes ahead text : List ℕ) (a after : A)
-    → LineTaken r input told first old line bytes ahead text a → line ≤ r.language.limit → LacksMemory result old new text → EndsSo r result input told first new after
+    → LineTaken r input told first old line bytes ahead text a → line ≤ lines_in r.language (lines_of input) → LacksMemory result old new text → EndsSo r result input told first new after
 stops_in_line r ends.Done input told first old new line bytes ahead text a after t le lacks = absurd lacks
 stops_in_line r (ends.Refused at why) input told first old new line bytes ahead text a after t le lacks = absurd lacks
 stops_in_line r (ends.Stopped e) input told first old new line bytes ahead text a after t le lacks =
@@ -252,11 +255,11 @@ stops_in_line r (ends.Stopped e) input told first old new line bytes ahead text 
     (stops_behind r input first old new text (t.header ∷ t.front) (bytes ∷ lines_of t.rest) _ e a after
     (t.before.lines ∙ ap (λ x. t.header ∷ x) (append_assoc t.front (bytes ∷ []) (lines_of t.rest))) t.answered
     (told_taken r input told first old line bytes ahead text a t) (λ other. absurd (other lacks.0)) lacks.1)
-    (leaves_more (257 * line) (257 * (r.language.limit + 1)) told input (omega (arith, le)) t.held_few)
+    (leaves_more (257 * line) (257 * (lines_in r.language (lines_of input) + 1)) told input (omega (arith, le)) t.held_few)
 
 -- before the next line
 pub stops_between : {A : Type 0} (r : AnswerRules A) (input : List ℕ) (told first old new : Option (List ℕ)) (line : ℕ) (ahead text : List ℕ) (a : A) (e : Stop)
-    → Standing r input told first old line ahead text a → LeavesAllBut (most_bytes r.language.limit) told input → Writes e.sent old new text
+    → Standing r input told first old line ahead text a → LeavesAllBut (most_bytes (lines_in r.language (lines_of input))) told input → Writes e.sent old new text
     → EndsSo r (ends.Stopped e) input told first new a
 stops_between r input told first old new line ahead text a e s h part =
     stops r input told first new e a
@@ -308,14 +311,14 @@ closes_whole r ends.Done wanted input told first old new text a c e =
         subst (λ (x : End). IsRead x told) same c.is_read,
         subst (λ (x : End). ToldWhole r (refusal_of x) input first new a) same (told_whole r wanted input told first old new text a c e.1),
       );
-      taken = subst (λ (x : End). LeavesAllBut (bytes_of_end r.language.limit x input) told input) same c.taken;
+      taken = subst (λ (x : End). LeavesAllBut (bytes_of_end (lines_in r.language (lines_of input)) x input) told input) same c.taken;
       few = c.taken_few;
     }
 closes_whole r (ends.Refused line why) wanted input told first old new text a c e =
     let same : wanted ≡ ends.Refused line why = e.0 in
     record {
       says = subst (λ (x : End). ToldWhole r (refusal_of x) input first new a) same (told_whole r wanted input told first old new text a c e.1);
-      taken = subst (λ (x : End). LeavesAllBut (bytes_of_end r.language.limit x input) told input) same c.taken;
+      taken = subst (λ (x : End). LeavesAllBut (bytes_of_end (lines_in r.language (lines_of input)) x input) told input) same c.taken;
       few = c.taken_few;
     }
 closes_whole r (ends.Stopped s) wanted input told first old new text a c e =
@@ -346,7 +349,7 @@ closes r result wanted input told first old new text a after c same e =
 
 -- a line is refused
 pub refuses_line : {A : Type 0} (r : AnswerRules A) (input : List ℕ) (told first out : Option (List ℕ)) (line : ℕ) (bytes ahead text : List ℕ) (a : A) (why : Reason)
-    → (t : LineTaken r input told first out line bytes ahead text a) → line ≤ r.language.limit → r.language.line t.answered.state bytes ≡ Err why
+    → (t : LineTaken r input told first out line bytes ahead text a) → line ≤ lines_in r.language (lines_of input) → r.language.line t.answered.state bytes ≡ Err why
     → Closing r (ends.Refused line why) input told first out text a
 refuses_line r input told first out line bytes ahead text a why t le is = record {
   front = t.header ∷ t.front;
@@ -354,15 +357,15 @@ refuses_line r input told first out line bytes ahead text a why t le is = record
   lines = t.before.lines ∙ ap (λ x. t.header ∷ x) (append_assoc t.front (bytes ∷ []) (lines_of t.rest));
   answered = t.answered;
   ends = told_taken r input told first out line bytes ahead text a t
-      ∙ ap (with_text t.answered.whole) (told_refused r.language line t.answered.state bytes (lines_of t.rest) why le is);
+      ∙ ap (with_text t.answered.whole) (told_refused r.language line t.answered.state bytes (lines_of t.rest) why (omega (arith, le, t.limit)) is);
   is_read = tt;
   taken = t.held;
-  taken_few = leaves_more (257 * line) (257 * (r.language.limit + 1)) told input (omega (arith, le)) t.held_few;
+  taken_few = leaves_more (257 * line) (257 * (lines_in r.language (lines_of input) + 1)) told input (omega (arith, le)) t.held_few;
 }
 
 -- the first line that is left is refused, whatever it says
 refuses_first : {A : Type 0} (r : AnswerRules A) (input : List ℕ) (told now first old new : Option (List ℕ)) (line : ℕ) (ahead text kept_text : List ℕ) (why : Reason) (a : A)
-    → (s : Standing r input told first old line ahead text a) → line ≤ r.language.limit + 1
+    → (s : Standing r input told first old line ahead text a) → line ≤ lines_in r.language (lines_of input) + 1
     → told_from r.language line s.answered.state (lines_of s.rest) ≡ refused_in r.language s.answered.state line why → LeavesAllBut 257 now s.rest
     → Sends old new text kept_text → Closing r (ends.Refused line why) input now first new kept_text a
 refuses_first r input told now first old new line ahead text kept_text why a s le is h sends = record {
@@ -373,27 +376,27 @@ refuses_first r input told now first old new line ahead text kept_text why a s l
   ends = told_standing r input told first old line ahead text a s ∙ ap (with_text s.answered.whole) is;
   is_read = tt;
   taken = held_behind input (s.header ∷ s.front) now line s.rest s.before h;
-  taken_few = held_at_last r.language.limit input (s.header ∷ s.front) now line s.rest le s.before h;
+  taken_few = held_at_last (lines_in r.language (lines_of input)) input (s.header ∷ s.front) now line s.rest le s.before h;
 }
 
 -- a line that is too long is refused
 pub refuses_long : {A : Type 0} (r : AnswerRules A) (input : List ℕ) (told now first old new : Option (List ℕ)) (line : ℕ) (ahead text kept_text : List ℕ) (a : A)
-    → RefusesLong r.language → (s : Standing r input told first old line ahead text a) → line ≤ r.language.limit → BeginsLong s.rest → LeavesAllBut 257 now s.rest
+    → LanguageRules r.language → (s : Standing r input told first old line ahead text a) → line ≤ lines_in r.language (lines_of input) → BeginsLong s.rest → LeavesAllBut 257 now s.rest
     → Sends old new text kept_text → Closing r (ends.Refused line r.language.long) input now first new kept_text a
 refuses_long r input told now first old new line ahead text kept_text a laws s le long h sends =
     let b = long_is_refused r.language s.rest laws long in
     refuses_first r input told now first old new line ahead text kept_text r.language.long a s (omega (arith, le))
     (ap (told_from r.language line s.answered.state) b.lines
-    ∙ told_refused r.language line s.answered.state b.first b.others r.language.long le (b.too_long s.answered.state)) h sends
+    ∙ told_refused r.language line s.answered.state b.first b.others r.language.long (omega (arith, le, s.limit)) (b.too_long s.answered.state)) h sends
 
 -- a line past the last that an input may have is refused, whatever it says
 pub refuses_past : {A : Type 0} (r : AnswerRules A) (input : List ℕ) (told now first old new : Option (List ℕ)) (line : ℕ) (ahead text kept_text first_line : List ℕ)
-    (others : List (List ℕ)) (a : A) → (s : Standing r input told first old line ahead text a) → line ≡ r.language.limit + 1 → lines_of s.rest ≡ first_line ∷ others
+    (others : List (List ℕ)) (a : A) → (s : Standing r input told first old line ahead text a) → line ≡ lines_in r.language (lines_of input) + 1 → lines_of s.rest ≡ first_line ∷ others
     → LeavesAllBut 257 now s.rest → Sends old new text kept_text → Closing r (ends.Refused line reason.Lines) input now first new kept_text a
 refuses_past r input told now first old new line ahead text kept_text first_line others a s last lines h sends =
     refuses_first r input told now first old new line ahead text kept_text reason.Lines a s (omega (arith, last))
     (ap (told_from r.language line s.answered.state) lines
-    ∙ told_past r.language line s.answered.state first_line others (omega (arith, last))) h sends
+    ∙ told_past r.language line s.answered.state first_line others (omega (arith, last, s.limit))) h sends
 
 -- where nothing is left of the input, so many bytes at most are taken of it
 all_taken : (input rest : List ℕ) (front : List (List ℕ)) (line most : ℕ) (now : Option (List ℕ)) → (t : TakesLines input front line rest) → (rest ≡ []) × (now ≡ Some [])
@@ -423,7 +426,7 @@ refusal_at_end line (Some why) = refl
 
 -- nothing is left of the input: it is done, or the last line is refused, where the lines may not end with it
 pub ends_here : {A : Type 0} (r : AnswerRules A) (result : End) (input : List ℕ) (told now first old mid new : Option (List ℕ)) (line : ℕ) (ahead text kept_text : List ℕ)
-    (a after : A) → Standing r input told first old line ahead text a → line ≤ r.language.limit + 1 → (nothing : (rest : List ℕ) → Unread told ahead rest
+    (a after : A) → Standing r input told first old line ahead text a → line ≤ lines_in r.language (lines_of input) + 1 → (nothing : (rest : List ℕ) → Unread told ahead rest
     → (rest ≡ []) × (now ≡ Some [])) → Sends old mid text kept_text → after ≡ a
     → ((s : r.State) → r.stands a s → Finishes r s result (end_before line (r.language.unended s)) mid new kept_text) → EndsSo r result input now first new after
 ends_here r result input told now first old mid new line ahead text kept_text a after s le finds sends same e =
@@ -439,8 +442,8 @@ ends_here r result input told now first old mid new line ahead text kept_text a 
           ∙ ap (λ x. with_text s.answered.whole (told_from r.language line state (lines_of x))) nothing.0
           ∙ ap (λ x. with_text s.answered.whole (ends_in r.language state x)) (refusal_at_end line why);
       is_read = read_at_end line now why nothing.1;
-      taken = taken_at_end r.language.limit input s.rest (s.header ∷ s.front) line now why s.before le nothing;
-      taken_few = all_taken input s.rest (s.header ∷ s.front) line (257 * (r.language.limit + 1)) now s.before nothing (omega (arith, s.before.most, le));
+      taken = taken_at_end (lines_in r.language (lines_of input)) input s.rest (s.header ∷ s.front) line now why s.before le nothing;
+      taken_few = all_taken input s.rest (s.header ∷ s.front) line (257 * (lines_in r.language (lines_of input) + 1)) now s.before nothing (omega (arith, s.before.most, le));
     } in
     closes_in r result (end_before line why) input now first mid new kept_text a after c same (e state s.answered.stands)
 
@@ -462,67 +465,90 @@ opens_answered r ahead text kept_text first new a o sends = record {
 }
 
 -- the first line is the header
-pub header_read : {A : Type 0} (r : AnswerRules A) (input ahead text kept_text bytes left : List ℕ) (now first new : Option (List ℕ)) (a : A) → Opens r ahead text a
-    → TakesLine now bytes left input → r.language.is_header bytes ≡ true → Sends first new text kept_text → Standing r input now first new 2 left kept_text a
-header_read r input ahead text kept_text bytes left now first new a o t is sends = record {
-  header = bytes;
-  front = [];
-  rest = t.rest;
-  is_rest = t.is_rest;
-  answered = record {
-    whole = [];
-    state = r.language.opening;
-    leads = λ more. ap (λ b. if b then told_from r.language 2 r.language.opening more else refused_in r.language r.language.opening 1 reason.Header) is;
-    stands = o.stands;
-    written = subst (λ x. Sends first new x kept_text) o.no_text sends;
-  };
-  before = takes_one input [] now 1 bytes left input (takes_none input) t;
-}
+pub header_read : {A : Type 0} (r : AnswerRules A) (input ahead text kept_text opened bytes left : List ℕ) (now first new : Option (List ℕ)) (a after : A) → Opens r ahead text a
+    → TakesLine now bytes left input → Sends first new text kept_text → Replied r (r.language.header bytes) kept_text opened after
+    → Standing r input now first new 2 left opened after
+header_read r input ahead text kept_text opened bytes left now first new a after o t sends reply =
+    let none : text ++ reply.added ≡ reply.added = ap (λ x. x ++ reply.added) o.no_text in
+    let sent : Sends first new reply.added opened =
+    subst (λ x. Sends first new x opened) none (subst (λ y. Sends first new (text ++ reply.added) y) (sym reply.text) (Sends-behind first new text kept_text reply.added sends)) in
+    record {
+      header = bytes;
+      front = [];
+      rest = t.rest;
+      is_rest = t.is_rest;
+      answered = record {
+        whole = reply.added;
+        state = reply.state;
+        leads = λ more. ap (λ (opens : Reply _). told_behind r.language opens more) reply.is;
+        stands = reply.stands;
+        written = sent;
+      };
+      limit = sym (ap (lines_in r.language) t.lines ∙ ap (limit_behind r.language) reply.is);
+      before = takes_one input [] now 1 bytes left input (takes_none input) t;
+    }
 
-pub header_closing : {A : Type 0} (r : AnswerRules A) (input ahead text kept_text : List ℕ) (now first new : Option (List ℕ)) (a : A) → Opens r ahead text a
-    → told_of r.language (lines_of input) ≡ refused_in r.language r.language.opening 1 reason.Header → LeavesAllBut 257 now input → Sends first new text kept_text
-    → Closing r (ends.Refused 1 reason.Header) input now first new kept_text a
-header_closing r input ahead text kept_text now first new a o says h sends = record {
-  front = [];
-  back = lines_of input;
-  lines = refl;
-  answered = opens_answered r ahead text kept_text first new a o sends;
-  ends = says;
-  is_read = tt;
-  taken = held_behind input [] now 1 input (takes_none input) h;
-  taken_few = held_at_last r.language.limit input [] now 1 input (omega arith) (takes_none input) h;
-}
+-- a stop before the header was answered: of no line a text is due
+pub header_stopped : {A : Type 0} (r : AnswerRules A) (input ahead text kept_text : List ℕ) (now first old new : Option (List ℕ)) (a after : A) (s : Stop) → Opens r ahead text a
+    → LeavesAllBut 257 now input → Sends first old text kept_text → Writes s.sent old new kept_text → UnlessMemory s (after ≡ a)
+    → EndsSo r (ends.Stopped s) input now first new after
+header_stopped r input ahead text kept_text now first old new a after s o h sends part same =
+    stops r input now first new s after
+    (stops_behind r input first old new kept_text [] (lines_of input) _ s a after refl (opens_answered r ahead text kept_text first old a o sends) refl
+    (λ other. subst (λ (x : _). r.stands x r.language.opening) (sym (same other)) o.stands) part)
+    (leaves_more 257 (257 * (lines_in r.language (lines_of input) + 1)) now input (omega arith) h)
 
-no_header : {S : Type 0} (l : Language S) (lines others : List (List ℕ)) (first : List ℕ) → lines ≡ first ∷ others → l.is_header first ≡ false
-    → told_of l lines ≡ refused_in l l.opening 1 reason.Header
-no_header l lines others first is other =
-    ap (told_of l) is ∙ ap (λ b. if b then told_from l 2 l.opening others else refused_in l l.opening 1 reason.Header) other
+-- a stop while the first line was looked for
+pub header_unfound : {A : Type 0} (r : AnswerRules A) (input ahead text : List ℕ) (now first new : Option (List ℕ)) (a : A) (s : Stop) → Opens r ahead text a
+    → LeavesAllBut 257 now input → Writes s.sent first new text → EndsSo r (ends.Stopped s) input now first new a
+header_unfound r input ahead text now first new a s o h part =
+    header_stopped r input ahead text text now first first new a a s o h (record { sent = []; appended = Appends-nil first; whole = refl }) part (λ other. refl)
+
+-- memory ran out for the text of a header
+pub header_lacks : {A : Type 0} (r : AnswerRules A) (result : End) (input ahead text kept_text : List ℕ) (now first old new : Option (List ℕ)) (a after : A) → Opens r ahead text a
+    → LeavesAllBut 257 now input → Sends first old text kept_text → LacksMemory result old new kept_text → EndsSo r result input now first new after
+header_lacks r ends.Done input ahead text kept_text now first old new a after o h sends lacks = absurd lacks
+header_lacks r (ends.Refused line why) input ahead text kept_text now first old new a after o h sends lacks = absurd lacks
+header_lacks r (ends.Stopped s) input ahead text kept_text now first old new a after o h sends lacks =
+    header_stopped r input ahead text kept_text now first old new a after s o h sends lacks.1 (λ other. absurd (other lacks.0))
+
+-- the first line is refused, and no text is due
+pub header_closes : {A : Type 0} (r : AnswerRules A) (result : End) (input ahead text kept_text : List ℕ) (now first old new : Option (List ℕ)) (a after : A) (why : Reason)
+    → Opens r ahead text a → told_of r.language (lines_of input) ≡ unopened r.language why → LeavesAllBut 257 now input → Sends first old text kept_text
+    → after ≡ a → Closes result (ends.Refused 1 why) old new kept_text → EndsSo r result input now first new after
+header_closes r ends.Done input ahead text kept_text now first old new a after why o says h sends same e = let wrong = e.0 in absurd cc
+header_closes r (ends.Refused line reason) input ahead text kept_text now first old new a after why o says h sends same e =
+    let wanted : ends.Refused 1 why ≡ ends.Refused line reason = e.0 in
+    let written : Appends first new text = Sends-writes (Ok tt) first old new text kept_text sends e.1 in
+    record {
+      says = record {
+        refusal_is = ap (λ (t : Told _). t.refusal) says ∙ ap refusal_of wanted;
+        written = subst (Appends first new) (o.no_text ∙ sym (ap (λ (t : Told _). t.text) says)) written;
+        stands = subst (r.stands after) (sym (ap (λ (t : Told _). t.state) says)) (subst (λ (x : _). r.stands x r.language.opening) (sym same) o.stands);
+      };
+      taken = leaves_more 257 (bytes_before line input + 257) now input (omega arith) h;
+      few = leaves_more 257 (257 * (lines_in r.language (lines_of input) + 1)) now input (omega arith) h;
+    }
+header_closes r (ends.Stopped s) input ahead text kept_text now first old new a after why o says h sends same e =
+    header_stopped r input ahead text kept_text now first old new a after s o h sends e (λ other. same)
+
+no_header : {S : Type 0} (l : Language S) (lines others : List (List ℕ)) (first : List ℕ) (why : Reason) → lines ≡ first ∷ others → l.header first ≡ Err why
+    → told_of l lines ≡ unopened l why
+no_header l lines others first why is other = ap (told_of l) is ∙ ap (λ (opens : Reply _). told_behind l opens others) other
 
 -- the first line is no header
-pub header_refused : {A : Type 0} (r : AnswerRules A) (input ahead text kept_text bytes left : List ℕ) (now first new : Option (List ℕ)) (a : A) → Opens r ahead text a
-    → TakesLine now bytes left input → r.language.is_header bytes ≡ false → Sends first new text kept_text
-    → Closing r (ends.Refused 1 reason.Header) input now first new kept_text a
-header_refused r input ahead text kept_text bytes left now first new a o t other sends =
-    header_closing r input ahead text kept_text now first new a o (no_header r.language _ (lines_of t.rest) bytes t.lines other) t.held sends
+pub header_refused : {A : Type 0} (r : AnswerRules A) (input bytes left : List ℕ) (now : Option (List ℕ)) (why : Reason) → (t : TakesLine now bytes left input)
+    → r.language.header bytes ≡ Err why → told_of r.language (lines_of input) ≡ unopened r.language why
+header_refused r input bytes left now why t other = no_header r.language (lines_of input) (lines_of t.rest) bytes why t.lines other
 
-pub header_long : {A : Type 0} (r : AnswerRules A) (input ahead text kept_text : List ℕ) (now first new : Option (List ℕ)) (a : A) → RefusesLong r.language
-    → Opens r ahead text a → BeginsLong input × LeavesAllBut 257 now input → Sends first new text kept_text
-    → Closing r (ends.Refused 1 reason.Header) input now first new kept_text a
-header_long r input ahead text kept_text now first new a laws o b sends =
-    let u = long_is_refused r.language input laws b.0 in
-    header_closing r input ahead text kept_text now first new a o (no_header r.language _ u.others u.first u.lines u.no_header) b.1 sends
+pub header_long : {A : Type 0} (r : AnswerRules A) (input : List ℕ) → LanguageRules r.language → BeginsLong input
+    → told_of r.language (lines_of input) ≡ unopened r.language reason.Header
+header_long r input laws long =
+    let u = long_is_refused r.language input laws long in
+    no_header r.language (lines_of input) u.others u.first reason.Header u.lines u.no_header
 
-pub header_missing : {A : Type 0} (r : AnswerRules A) (input ahead text kept_text : List ℕ) (now first new : Option (List ℕ)) (a : A) → Opens r ahead text a
-    → (input ≡ []) × (now ≡ Some []) → Sends first new text kept_text → Closing r (ends.Refused 1 reason.Header) input now first new kept_text a
-header_missing r input ahead text kept_text now first new a o e sends =
-    header_closing r input ahead text kept_text now first new a o (ap (λ x. told_of r.language (lines_of x)) e.0)
-    (record { taken = []; left = []; is_left = e.1; whole = e.0; most = omega arith }) sends
-
--- it was stopped before the header was read
-pub header_stopped : {A : Type 0} (r : AnswerRules A) (input ahead text : List ℕ) (now first new : Option (List ℕ)) (a : A) (s : Stop) → Opens r ahead text a
-    → LeavesAllBut 257 now input → Writes s.sent first new text → EndsSo r (ends.Stopped s) input now first new a
-header_stopped r input ahead text now first new a s o h part =
-    let d = opens_answered r ahead text text first first a o (record { sent = []; appended = Appends-nil first; whole = refl }) in
-    stops r input now first new s a
-    (stops_behind r input first first new text [] (lines_of input) _ s a a refl d refl (λ other. o.stands) part)
-    (leaves_more 257 (257 * (r.language.limit + 1)) now input (omega arith) h)
+-- the input is empty
+pub header_missing : {A : Type 0} (r : AnswerRules A) (input : List ℕ) (now : Option (List ℕ)) → (input ≡ []) × (now ≡ Some [])
+    → (told_of r.language (lines_of input) ≡ unopened r.language reason.Header) × LeavesAllBut 257 now input
+header_missing r input now e =
+    (ap (λ x. told_of r.language (lines_of x)) e.0, record { taken = []; left = []; is_left = e.1; whole = e.0; most = omega arith })

@@ -34,21 +34,28 @@ impl<A: Drop> Gathered<A> {
 /// What answers the lines of an input one after the other, with a state of its own, as a driver of lines
 /// asks for it. Lines are given without their line feeds.
 pub(crate) trait Answerer {
-    ghost use Rattle.aio_replay.specs.Answering.{AnswerRules, AnswersLine, IsReady};
-    ghost use Rattle.aio_replay.specs.Language.{RefusesLong};
+    ghost use Rattle.aio_replay.specs.Answering.{AnswerRules, AnswersHeader, AnswersLine, IsReady};
+    ghost use Rattle.aio_replay.specs.Language.{LanguageRules};
 
     /// The language of the lines, and how a value stands for its states.
     ghost rules: { AnswerRules Self };
 
-    /// Whether the first line is the header.
-    fn is_header(&self, line: &[u8]) -> bool
-        ensures { result ≡ rules.language.is_header line.now };
+    /// Answers the first line, where it is a header: puts its text at the end of the text that is
+    /// gathered. Any other first line is refused, and changes nothing. Where memory runs out, the text is
+    /// as it was.
+    fn open(gathered: &mut Gathered<Self>, line: &[u8]) -> Result<(), Unanswered>
+        ensures opens { AnswersHeader rules line.now result gathered.old.answerer
+            gathered.new.answerer gathered.old.text.items gathered.new.text.items }
+        ensures within { OnOk result ((number : ℕ) → rules.within number gathered.old.answerer
+            → rules.within number gathered.new.answerer) };
 
-    /// How many lines an input has at most, its header among them.
+    /// How many lines the input has at most, its header among them, by what that said.
     fn line_limit(&self) -> u64
-        ensures limit { result ≡ rules.language.limit }
-        ensures some { 1 ≤ rules.language.limit }
-        ensures few { rules.language.limit < 2 ^ 64 - 1 };
+        ensures limit { (s : rules.State) → rules.stands self.now s
+            → result ≡ rules.language.limit s }
+        ensures some { 1 ≤ result }
+        ensures most { result ≤ rules.most }
+        ensures few { rules.most < 2 ^ 64 - 1 };
 
     /// Why a line of more than 256 bytes is refused.
     fn long_line(&self) -> Reason
@@ -75,5 +82,5 @@ pub(crate) trait Answerer {
             → text.new.items ≡ text.old.items ++ rules.language.held s) }
         ensures kept { OnErr result (text.new.items ≡ text.old.items) };
 
-    ghost refuses_long: { RefusesLong rules.language };
+    ghost language_rules: { LanguageRules rules.language };
 }

@@ -32,8 +32,10 @@ impl<A: Answerer + Drop> Driver<A> {
     ghost use Rattle.aio_replay.specs.Driving.{ends_with, Causes, goes_on_with};
     ghost use Rattle.aio_replay.specs.Driving.{is_read_fault, is_write_fault};
     ghost use Rattle.aio_replay.specs.Driving.{BlockWent, StopsBy, IfStopped, EndsSo};
+    ghost use Rattle.aio_replay.specs.Language.{lines_in};
+    ghost use Rattle.aio_base.specs.Trace.{lines_of};
     ghost use Rattle.aio_replay.specs.Steps.{Standing, LineTaken, StandsOrEnds};
-    ghost use Rattle.aio_replay.specs.Steps.{Finishes, IfEnded, Opens, end_before};
+    ghost use Rattle.aio_replay.specs.Steps.{Closes, Finishes, IfEnded, Opens, end_before};
 
     /// A driver that has read nothing, over what answers the lines. `AllocError` where there is no memory
     /// for its parts.
@@ -85,12 +87,13 @@ impl<A: Answerer + Drop> Driver<A> {
     fn header<S: Source, K: Sink>(&mut self, input: &mut S, out: &mut K) -> Option<End>
         requires opens { Opens A.rules self.old.reader.ahead self.old.gathered.text.items
             self.old.gathered.answerer }
+        requires within { A.rules.within 2 self.old.gathered.answerer }
         ensures goes_on { (all : List ℕ) → S.remaining input.old ≡ Some all
             → StandsOrEnds A.rules result all (S.remaining input.new)
             (K.contents out.old) (K.contents out.new)
             2 self.new.reader.ahead self.new.gathered.text.items self.new.gathered.answerer }
         ensures bound { length self.new.reader.ahead ≤ 257 }
-        ensures answerer { self.new.gathered.answerer ≡ self.old.gathered.answerer }
+        ensures within { result ≡ None → A.rules.within 2 self.new.gathered.answerer }
         ensures read_cause { Causes S.fault_count S.is_sure
             input.old input.new (goes_on_with is_read_fault result) }
         ensures write_cause { Causes K.fault_count K.is_sure
@@ -102,19 +105,36 @@ impl<A: Answerer + Drop> Driver<A> {
             Err(stop) => return Some(End::Stopped(stop)),
         };
         match next {
-            Next::Line => {
-                if self.gathered.answerer.is_header(self.reader.line()) {
-                    return None;
-                }
-                Some(self.refuse(out, 1, Reason::Header))
-            }
-            Next::Long => Some(self.refuse(out, 1, Reason::Header)),
-            Next::End => Some(self.refuse(out, 1, Reason::Header)),
+            Next::Line => match A::open(&mut self.gathered, self.reader.line()) {
+                Ok(()) => None,
+                Err(Unanswered::Refused(reason)) => Some(self.refuse_first(out, reason)),
+                Err(Unanswered::OutOfMemory) => Some(lacks_memory(&mut self.gathered.text, out)),
+            },
+            Next::Long => Some(self.refuse_first(out, Reason::Header)),
+            Next::End => Some(self.refuse_first(out, Reason::Header)),
         }
     }
 
+    /// Refuses the first line. What is held back stays unwritten, since nothing was opened.
+    fn refuse_first<K: Sink>(&mut self, out: &mut K, reason: Reason) -> End
+        ensures closes { Closes result (End.Refused 1 reason) (K.contents out.old)
+            (K.contents out.new) self.old.gathered.text.items }
+        ensures answerer { self.new.gathered.answerer ≡ self.old.gathered.answerer }
+        ensures reader { self.new.reader ≡ self.old.reader }
+        ensures reads { ends_with is_read_fault result ≡ false }
+        ensures cause { Causes K.fault_count K.is_sure
+            out.old out.new (ends_with is_write_fault result) }
+        ensures refused { IfStopped result (StopsBy K.write_step out.new) }
+    {
+        close(
+            &mut self.gathered.text,
+            out,
+            End::Refused { line: 1, reason },
+        )
+    }
+
     /// Answers the lines behind the header, to the end of the input.
-    pub(crate) fn body<S: Source, K: Sink>(&mut self, input: &mut S, out: &mut K) -> End
+    fn body<S: Source, K: Sink>(&mut self, input: &mut S, out: &mut K) -> End
         requires bound { length self.old.reader.ahead ≤ 257 }
         requires within { A.rules.within 2 self.old.gathered.answerer }
         ensures ends { (all : List ℕ) (first : Option (List ℕ))
@@ -146,10 +166,11 @@ impl<A: Answerer + Drop> Driver<A> {
         out: &mut K,
     ) -> Option<End>
         requires behind { 2 ≤ line }
-        requires limit { line ≤ A.rules.language.limit }
+        requires limit { line ≤ A.rules.most }
         requires bound { length self.old.reader.ahead ≤ 257 }
         requires within { A.rules.within line self.old.gathered.answerer }
         ensures goes_on { (all : List ℕ) (first : Option (List ℕ))
+            → line ≤ lines_in A.rules.language (lines_of all)
             → Standing A.rules all (S.remaining input.old) first (K.contents out.old)
             line self.old.reader.ahead self.old.gathered.text.items self.old.gathered.answerer
             → StandsOrEnds A.rules result all (S.remaining input.new) first (K.contents out.new)
@@ -182,7 +203,7 @@ impl<A: Answerer + Drop> Driver<A> {
         requires bound { length self.old.reader.ahead ≤ 257 }
         ensures ends { (all : List ℕ) (first : Option (List ℕ))
             → Standing A.rules all (S.remaining input.old) first (K.contents out.old)
-            (A.rules.language.limit + 1) self.old.reader.ahead self.old.gathered.text.items
+            (lines_in A.rules.language (lines_of all) + 1) self.old.reader.ahead self.old.gathered.text.items
             self.old.gathered.answerer
             → EndsSo A.rules result all (S.remaining input.new) first (K.contents out.new)
             self.new.gathered.answerer }
@@ -209,9 +230,10 @@ impl<A: Answerer + Drop> Driver<A> {
     /// the output takes it.
     #[inline(always)]
     fn answer_line<K: Sink>(&mut self, line: u64, out: &mut K) -> Option<End>
-        requires limit { line ≤ A.rules.language.limit }
+        requires limit { line ≤ A.rules.most }
         requires within { A.rules.within line self.old.gathered.answerer }
         ensures goes_on { (input : List ℕ) (told first : Option (List ℕ))
+            → line ≤ lines_in A.rules.language (lines_of input)
             → LineTaken A.rules input told first (K.contents out.old) line
             self.old.reader.line self.old.reader.ahead self.old.gathered.text.items self.old.gathered.answerer
             → StandsOrEnds A.rules result input told first (K.contents out.new)

@@ -56,15 +56,19 @@ impl FirstVersion {
 }
 
 impl Answerer for FirstVersion {
-    ghost use Rattle.aio_replay.specs.LongLines.{first_refuses_long};
+    ghost use Rattle.aio_replay.specs.LongLines.{first_language_rules};
     ghost use Rattle.aio_replay.specs.Versions.{first_rules};
 
     ghost rules = { first_rules };
 
-    ghost refuses_long = { first_refuses_long };
+    ghost language_rules = { first_language_rules };
 
-    fn is_header(&self, line: &[u8]) -> bool {
-        is_header(line)
+    fn open(_gathered: &mut Gathered<FirstVersion>, line: &[u8]) -> Result<(), Unanswered> {
+        if is_header(line) {
+            Ok(())
+        } else {
+            Err(Unanswered::Refused(Reason::Header))
+        }
     }
 
     fn line_limit(&self) -> u64 {

@@ -1,17 +1,18 @@
 -- How a command ended, by cases of the command: what became of input, output and devices, and for which causes it may end.
-use Rattle.std.specs.Prelude.{◌≡◌, ℕ, ◌<◌, Bool, List, Option, Some, take}
+use Rattle.std.specs.Prelude.{◌≡◌, ℕ, Bool, false, List, Option, Some, take}
 use Rattle.aio_base.specs.ClockBounds.{ClockBounds}
 use Rattle.aio_base.specs.Connections.{Telling}
 use Rattle.aio_base.specs.Generated.{generated_steps}
-use Rattle.aio_base.specs.Script.{output}
-use Rattle.aio_base.specs.Trace.{trace_of}
+use Rattle.aio_base.specs.Trace.{line_limit, trace_of}
 use Rattle.aio_base.specs.declared.steps.Step.{Step}
 use Rattle.aio_laws.specs.Between.{StandsAfter}
 use Rattle.aio_jobs.specs.declared.kit.SixDevices.{SixDevices}
 use Rattle.aio_line.specs.declared.words.RelayOrder.{RelayOrder}
 use Rattle.aio_serve.specs.Relays.{MayEndSo, TakesAfterFirst, terms_of}
 use Rattle.aio_bytes.specs.Unread.{LeavesAllBut}
-use Rattle.aio_commands.specs.Commands.{WritesOf, WritesText, bytes_taken, exit_of, summary_text, trace_text}
+use Rattle.aio_commands.specs.Commands.{WritesText, WritesTold, bytes_taken, is_device_fault, summary_text, trace_text}
+use Rattle.aio_replay.specs.Driving.{most_bytes}
+use Rattle.aio_replay.specs.Language.{Told, run_of}
 use Rattle.aio_run.specs.Relaying.{Relayed}
 use Rattle.aio_commands.specs.Stressing.{TouchesSpawner, stress_text}
 use Rattle.aio_commands.specs.declared.commands.Command.{Command}
@@ -58,12 +59,12 @@ KeepsDevices before after = after.devices ≡ before.devices
 
 -- it ended for no device
 abbrev pub EndsForNoDevice : Why → Type 0
-EndsForNoDevice why = exit_of why < 6
+EndsForNoDevice why = is_device_fault why ≡ false
 
--- After any steps of the trace of these bytes each waiter is covered, no storing of a waker is lost or woken twice and the last step moved storings as it
--- may, and right after a pass no timer is left that was due.
-abbrev pub StandsThroughout : List ℕ → Type 0
-StandsThroughout bytes = (n : ℕ) → StandsAfter (take n (trace_of bytes).steps)
+-- After any of these steps each waiter is covered, no storing of a waker is lost or woken twice and the last step moved storings as it may, and right
+-- after a pass no timer is left that was due.
+abbrev pub StandsThroughout : List Step → Type 0
+StandsThroughout steps = (n : ℕ) → StandsAfter (take n steps)
 
 -- ## What a command did
 
@@ -72,12 +73,12 @@ module _ {S K D P W N C G T X : Type 0} (see : Observers S K D P W N C G T X) wh
   abbrev pub OfInput : (List ℕ → Type 0) → Environment S K D → Type 0
   OfInput Holds before = (bytes : List ℕ) → see.remaining before.input ≡ Some bytes → Holds bytes
 
-  -- A command read these bytes as a trace and wrote a text of its steps: what was written of it, that the end of the bytes is left, and how many were taken
-  -- at most.
-  pub record ReadsTrace (text : List Step → List ℕ) (why : Why) (bytes : List ℕ) (before after : Environment S K D) : Type 0 where
-    pub writes : WritesOf text why bytes (see.remaining after.input) (see.contents before.out) (see.contents after.out)
-    pub taken : LeavesAllBut (bytes_taken why bytes) (see.remaining after.input) bytes
-    pub most : LeavesAllBut 257000257 (see.remaining after.input) bytes
+  -- A command answered the lines of these bytes, which come to this and may be so many: what was written of their text, that the end of the bytes is left,
+  -- and how many were taken at most.
+  pub record ReadsTrace {State : Type 0} (told : Told State) (limit : ℕ) (why : Why) (bytes : List ℕ) (before after : Environment S K D) : Type 0 where
+    pub writes : WritesTold told why (see.remaining after.input) (see.contents before.out) (see.contents after.out)
+    pub taken : LeavesAllBut (bytes_taken limit why bytes) (see.remaining after.input) bytes
+    pub most : LeavesAllBut (most_bytes limit) (see.remaining after.input) bytes
 
   -- A text of the command's own was written, or a front part of it where the output failed or memory ran out; it ended for no other cause.
   abbrev pub WritesOwnText : List ℕ → Why → (before after : Environment S K D) → Type 0
@@ -99,7 +100,8 @@ module _ {S K D P W N C G T X : Type 0} (see : Observers S K D P W N C G T X) wh
   -- How each command ended. Where a part is not said to be kept, it may be another than before.
   abbrev pub Ran : Command → Why → (before after : Environment S K D) → Type 0
   Ran command.Replay why before after =
-      OfInput (λ bytes. ReadsTrace output why bytes before after × StandsThroughout bytes) before × KeepsDevices before after × EndsForNoDevice why
+      OfInput (λ bytes. ReadsTrace (run_of (trace_of bytes)) line_limit why bytes before after × StandsThroughout (trace_of bytes).steps) before
+      × KeepsDevices before after × EndsForNoDevice why
   Ran (command.Gen n seed) why before after =
       WritesOwnText (trace_text (generated_steps n seed)) why before after × KeepsInput before after × KeepsDevices before after
   Ran (command.Sum n seed) why before after =

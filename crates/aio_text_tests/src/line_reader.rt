@@ -225,6 +225,17 @@ fn finds_ahead(rt: &impl Abort, reader: &mut LineReader, wanted: (Option<Next>, 
     same(rt, (found, reader.line()), wanted);
 }
 
+/// Asserts what comes next of the source, and the line that it is.
+fn finds_next<S: Source>(
+    rt: &impl Abort,
+    reader: &mut LineReader,
+    source: &mut S,
+    wanted: (Result<Next, Failed>, &[u8]),
+) {
+    let found = reader.next(source);
+    same(rt, (found, reader.line()), wanted);
+}
+
 /// What is done with a reader and its source, and what comes of it.
 #[derive(Clone, Copy)]
 enum Act {
@@ -240,6 +251,8 @@ enum Act {
     Ahead(Option<Next>, &'static [u8]),
     /// Finds what there is behind the last read.
     Last(Next),
+    /// Finds what comes next by as many reads as it takes: what it is, and the line.
+    Next(Result<Next, Failed>, &'static [u8]),
     /// Looks at the line.
     Line(&'static [u8]),
     /// Takes the rest: the line that it is, and how many bytes lie ahead then.
@@ -255,6 +268,7 @@ fn comes_to(rt: &impl Abort, reader: &mut LineReader, source: &mut Pieces<'_>, a
         Act::Find(is_found, line, ahead) => finds(rt, reader, (is_found, line, ahead)),
         Act::Ahead(next, line) => finds_ahead(rt, reader, (next, line)),
         Act::Last(next) => same(rt, reader.last(), next),
+        Act::Next(answer, line) => finds_next(rt, reader, source, (answer, line)),
         Act::Line(line) => same(rt, reader.line(), line),
         Act::Rest(line, ahead) => {
             reader.take_rest();
@@ -315,4 +329,32 @@ const OVER_A_FAILED_READ: &[Act] = &[
 fn keeps_what_lies_ahead_over_a_failed_read(rt: HostRuntime) {
     let mut source = source_of(b"one\ntwo", 5);
     plays(&rt, rt.alloc(), &mut source, OVER_A_FAILED_READ);
+}
+
+// Three bytes a read: the first line comes with one, the second lies in two, and the last lacks its line
+// feed.
+const NEXT_OF_TORN_LINES: &[Act] = &[
+    Act::Next(Ok(Next::Line), b"a"),
+    Act::FailNext,
+    Act::Next(Err(Failed), b""),
+    Act::Faults(1),
+    Act::Next(Ok(Next::Line), b"bb"),
+    Act::Next(Ok(Next::Line), b"last"),
+    Act::Next(Ok(Next::End), b""),
+];
+
+const NEXT_OF_NOTHING: &[Act] = &[
+    Act::Next(Ok(Next::End), b""),
+    Act::FailNext,
+    Act::Next(Err(Failed), b""),
+    Act::Next(Ok(Next::End), b""),
+    Act::Faults(1),
+];
+
+#[test]
+fn finds_the_next_line_over_torn_and_failed_reads(rt: HostRuntime) {
+    let mut source = source_of(b"a\nbb\nlast", 3);
+    plays(&rt, rt.alloc(), &mut source, NEXT_OF_TORN_LINES);
+    let mut nothing = source_of(b"", 3);
+    plays(&rt, rt.alloc(), &mut nothing, NEXT_OF_NOTHING);
 }

@@ -1,7 +1,7 @@
 //! The lines of the language one by one, both ways, and the first steps of two seeds.
 
 use crate::asserts::{MEMORY, moment, same, same_in};
-use crate::steps::{is_in_range, read_back};
+use crate::steps::{can_be_written, read_back};
 use aio_base::{Answer, Dir, EndWord, Event, Interest, Key, OutOfMemory, Step, Waker, Which};
 use aio_generator::{Steps, gen_steps};
 use aio_trace::{LineFault, read_line};
@@ -71,7 +71,7 @@ const STEPS: [(&str, Step); 26] = [
 
 /// Writes a step and reads the line, where it has one.
 fn read_again(alloc: Global, step: &Step) -> Option<Result<Step, LineFault>> {
-    if !is_in_range(step) {
+    if !can_be_written(step) {
         return None;
     }
     match read_back(alloc, step) {
@@ -82,7 +82,7 @@ fn read_again(alloc: Global, step: &Step) -> Option<Result<Step, LineFault>> {
 
 /// Asserts that a step is written as this line, with a line feed.
 fn is_written(rt: &impl Abort, alloc: Global, line: &str, step: &Step) {
-    let has_one = is_in_range(step);
+    let has_one = can_be_written(step);
     same_in(rt, line, has_one, true);
     assert!(rt; has_one);
     let mut out = Vec::new(alloc);

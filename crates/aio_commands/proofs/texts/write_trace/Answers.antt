@@ -1,6 +1,6 @@
 use Rattle.std.proofs.Common.{sym, ap, ◌∙◌}
 use Rattle.aio_generator.specs.Generating.{steps_left}
-use Rattle.aio_commands.proofs.TraceTexts.{next_in_range, tells_done, tells_none, tells_on, traces_all, traces_none, traces_one, traces_part}
+use Rattle.aio_commands.proofs.TraceTexts.{next_in_range, next_no_priority, tells_done, tells_none, tells_on, traces_all, traces_none, traces_one, traces_part}
 use Rattle.aio_commands.proofs.texts.write_trace.Goals as goal
 
 pub loop-step-init : goal.loop-step-init
@@ -9,9 +9,13 @@ loop-step-init g c = record {
   cause = tells_none g.K.Faults.fault_count g.K.Faults.is_sure c.args.out.now;
 }
 
-pub buffer_line-requires : goal.buffer_line-requires
-buffer_line-requires g c =
+pub buffer_line-requires-clause-range : goal.buffer_line-requires-clause-range
+buffer_line-requires-clause-range g c =
     next_in_range c.args.n c.args.seed c.loop-step.step-iterator c.next.new.self _ _ c.loop-step.text.items c.loop-step.invariant.traces c.in-Some.step c.in-Some.ensures.steps c.requires.few
+
+pub buffer_line-requires-clause-names : goal.buffer_line-requires-clause-names
+buffer_line-requires-clause-names g c =
+    next_no_priority c.args.n c.args.seed c.loop-step.step-iterator c.next.new.self _ _ c.loop-step.text.items c.loop-step.invariant.traces c.in-Some.step c.in-Some.ensures.steps c.requires.few
 
 pub loop-step-preserved : goal.loop-step-preserved
 loop-step-preserved g c = record {

@@ -1,6 +1,6 @@
 use Rattle.std.proofs.Common.{ap, ◌∙◌, rules}
 use Rattle.aio_replay.specs.declared.version.FirstVersion.{FirstVersion}
-use Rattle.aio_replay.proofs.FirstVersion.{core_on_the_way, core_stands, stopped_part, whole_says}
+use Rattle.aio_replay.proofs.FirstVersion.{core_on_the_way, core_stands, stopped_part, takes_few, whole_says}
 use Rattle.aio_replay.proofs.trace.replay.Goals as goal
 
 pub returns-in-Done-clause-replays : goal.returns-in-Done-clause-replays
@@ -46,5 +46,29 @@ returns-in-Read-default-clause-counts g c = search rules
 pub returns-in-Read-default-clause-none : goal.returns-in-Read-default-clause-none
 returns-in-Read-default-clause-none g c = search rules
 
+pub returns-in-Done-clause-taken : goal.returns-in-Done-clause-taken
+returns-in-Done-clause-taken g c = λ bytes told. takes_few _ bytes ((c.in-Done.ensures.ends bytes told).taken)
+
+pub returns-in-Done-clause-most : goal.returns-in-Done-clause-most
+returns-in-Done-clause-most g c = λ bytes told. takes_few _ bytes ((c.in-Done.ensures.ends bytes told).few)
+
+pub returns-in-Refused-clause-most : goal.returns-in-Refused-clause-most
+returns-in-Refused-clause-most g c = λ bytes told. takes_few _ bytes ((c.in-Refused.ensures.ends bytes told).few)
+
 pub returns-in-Read-default-clause-taken : goal.returns-in-Read-default-clause-taken
-returns-in-Read-default-clause-taken g c = search rules
+returns-in-Read-default-clause-taken g c = λ bytes told. takes_few _ bytes ((c.in-Stopped.ensures.ends bytes told).taken)
+
+pub returns-in-Read-default-clause-most : goal.returns-in-Read-default-clause-most
+returns-in-Read-default-clause-most g c = λ bytes told. takes_few _ bytes ((c.in-Stopped.ensures.ends bytes told).few)
+
+pub returns-in-Write-Err-Failed-clause-taken : goal.returns-in-Write-Err-Failed-clause-taken
+returns-in-Write-Err-Failed-clause-taken g c = λ bytes told. takes_few _ bytes ((c.in-Stopped.ensures.ends bytes told).taken)
+
+pub returns-in-Write-Err-Failed-clause-most : goal.returns-in-Write-Err-Failed-clause-most
+returns-in-Write-Err-Failed-clause-most g c = λ bytes told. takes_few _ bytes ((c.in-Stopped.ensures.ends bytes told).few)
+
+pub returns-in_default-2-clause-taken : goal.returns-in_default-2-clause-taken
+returns-in_default-2-clause-taken g c = λ bytes told. takes_few _ bytes (c.in-Stopped.ensures.ends bytes told).taken
+
+pub returns-in_default-2-clause-most : goal.returns-in_default-2-clause-most
+returns-in_default-2-clause-most g c = λ bytes told. takes_few _ bytes (c.in-Stopped.ensures.ends bytes told).few
