@@ -356,8 +356,12 @@ fits_few n count is few = omega arith
 
 pub at_most_three : (past : List CellStep) (on : Interest) → waiters_among on past ≤ 3
 at_most_three past on =
-    omega (arith, at_most_one (on.write && is_some (waiter_of past Write)), at_most_one (on.read && is_some (waiter_of past Read)),
-    at_most_one (on.priority && is_some (waiter_of past Priority)))
+    omega (
+      arith,
+      at_most_one (on.write && is_some (waiter_of past Write)),
+      at_most_one (on.read && is_some (waiter_of past Read)),
+      at_most_one (on.priority && is_some (waiter_of past Priority)),
+    )
 
 one_held : (waiter : Option Waker) → length (option_to_list waiter ++ []) ≤ 1
 one_held None = omega arith

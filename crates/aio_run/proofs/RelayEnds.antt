@@ -7,6 +7,7 @@ use Rattle.aio_line.specs.declared.words.RelayOrder.{RelayOrder}
 use Rattle.aio_serve.specs.Relays.{HasRelayCause, has_output_failed}
 use Rattle.aio_serve.specs.declared.relaying.RelayStop.{RelayStop}
 use Rattle.aio_serve.specs.declared.relaying.RelayStop.TheVariants as stop
+use Rattle.aio_serve.specs.declared.server.ServeFault.TheVariants as fault
 use Rattle.aio_replay.specs.Driving.{Causes}
 use Rattle.aio_commands.specs.declared.status.Why.TheVariants as why
 use Rattle.aio_commands.specs.Commands.{TellsCounts, is_read_fault, is_write_fault}
@@ -15,27 +16,30 @@ use Rattle.aio_run.specs.Relaying.{why_relayed}
 pub never_usage : (r : Result (Unit {0}) RelayStop) → why_relayed r ≢ why.Usage
 never_usage (Ok done) is = absurd cc
 never_usage (Err (stop.Bind f)) is = absurd cc
-never_usage (Err (stop.Port f)) is = absurd cc
-never_usage (Err (stop.Wait f)) is = absurd cc
-never_usage (Err (stop.Notify f)) is = absurd cc
+never_usage (Err (stop.Served (fault.Port f))) is = absurd cc
+never_usage (Err (stop.Served (fault.Wait f))) is = absurd cc
+never_usage (Err (stop.Served (fault.Notify f))) is = absurd cc
+never_usage (Err (stop.Served fault.OutOfMemory)) is = absurd cc
 never_usage (Err (stop.Output f)) is = absurd cc
 never_usage (Err stop.OutOfMemory) is = absurd cc
 
 pub reads_nothing : (r : Result (Unit {0}) RelayStop) → is_read_fault (why_relayed r) ≡ false
 reads_nothing (Ok done) = refl
 reads_nothing (Err (stop.Bind f)) = refl
-reads_nothing (Err (stop.Port f)) = refl
-reads_nothing (Err (stop.Wait f)) = refl
-reads_nothing (Err (stop.Notify f)) = refl
+reads_nothing (Err (stop.Served (fault.Port f))) = refl
+reads_nothing (Err (stop.Served (fault.Wait f))) = refl
+reads_nothing (Err (stop.Served (fault.Notify f))) = refl
+reads_nothing (Err (stop.Served fault.OutOfMemory)) = refl
 reads_nothing (Err (stop.Output f)) = refl
 reads_nothing (Err stop.OutOfMemory) = refl
 
 same_failure : (r : Result (Unit {0}) RelayStop) → has_output_failed r ≡ is_write_fault (why_relayed r)
 same_failure (Ok done) = refl
 same_failure (Err (stop.Bind f)) = refl
-same_failure (Err (stop.Port f)) = refl
-same_failure (Err (stop.Wait f)) = refl
-same_failure (Err (stop.Notify f)) = refl
+same_failure (Err (stop.Served (fault.Port f))) = refl
+same_failure (Err (stop.Served (fault.Wait f))) = refl
+same_failure (Err (stop.Served (fault.Notify f))) = refl
+same_failure (Err (stop.Served fault.OutOfMemory)) = refl
 same_failure (Err (stop.Output f)) = refl
 same_failure (Err stop.OutOfMemory) = refl
 
@@ -47,9 +51,10 @@ pub tells_counts : (pb pa : ℕ) (sw sn : Bool) (before after reads : ℕ) (r : 
     → TellsCounts (why_relayed r) reads reads before after
 tells_counts pb pa sw sn before after reads (Ok done) cause = tt
 tells_counts pb pa sw sn before after reads (Err (stop.Bind f)) cause = tt
-tells_counts pb pa sw sn before after reads (Err (stop.Port f)) cause = tt
-tells_counts pb pa sw sn before after reads (Err (stop.Wait f)) cause = tt
-tells_counts pb pa sw sn before after reads (Err (stop.Notify f)) cause = tt
+tells_counts pb pa sw sn before after reads (Err (stop.Served (fault.Port f))) cause = tt
+tells_counts pb pa sw sn before after reads (Err (stop.Served (fault.Wait f))) cause = tt
+tells_counts pb pa sw sn before after reads (Err (stop.Served (fault.Notify f))) cause = tt
+tells_counts pb pa sw sn before after reads (Err (stop.Served fault.OutOfMemory)) cause = tt
 tells_counts pb pa sw sn before after reads (Err (stop.Output f)) cause = let is = cause.0 in (ap (λ g. g.before) is, ap (λ g. g.after) is)
 tells_counts pb pa sw sn before after reads (Err stop.OutOfMemory) cause = tt
 

@@ -4,18 +4,25 @@ use Rattle.aio_pairs.specs.declared.outcomes.PairEnd.{PairEnd}
 use Rattle.aio_serve.specs.Relays.{HasRelayCause, RelayWrites}
 use Rattle.aio_serve.specs.declared.relaying.RelayStop.{RelayStop}
 use Rattle.aio_serve.specs.declared.relaying.RelayStop.TheVariants as stop
+use Rattle.aio_serve.specs.declared.server.ServeFault.{ServeFault}
+use Rattle.aio_serve.specs.declared.server.ServeFault.TheVariants as fault
 use Rattle.aio_commands.specs.declared.status.Why.{Why}
 use Rattle.aio_commands.specs.declared.status.Why.TheVariants as why
 use Rattle.aio_commands.specs.declared.status.Which6.TheVariants.{Port, Wait, Notify}
 
+-- why the program ends where its server stopped for this fault
+abbrev pub why_served : ServeFault → Why
+why_served (fault.Port f) = why.DeviceFault Port f
+why_served (fault.Wait f) = why.DeviceFault Wait f
+why_served (fault.Notify f) = why.DeviceFault Notify f
+why_served fault.OutOfMemory = why.OutOfMemory
+
 -- why the program ends where a relay ended so
 abbrev pub why_relayed : Result (Unit {0}) RelayStop → Why
 why_relayed (Ok done) = why.Done
-why_relayed (Err (stop.Bind fault)) = why.DeviceFault Port fault
-why_relayed (Err (stop.Port fault)) = why.DeviceFault Port fault
-why_relayed (Err (stop.Wait fault)) = why.DeviceFault Wait fault
-why_relayed (Err (stop.Notify fault)) = why.DeviceFault Notify fault
-why_relayed (Err (stop.Output fault)) = why.WriteFault fault
+why_relayed (Err (stop.Bind f)) = why.DeviceFault Port f
+why_relayed (Err (stop.Served f)) = why_served f
+why_relayed (Err (stop.Output f)) = why.WriteFault f
 why_relayed (Err stop.OutOfMemory) = why.OutOfMemory
 
 -- A relay ended so that the program ends for this cause: the output grew by what such an end wrote, and the end has its cause. The port's own number, the one

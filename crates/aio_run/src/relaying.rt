@@ -4,7 +4,7 @@ ghost use Rattle.std.specs.Prelude.{◌≡◌, ◌≢◌, ℕ, false};
 ghost use Rattle.aio_commands.specs.Commands.{TellsCounts, is_read_fault, is_write_fault};
 ghost use Rattle.aio_line.specs.Words.{IsServable};
 ghost use Rattle.aio_replay.specs.Driving.{Causes};
-ghost use Rattle.aio_run.specs.Relaying.{Relayed, why_relayed};
+ghost use Rattle.aio_run.specs.Relaying.{Relayed, why_relayed, why_served};
 ghost use Rattle.aio_serve.specs.Relays.{MayEndSo, TakesAfterFirst, terms_of};
 
 use aio_base::Port;
@@ -12,7 +12,7 @@ use aio_bytes::Sink;
 use aio_commands::{Which6, Why};
 use aio_jobs::Devices;
 use aio_line::RelayOrder;
-use aio_serve::{RelayStop, relay};
+use aio_serve::{RelayStop, ServeFault, relay};
 use std::alloc::Global;
 use std::sync::Wait;
 use std::thread::Threads;
@@ -55,19 +55,33 @@ fn why_of_relay(answer: Result<(), RelayStop>) -> Why
 {
     match answer {
         Ok(()) => Why::Done,
-        Err(RelayStop::Bind(fault) | RelayStop::Port(fault)) => Why::DeviceFault {
+        Err(RelayStop::Bind(fault)) => Why::DeviceFault {
             which: Which6::Port,
             fault,
         },
-        Err(RelayStop::Wait(fault)) => Why::DeviceFault {
+        Err(RelayStop::Served(fault)) => why_of_server(fault),
+        Err(RelayStop::Output(fault)) => Why::WriteFault(fault),
+        Err(RelayStop::OutOfMemory) => Why::OutOfMemory,
+    }
+}
+
+/// Why the program ends, where its server stopped for this fault.
+fn why_of_server(fault: ServeFault) -> Why
+    ensures { result ≡ why_served fault }
+{
+    match fault {
+        ServeFault::Port(fault) => Why::DeviceFault {
+            which: Which6::Port,
+            fault,
+        },
+        ServeFault::Wait(fault) => Why::DeviceFault {
             which: Which6::Wait,
             fault,
         },
-        Err(RelayStop::Notify(fault)) => Why::DeviceFault {
+        ServeFault::Notify(fault) => Why::DeviceFault {
             which: Which6::Notify,
             fault,
         },
-        Err(RelayStop::Output(fault)) => Why::WriteFault(fault),
-        Err(RelayStop::OutOfMemory) => Why::OutOfMemory,
+        ServeFault::OutOfMemory => Why::OutOfMemory,
     }
 }

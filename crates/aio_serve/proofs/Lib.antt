@@ -5,5 +5,4 @@ pub mod Complete
 pub mod Slots
 pub mod WorkerRows
 pub mod InARow
-pub mod Fellows
 pub mod Refused

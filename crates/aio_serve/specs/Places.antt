@@ -1,5 +1,5 @@
 -- What the places of pairs may come to under which terms, and how a worker ends.
-use Rattle.std.specs.Prelude.{◌≡◌, ℕ, ◌+◌, ◌^◌, Bool, IsTrue, List, [], ◌∷◌, Option, None, Some, Result, Ok, Err, Vec, ⊤}
+use Rattle.std.specs.Prelude.{◌≡◌, ℕ, ◌^◌, Bool, List, [], ◌∷◌, Option, None, Some, Result, Ok, Err, Vec, ⊤}
 use Rattle.std.specs.declared.alloc.Global.{Global}
 use Rattle.std.specs.List.{AllZip}
 use Rattle.aio_base.specs.ClockBounds.{ClockBounds}
@@ -9,8 +9,8 @@ use Rattle.aio_pairs.specs.declared.outcomes.PairEnd.{PairEnd}
 use Rattle.aio_pairs.specs.declared.outcomes.PairEnd.TheVariants as pair
 use Rattle.aio_places.specs.Places.{PlaceValue, all_of, end_gives}
 use Rattle.aio_park.specs.declared.to_end.WorkerFault.{WorkerFault}
+use Rattle.aio_park.specs.Posts.{RunsUnder, ThreadTerms}
 use Rattle.aio_park.specs.Stopping.{StopsFor}
-use Rattle.aio_shared.specs.Members.{IsMemberOf, MemberValue, SharedValue}
 
 -- ## Terms
 
@@ -56,27 +56,21 @@ WorkerEnds w (Err fault) = StopsFor w.sure_of_wait w.terms.is_sure fault
 
 -- ## All workers
 
--- a worker serves under the lent devices' terms: the same bounds and idle time, by a notifier that is sure where the lent one is
+-- under which devices the thread of such terms runs, in a reactor that is so sure of its wait
+abbrev pub thread_terms : Terms → (sure_of_wait : Bool) → ThreadTerms
+thread_terms t sure_of_wait = record { bounds = t.bounds; is_sure = t.is_sure; sure_of_wait = sure_of_wait }
+
+abbrev pub worker_terms : WorkerValue → ThreadTerms
+worker_terms w = thread_terms w.terms w.sure_of_wait
+
+-- A worker serves under the lent devices' terms: its thread runs under these devices, with the same idle time.
 pub record ServesUnder (t : Terms) (sure_of_wait : Bool) (w : WorkerValue) : Type 0 where
-  pub bounds : w.terms.bounds ≡ t.bounds
+  pub thread : RunsUnder (thread_terms t sure_of_wait) (worker_terms w)
   pub idle : w.terms.idle ≡ t.idle
-  pub notifier : IsTrue t.is_sure → IsTrue w.terms.is_sure
-  pub wait : IsTrue sure_of_wait → IsTrue w.sure_of_wait
 
 abbrev pub AllServeUnder : Terms → (sure_of_wait : Bool) → List WorkerValue → Type 0
 AllServeUnder t sure_of_wait [] = ⊤
 AllServeUnder t sure_of_wait (w ∷ workers) = ServesUnder t sure_of_wait w × AllServeUnder t sure_of_wait workers
-
--- each worker has a parker of its own: these have the parkers from a first one on, in their order
-abbrev pub HaveParkers : (first : ℕ) → List WorkerValue → Type 0
-HaveParkers first [] = ⊤
-HaveParkers first (w ∷ workers) = (w.parker ≡ first) × HaveParkers (first + 1) workers
-
--- A member of a reactor through which a worker may enter it: its notifier is sure where that of the first member is, and its reactor is as sure of its wait.
-pub record IsFellowMember {N : Type 0} (notifier_is_sure : N → Bool) (shared : SharedValue) (sure : Bool) (sure_of_wait : Bool) (m : MemberValue N) : Type 0 where
-  pub member : IsMemberOf shared m
-  pub notifier : IsTrue sure → IsTrue (notifier_is_sure m.notifier)
-  pub wait : m.claim.sure_of_wait ≡ sure_of_wait
 
 -- ## What a server promises
 

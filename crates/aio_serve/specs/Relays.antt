@@ -1,5 +1,5 @@
 -- What became of a relay: what its output grew by, and why it stopped.
-use Rattle.std.specs.Prelude.{◌≡◌, ◌⊎◌, ℕ, Bool, true, false, List, ◌++◌, length, Option, IfSome, Result, Ok, Err}
+use Rattle.std.specs.Prelude.{◌≡◌, ◌⊎◌, ℕ, Bool, true, false, List, ◌++◌, length, Option, IfSome, Result, Ok, Err, ⊤}
 use Rattle.std.specs.Io.KnownBytes.{Appends}
 use Rattle.aio_base.specs.ClockBounds.{ClockBounds}
 use Rattle.aio_base.specs.Connections.{IsInUse, Telling}
@@ -12,8 +12,6 @@ use Rattle.aio_pairs.specs.declared.outcomes.PairEnd.{PairEnd}
 use Rattle.aio_line.specs.Texts.{listening_line, relay_text}
 use Rattle.aio_serve.specs.declared.relaying.RelayStop.{RelayStop}
 use Rattle.aio_serve.specs.declared.relaying.RelayStop.TheVariants as stop
-use Rattle.aio_serve.specs.declared.server.ServeFault.{ServeFault}
-use Rattle.aio_serve.specs.declared.server.ServeFault.TheVariants as fault
 use Rattle.aio_serve.specs.Places.{EndsFit, Terms}
 use Rattle.aio_serve.specs.Servers.{HasServeCause}
 
@@ -37,14 +35,12 @@ abbrev pub AppendsFront : (List PairEnd → Type 0) → Option (List ℕ) → Op
 AppendsFront MayEnd old new port = AppendsPart old new (listening_line port) ⊎ OfEnds MayEnd (λ ends. AppendsPart old new (relay_text port ends))
 
 -- What an output grew by over a relay that was asked for this port. Where the relay was done it is the whole text. Where the port was not bound the output
--- is as it was; where a device failed later it has the first line. Where the output failed or memory ran out it has a front part of the text.
+-- is as it was; where the server stopped it has the first line. Where the output failed, or memory ran out for the text, it has a front part of that.
 module _ {S : Type 0} (contents : S → Option (List ℕ)) (own : Option ℕ) (asked : ℕ) (MayEnd : List PairEnd → Type 0) where
   abbrev pub RelayWrites : Result (Unit {0}) RelayStop → S → S → Type 0
   RelayWrites (Ok done) old new = AtPort own asked (λ port. OfEnds MayEnd (λ ends. Appends (contents old) (contents new) (relay_text port ends)))
   RelayWrites (Err (stop.Bind f)) old new = new ≡ old
-  RelayWrites (Err (stop.Port f)) old new = AtPort own asked (λ port. Appends (contents old) (contents new) (listening_line port))
-  RelayWrites (Err (stop.Wait f)) old new = AtPort own asked (λ port. Appends (contents old) (contents new) (listening_line port))
-  RelayWrites (Err (stop.Notify f)) old new = AtPort own asked (λ port. Appends (contents old) (contents new) (listening_line port))
+  RelayWrites (Err (stop.Served f)) old new = AtPort own asked (λ port. Appends (contents old) (contents new) (listening_line port))
   RelayWrites (Err (stop.Output f)) old new = AtPort own asked (AppendsFront MayEnd (contents old) (contents new))
   RelayWrites (Err stop.OutOfMemory) old new = AtPort own asked (AppendsFront MayEnd (contents old) (contents new))
 
@@ -62,32 +58,18 @@ TakesAfterFirst waiting_old waiting_new own asked old new =
 abbrev pub HasRelayCause : (port_before port_after : ℕ) → (sure_of_wait sure_notifier : Bool) → (out_before out_after : ℕ) → RelayStop → Type 0
 HasRelayCause port_before port_after sure_of_wait sure_notifier out_before out_after (stop.Bind f) =
     (f ≡ record { before = port_before; after = port_after }) × Rose f.before f.after
-HasRelayCause port_before port_after sure_of_wait sure_notifier out_before out_after (stop.Port f) =
-    HasServeCause port_before port_after sure_of_wait sure_notifier (fault.Port f)
-HasRelayCause port_before port_after sure_of_wait sure_notifier out_before out_after (stop.Wait f) =
-    HasServeCause port_before port_after sure_of_wait sure_notifier (fault.Wait f)
-HasRelayCause port_before port_after sure_of_wait sure_notifier out_before out_after (stop.Notify f) =
-    HasServeCause port_before port_after sure_of_wait sure_notifier (fault.Notify f)
+HasRelayCause port_before port_after sure_of_wait sure_notifier out_before out_after (stop.Served f) =
+    HasServeCause port_before port_after sure_of_wait sure_notifier f
 HasRelayCause port_before port_after sure_of_wait sure_notifier out_before out_after (stop.Output f) =
     (f ≡ record { before = out_before; after = out_after }) × Rose f.before f.after
-HasRelayCause port_before port_after sure_of_wait sure_notifier out_before out_after stop.OutOfMemory =
-    HasServeCause port_before port_after sure_of_wait sure_notifier fault.OutOfMemory
+HasRelayCause port_before port_after sure_of_wait sure_notifier out_before out_after stop.OutOfMemory = ⊤
 
 -- whether the output failed
 abbrev pub has_output_failed : Result (Unit {0}) RelayStop → Bool
 has_output_failed (Err (stop.Output f)) = true
 has_output_failed _ = false
 
--- ## Why it stopped, by what was refused
-
--- by the refusal of the server
-abbrev pub stop_served : ServeFault → RelayStop
-stop_served (fault.Port f) = stop.Port f
-stop_served (fault.Wait f) = stop.Wait f
-stop_served (fault.Notify f) = stop.Notify f
-stop_served fault.OutOfMemory = stop.OutOfMemory
-
--- by the refusal of the output, with its counts of faults before and after the relay
+-- why it stopped, by the refusal of the output, with its counts of faults before and after the relay
 abbrev pub stop_written : SinkRefusal → CountFault → RelayStop
 stop_written refused.Failed f = stop.Output f
 stop_written refused.OutOfMemory f = stop.OutOfMemory

@@ -8,7 +8,7 @@ ghost use Rattle.aio_line.specs.Texts.{listening_line, pair_lines};
 ghost use Rattle.aio_line.specs.Words.{IsServable};
 ghost use Rattle.aio_serve.specs.Relays.{HasRelayCause, MayEndSo, RelayWrites};
 ghost use Rattle.aio_serve.specs.Relays.{TakesAfterFirst, has_output_failed};
-ghost use Rattle.aio_serve.specs.Relays.{stop_served, stop_written, terms_of};
+ghost use Rattle.aio_serve.specs.Relays.{stop_written, terms_of};
 ghost use Rattle.aio_serve.specs.Servers.{HasServeCause};
 
 use crate::server::{ServeFault, serve};
@@ -26,15 +26,11 @@ use std::thread::Threads;
 pub enum RelayStop {
     /// The port could not be bound: its counts of faults before and after the relay.
     Bind(CountFault),
-    /// The port gave no connection: its counts of faults before and after the call.
-    Port(CountFault),
-    /// A wait failed, between these two counts.
-    Wait(CountFault),
-    /// A notifier failed, between these two counts.
-    Notify(CountFault),
+    /// The server stopped.
+    Served(ServeFault),
     /// The output failed: its counts of faults before and after the relay.
     Output(CountFault),
-    /// Memory ran out.
+    /// Memory ran out for the text.
     OutOfMemory,
 }
 
@@ -48,9 +44,9 @@ pub enum RelayStop {
 /// # Errors
 ///
 /// - `Bind`: only where the port's count of faults rose; `out` is as it was.
-/// - `Port`: only where the port's count of faults rose after it was bound. `Wait` and `Notify`: only
-///   where that device isn't sure, and its two counts differ or stand at 2^64 - 1. `out` grew by the first
-///   line.
+/// - `Served`, of which `Port` only where the port's count of faults rose after it was bound; `Wait` and
+///   `Notify` only where that device isn't sure, and its two counts differ or stand at 2^64 - 1;
+///   `OutOfMemory` at any time. `out` grew by the first line.
 /// - `Output`: only where the count of faults of `out` rose. `out` grew by a front part of the text.
 /// - `OutOfMemory`: at any time. `out` grew by a front part of the text.
 pub fn relay<R: Wait + Threads + Sync + Send + Copy, K: Sink, D: Devices>(
@@ -127,7 +123,7 @@ where
     }
     let ends = match serve_six(rt, alloc, six, order) {
         Ok(ends) => ends,
-        Err(fault) => return Err(stop_of_server(fault)),
+        Err(fault) => return Err(RelayStop::Served(fault)),
     };
     match write_pairs(alloc, out, ends.as_slice()) {
         Ok(()) => Ok(()),
@@ -190,18 +186,6 @@ where
         spawner: &mut six.spawner,
     };
     serve(rt, alloc, parts, order.workers, order.idle, order.pairs)
-}
-
-/// Why a relay stops where the server refused so.
-fn stop_of_server(fault: ServeFault) -> RelayStop
-    ensures { result ≡ stop_served fault }
-{
-    match fault {
-        ServeFault::Port(fault) => RelayStop::Port(fault),
-        ServeFault::Wait(fault) => RelayStop::Wait(fault),
-        ServeFault::Notify(fault) => RelayStop::Notify(fault),
-        ServeFault::OutOfMemory => RelayStop::OutOfMemory,
-    }
 }
 
 /// Why a relay stops where the output refused so, with its counts of faults before and after the relay.

@@ -1,14 +1,9 @@
-//! A worker: one thread of a server's reactor, and the places of the pairs that it serves.
+//! A worker: a post at a server's reactor, and the places of the pairs that it serves.
 
-ghost use Rattle.std.specs.Prelude.{◌≡◌, ◌<◌, ◌≤◌, ◌^◌, ◌++◌, ◌∷◌, [], ℕ, length, Ok, IfOk, IfErr, OnOk};
+ghost use Rattle.std.specs.Prelude.{◌≡◌, ◌<◌, ◌≤◌, ◌^◌, ◌++◌, ◌∷◌, [], ℕ, length, IfOk, OnOk};
 ghost use Rattle.std.specs.List.{AllZip};
 ghost use Rattle.std.specs.VecDeque.{deque_len};
-ghost use Rattle.std.specs.Arc.{arc_value};
-ghost use Rattle.aio_shared.specs.Members.{IsMemberOf};
 ghost use Rattle.aio_base.specs.ClockBounds.{IsWithin};
-ghost use Rattle.aio_shared.specs.Inside.{IsLaterInside};
-ghost use Rattle.aio_park.specs.Blocking.{IsPast};
-ghost use Rattle.aio_park.specs.Stopping.{StopsFor};
 ghost use Rattle.aio_park.specs.declared.group.Slot.TheVariants.{Running};
 ghost use Rattle.aio_serve.specs.Places.{WorkerEnds};
 ghost use Rattle.aio_serve.specs.Seated.{IsSeated};
@@ -16,25 +11,21 @@ ghost use Rattle.aio_serve.specs.Served.{first_stage};
 
 use crate::seats::Seats;
 use crate::served::Served;
-use aio_base::{Arm, Clock, Conn, EventWait, Gate, Job, Moment, Notify, OutOfMemory, Task};
+use aio_base::{Clock, Conn, EventWait, Gate, Job, Moment, Notify, OutOfMemory};
 use aio_pairs::PairEnd;
-use aio_park::{Group, GroupRefusal, Thread, WorkerFault, run_to_end};
+use aio_park::{Group, GroupRefusal, Post, Thread, WorkerFault, run_then_hand_over};
 use aio_places::Place;
-use aio_shared::{Inside, Member, Shared};
 use std::alloc::Global;
 use std::collections::VecDeque;
 use std::marker::Model;
-use std::sync::{Arc, Wait};
+use std::sync::Wait;
 use std::thread::Threads;
 
-/// One thread's part of a server: its way into the reactor, its clock and its parker, and up to 64
-/// places of pairs, in their order. Contracts see the parker, under which terms it serves, whether its
-/// reactor is sure of its wait, and the places.
+/// One thread's part of a server: its post at the reactor, and up to 64 places of pairs, in their order.
+/// Contracts see the parker, under which terms it serves, whether its reactor is sure of its wait, and
+/// the places.
 pub struct Worker<'g, N: Notify, C: Clock, A: Conn, W: EventWait, G> {
-    shared: Arc<Shared<A, W>, Global>,
-    member: Member<N, W>,
-    clock: C,
-    parker: u32,
+    post: Post<N, C, A, W>,
     places: VecDeque<Place<A, W>>,
     idle: u64,
     gate: &'g G,
@@ -43,37 +34,31 @@ pub struct Worker<'g, N: Notify, C: Clock, A: Conn, W: EventWait, G> {
 
 impl<'g, N: Notify, C: Clock, A: Conn, W: EventWait, G> Model for Worker<'g, N, C, A, W, G> {
     ghost use Rattle.std.specs.Prelude.{◌<◌, ◌≤◌, ◌^◌};
-    ghost use Rattle.std.specs.Arc.{arc_value};
     ghost use Rattle.std.specs.VecDeque.{deque_len};
-    ghost use Rattle.aio_shared.specs.Members.{IsMemberOf};
     ghost use Rattle.aio_serve.specs.Places.{WorkerValue};
 
     ghost Value = { WorkerValue };
 
     ghost view = { λ w. record {
-      parker = w.parker;
+      parker = w.post.parker;
       terms = record {
-        bounds = C.bounds w.clock;
+        bounds = C.bounds w.post.clock;
         idle = w.idle;
-        is_sure = N.is_sure w.member.notifier;
+        is_sure = N.is_sure w.post.member.notifier;
       };
-      sure_of_wait = w.member.claim.sure_of_wait;
+      sure_of_wait = w.post.member.claim.sure_of_wait;
       places = w.places.items;
     } };
 
-    ghost invariant = { λ w. IsMemberOf (arc_value w.shared) w.member
-        × (w.parker < (arc_value w.shared).words.parkers) × (w.parker < 16)
-        × (deque_len w.places ≤ 64) × (0 < w.idle) × (w.idle ≤ 10 ^ 18) };
+    ghost invariant = { λ w. (w.post.parker < 16) × (deque_len w.places ≤ 64)
+        × (0 < w.idle) × (w.idle ≤ 10 ^ 18) };
 }
 
 impl<'g, N: Notify + Drop, C: Clock + Drop, A: Conn + Drop, W: EventWait + Drop, G> Drop
     for Worker<'g, N, C, A, W, G> {
     fn drop(self) {
         let Worker {
-            shared: _,
-            member: _,
-            clock: _,
-            parker: _,
+            post: _,
             places: _,
             idle: _,
             gate: _,
@@ -83,41 +68,32 @@ impl<'g, N: Notify + Drop, C: Clock + Drop, A: Conn + Drop, W: EventWait + Drop,
 }
 
 impl<'g, N: Notify, C: Clock, A: Conn, W: EventWait, G> Worker<'g, N, C, A, W, G> {
-    /// A worker by this member of a reactor, with this clock and this parker, which no other thread
-    /// uses at the same time. It serves 64 places at most. A pair is idle once no byte went over
-    /// for `idle` nanoseconds, 1 to 10^18.
+    /// A worker at this post. It serves 64 places at most. A pair is idle once no byte went over for
+    /// `idle` nanoseconds, 1 to 10^18.
     pub fn new(
-        shared: Arc<Shared<A, W>, Global>,
-        member: Member<N, W>,
-        clock: C,
-        parker: u32,
+        post: Post<N, C, A, W>,
         places: VecDeque<Place<A, W>>,
         idle: u64,
         gate: &'g G,
         alloc: Global,
     ) -> Worker<'g, N, C, A, W, G>
-        requires belongs { IsMemberOf (arc_value shared) member }
-        requires parker { parker < (arc_value shared).words.parkers }
-        requires small { parker < 16 }
+        requires small { post.parker < 16 }
         requires few { deque_len places ≤ 64 }
         requires some { 0 < idle }
         requires bound { idle ≤ 10 ^ 18 }
         ensures { result ≡ record {
-          parker = parker;
+          parker = post.parker;
           terms = record {
-            bounds = C.bounds clock;
+            bounds = C.bounds post.clock;
             idle = idle;
-            is_sure = N.is_sure member.notifier;
+            is_sure = N.is_sure post.member.notifier;
           };
-          sure_of_wait = member.claim.sure_of_wait;
+          sure_of_wait = post.member.claim.sure_of_wait;
           places = places.items;
         } }
     {
         Worker {
-            shared,
-            member,
-            clock,
-            parker,
+            post,
             places,
             idle,
             gate,
@@ -159,23 +135,16 @@ impl<'g, N: Notify + Drop, C: Clock + Drop, A: Conn + Drop, W: EventWait + Drop,
             × AllZip (IsSeated self.entry.terms.idle start) self.entry.places seats.slots) }
     {
         let Worker {
-            shared,
-            member,
-            mut clock,
-            parker,
+            post,
             places,
             idle,
             gate,
             alloc,
         } = self;
-        let start = clock.now();
-        let host = Inside { rt, shared, member };
-        let thread = Thread {
-            host,
-            clock,
-            parker,
-        };
-        (thread, seat_all(alloc, parker, places, idle, start, gate))
+        let mut thread = post.into_thread(rt);
+        let start = thread.clock.now();
+        let seated = seat_all(alloc, thread.parker, places, idle, start, gate);
+        (thread, seated)
     }
 }
 
@@ -192,39 +161,7 @@ impl<'g, N: Notify + Drop, C: Clock + Drop, A: Conn + Drop, W: EventWait + Drop,
         rt: &R,
     ) -> Result<Vec<PairEnd>, WorkerFault> {
         let (mut thread, seated) = self.begin(*rt);
-        let ended = run_seated(&mut thread, seated);
-        let _passed_over = thread.hand_over();
-        ended
-    }
-}
-
-/// Runs a task to its end as `run_to_end` does, where there was memory for it.
-///
-/// # Errors
-///
-/// Those of `run_to_end`; and `OutOfMemory` where there was none for the task.
-fn run_seated<
-    R: Wait + Copy,
-    N: Notify,
-    C: Clock,
-    A: Arm,
-    W: EventWait,
-    T: Task<Inside<R, N, A, W>> + Drop,
->(
-    thread: &mut Thread<R, N, A, W, C>,
-    seated: Result<T, OutOfMemory>,
-) -> Result<T::Output, WorkerFault>
-    ensures output { IfOk result (λ output. (task : T) × (seated ≡ Ok task)
-        × ((moment : ℕ) → IsPast (C.bounds thread.old.clock) moment
-        → T.gives task (N.is_sure thread.old.host.member.notifier) moment output)) }
-    ensures cause { IfErr result (StopsFor thread.old.host.member.claim.sure_of_wait
-        (N.is_sure thread.old.host.member.notifier)) }
-    ensures later { IsLaterInside N.fault_count N.is_sure thread.old.host thread.new.host }
-    ensures parker { thread.new.parker ≡ thread.old.parker }
-{
-    match seated {
-        Err(_) => Err(WorkerFault::OutOfMemory),
-        Ok(mut task) => run_to_end(thread, &mut task),
+        run_then_hand_over(&mut thread, seated)
     }
 }
 

@@ -7,7 +7,7 @@ use crate::served::{ARM_FAULT, MemPlace, place_over, refused_place};
 use aio_base::Job;
 use aio_conns::MemConn;
 use aio_devices::{MemClock, MemNotify, MemWait};
-use aio_park::Thread;
+use aio_park::{Post, Thread};
 use aio_relay::PairEnd;
 use aio_serve::Worker;
 use aio_shared::Inside;
@@ -51,7 +51,13 @@ fn worker_of<'g, R: Wait + Copy + Abort>(
         parker,
     } = server;
     let Inside { shared, member, .. } = host;
-    Worker::new(shared, member, clock, parker, places, IDLE, gate, alloc)
+    let post = Post {
+        shared,
+        member,
+        clock,
+        parker,
+    };
+    Worker::new(post, places, IDLE, gate, alloc)
 }
 
 #[test]

@@ -9,7 +9,7 @@ use Rattle.aio_serve.specs.Places.{AllServeUnder, EndsFit, PlaceFits, Terms}
 use Rattle.aio_serve.specs.Servers.{HasServeCause}
 use Rattle.aio_serve.specs.declared.server.ServeFault.{ServeFault}
 use Rattle.aio_serve.proofs.Fitting.{as_many, told_fit}
-use Rattle.aio_serve.proofs.Stopping.{all_serve_lent, all_stop, any_cause, worker_cause}
+use Rattle.aio_serve.proofs.Stopping.{all_serve_lent, any_cause, one_stops_for, worker_cause}
 use Rattle.aio_serve.proofs.server.serve.Goals as goal
 use Rattle.aio_serve.proofs.server.serve.Goals.{in-Err, in-Ok+in-Ok-begin+in-Ok-workers_of+in-Ok-run_workers, in-Ok+in-Ok-begin+in-Ok-workers_of+in-Err-run_workers}
 
@@ -105,7 +105,7 @@ returns-clause-cause g c =
           let under : AllServeUnder lent begun.member.claim.sure_of_wait workers =
           all_serve_lent own lent begun.member.claim.sure_of_wait workers refl refl w.in-Ok-begin.ensures.notifier w.in-Ok-workers_of.ensures.under in
           let stops : StopsFor wait_sure lent.is_sure fault = subst (λ sure. StopsFor sure lent.is_sure fault) w.in-Ok-begin.ensures.wait
-          (all_stop lent begun.member.claim.sure_of_wait workers fault under w.in-Err-run_workers.ensures.cause) in
+          (one_stops_for lent begun.member.claim.sure_of_wait workers fault under w.in-Err-run_workers.ensures.cause) in
           subst promised (sym w.result-is) (subst (HasServeCause before after wait_sure lent.is_sure) (sym w.fault_of.ensures)
           (worker_cause before after wait_sure lent.is_sure fault stops))
     ]

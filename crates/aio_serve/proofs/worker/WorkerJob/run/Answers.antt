@@ -13,12 +13,12 @@ returns g c =
     let places = c.args.self.places in
     let terms : Terms = record { bounds = g.C.Clock.bounds thread.clock; idle = c.args.self.terms.idle; is_sure = g.N.Faults.is_sure thread.host.member.notifier } in
     let w : WorkerValue = record { parker = thread.parker; terms = terms; sure_of_wait = thread.host.member.claim.sure_of_wait; places = places } in
-    let ended = c.run_seated-ended.result in
+    let ended = c.run_then_hand_over.result in
     subst (λ (v : WorkerValue). WorkerEnds v ended) (sym c.begin-thread.ensures.thread)
     (ends_so w ended
     (IfOk-weaker ended _ (λ ends. AllZip (PlaceFits terms) places ends.items)
     (λ ends told.
     let at = IfOk-at_ok (λ seats. (start : ℕ) × IsWithin terms.bounds start × AllZip (IsSeated terms.idle start) places seats.slots) told.1 c.begin-thread.ensures.seated in
     places_fit terms at.0 at.1 places told.0.slots ends.items at.2 (told.2 (latest_of terms.bounds.greatest) (latest_is_past terms.bounds)))
-    c.run_seated-ended.ensures.output)
-    c.run_seated-ended.ensures.cause)
+    c.run_then_hand_over.ensures.output)
+    c.run_then_hand_over.ensures.cause)
