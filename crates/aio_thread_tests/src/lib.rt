@@ -24,8 +24,6 @@ mod pairs;
 #[cfg(test)]
 mod players;
 #[cfg(test)]
-mod posts;
-#[cfg(test)]
 mod sixteen;
 #[cfg(test)]
 mod tasks;
