@@ -27,8 +27,8 @@ dir_held : (word : List ℕ) (dir : Dir) → find (λ (dir : Dir). bytes_eq word
 dir_held word dir e = by_tests (bytes_eq word (codes "r")) (bytes_eq word (codes "w")) refl refl e
   where
     by_tests : (r w : Bool) → bytes_eq word (codes "r") ≡ r → bytes_eq word (codes "w") ≡ w → cond r (Some Read) (cond w (Some Write) None) ≡ Some dir → HasWord dir × (word ≡ dir_text dir)
-    by_tests true w is other e = let same : Read ≡ dir = cc in (subst HasWord same tt, same_bytes word (codes "r") is ∙ ap dir_text same)
-    by_tests false true other is e = let same : Write ≡ dir = cc in (subst HasWord same tt, same_bytes word (codes "w") is ∙ ap dir_text same)
+    by_tests true w is other e = let same : Read ≡ dir = cc in (subst HasWord same refl, same_bytes word (codes "r") is ∙ ap dir_text same)
+    by_tests false true other is e = let same : Write ≡ dir = cc in (subst HasWord same refl, same_bytes word (codes "w") is ∙ ap dir_text same)
     by_tests false false one two e = absurd cc
 
 flags_held : (word : List ℕ) (is_on : Interest) → find (λ (on : Interest). bytes_eq word (flags_text on)) written_flags ≡ Some is_on → (is_on.priority ≡ false) × (word ≡ flags_text is_on)
@@ -51,7 +51,7 @@ first_held = held first spelling
 dir_back : (dir : Dir) → HasWord dir → value_of first ADirection (dir_text dir) ≡ Ok dir
 dir_back Read has = refl
 dir_back Write has = refl
-dir_back Priority has = absurd has
+dir_back Priority has = absurd cc
 
 abbrev flags : Bool → Bool → Bool → Interest
 flags read write priority = record { read = read; write = write; priority = priority }

@@ -9,14 +9,17 @@ use Rattle.aio_base.specs.declared.hosts.InsertRefusal.TheVariants as refusal
 
 -- ## A host
 
--- What a host of timers tells of its calls: the relations of an insert (the state before it, the deadline, the waker, the id drawn, the state after
--- it) and of a removal (the deadline and the id), and of each where it was refused; its notifier's count of faults; the number of its pass, and how
--- many ids the pass has drawn.
+-- What a host tells of its calls: the relations of an insert (the state before it, the deadline, the waker, the id drawn, the state after it) and of a
+-- removal (the deadline and the id), and of each where it was refused; of a look at its rounds (their count) and of a wake (the waker, and what the
+-- call answered); its notifier's count of faults; the number of its pass, and how many ids the pass has drawn. A host of timers alone looks at no
+-- rounds and wakes nobody: it tells nothing of these two, and they always hold.
 pub record HostRules (H : Type 0) : Type 1 where
   pub inserted : H → ℕ → Waker → TimerId → H → Type 0
   pub removed : H → ℕ → TimerId → H → Type 0
   pub insert_refused : H → ℕ → Waker → H → Type 0
   pub removal_refused : H → ℕ → TimerId → H → Type 0
+  pub looked : H → ℕ → H → Type 0
+  pub woke : H → Waker → Result (Unit {0}) CountFault → H → Type 0
   pub faults : H → ℕ
   pub pass : H → ℕ
   pub drawn : H → ℕ

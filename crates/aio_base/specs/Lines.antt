@@ -1,13 +1,13 @@
 -- The language of a line, in words: which step a line reads as, in any of its spellings; the one spelling in which a step is written; and one
 -- table of what may follow the words of a line, of which its step and its fault come.
 use Rattle.std.specs.Prelude.{◌≡◌, ℕ, ◌^◌, ◌≤◌, Bool, true, false, ◌&&◌, ◌||◌, ◌==◌, nat_le, nat_lt, if◌then◌else◌, List, [], ◌∷◌, length, filter, find, Option, None, Some, Result, Ok, Err, codes, decimal, bytes_eq}
-use Rattle.std.specs.List.{list_all, slice_split, join_with_byte}
+use Rattle.std.specs.List.{list_all, list_any, slice_split, join_with_byte}
 use Rattle.std.specs.Option.{ok_or, option_map}
 use Rattle.std.specs.Result.{result_ok, result_err}
 use Rattle.std.specs.Str.{all_ascii_digits}
 use Rattle.std.specs.Str.Parse.{digits_value}
 use Rattle.aio_base.specs.declared.names.Dir.{Dir}
-use Rattle.aio_base.specs.declared.names.Dir.TheVariants.{Read, Write, Priority}
+use Rattle.aio_base.specs.declared.names.Dir.TheVariants.{Read, Write}
 use Rattle.aio_base.specs.declared.names.Interest.{Interest}
 use Rattle.aio_base.specs.declared.names.TheConstants.Interest.{NONE, READ, WRITE, READ_WRITE}
 use Rattle.aio_base.specs.declared.names.Waker.{Waker}
@@ -16,7 +16,7 @@ use Rattle.aio_base.specs.declared.steps.LineFault.{LineFault}
 use Rattle.aio_base.specs.declared.steps.LineFault.TheVariants as fault
 use Rattle.aio_base.specs.declared.steps.Step.{Step}
 use Rattle.aio_base.specs.declared.steps.Step.TheVariants as step
-use Rattle.aio_base.specs.World.{last_moment}
+use Rattle.aio_base.specs.World.{last_moment, same_dir}
 use Rattle.aio_base.specs.Text.{dir_text, flags_text, which_text}
 
 -- ## The words of a line
@@ -79,11 +79,12 @@ IsInRange (step.SetEvery number deadline period) = IsPeriod period
 IsInRange (step.Begin (Some limit)) = limit ≤ 10 ^ 18
 IsInRange _ = Unit {0}
 
--- a direction that a line may name: Priority is none
+-- the directions that a line may name: Priority is none of them
+abbrev pub written_directions : List Dir
+written_directions = Read ∷ Write ∷ []
+
 abbrev pub HasWord : Dir → Type 0
-HasWord Read = Unit {0}
-HasWord Write = Unit {0}
-HasWord Priority = ⊥
+HasWord dir = list_any (same_dir dir) written_directions ≡ true
 
 -- flags that a line may name: those without Priority
 abbrev pub FlagsHaveWord : Interest → Type 0
@@ -412,9 +413,6 @@ with_waker (step.Poll key dir other) waker = step.Poll key dir waker
 with_waker (step.StepEar number other) waker = step.StepEar number waker
 with_waker (step.Tick number other) waker = step.Tick number waker
 with_waker s waker = s
-
-abbrev pub written_directions : List Dir
-written_directions = Read ∷ Write ∷ []
 
 abbrev pub written_flags : List Interest
 written_flags = NONE ∷ READ ∷ WRITE ∷ READ_WRITE ∷ []

@@ -3,7 +3,8 @@
 //! What a host does with a registration is told by relations of its own, between the state before a
 //! call and the state after it, which stand in one record of rules. For a host over a book of timers
 //! they say which change the book got; for one that several threads share they say what stands in
-//! their common queue. Generic code cannot look into them, and hands them on.
+//! their common queue, and which words a wake has set. Generic code cannot look into them, and hands
+//! them on.
 
 ghost use Rattle.std.specs.Prelude.{◌≡◌, ◌-◌, ◌^◌, ◌≤◌, IsTrue, Result, None, OnOk, OnErr};
 
@@ -37,8 +38,9 @@ pub trait TimerHost: Later {
     ghost use Rattle.aio_base.specs.Hosts.{HostRules, has_id_left, RegistersAs, NotifierTells, registered_id, insert_fault};
 
     /// What the host tells of its calls: its relations of an insert and of a removal, and of each
-    /// where it was refused, which always hold where it tells nothing of that; its notifier's count of
-    /// faults; the number of its pass, and how many ids the pass has drawn.
+    /// where it was refused, of a look at its rounds and of a wake, which always hold where it tells
+    /// nothing of that; its notifier's count of faults; the number of its pass, and how many ids the
+    /// pass has drawn.
     ghost rules: { HostRules Self };
 
     /// Whether the pass has an id left. It draws at most 2^40 - 1.
@@ -77,6 +79,7 @@ pub trait Host: TimerHost {
 
     /// How many rounds have begun.
     fn ticker(&mut self) -> u64
+        ensures looks { Self.rules.looked self.old result self.new }
         ensures notifier { NotifierTells (Self.notifier_is_sure self.old)
             (Self.rules.faults self.old) (Self.rules.faults self.new) None }
         ensures later { Self.is_later self.old self.new }
@@ -86,6 +89,7 @@ pub trait Host: TimerHost {
     /// Wakes the task of a waker. A fault only where the host's notifier is not sure and its count of
     /// faults rose.
     fn wake(&mut self, waker: Waker) -> Result<(), CountFault>
+        ensures wakes { Self.rules.woke self.old waker result self.new }
         ensures notifier { NotifierTells (Self.notifier_is_sure self.old)
             (Self.rules.faults self.old) (Self.rules.faults self.new) (wake_fault result) }
         ensures later { Self.is_later self.old self.new }

@@ -23,8 +23,8 @@ fewer n g fits = let l = fits.0 in let t = fits.1 in let m = fits.2 in (omega ar
 
 -- no direction that is drawn is Priority
 either_word : (read : Bool) → HasWord (cond read Read Write)
-either_word true = tt
-either_word false = tt
+either_word true = refl
+either_word false = refl
 
 dir_has_word : (n : ℕ) → HasWord (dir_drawn n)
 dir_has_word n = either_word (n % 2 == 0)

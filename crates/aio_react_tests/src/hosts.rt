@@ -72,6 +72,8 @@ impl TimerHost for ListHost {
       removed = λ old at id new. Unit {0};
       insert_refused = λ old at waker new. Unit {0};
       removal_refused = λ old at id new. Unit {0};
+      looked = λ old rounds new. Unit {0};
+      woke = λ old waker told new. Unit {0};
       faults = λ h. h.faults;
       pass = λ h. 3;
       drawn = λ h. h.drawn;
