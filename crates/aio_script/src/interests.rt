@@ -78,7 +78,8 @@ impl InterestTable {
     }
 
     /// Clears the interest of a key; a key of 4,096 or more has none.
-    fn disarm_key(&mut self, key: Key)
+    #[inline(always)]
+    pub(crate) fn disarm_key(&mut self, key: Key)
         ensures { self.new ≡ slice_set self.old key.0 Interest.NONE }
     {
         let index = key.0 as usize;

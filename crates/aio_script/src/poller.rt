@@ -1,6 +1,7 @@
 //! The poller in memory and its calls.
 
 ghost use Rattle.std.specs.Prelude.{◌≡◌, ℕ, ◌+◌, ◌≤◌, [], ◌∷◌, ◌++◌, true, false, OnOk, OnErr, IfOk, length, vec_len, vec_capacity};
+ghost use Rattle.aio_script.specs.Interests.{cleared};
 
 use crate::events::NotedEvents;
 use crate::interests::InterestTable;
@@ -196,8 +197,7 @@ impl EventWait for ScriptPoller {
         }
         let count = noted.len().min(room as usize);
         let given = &noted[..count];
-        self.armed.disarm(given);
-        give_out(given, out);
+        give_out(&mut self.armed, given, out);
         self.noted.skip(count);
         Ok(Waited::Given(count as u32))
     }
@@ -217,13 +217,15 @@ impl Poller for ScriptPoller {
     ghost waits_in_rest = { λ a b same. ap (λ rest. slice_index_or rest 0 0) same };
 }
 
-/// Puts events at the end of `out`.
-fn give_out(events: &[Event], out: &mut Vec<Event>)
+/// Puts events at the end of `out`, and clears the interest of the key of each.
+fn give_out(armed: &mut InterestTable, events: &[Event], out: &mut Vec<Event>)
     requires { vec_len out.old + length events.now ≤ vec_capacity out.old }
+    ensures armed { armed.new ≡ cleared events.now armed.old }
     ensures out { out.new.items ≡ out.old.items ++ events.now }
     ensures capacity { vec_capacity out.new ≡ vec_capacity out.old }
 {
     for event in events {
+        armed.disarm_key(event.key);
         out.push_reserved(*event);
     }
 }

@@ -38,10 +38,6 @@ each_new dir = direction_of-where (λ dir. new_direction) dir
 pub where_values : (f g : Dir → DirectionValue) → ((dir : Dir) → f dir ≡ g dir) → directions_where f ≡ directions_where g
 where_values f g same = λ i. record { read = same Read i; write = same Write i; priority = same Priority i }
 
--- directions with the same values are one
-pub same_directions : (a b : DirectionValues) → ((dir : Dir) → direction_of a dir ≡ direction_of b dir) → a ≡ b
-same_directions a b same = where_values (direction_of a) (direction_of b) same
-
 -- a direction that got the value which these values have, where the other ones have theirs
 pub put_where : (value : Dir → DirectionValue) (ds : DirectionValues) (dir : Dir) (new : DirectionValue) → new ≡ value dir
     → ((d : Dir) → same_dir d dir ≡ false → direction_of ds d ≡ value d) → with_direction ds dir new ≡ directions_where value

@@ -1,6 +1,7 @@
 -- Who waits for a direction, and what its calls make of that.
 use Rattle.std.specs.Prelude.{◌≡◌, ◌==◌, ◌≤◌, Bool, true, false, not, ◌||◌, IsTrue, if◌then◌else◌, List, [], ◌∷◌, ◌++◌, length, Option, None, Some, option_to_list, refl}
 use Rattle.std.proofs.Common.{ap, sym, ◌∙◌, arith, length-append}
+use Rattle.std.specs.List.{list_any}
 use Rattle.std.proofs.lemmas.Bool.Decides.{nat_tests}
 use Rattle.aio_base.specs.declared.names.Dir.{Dir}
 use Rattle.aio_base.specs.declared.names.Waker.{Waker}
@@ -85,6 +86,10 @@ unasked asked none dir =
     false_unless (has_dir asked dir) (λ has.
     let any = any_from (has_dir asked) directions dir (each_direction dir) has in
     let wrong : true ≡ false = sym any ∙ none in cc)
+
+-- whether one of these directions has a waiter
+abbrev pub any_waits : DirectionValues → List Dir → Bool
+any_waits ds dirs = list_any (λ dir. not (is_idle (direction_of ds dir))) dirs
 
 -- where each direction has one waiter at most, they are no more than the directions
 at_most_one : (ds : DirectionValues) (dirs : List Dir) → ((dir : Dir) → length (waiters_of (direction_of ds dir)) ≤ 1) → length (waiters_in dirs ds) ≤ length dirs

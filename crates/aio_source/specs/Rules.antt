@@ -6,7 +6,7 @@ use Rattle.aio_base.specs.declared.names.Key.{Key}
 use Rattle.aio_base.specs.declared.names.Waker.{Waker}
 use Rattle.aio_base.specs.declared.names.Interest.{Interest}
 use Rattle.aio_base.specs.declared.names.TheConstants.Interest.{NONE}
-use Rattle.aio_base.specs.World.{directions, has_dir, interest_where, is_empty_list}
+use Rattle.aio_base.specs.World.{directions, has_dir, interest_where, is_empty_list, same_dir}
 pub use Rattle.aio_base.specs.World.{has_any}
 use Rattle.aio_base.specs.Machine.{is_waker}
 use Rattle.aio_listen.specs.declared.ticket.Ticket.{Ticket}
@@ -76,10 +76,9 @@ direction_of ds Read = ds.read
 direction_of ds Write = ds.write
 direction_of ds Priority = ds.priority
 
+-- the directions with this value of one of them
 abbrev pub with_direction : DirectionValues → Dir → DirectionValue → DirectionValues
-with_direction ds Read d = record ds { read = d }
-with_direction ds Write d = record ds { write = d }
-with_direction ds Priority d = record ds { priority = d }
+with_direction ds dir d = directions_where (λ other. if same_dir other dir then d else direction_of ds other)
 
 -- the interest made of the directions that have a waiter
 abbrev pub wanted : DirectionValues → Interest

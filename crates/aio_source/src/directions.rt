@@ -70,7 +70,12 @@ impl Directions {
     pub(crate) fn has_waiter(&self) -> bool
         ensures { result ≡ has_any (wanted self.now) }
     {
-        !self.wanted().is_none()
+        for direction in DIRS {
+            if !self.get(direction).is_idle() {
+                return true;
+            }
+        }
+        false
     }
 
     /// The same, where `may` is false only if none has.
