@@ -133,7 +133,9 @@ impl<A: Answerer + Drop> Driver<A> {
         )
     }
 
-    /// Answers the lines behind the header, to the end of the input.
+    /// Answers the lines behind the header, to the end of the input. It stands apart from its one caller,
+    /// so that what answers a line stands in its loop.
+    #[inline(never)]
     fn body<S: Source, K: Sink>(&mut self, input: &mut S, out: &mut K) -> End
         requires bound { length self.old.reader.ahead ≤ 257 }
         requires within { A.rules.within 2 self.old.gathered.answerer }

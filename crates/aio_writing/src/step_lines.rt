@@ -1,6 +1,6 @@
 //! The lines of steps.
 
-ghost use Rattle.std.specs.Prelude.{◌++◌, codes, decimal};
+ghost use Rattle.std.specs.Prelude.{◌≡◌, ◌++◌, [], ◌∷◌, codes, decimal};
 ghost use Rattle.aio_base.specs.Lines.{IsInRange, written_line};
 ghost use Rattle.aio_base.specs.Text.{dir_text, ended_line, flags_text, limit_text, which_text};
 ghost use Rattle.aio_writing.specs.Writing.{Pushes};
@@ -61,10 +61,17 @@ fn push_poller(out: &mut Vec<u8>, direction: Dir, waker: Waker) -> Result<(), Al
     ensures pushes { Pushes out.old out.new (ended_line (codes " " ++ dir_text direction
         ++ codes " " ++ decimal waker.0)) result }
 {
+    push_numbered(out, &[b' ', letter(direction), b' '], u64::from(waker.0))
+}
+
+/// The letter of a direction.
+fn letter(direction: Dir) -> u8
+    ensures { dir_text direction ≡ result ∷ [] }
+{
     match direction {
-        Dir::Read => push_numbered(out, b" r ", u64::from(waker.0)),
-        Dir::Write => push_numbered(out, b" w ", u64::from(waker.0)),
-        Dir::Priority => push_numbered(out, b" p ", u64::from(waker.0)),
+        Dir::Read => b'r',
+        Dir::Write => b'w',
+        Dir::Priority => b'p',
     }
 }
 
@@ -77,11 +84,7 @@ fn push_new(out: &mut Vec<u8>, key: Key, direction: Dir) -> Result<(), AllocErro
         Ok(()) => {}
         Err(error) => return Err(error),
     }
-    out.extend_from_slice(match direction {
-        Dir::Read => b" r\n",
-        Dir::Write => b" w\n",
-        Dir::Priority => b" p\n",
-    })
+    out.extend_from_slice(&[b' ', letter(direction), b'\n'])
 }
 
 /// Writes a line of words and two numbers.

@@ -17,6 +17,7 @@ impl<P: Poller> Core<P> {
     /// Registers a source with the poller under the least key that is not live, and answers the key.
     /// `Full` exactly where 4,096 sources live; it leaves all as it was. `AddFault` only where the
     /// poller's count of faults rose; all but the poller is as before. It takes no memory.
+    #[inline(never)]
     pub fn add(&mut self) -> Result<Key, CoreRefusal>
         ensures meets { Meets (PollerStep P.arm_step P.wait_step) P.interests step.Add None
             (add_reply result) [] None self.old self.new }
@@ -57,6 +58,7 @@ impl<P: Poller> Core<P> {
     /// key is not live, and then `InUse` exactly where a listener of it lives, polled or not: both
     /// leave all as it was. `RemoveFault` only where the poller's count of faults rose; the source is
     /// gone all the same. It takes no memory.
+    #[inline(never)]
     pub fn del(&mut self, key: Key) -> Result<(), CoreRefusal>
         ensures meets { Meets (PollerStep P.arm_step P.wait_step) P.interests (step.Del key) None
             (del_reply result) [] None self.old self.new }
