@@ -16,6 +16,7 @@ use Rattle.aio_react.specs.Cores.{CoreValue}
 use Rattle.aio_script.specs.Script.{Script}
 use Rattle.aio_replay.specs.declared.ends.Cause.TheVariants as cause
 use Rattle.aio_replay.specs.declared.ends.Stop.{Stop}
+use Rattle.aio_replay.specs.declared.replayer.Replayer.{Replayer}
 use Rattle.aio_replay.specs.declared.version.FirstVersion.{FirstVersion}
 use Rattle.aio_replay.specs.Answering.{Replied}
 use Rattle.aio_replay.specs.Driving.{StoppedBehind, ToldWhole, most_bytes}
@@ -140,6 +141,10 @@ pub stopped_part : (s : Stop) (input : List ℕ) (old new : Option (List ℕ)) (
 stopped_part s input old new first b =
     subst (AppendsPart old new) (sym b.whole ∙ ap (λ (told : Told World). told.text) (runs input)) (written_of_more s.sent old new (b.text ++ b.held) b.left b.written)
 
+-- what is handed back of a replayer: its core, over its poller
+core_and_poller : (r : Replayer) (w : World) → StandsFor r w → StandsAt r.core w
+core_and_poller r w s = record { stands = s.core; poller = s.poller }
+
 -- where memory did not run out, the core that is handed back stands for a world on the way, behind all steps that the output tells of
 pub core_on_the_way : (core : Script × CoreValue) (s : Stop) (input : List ℕ) (old new : Option (List ℕ)) (first : FirstVersion) → core ≡ first.replayer.core
     → s.cause ≢ cause.Memory → StoppedBehind first_rules s input old new first → StandsOnTheWay StandsAt (RunsTo (trace_of input)) core old new
@@ -151,14 +156,15 @@ core_on_the_way core s input old new first same other b =
       state = b.state;
       leads = subst (λ (t : Trace). RunsTo t b.text b.state) (ap trace_of_lines (sym b.lines) ∙ says_of input) (reached b.front b.back b.text b.state b.leads);
       written = subst (AppendsPart old new) text (written_part s.sent old new (b.text ++ b.held) b.written);
-      stands = subst (λ (x : Script × CoreValue). StandsAt x b.state) (sym same) (b.stands other).core;
+      stands = subst (λ (x : Script × CoreValue). StandsAt x b.state) (sym same) (core_and_poller first.replayer b.state (b.stands other));
     }
 
 -- where the lines were answered, it stands for the world that they come to
 pub core_stands : (core : Script × CoreValue) (refusal : Option Refusal) (input : List ℕ) (old new : Option (List ℕ)) (first : FirstVersion) → core ≡ first.replayer.core
     → ToldWhole first_rules refusal input old new first → StandsAt core (run_of (trace_of input)).state
 core_stands core refusal input old new first same t =
-    subst (λ (x : Script × CoreValue). StandsAt x (world_after opening (trace_of input).steps)) (sym same) (whole_says refusal input old new first t).2.core
+    let w = world_after opening (trace_of input).steps in
+    subst (λ (x : Script × CoreValue). StandsAt x w) (sym same) (core_and_poller first.replayer w (whole_says refusal input old new first t).2)
 
 -- ## A line
 
