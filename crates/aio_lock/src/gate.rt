@@ -5,15 +5,17 @@ ghost use Rattle.aio_rules.specs.SharedLock.{MayPutBack, first_owner, joined_own
 ghost use Rattle.aio_lock.specs.Plays.{IsLaden};
 ghost use Rattle.aio_lock.specs.Tokens.{Entered, IsOutside, IsResting, owner_of, view_of};
 
+mod sleepers;
+
 use crate::plays::{Arrive, Close, FetchSlot, LeaveSlot, Open, Rule, TakeIn, TwoOwners};
 use aio_base::OutOfMemory;
 use aio_rules::{LockSeat, Noted};
 use atomic_table::{Badge, Seat, Table};
+use sleepers::{Sleeper, Sleepers};
 use std::alloc::Global;
 use std::marker::Model;
 use std::mem;
 use std::sync::Wait;
-use std::sync::atomic::{AtomicU64, Ordering};
 
 // 0 where the value is in its place, and `OUT` where it is out.
 const TAKEN: usize = 0;
@@ -59,11 +61,14 @@ impl Token {
     }
 }
 
+/// A lock was opened, and a thread that sleeps at it is still to be called: so it cannot be let go.
+struct Opened;
+
 /// Where tokens go in, which takes the value out, and go out again, which puts one back.
 pub struct Gate<T: Noted> {
     table: Table<Option<T>, LockSeat, (), Rule<T>, Global>,
-    // How many threads sleep on the word, or are about to.
-    sleepers: AtomicU64,
+    // Those who sleep on the word, or are about to.
+    sleepers: Sleepers,
 }
 
 impl<T: Noted> Model for Gate<T> {
@@ -96,7 +101,7 @@ impl<T: Noted> Gate<T> {
         match Table::vacant(alloc, &[OUT], 1, &()) {
             Ok((table, mut seat)) => {
                 let second = table.shared.split_seat::<TwoOwners>(&mut seat);
-                let sleepers = AtomicU64::new(0);
+                let sleepers = Sleepers::none();
                 let gate = Gate { table, sleepers };
                 Ok((gate, Token::of(seat), Token::of(second)))
             }
@@ -148,11 +153,15 @@ impl<T: Noted> Gate<T> {
             if let Some(value) = self.attempt(token) {
                 return value;
             }
-            self.sleepers.fetch_add(1, Ordering::SeqCst);
-            self.table.shared.park(rt, TAKEN, OUT as u32);
-            self.sleepers.fetch_sub(1, Ordering::SeqCst);
+            self.sleep(rt, self.sleepers.count_in()).count_out();
         }
         unreachable!()
+    }
+
+    // Sleeps until it is called, unless the value is back: the thread has counted itself.
+    fn sleep<'a, R: Wait>(&self, rt: &R, sleeper: Sleeper<'a>) -> Sleeper<'a> {
+        self.table.shared.park(rt, TAKEN, OUT as u32);
+        sleeper
     }
 
     /// A token that owns no number, and the value where it was there: the token is then inside.
@@ -169,8 +178,18 @@ impl<T: Noted> Gate<T> {
         (Some(value), token)
     }
 
-    /// Puts a value into its place and goes out.
+    /// Puts a value into its place and goes out, and then calls a thread that sleeps.
     pub fn leave(&self, token: &mut Token, value: T)
+        requires belongs { token.old.lock ≡ self.now }
+        requires may { MayPutBack token.old.knows (T.first_note value) (T.second_note value) }
+        ensures { token.new ≡ owner_of self.now
+            (put_back (T.first_note value) (T.second_note value) token.old.knows) }
+    {
+        self.call_sleeper(self.open(token, value));
+    }
+
+    // Puts a value into its place and goes out.
+    fn open(&self, token: &mut Token, value: T) -> Opened
         requires belongs { token.old.lock ≡ self.now }
         requires may { MayPutBack token.old.knows (T.first_note value) (T.second_note value) }
         ensures { token.new ≡ owner_of self.now
@@ -184,11 +203,12 @@ impl<T: Noted> Gate<T> {
             Some(_) => unreachable!(),
         }
         token.badge = seat.into_badge();
-        self.call_sleeper();
+        Opened
     }
 
-    fn call_sleeper(&self) {
-        if self.sleepers.load(Ordering::SeqCst) != 0 {
+    fn call_sleeper(&self, opened: Opened) {
+        let Opened = opened;
+        if self.sleepers.has_any() {
             self.table.shared.wake_one(TAKEN);
         }
     }

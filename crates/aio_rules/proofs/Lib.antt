@@ -10,6 +10,7 @@ mod RefusedClaims
 mod RefusedOperations
 pub mod RoundLockSteps
 pub mod SeatLists
+pub mod WordAccounts
 pub mod WordBits
 pub mod WordCounts
 pub mod WordFrames

@@ -5,7 +5,7 @@ use mathlib.Core.Option.{some}
 use lib.ListN.{get_elem?}
 use Rattle.aio_rules.specs.declared.operations.OpEntry.{OpEntry}
 use Rattle.aio_rules.specs.declared.operations.PushedOp.{PushedOp}
-use Rattle.aio_rules.specs.Operations.{Counts, QueuePass, of_pass, seats_of, queue_limit}
+use Rattle.aio_rules.specs.Operations.{Counts, QueuePass, of_pass, times, times_popped, seats_of, queue_limit}
 use Rattle.aio_rules.specs.OperationLaws.{RuleHasItsParts}
 use Rattle.aio_rules.proofs.SeatLists.{in_range}
 use Rattle.aio_rules.proofs.OperationLists.{each_with, each_at, found_at, each_of_pass, none_of_pass, counts_rest, Within}
@@ -37,6 +37,9 @@ module _ (O : Type 0) where
             let found : (k : ℕ) × Counts pass k (of_pass pass items) = (0, subst (Counts pass 0) (sym none) tt) in found)
             (cases_lt pass (length seats));
         once = r.seats.once;
+        all_there = λ i k v i_at least most.
+            let at = seat_at views i v i_at in
+            subst (λ (n : ℕ). times n k items + times_popped n k seats ≡ 1) (sym (r.seats.passes i v.seat at).number) (r.seats.all_there i k v.seat at least most);
         rising = λ i v i_at. r.seats.rising i v.seat (seat_at views i v i_at);
         bound = λ i v from to e queued i_at e_at queued_at same.
             let its = found_at seats queued.pass (each_at (λ (f : OpEntry O). f.pass < length seats) items to queued r.seats.known queued_at) in

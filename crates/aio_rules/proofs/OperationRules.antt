@@ -70,6 +70,7 @@ module _ (O : Type 0) where
       known = tt;
       popped_known = eachat_one (λ (h : QueueSeat O). Every (λ (e : OpEntry O). e.pass < 1) h.pulled) (new_seat 0 1) tt;
       once = λ n k. omega arith;
+      all_there = λ n k h e least most. let none = eachat_one (λ (u : QueueSeat O). length u.own ≡ 0) (new_seat 0 1) refl n h e in absurd (omega (arith, none, least, most));
       rising = eachat_one (λ (h : QueueSeat O). Rises h.pulled) (new_seat 0 1) tt;
     };
     empties = tt;

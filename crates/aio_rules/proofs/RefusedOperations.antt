@@ -1,15 +1,17 @@
 -- What faulty queues of operations would come to, which the rule and its laws refuse.
-use Rattle.std.proofs.Common.{◌≡◌, ◌≢◌, ℕ, ◌+◌, ◌≤◌, eqb, List, [], ◌∷◌, ◌++◌, length, sym, refl, ap, ◌∙◌, subst, arith}
+use Rattle.std.proofs.Common.{◌≡◌, ◌≢◌, ℕ, suc, ◌+◌, ◌≤◌, eqb, List, [], ◌∷◌, ◌++◌, length, sym, refl, ap, ◌∙◌, subst, arith}
 use Rattle.std.proofs.lemmas.Bool.{eq-eqb, and_from}
 use Rattle.std.proofs.lemmas.List.{same_from_push}
 use mathlib.Core.Option.{some}
 use lib.ListN.{get_elem?}
 use Rattle.aio_rules.specs.declared.operations.OpEntry.{OpEntry}
 use Rattle.aio_rules.specs.declared.operations.PushedOp.{PushedOp}
+use Rattle.aio_rules.specs.declared.operations.QueueSeat.{QueueSeat}
 use Rattle.aio_rules.specs.SharedLock.{one_if}
-use Rattle.aio_rules.specs.Operations.{Counts, QueueRule, QueuePass, queue_limit}
+use Rattle.aio_rules.specs.Operations.{Counts, QueueRule, QueuePass, SeatsRule, of_pass, seats_of, times, times_popped, queue_limit}
 use Rattle.aio_rules.specs.OperationLaws.{StandsAt}
-use Rattle.aio_rules.proofs.OperationLists.{Is, of_pass_here}
+use Rattle.aio_rules.proofs.OperationLists.{Is, found_at, of_pass_here}
+use Rattle.aio_rules.proofs.OperationSteps.{first_is_next, own_length}
 use Rattle.aio_rules.proofs.OperationParts.{rule_has_its_parts}
 
 module _ {O : Type 0} where
@@ -24,6 +26,24 @@ module _ {O : Type 0} where
       let hit : one_if (Is x.pass x.number x) ≡ 1 = ap one_if (and_from (eqb x.pass x.pass) (eqb x.number x.number) (eq-eqb x.pass x.pass refl) (eq-eqb x.number x.number refl)) in
       let few = r.seats.once x.pass x.number in
       omega (arith, few, hit)
+
+  -- a pop that no pass shows: an entry that its pass pushed is neither queued nor popped
+  dropped : (items : List (OpEntry O)) (views : List (QueuePass O)) (i k : ℕ) (v : QueuePass O) → StandsAt items views i v → 1 ≤ k → k ≤ length v.seat.own
+      → times v.seat.number k items ≡ 0 → times_popped v.seat.number k (seats_of views) ≡ 0 → ⊥
+  dropped items views i k v s least most queued popped = let one = (rule_has_its_parts O items views s.rule).all_there i k v s.stands least most in omega (arith, one, queued, popped)
+
+  -- a pop of the first entry that leaves every seat as it was
+  hidden_pop : (x : OpEntry O) (items : List (OpEntry O)) (seats : List (QueueSeat O)) → SeatsRule (x ∷ items) seats → SeatsRule items seats → ⊥
+  hidden_pop x items seats r left =
+      let its = found_at seats x.pass r.known.0 in
+      let rule = r.passes x.pass its.0 its.1 in
+      let next = first_is_next x items seats x.pass its.0 rule refl in
+      let long = own_length (x ∷ items) seats x.pass its.0 rule in
+      let here : length (of_pass x.pass (x ∷ items)) ≡ suc (length (of_pass x.pass items)) = ap (λ (l : List (OpEntry O)). length l) (of_pass_here x.pass x items refl) in
+      let hit : one_if (Is x.pass x.number x) ≡ 1 = ap one_if (and_from (eqb x.pass x.pass) (eqb x.number x.number) (eq-eqb x.pass x.pass refl) (eq-eqb x.number x.number refl)) in
+      let before = r.all_there x.pass x.number its.0 its.1 (omega (arith, next)) (omega (arith, next, long, here)) in
+      let after = left.all_there x.pass x.number its.0 its.1 (omega (arith, next)) (omega (arith, next, long, here)) in
+      omega (arith, before, after, hit)
 
   -- a queue that drops the middle one of three entries
   lost : (x y : OpEntry O) (views : List (QueuePass O)) → QueueRule (x ∷ y ∷ []) views → y.pass ≡ x.pass → y.number ≡ x.number + 2 → ⊥

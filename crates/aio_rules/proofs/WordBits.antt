@@ -32,7 +32,7 @@ only_swap_takes_bits n words views seat v (word_step.LoadTicker found) i bit can
 only_swap_takes_bits n words views seat v (word_step.AddTicker found) i bit can other = elsewhere words i bit ticker_place (found + 1) (λ z. omega arith)
 only_swap_takes_bits n words views seat v (word_step.SetBit j slot found) i bit can other = dite (ℕ_discrete j i)
     (λ same. subst (λ (k : ℕ). bit_at (mask words i) bit ≤ bit_at (mask (set words (mask_place k) (bit_or found (2 ^ slot))) i) bit) (sym same)
-    (adds_bit words i bit slot found (sym (ap (mask words) same) ∙ can.found) (let s = can.rule.sized in let below = can.may.0 in omega arith)))
+    (adds_bit words i bit slot found (sym (ap (mask words) same) ∙ can.found) (let s = can.rule.agrees.sized in let below = can.may.0 in omega arith)))
     (λ apart. elsewhere words i bit (mask_place j) (bit_or found (2 ^ slot)) (λ z. apart (let e : 3 + 2 * i ≡ 3 + 2 * j = z in omega arith)))
 only_swap_takes_bits n words views seat v (word_step.LoadBlocked j found) i bit can other = as_found words i bit (blocked_place j) found can.found
 only_swap_takes_bits n words views seat v (word_step.ExchangeNotified found) i bit can other = elsewhere words i bit notified_place (value_after (word_step.ExchangeNotified found)) (λ z. omega arith)

@@ -10,7 +10,7 @@ use Rattle.aio_rules.specs.declared.seats.Role.TheVariants as role
 use Rattle.aio_rules.specs.declared.seats.Mode.{Mode}
 use Rattle.aio_rules.specs.declared.seats.Mode.TheVariants as mode
 use Rattle.aio_rules.specs.declared.seats.SeatView.{SeatView}
-use Rattle.aio_rules.specs.SharedWords.{ticker, notified, blocked, word_count, held, owed_to, Each, IsInMidCall, IsTold, AgreesWithWords, WordRule}
+use Rattle.aio_rules.specs.SharedWords.{ticker, notified, blocked, word_count, held, owed_to, Each, IsInMidCall, IsTold, AgreesWithWords, WordsAgree}
 use Rattle.aio_rules.proofs.SeatLists.{in_range, where_set, beside_set}
 
 abbrev is_round : Role → Bool
@@ -71,12 +71,12 @@ mid_call_after views seat v w i stands goes_on (at, u, e, owes) = dite (ℕ_disc
     (seat, w, where_set views seat w (in_range views seat v stands), goes_on (ap (λ (x : SeatView). owed_to x.owes) (sym same) ∙ owes)))
     (λ apart. (at, u, beside_set views seat at w apart ∙ e, owes))
 
-module _ (n : ℕ) (words : List ℕ) (views : List SeatView) (seat : ℕ) (v : SeatView) (rule : WordRule n words views) (stands : get_elem? views seat ≡ some v) where
+module _ (n : ℕ) (words : List ℕ) (views : List SeatView) (seat : ℕ) (v : SeatView) (rule : WordsAgree n words views) (stands : get_elem? views seat ≡ some v) where
   -- a step of a seat keeps the rule where its new view agrees with the new words, and the view of each other seat still does
   pub by_seat : (after : List ℕ) (w : SeatView) → length after ≡ word_count n → w.role ≡ v.role → notified after ≤ 1 → ((i : ℕ) → blocked after i ≤ 1)
       → AgreesWithWords after (set views seat w) w
       → ((other : ℕ) (u : SeatView) → other ≢ seat → get_elem? views other ≡ some u → AgreesWithWords words views u → AgreesWithWords after (set views seat w) u)
-      → WordRule n after (set views seat w)
+      → WordsAgree n after (set views seat w)
   by_seat after w sized same notified_bit blocked_bit mine others = let round = rule.one_round in record {
     sized = sized;
     one_round = (

@@ -1,18 +1,17 @@
--- The rule of the shared words holds at the start, and the moves of a seat keep it.
-use Rattle.std.proofs.Common.{◌≡◌, ℕ, zero, suc, ◌≤◌, List, [], ◌∷◌, ◌++◌, length-append, set, get_or, replicate, sym, refl, ap, ◌∙◌, subst, inl, inr, ⊎_elim, arith}
+-- Words and views agree at the start, and still do after each move of a seat.
+use Rattle.std.proofs.Common.{◌≡◌, ◌≢◌, ℕ, zero, suc, ◌≤◌, List, [], ◌∷◌, ◌++◌, length-append, set, get_or, replicate, sym, refl, ap, ◌∙◌, subst, inl, inr, ⊎_elim, arith}
 use Rattle.std.proofs.lemmas.List.{length-replicate}
 use mathlib.Core.Option.{some, some-injective, some-ne-none}
 use lib.ListN.{get_elem?}
 use Rattle.aio_rules.specs.declared.seats.Role.TheVariants as role
 use Rattle.aio_rules.specs.declared.seats.Mode.TheVariants as mode
 use Rattle.aio_rules.specs.declared.seats.SeatView.{SeatView}
-use Rattle.aio_rules.specs.SharedWords.{ticker, blocked_place, word_count, first_view, split_view, after_split, spent_view, joined_seat, held, Each, IsTold, AgreesWithWords, WordRule}
-use Rattle.aio_rules.specs.WordLaws.{StartMeetsWordRule, SplitKeepsRule, JoinKeepsWordRule}
+use Rattle.aio_rules.specs.SharedWords.{ticker, blocked_place, word_count, first_view, split_view, after_split, spent_view, joined_seat, held, IsFree, Each, IsTold, AgreesWithWords, WordsAgree}
 use Rattle.aio_rules.proofs.SeatLists.{beside_set, before_end, at_end_or_before}
 use Rattle.aio_rules.proofs.WordFrames.{not_both, idle_holds_none, idle_pass, still, by_seat}
 use Rattle.aio_rules.proofs.WordSteps.{tells_beside, owed_none}
 
-zeros : (k at : ℕ) → get_or (replicate k zero) at zero ≡ zero
+pub zeros : (k at : ℕ) → get_or (replicate k zero) at zero ≡ zero
 zeros zero at = refl
 zeros (suc k) zero = refl
 zeros (suc k) (suc at) = zeros k at
@@ -21,8 +20,8 @@ alone : (Holds : ℕ → SeatView → Type 0) (v : SeatView) → Holds 0 v → E
 alone Holds v here zero u e = subst (Holds 0) (some-injective v u e) here
 alone Holds v here (suc at) u e = absurd (some-ne-none u (sym e))
 
-pub start_meets_rule : StartMeetsWordRule
-start_meets_rule n = let words : List ℕ = replicate (word_count n) 0 in let zero_at : (at : ℕ) → get_or words at 0 ≡ 0 = zeros (word_count n) in
+pub start_agrees : (n : ℕ) → WordsAgree n (replicate (word_count n) 0) (first_view ∷ [])
+start_agrees n = let words : List ℕ = replicate (word_count n) 0 in let zero_at : (at : ℕ) → get_or words at 0 ≡ 0 = zeros (word_count n) in
     record {
       sized = length-replicate (word_count n) 0;
       one_round = (0, omega arith, alone _ first_view ((λ _. refl), (λ _. refl)));
@@ -39,7 +38,7 @@ start_meets_rule n = let words : List ℕ = replicate (word_count n) 0 in let ze
     }
 
 -- the rule with one pass more at the end of the seats, whose ticker has come by then
-with_pass_at_end : (n : ℕ) (words : List ℕ) (views : List SeatView) (from : SeatView) → from.seen ≤ ticker words → WordRule n words views → WordRule n words (views ++ split_view from ∷ [])
+with_pass_at_end : (n : ℕ) (words : List ℕ) (views : List SeatView) (from : SeatView) → from.seen ≤ ticker words → WordsAgree n words views → WordsAgree n words (views ++ split_view from ∷ [])
 with_pass_at_end n words views from below rule = let new : SeatView = split_view from in let all : List SeatView = views ++ new ∷ [] in let round = rule.one_round in
     let tells : (i : ℕ) → IsTold words views i → IsTold words all i =
     λ i told woken. ⊎_elim inl (λ mid. inr (mid.0, mid.1, before_end views new mid.0 mid.1 mid.2, mid.3)) (told woken) in
@@ -59,8 +58,8 @@ with_pass_at_end n words views from below rule = let new : SeatView = split_view
     }
 
 -- the rule does not read the number of splits
-with_split_counted : (n : ℕ) (words : List ℕ) (views : List SeatView) (seat : ℕ) (v : SeatView) → WordRule n words views → get_elem? views seat ≡ some v
-    → WordRule n words (set views seat (after_split v))
+with_split_counted : (n : ℕ) (words : List ℕ) (views : List SeatView) (seat : ℕ) (v : SeatView) → WordsAgree n words views → get_elem? views seat ≡ some v
+    → WordsAgree n words (set views seat (after_split v))
 with_split_counted n words views seat v rule stands = let w : SeatView = after_split v in let after_it : List SeatView = set views seat w in
     let still_told : (i : ℕ) → IsTold words views i → IsTold words after_it i = λ i told. tells_beside n words views seat v rule stands words w i refl refl (λ owes. owes) told in
     let own = rule.each seat v stands in
@@ -68,23 +67,25 @@ with_split_counted n words views seat v rule stands = let w : SeatView = after_s
     (record { seen = own.seen; exact = own.exact; idle = own.idle; flag = own.flag; alone = own.alone; told = λ i waits. still_told i (own.told i waits) })
     (λ other u _ _ agrees. still words words after_it views u refl (λ _. refl) (λ i _ told. still_told i told) agrees)
 
-pub split_keeps_rule : SplitKeepsRule
-split_keeps_rule n words views seat v rule stands =
-    let counted : WordRule n words (set views seat (after_split v)) = with_split_counted n words views seat v rule stands in
+pub split_agrees : (n : ℕ) (words : List ℕ) (views : List SeatView) (seat : ℕ) (v : SeatView) → WordsAgree n words views → get_elem? views seat ≡ some v
+    → WordsAgree n words (set views seat (after_split v) ++ split_view v ∷ [])
+split_agrees n words views seat v rule stands =
+    let counted : WordsAgree n words (set views seat (after_split v)) = with_split_counted n words views seat v rule stands in
     with_pass_at_end n words (set views seat (after_split v)) v (rule.each seat v stands).seen counted
 
 -- a pass gets another view that has seen no more than the ticker, and keeps its debts
-pass_becomes : (n : ℕ) (words : List ℕ) (views : List SeatView) (seat : ℕ) (v w : SeatView) (rule : WordRule n words views) (stands : get_elem? views seat ≡ some v)
+pass_becomes : (n : ℕ) (words : List ℕ) (views : List SeatView) (seat : ℕ) (v w : SeatView) (rule : WordsAgree n words views) (stands : get_elem? views seat ≡ some v)
     → v.role ≡ role.Pass → w.role ≡ role.Pass → w.mode ≡ mode.Idle → w.seen ≤ ticker words
-    → ((i : ℕ) → IsTold words views i → IsTold words (set views seat w) i) → WordRule n words (set views seat w)
+    → ((i : ℕ) → IsTold words views i → IsTold words (set views seat w) i) → WordsAgree n words (set views seat w)
 pass_becomes n words views seat v w rule stands pass pass' idle seen tells = by_seat n words views seat v rule stands words w rule.sized (pass' ∙ sym pass) rule.notified_bit rule.blocked_bit
     (idle_pass words words (set views seat w) w pass' idle seen)
     (λ other u _ _ was. still words words (set views seat w) views u refl (λ _. refl) (λ i _ told. tells i told) was)
 
-pub join_keeps_rule : JoinKeepsWordRule
-join_keeps_rule n words views seat other v w rule stands pass apart there free = let both : SeatView = joined_seat v w in let mid : List SeatView = set views seat both in
+pub join_agrees : (n : ℕ) (words : List ℕ) (views : List SeatView) (seat other : ℕ) (v w : SeatView) → WordsAgree n words views → get_elem? views seat ≡ some v → v.role ≡ role.Pass
+    → other ≢ seat → get_elem? views other ≡ some w → IsFree w → WordsAgree n words (set (set views seat (joined_seat v w)) other spent_view)
+join_agrees n words views seat other v w rule stands pass apart there free = let both : SeatView = joined_seat v w in let mid : List SeatView = set views seat both in
     let here = rule.each seat v stands in let seen_here = here.seen in let seen_there = (rule.each other w there).seen in
-    let taken_in : WordRule n words mid = pass_becomes n words views seat v both rule stands pass pass (here.idle pass) (omega arith)
+    let taken_in : WordsAgree n words mid = pass_becomes n words views seat v both rule stands pass pass (here.idle pass) (omega arith)
     (λ i told. tells_beside n words views seat v rule stands words both i refl refl (λ o. o) told) in
     let still_there : get_elem? mid other ≡ some w = beside_set views seat other both apart ∙ there in
     pass_becomes n words mid other w spent_view taken_in still_there free.0 refl refl (omega arith)

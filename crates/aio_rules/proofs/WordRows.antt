@@ -55,7 +55,7 @@ nobody views none (at, u, e, owes) = none-some 0 (sym (none at u e) ∙ owes)
 -- after a wait that began without a look at the mask, and after a pass was joined away in mid-call
 an_untold_wait_is_refused : (other : SeatView) → other.owes ≡ owed.Nothing → ¬ WordRule 1 (0 ∷ 0 ∷ 1 ∷ 1 ∷ []) (waits ∷ other ∷ [])
 an_untold_wait_is_refused other nothing rule = ⊎_elim (λ z. absurd (zero_not_one z)) (nobody (waits ∷ other ∷ []) none)
-    ((rule.each 0 waits refl).told 0 refl (λ z. zero_not_one (sym z)))
+    ((rule.agrees.each 0 waits refl).told 0 refl (λ z. zero_not_one (sym z)))
   where
     none : (at : ℕ) (u : SeatView) → get_elem? (waits ∷ other ∷ []) at ≡ some u → owed_to u.owes ≡ None
     none zero u e = ap (λ (x : SeatView). owed_to x.owes) (sym (some-injective waits u e))
@@ -64,7 +64,7 @@ an_untold_wait_is_refused other nothing rule = ⊎_elim (λ z. absurd (zero_not_
 
 -- a seat waits whose flag is 0
 a_wait_without_its_flag_is_refused : ¬ WordRule 1 (0 ∷ 0 ∷ 0 ∷ 0 ∷ []) (waits ∷ [])
-a_wait_without_its_flag_is_refused rule = zero_not_one ((rule.each 0 waits refl).flag 0 refl)
+a_wait_without_its_flag_is_refused rule = zero_not_one ((rule.agrees.each 0 waits refl).flag 0 refl)
 
 -- a pass split off a round seat that began one round more than the words tell
 abbrev early_pass : SeatView
@@ -72,11 +72,11 @@ early_pass = split_view (after (word_step.AddTicker 0) first_view)
 
 -- a pass has seen a round that has not begun
 a_round_not_begun_is_refused : ¬ WordRule 1 (0 ∷ 0 ∷ 0 ∷ 0 ∷ []) (first_view ∷ early_pass ∷ [])
-a_round_not_begun_is_refused rule = let e = (rule.each 1 early_pass refl).seen in absurd (omega arith)
+a_round_not_begun_is_refused rule = let e = (rule.agrees.each 1 early_pass refl).seen in absurd (omega arith)
 
 -- two seats begin rounds
 two_round_seats_are_refused : ¬ WordRule 1 (0 ∷ 0 ∷ 0 ∷ 0 ∷ []) (first_view ∷ first_view ∷ [])
-two_round_seats_are_refused rule = let one = rule.one_round.2 in zero_not_one ((one 0 first_view refl).0 refl ∙ sym ((one 1 first_view refl).0 refl))
+two_round_seats_are_refused rule = let one = rule.agrees.one_round.2 in zero_not_one ((one 0 first_view refl).0 refl ∙ sym ((one 1 first_view refl).0 refl))
 
 -- a pass looks at a flag before it has set a bit
 a_look_before_the_bit_is_refused : ¬ May 1 (split_view first_view) (word_step.LoadBlocked 0 1)

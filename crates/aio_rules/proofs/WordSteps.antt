@@ -10,10 +10,11 @@ use Rattle.aio_rules.specs.declared.seats.Role.TheVariants as role
 use Rattle.aio_rules.specs.declared.seats.Owed.TheVariants as owed
 use Rattle.aio_rules.specs.declared.seats.Mode.{Mode}
 use Rattle.aio_rules.specs.declared.seats.Mode.TheVariants as mode
+use Rattle.aio_rules.specs.declared.seats.WordStep.{WordStep}
 use Rattle.aio_rules.specs.declared.seats.WordStep.TheVariants as word_step
 use Rattle.aio_rules.specs.declared.seats.SeatView.{SeatView}
-use Rattle.aio_rules.specs.SharedWords.{ticker, ticker_place, notified, notified_place, blocked, blocked_place, mask, mask_place, word_count, held, owed_to, blocking, value_after, after, IsFree, IsTold, AgreesWithWords, WordRule}
-use Rattle.aio_rules.specs.WordLaws.{StepKeepsRule}
+use Rattle.aio_rules.specs.SharedWords.{ticker, ticker_place, notified, notified_place, blocked, blocked_place, mask, mask_place, word_count, held, owed_to, blocking, place_of, value_after, after, IsFree, IsTold, AgreesWithWords, WordsAgree}
+use Rattle.aio_rules.specs.WordLaws.{CanStep}
 use Rattle.aio_rules.proofs.SeatLists.{in_range, where_set}
 use Rattle.aio_rules.proofs.WordFrames.{not_both, idle_holds_none, idle_pass, still, mid_call_after, by_seat, others_idle}
 
@@ -48,13 +49,13 @@ looking_holds m i found blocks = dite (ℕ_discrete found 0)
     (λ z. ap held (if_is found 0 (mode.Wait i) m z) ∙ sym (ap held blocks))
     (λ nz. ap held (if_is_not found 0 (mode.Wait i) m nz))
 
-module _ (n : ℕ) (words : List ℕ) (views : List SeatView) (seat : ℕ) (v : SeatView) (rule : WordRule n words views) (stands : get_elem? views seat ≡ some v) where
+module _ (n : ℕ) (words : List ℕ) (views : List SeatView) (seat : ℕ) (v : SeatView) (rule : WordsAgree n words views) (stands : get_elem? views seat ≡ some v) where
   abbrev mine : AgreesWithWords words views v
   mine = rule.each seat v stands
 
   -- a word that a step leaves as it found it
-  left_alone : (k found : ℕ) (w : SeatView) → get_or words k 0 ≡ found → WordRule n words (set views seat w) → WordRule n (set words k found) (set views seat w)
-  left_alone k found w e kept = subst (λ (l : List ℕ). WordRule n l (set views seat w)) (sym (ap (set words k) (sym e) ∙ set-get_or words k 0)) kept
+  left_alone : (k found : ℕ) (w : SeatView) → get_or words k 0 ≡ found → WordsAgree n words (set views seat w) → WordsAgree n (set words k found) (set views seat w)
+  left_alone k found w e kept = subst (λ (l : List ℕ). WordsAgree n l (set views seat w)) (sym (ap (set words k) (sym e) ∙ set-get_or words k 0)) kept
 
   -- who was told still is, where notified and the mask are as they were and the seat's debt goes on
   pub tells_beside : (now : List ℕ) (w : SeatView) (i : ℕ) → notified now ≡ notified words → mask now i ≡ mask words i → (owed_to v.owes ≡ Some i → owed_to w.owes ≡ Some i)
@@ -66,7 +67,7 @@ module _ (n : ℕ) (words : List ℕ) (views : List SeatView) (seat : ℕ) (v : 
   pub owed_none : {A : Type 0} (i : ℕ) → v.owes ≡ owed.Nothing → owed_to v.owes ≡ Some i → A
   owed_none i nothing owes = absurd (none-some i (sym (ap owed_to nothing) ∙ owes))
 
-  loads_ticker : (found : ℕ) → ticker words ≡ found → WordRule n (set words ticker_place found) (set views seat (after (word_step.LoadTicker found) v))
+  loads_ticker : (found : ℕ) → ticker words ≡ found → WordsAgree n (set words ticker_place found) (set views seat (after (word_step.LoadTicker found) v))
   loads_ticker found e = let w : SeatView = after (word_step.LoadTicker found) v in
       let tells : (i : ℕ) → IsTold words views i → IsTold words (set views seat w) i = λ i told. tells_beside words w i refl refl (λ o. o) told in
       left_alone ticker_place found w e (by_seat n words views seat v rule stands words w rule.sized refl rule.notified_bit rule.blocked_bit
@@ -80,7 +81,7 @@ module _ (n : ℕ) (words : List ℕ) (views : List SeatView) (seat : ℕ) (v : 
       })
       (λ other u _ _ was. still words words (set views seat w) views u refl (λ _. refl) (λ i _ told. tells i told) was))
 
-  adds_ticker : (found : ℕ) → ticker words ≡ found → v.role ≡ role.Round → WordRule n (set words ticker_place (found + 1)) (set views seat (after (word_step.AddTicker found) v))
+  adds_ticker : (found : ℕ) → ticker words ≡ found → v.role ≡ role.Round → WordsAgree n (set words ticker_place (found + 1)) (set views seat (after (word_step.AddTicker found) v))
   adds_ticker found e round = let w : SeatView = after (word_step.AddTicker found) v in let now : List ℕ = set words ticker_place (found + 1) in
       let here : ticker now ≡ found + 1 = get_or-set_same words 0 (found + 1) 0 (let s = rule.sized in omega arith) in
       let beside : (k : ℕ) → k ≢ 0 → get_or now k 0 ≡ get_or words k 0 = λ k apart. get_or-set_other words 0 k (found + 1) 0 apart in
@@ -105,14 +106,14 @@ module _ (n : ℕ) (words : List ℕ) (views : List SeatView) (seat : ℕ) (v : 
     now = set words k left
 
     by_pass : notified now ≤ 1 → ((i : ℕ) → blocked now i ≡ blocked words i) → ((i : ℕ) → blocked words i ≡ 1 → IsTold words views i → IsTold now (set views seat w) i)
-        → WordRule n now (set views seat w)
+        → WordsAgree n now (set views seat w)
     by_pass notified_bit flags tells = let tick : ticker now ≡ ticker words = get_or-set_other words k ticker_place left 0 off_ticker in
         by_seat n words views seat v rule stands now w (length-set words k left ∙ rule.sized) same_role notified_bit (λ i. subst (λ (b : ℕ). b ≤ 1) (sym (flags i)) (rule.blocked_bit i))
         (idle_pass words now (set views seat w) w (same_role ∙ pass) (same_mode ∙ mine.idle pass) (let seen = mine.seen in omega arith))
         (λ other u _ _ was. still words now (set views seat w) views u tick flags tells was)
 
   sets_bit : (i bit found : ℕ) → mask words i ≡ found → i < n → IsFree v
-      → WordRule n (set words (mask_place i) (bit_or found (2 ^ bit))) (set views seat (after (word_step.SetBit i bit found) v))
+      → WordsAgree n (set words (mask_place i) (bit_or found (2 ^ bit))) (set views seat (after (word_step.SetBit i bit found) v))
   sets_bit i bit found e below free = let w : SeatView = after (word_step.SetBit i bit found) v in let k : ℕ = mask_place i in let left : ℕ = bit_or found (2 ^ bit) in let now : List ℕ = set words k left in
       let beside : (j : ℕ) → j ≢ k → get_or now j 0 ≡ get_or words j 0 = λ j apart. get_or-set_other words k j left 0 apart in
       let same_notified : notified now ≡ notified words = beside notified_place (λ z. omega arith) in
@@ -124,7 +125,7 @@ module _ (n : ℕ) (words : List ℕ) (views : List SeatView) (seat : ℕ) (v : 
       (told (λ z. nz (sym e ∙ ap (mask words) (sym same) ∙ z)))))
       (λ apart. tells_beside now w j same_notified (beside (mask_place j) (λ z. apart (omega arith))) (owed_none j free.1) told))
 
-  swaps_mask : (i found : ℕ) → i < n → IsFree v → WordRule n (set words (mask_place i) 0) (set views seat (after (word_step.SwapMask i found) v))
+  swaps_mask : (i found : ℕ) → i < n → IsFree v → WordsAgree n (set words (mask_place i) 0) (set views seat (after (word_step.SwapMask i found) v))
   swaps_mask i found below free = let w : SeatView = after (word_step.SwapMask i found) v in let k : ℕ = mask_place i in let now : List ℕ = set words k 0 in
       let beside : (j : ℕ) → j ≢ k → get_or now j 0 ≡ get_or words j 0 = λ j apart. get_or-set_other words k j 0 0 apart in
       let here : mask now i ≡ 0 = get_or-set_same words k 0 0 (let s = rule.sized in omega arith) in
@@ -136,7 +137,7 @@ module _ (n : ℕ) (words : List ℕ) (views : List SeatView) (seat : ℕ) (v : 
 
   -- where the flag was found 0 no seat waits for this parker, so no debt is lost
   loads_blocked : (i found : ℕ) → blocked words i ≡ found → i < n → v.role ≡ role.Pass → v.owes ≡ owed.Look i
-      → WordRule n (set words (blocked_place i) found) (set views seat (after (word_step.LoadBlocked i found) v))
+      → WordsAgree n (set words (blocked_place i) found) (set views seat (after (word_step.LoadBlocked i found) v))
   loads_blocked i found e below pass looks = let w : SeatView = after (word_step.LoadBlocked i found) v in let k : ℕ = blocked_place i in let now : List ℕ = set words k found in
       let unchanged : now ≡ words = ap (set words k) (sym e) ∙ set-get_or words k 0 in
       let same : (j : ℕ) → get_or now j 0 ≡ get_or words j 0 = λ j. ap (λ (l : List ℕ). get_or l j 0) unchanged in
@@ -147,7 +148,7 @@ module _ (n : ℕ) (words : List ℕ) (views : List SeatView) (seat : ℕ) (v : 
       told)
 
   exchanges : (found : ℕ) → notified words ≡ found → v.role ≡ role.Pass
-      → WordRule n (set words notified_place (value_after (word_step.ExchangeNotified found))) (set views seat (after (word_step.ExchangeNotified found) v))
+      → WordsAgree n (set words notified_place (value_after (word_step.ExchangeNotified found))) (set views seat (after (word_step.ExchangeNotified found) v))
   exchanges found e pass = let w : SeatView = after (word_step.ExchangeNotified found) v in let left : ℕ = if eqb found 0 then 1 else found in let now : List ℕ = set words notified_place left in
       let one : left ≡ 1 = dite (ℕ_discrete found 0) (λ z. if_is found 0 1 found z) (λ nz. if_is_not found 0 1 found nz ∙ (let b = rule.notified_bit in omega arith)) in
       let here : notified now ≡ 1 = get_or-set_same words 1 left 0 (let s = rule.sized in omega arith) ∙ one in
@@ -157,7 +158,7 @@ module _ (n : ℕ) (words : List ℕ) (views : List SeatView) (seat : ℕ) (v : 
   -- a step of the round seat that leaves the ticker as it is
   by_round : (now : List ℕ) (w : SeatView) → length now ≡ word_count n → ticker now ≡ ticker words → v.role ≡ role.Round → w.role ≡ v.role → w.seen ≡ v.seen → notified now ≤ 1 → ((i : ℕ) → blocked now i ≤ 1)
       → ((i : ℕ) → held w.mode ≡ Some i → blocked now i ≡ 1) → ((i : ℕ) → blocked now i ≢ 0 → held w.mode ≡ Some i)
-      → ((i : ℕ) → w.mode ≡ mode.Wait i → IsTold now (set views seat w) i) → WordRule n now (set views seat w)
+      → ((i : ℕ) → w.mode ≡ mode.Wait i → IsTold now (set views seat w) i) → WordsAgree n now (set views seat w)
   by_round now w sized tick round same_role same_seen notified_bit blocked_bit flag alone told = let exact = mine.exact round in
       by_seat n words views seat v rule stands now w sized same_role notified_bit blocked_bit
       (record {
@@ -171,7 +172,7 @@ module _ (n : ℕ) (words : List ℕ) (views : List SeatView) (seat : ℕ) (v : 
       (others_idle n words views seat v rule stands round now (set views seat w) (omega arith))
 
   stores_blocked : (i value found : ℕ) → i < n → v.role ≡ role.Round → ((value ≡ 1) × (v.mode ≡ mode.Idle)) ⊎ ((value ≡ 0) × (v.mode ≡ mode.Block i))
-      → WordRule n (set words (blocked_place i) value) (set views seat (after (word_step.StoreBlocked i value found) v))
+      → WordsAgree n (set words (blocked_place i) value) (set views seat (after (word_step.StoreBlocked i value found) v))
   stores_blocked i value found below round may = let w : SeatView = after (word_step.StoreBlocked i value found) v in let k : ℕ = blocked_place i in let now : List ℕ = set words k value in
       let beside : (j : ℕ) → j ≢ k → get_or now j 0 ≡ get_or words j 0 = λ j apart. get_or-set_other words k j value 0 apart in
       let beside_flag : (j : ℕ) → j ≢ i → blocked now j ≡ blocked words j = λ j apart. beside (blocked_place j) (λ z. apart (omega arith)) in
@@ -201,7 +202,7 @@ module _ (n : ℕ) (words : List ℕ) (views : List SeatView) (seat : ℕ) (v : 
 
   -- the seat waits only where it found no woken slot
   loads_mask : (i found : ℕ) → mask words i ≡ found → v.role ≡ role.Round → v.mode ≡ mode.Block i
-      → WordRule n (set words (mask_place i) found) (set views seat (after (word_step.LoadMask i found) v))
+      → WordsAgree n (set words (mask_place i) found) (set views seat (after (word_step.LoadMask i found) v))
   loads_mask i found e round blocks = let w : SeatView = after (word_step.LoadMask i found) v in
       let holds : held w.mode ≡ held v.mode = looking_holds v.mode i found blocks in
       left_alone (mask_place i) found w e (by_round words w rule.sized refl round refl refl rule.notified_bit rule.blocked_bit
@@ -211,7 +212,7 @@ module _ (n : ℕ) (words : List ℕ) (views : List SeatView) (seat : ℕ) (v : 
       (λ z. let same : j ≡ i = one_parker j i (sym (ap held waits) ∙ holds ∙ ap held blocks) in absurd (woken (ap (mask words) same ∙ e ∙ z)))
       (λ nz. blocking_waits_not (mode.Block i) j (sym blocks ∙ sym (if_is_not found 0 (mode.Wait i) v.mode nz) ∙ waits))))
 
-  swaps_notified : (found : ℕ) → v.role ≡ role.Round → WordRule n (set words notified_place 0) (set views seat (after (word_step.SwapNotified found) v))
+  swaps_notified : (found : ℕ) → v.role ≡ role.Round → WordsAgree n (set words notified_place 0) (set views seat (after (word_step.SwapNotified found) v))
   swaps_notified found round = let w : SeatView = after (word_step.SwapNotified found) v in let now : List ℕ = set words notified_place 0 in
       let beside : (j : ℕ) → j ≢ 1 → get_or now j 0 ≡ get_or words j 0 = λ j apart. get_or-set_other words 1 j 0 0 apart in
       let here : notified now ≡ 0 = get_or-set_same words 1 0 0 (let s = rule.sized in omega arith) in
@@ -223,13 +224,14 @@ module _ (n : ℕ) (words : List ℕ) (views : List SeatView) (seat : ℕ) (v : 
       (λ j set. holds ∙ mine.alone round j (λ z. set (flags j ∙ z)))
       (λ j waits. blocking_waits_not v.mode j waits)
 
-pub step_keeps_rule : StepKeepsRule
-step_keeps_rule n words views seat v (word_step.LoadTicker found) can = loads_ticker n words views seat v can.rule can.stands found can.found
-step_keeps_rule n words views seat v (word_step.AddTicker found) can = adds_ticker n words views seat v can.rule can.stands found can.found can.may.0
-step_keeps_rule n words views seat v (word_step.SetBit i bit found) can = sets_bit n words views seat v can.rule can.stands i bit found can.found can.may.0 can.may.2
-step_keeps_rule n words views seat v (word_step.LoadBlocked i found) can = loads_blocked n words views seat v can.rule can.stands i found can.found can.may.0 can.may.1 can.may.2
-step_keeps_rule n words views seat v (word_step.ExchangeNotified found) can = exchanges n words views seat v can.rule can.stands found can.found can.may.0
-step_keeps_rule n words views seat v (word_step.StoreBlocked i value found) can = stores_blocked n words views seat v can.rule can.stands i value found can.may.0 can.may.1 can.may.2
-step_keeps_rule n words views seat v (word_step.SwapMask i found) can = swaps_mask n words views seat v can.rule can.stands i found can.may.0 can.may.1
-step_keeps_rule n words views seat v (word_step.LoadMask i found) can = loads_mask n words views seat v can.rule can.stands i found can.found can.may.1 can.may.2
-step_keeps_rule n words views seat v (word_step.SwapNotified found) can = swaps_notified n words views seat v can.rule can.stands found can.may.0
+pub step_agrees : (n : ℕ) (words : List ℕ) (views : List SeatView) (seat : ℕ) (v : SeatView) (s : WordStep) → CanStep n words views seat v s
+    → WordsAgree n (set words (place_of s) (value_after s)) (set views seat (after s v))
+step_agrees n words views seat v (word_step.LoadTicker found) can = loads_ticker n words views seat v can.rule.agrees can.stands found can.found
+step_agrees n words views seat v (word_step.AddTicker found) can = adds_ticker n words views seat v can.rule.agrees can.stands found can.found can.may.0
+step_agrees n words views seat v (word_step.SetBit i bit found) can = sets_bit n words views seat v can.rule.agrees can.stands i bit found can.found can.may.0 can.may.2
+step_agrees n words views seat v (word_step.LoadBlocked i found) can = loads_blocked n words views seat v can.rule.agrees can.stands i found can.found can.may.0 can.may.1 can.may.2
+step_agrees n words views seat v (word_step.ExchangeNotified found) can = exchanges n words views seat v can.rule.agrees can.stands found can.found can.may.0
+step_agrees n words views seat v (word_step.StoreBlocked i value found) can = stores_blocked n words views seat v can.rule.agrees can.stands i value found can.may.0 can.may.1 can.may.2
+step_agrees n words views seat v (word_step.SwapMask i found) can = swaps_mask n words views seat v can.rule.agrees can.stands i found can.may.0 can.may.1
+step_agrees n words views seat v (word_step.LoadMask i found) can = loads_mask n words views seat v can.rule.agrees can.stands i found can.found can.may.1 can.may.2
+step_agrees n words views seat v (word_step.SwapNotified found) can = swaps_notified n words views seat v can.rule.agrees can.stands found can.may.0

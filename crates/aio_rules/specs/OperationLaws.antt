@@ -42,8 +42,10 @@ module _ {O : Type 0} where
         → (gone : List (OpEntry O)) × (entries_of v.seat.own ≡ gone ++ of_pass v.seat.number items)
     -- what is queued of any number, also of a pass that was let go, is numbered without a gap
     pub gapless : (pass : ℕ) → (k : ℕ) × Counts pass k (of_pass pass items)
-    -- an entry is queued once, or popped once, or neither
+    -- an entry is queued once, or popped once, or neither; one that its pass pushed is one of both
     pub once : (pass k : ℕ) → times pass k items + times_popped pass k (seats_of views) ≤ 1
+    pub all_there : (i k : ℕ) (v : QueuePass O) → get_elem? views i ≡ some v → 1 ≤ k → k ≤ length v.seat.own
+        → times v.seat.number k items + times_popped v.seat.number k (seats_of views) ≡ 1
     -- what a pass popped is in the order of its pushes, pass by pass, and before all of that pass that is queued
     pub rising : (i : ℕ) (v : QueuePass O) → get_elem? views i ≡ some v → Rises v.seat.pulled
     pub bound : (i : ℕ) (v : QueuePass O) (from to : ℕ) (e queued : OpEntry O) → get_elem? views i ≡ some v → get_elem? v.seat.pulled from ≡ some e

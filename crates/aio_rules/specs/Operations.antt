@@ -104,6 +104,11 @@ module _ {O : Type 0} where
   times_popped pass k [] = 0
   times_popped pass k (h ∷ seats) = times pass k h.pulled + times_popped pass k seats
 
+  -- what a pass pushed is queued or was popped, each entry in one place alone: none is lost, and none is there twice
+  abbrev pub AllThere : List (OpEntry O) → List (QueueSeat O) → Type 0
+  AllThere items seats = (pass k : ℕ) (h : QueueSeat O) → get_elem? seats pass ≡ some h → 1 ≤ k → k ≤ length h.own
+      → times pass k items + times_popped pass k seats ≡ 1
+
   -- The rule for one pass, whose seat stands at the place of its number. Its own entries are numbered from 1. The last of them, in order, are queued; a
   -- popped one is among those before, whoever popped it.
   pub record PassRule (items : List (OpEntry O)) (seats : List (QueueSeat O)) (pass : ℕ) (h : QueueSeat O) : Type 0 where
@@ -125,6 +130,7 @@ module _ {O : Type 0} where
     pub popped_known : EachAt seats (λ w. Every (λ (e : OpEntry O). e.pass < length seats) w.pulled)
     -- no entry stands twice in the queue and all that was popped
     pub once : (pass k : ℕ) → times pass k items + times_popped pass k seats ≤ 1
+    pub all_there : AllThere items seats
     pub rising : EachAt seats (λ w. Rises w.pulled)
 
   abbrev pub seats_of : List (QueuePass O) → List (QueueSeat O)

@@ -1,5 +1,6 @@
 -- The words that threads share: which words there are, what each kind of step does to its word and to its seat's view, and the rule that holds between any two steps.
-use Rattle.std.specs.Prelude.{◌≡◌, ◌≢◌, ◌⊎◌, ◌↔◌, ℕ, ◌+◌, ◌-◌, ◌*◌, ◌^◌, ◌≤◌, ◌<◌, ◌==◌, max, bit_or, ⊤, if◌then◌else◌, List, [], ◌∷◌, ◌++◌, length, slice_index, Option, None, Some}
+use Rattle.std.specs.Prelude.{◌≡◌, ◌≢◌, ◌⊎◌, ◌↔◌, ℕ, ◌+◌, ◌-◌, ◌*◌, ◌^◌, ◌≤◌, ◌<◌, Bool, false, ◌&&◌, ◌==◌, max, bit_or, ⊤, if◌then◌else◌, List, [], ◌∷◌, ◌++◌, length, slice_index, Option, None, Some}
+use Rattle.std.specs.Int.{bit_at}
 use mathlib.Core.Option.{some}
 use lib.ListN.{get_elem?}
 use Rattle.aio_rules.specs.declared.seats.Role.TheVariants as role
@@ -10,6 +11,7 @@ use Rattle.aio_rules.specs.declared.seats.Mode.TheVariants as mode
 use Rattle.aio_rules.specs.declared.seats.WordStep.{WordStep}
 use Rattle.aio_rules.specs.declared.seats.WordStep.TheVariants as word_step
 use Rattle.aio_rules.specs.declared.seats.SeatView.{SeatView}
+use Rattle.aio_rules.specs.WordCalls.{count_of, is_raise, is_won}
 
 -- ## The words: the ticker, notified, and for each parker a blocked flag and a mask
 
@@ -198,10 +200,60 @@ pub record AgreesWithWords (words : List ℕ) (views : List SeatView) (v : SeatV
   -- a seat waits for a parker with woken slots only while it is told
   pub told : (i : ℕ) → v.mode ≡ mode.Wait i → IsTold words views i
 
--- The rule over the words for so many parkers and the views of all seats.
-pub record WordRule (parkers : ℕ) (words : List ℕ) (views : List SeatView) : Type 0 where
+-- What the words and the views of all seats are, for so many parkers, however they came to be so.
+pub record WordsAgree (parkers : ℕ) (words : List ℕ) (views : List SeatView) : Type 0 where
   pub sized : length words ≡ word_count parkers
   pub one_round : HasOneRound views
   pub notified_bit : notified words ≤ 1
   pub blocked_bit : (i : ℕ) → blocked words i ≤ 1
   pub each : Each views (λ _ v. AgreesWithWords words views v)
+
+-- ## What all seats did
+
+-- how many steps of one kind were ever made, by each seat and by those that it took in
+abbrev pub made : (WordStep → Bool) → List SeatView → ℕ
+made kind [] = 0
+made kind (v ∷ views) = count_of kind v.did + count_of kind v.joined + made kind views
+
+-- how many seats were ever split off others
+abbrev pub all_splits : List SeatView → ℕ
+all_splits [] = 0
+all_splits (v ∷ views) = v.splits + v.joined_splits + all_splits views
+
+-- a swap of notified that found it set
+abbrev pub is_clearing : WordStep → Bool
+is_clearing (word_step.SwapNotified found) = found == 1
+is_clearing s = false
+
+-- a store that set the blocked flag of this parker, and one that cleared it
+abbrev pub is_block_of : ℕ → WordStep → Bool
+is_block_of i (word_step.StoreBlocked j value found) = (i == j) && ((value == 1) && (found == 0))
+is_block_of i s = false
+
+abbrev pub is_unblock_of : ℕ → WordStep → Bool
+is_unblock_of i (word_step.StoreBlocked j value found) = (i == j) && ((value == 0) && (found == 1))
+is_unblock_of i s = false
+
+-- a step that woke this slot of this parker, which was not woken then, and a swap that took it
+abbrev pub is_wake_of : ℕ → ℕ → WordStep → Bool
+is_wake_of i slot (word_step.SetBit j bit found) = (i == j) && ((slot == bit) && (bit_at found slot == 0))
+is_wake_of i slot s = false
+
+abbrev pub is_take_of : ℕ → ℕ → WordStep → Bool
+is_take_of i slot (word_step.SwapMask j found) = (i == j) && (bit_at found slot == 1)
+is_take_of i slot s = false
+
+-- The words are what the steps of all seats made of them, each bit of them by itself: what set it and what cleared it is counted. So a step that changes
+-- a word is told by its seat.
+pub record Accounts (words : List ℕ) (views : List SeatView) : Type 0 where
+  pub rises : ticker words ≡ made is_raise views
+  pub notes : notified words + made is_clearing views ≡ made is_won views
+  pub flags : (i : ℕ) → blocked words i + made (is_unblock_of i) views ≡ made (is_block_of i) views
+  pub slots : (i slot : ℕ) → bit_at (mask words i) slot + made (is_take_of i slot) views ≡ made (is_wake_of i slot) views
+
+-- The rule over the words for so many parkers and the views of all seats.
+pub record WordRule (parkers : ℕ) (words : List ℕ) (views : List SeatView) : Type 0 where
+  pub agrees : WordsAgree parkers words views
+  pub accounts : Accounts words views
+  -- each seat but the first one was split off another, which has counted it, or whoever took that one in has
+  pub counted : length views ≡ 1 + all_splits views

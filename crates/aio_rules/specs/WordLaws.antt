@@ -1,5 +1,5 @@
 -- What is true of the rule of the shared words: it holds at the start, and each step and each move of a seat keeps it.
-use Rattle.std.specs.Prelude.{◌≡◌, ◌≢◌, ◌⊎◌, ℕ, ◌≤◌, ◌==◌, Bool, false, List, [], ◌∷◌, ◌++◌, replicate, slice_index, slice_set}
+use Rattle.std.specs.Prelude.{◌≡◌, ◌≢◌, ◌⊎◌, ℕ, ◌+◌, ◌≤◌, ◌==◌, Bool, false, List, [], ◌∷◌, ◌++◌, replicate, slice_index, slice_set}
 use Rattle.std.specs.Int.{bit_at}
 use mathlib.Core.Option.{some}
 use lib.ListN.{get_elem?}
@@ -8,7 +8,7 @@ use Rattle.aio_rules.specs.declared.seats.Mode.TheVariants as mode
 use Rattle.aio_rules.specs.declared.seats.WordStep.{WordStep}
 use Rattle.aio_rules.specs.declared.seats.WordStep.TheVariants as word_step
 use Rattle.aio_rules.specs.declared.seats.SeatView.{SeatView}
-use Rattle.aio_rules.specs.SharedWords.{word_count, mask, notified, first_view, split_view, after_split, spent_view, joined_seat, place_of, found_by, value_after, after, IsFree, May, IsInMidCall, WordRule}
+use Rattle.aio_rules.specs.SharedWords.{word_count, ticker, mask, notified, blocked, first_view, split_view, after_split, spent_view, joined_seat, place_of, found_by, value_after, after, IsFree, May, IsInMidCall, WordRule}
 
 -- A seat stands at the words and may make a step, which found what its word was.
 pub record CanStep (parkers : ℕ) (words : List ℕ) (views : List SeatView) (seat : ℕ) (v : SeatView) (s : WordStep) : Type 0 where
@@ -62,3 +62,14 @@ abbrev pub WokenWaitIsTold : Type 0
 WokenWaitIsTold = (parkers : ℕ) (words : List ℕ) (views : List SeatView) (seat : ℕ) (v : SeatView) (i slot : ℕ)
     → WordRule parkers words views → get_elem? views seat ≡ some v → v.mode ≡ mode.Wait i
     → bit_at (mask words i) slot ≡ 1 → (notified words ≡ 1) ⊎ IsInMidCall views i
+
+-- the views of all seats tell the words, so a step that no seat shows changes none
+abbrev pub ViewsTellWords : Type 0
+ViewsTellWords = (parkers : ℕ) (words now : List ℕ) (views : List SeatView) → WordRule parkers words views → WordRule parkers now views
+    → (ticker now ≡ ticker words) × (notified now ≡ notified words) × ((i : ℕ) → blocked now i ≡ blocked words i)
+    × ((i slot : ℕ) → bit_at (mask now i) slot ≡ bit_at (mask words i) slot)
+
+-- a seat off which none was split does not come to the others while they are as they were
+abbrev pub NoSeatAppears : Type 0
+NoSeatAppears = (parkers : ℕ) (words now : List ℕ) (views : List SeatView) (new : SeatView) → WordRule parkers words views → new.splits + new.joined_splits ≡ 0
+    → ¬ WordRule parkers now (views ++ new ∷ [])

@@ -14,8 +14,8 @@ pub fn every_step_keeps_the_rule_of_the_queue<O>()
     ensures new_pass { NewPassKeepsQueueRule O }
 {}
 
-/// What the rule of the queue says of entries and passes, part by part. So no entry is popped twice, and
-/// one that was popped has no earlier one of its pass in the queue, whoever popped it.
+/// What the rule of the queue says of entries and passes, part by part. So no entry is lost or popped
+/// twice, and one that was popped has no earlier one of its pass in the queue, whoever popped it.
 pub fn the_rule_of_the_queue_has_five_parts<O>()
     ensures { RuleHasItsParts O }
 {}

@@ -1,7 +1,7 @@
 //! Laws of the words that threads share, as contracts of functions with no work to do.
 
 ghost use Rattle.aio_rules.specs.WordCalls.{ParkTakesOnce};
-ghost use Rattle.aio_rules.specs.WordLaws.{JoinKeepsWordRule, OnlySwapTakesBits, SplitKeepsRule, StartMeetsWordRule, StepKeepsRule, StepKeepsSeat, WokenWaitIsTold};
+ghost use Rattle.aio_rules.specs.WordLaws.{JoinKeepsWordRule, NoSeatAppears, OnlySwapTakesBits, SplitKeepsRule, StartMeetsWordRule, StepKeepsRule, StepKeepsSeat, ViewsTellWords, WokenWaitIsTold};
 
 /// The rule of the words holds at the start; each step that its seat may make keeps it, whichever seat
 /// makes it and whatever the others have done before, and so does each split and each join of seats. A
@@ -28,4 +28,11 @@ pub fn a_wait_with_a_woken_slot_is_told()
 /// A park takes woken slots out of a mask exactly once, and begins no round.
 pub fn a_park_takes_woken_slots_once()
     ensures { ParkTakesOnce }
+{}
+
+/// What the steps of all seats found tells the words: a step that no seat shows changes none. No seat
+/// comes about beside others that stay as they are, unless seats were split off it.
+pub fn every_change_of_the_words_shows_in_a_seat()
+    ensures words { ViewsTellWords }
+    ensures seats { NoSeatAppears }
 {}

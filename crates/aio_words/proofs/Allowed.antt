@@ -13,8 +13,7 @@ use Rattle.aio_rules.specs.declared.seats.SeatView.{SeatView}
 use Rattle.aio_rules.specs.declared.seats.Role.TheVariants as role
 use Rattle.aio_rules.specs.SharedWords.{WordRule, IsFree, joined_seat, split_view, after_split, spent_view, after, place_of, found_by, value_after, May, mask_place, blocked_place, held}
 use Rattle.aio_rules.proofs.WordFrames.{idle_holds_none}
-use Rattle.aio_rules.proofs.WordSteps.{step_keeps_rule}
-use Rattle.aio_rules.proofs.WordMoves.{split_keeps_rule, join_keeps_rule}
+use Rattle.aio_rules.proofs.WordAccounts.{step_keeps_rule, split_keeps_rule, join_keeps_rule}
 use Rattle.aio_rules.proofs.SeatLists.{beside_set}
 use Rattle.aio_words.specs.Seats.{WordsValue, SeatValue}
 use Rattle.aio_words.specs.Plays.{SeatState, Ruled, Makes, LoadsTicker, AddsTicker, SetsBit, LoadsBlocked, ExchangesNotified, StoresBlocked, SwapsMask, LoadsMask, SwapsNotified}
@@ -67,15 +66,15 @@ module _ (n slots id : ℕ) (me : SeatState) where
 
   pub loads_ticker : Allows (Ruled n) slots id me 0 (λ x. x) (LoadsTicker (step slots 0 0 0 none) me)
   loads_ticker = by_step word_step.LoadTicker 0 (λ _. refl) (λ _. refl) (λ x. x) (LoadsTicker (step slots 0 0 0 none) me)
-      (λ words views rule stands. let mine = rule.each id me.0 stands in (refl, tt, (refl, mine.seen, (λ round. sym (mine.exact round)))))
+      (λ words views rule stands. let mine = rule.agrees.each id me.0 stands in (refl, tt, ((refl, refl, refl), refl, mine.seen, (λ round. sym (mine.exact round)))))
 
   pub adds_ticker : (found : ℕ) → May n me.0 (word_step.AddTicker found) → Allows (Ruled n) slots id me 0 (λ x. (x + 1) % 2 ^ 64) (AddsTicker (step slots 0 1 0 none) me)
   adds_ticker _ may = by_step word_step.AddTicker 0 (λ _. refl) (λ _. refl) (λ x. (x + 1) % 2 ^ 64) (AddsTicker (step slots 0 1 0 none) me) (λ words views rule stands.
       let x : ℕ = get_or words 0 0 in
-      let exact : me.0.seen ≡ x = (rule.each id me.0 stands).exact may.0 in
+      let exact : me.0.seen ≡ x = (rule.agrees.each id me.0 stands).exact may.0 in
       let below : me.0.seen < 18446744073709551615 = may.1 in
       let no_wrap : x + 1 ≡ (x + 1) % 18446744073709551616 = omega arith in
-      (no_wrap, may, (refl, sym exact)))
+      (no_wrap, may, ((refl, refl, refl), refl, sym exact)))
 
   pub sets_bit : (i bit operand found : ℕ) → operand ≡ 2 ^ bit → May n me.0 (word_step.SetBit i bit found)
       → Allows (Ruled n) slots id me (mask_place i) (λ x. bit_or x operand) (SetsBit (step slots (mask_place i) operand 0 none) me)
@@ -90,12 +89,12 @@ module _ (n slots id : ℕ) (me : SeatState) where
   pub exchanges_notified : (found : ℕ) → May n me.0 (word_step.ExchangeNotified found)
       → Allows (Ruled n) slots id me 1 (λ x. either (eqb x 0) 1 x) (ExchangesNotified (step slots 1 0 1 none) me)
   exchanges_notified _ may = by_step word_step.ExchangeNotified 1 (λ _. refl) (λ _. refl) (λ x. either (eqb x 0) 1 x) (ExchangesNotified (step slots 1 0 1 none) me)
-      (λ words views rule stands. let x : ℕ = get_or words 1 0 in (chosen (eqb x 0) 1 x, may, refl))
+      (λ words views rule stands. let x : ℕ = get_or words 1 0 in (chosen (eqb x 0) 1 x, may, ((refl, refl, refl), refl)))
 
   -- A flag is 0 where the seat that may store 1 is idle, since no seat holds the parker; it is 1 where that seat blocks the parker and may store 0.
   flag_before : (words : List ℕ) (views : List SeatView) → WordRule n words views → get_elem? views id ≡ some me.0 → (i value found : ℕ) → May n me.0 (word_step.StoreBlocked i value found)
       → get_or words (blocked_place i) 0 ≡ 1 - value
-  flag_before words views rule stands i value _ may = let flag : ℕ = get_or words (blocked_place i) 0 in let mine = rule.each id me.0 stands in
+  flag_before words views rule stands i value _ may = let flag : ℕ = get_or words (blocked_place i) 0 in let mine = rule.agrees.each id me.0 stands in
       ⊎_elim (λ idle. let stored = idle.0 in dite (ℕ_discrete flag 0) (λ clear. omega arith) (λ set. idle_holds_none me.0.mode i idle.1 (mine.alone may.1 i set)))
       (λ blocks. let stored = blocks.0 in let set : flag ≡ 1 = mine.flag i (ap held blocks.1) in omega arith) may.2
 
@@ -114,7 +113,7 @@ module _ (n slots id : ℕ) (me : SeatState) where
       (λ words views rule stands. (refl, may, λ j on. told_of (λ k. word_step.LoadMask k (get_or words (mask_place i) 0)) i j (of_mask i j on)))
 
   pub swaps_notified : (found : ℕ) → May n me.0 (word_step.SwapNotified found) → Allows (Ruled n) slots id me 1 (λ _. 0) (SwapsNotified (step slots 1 0 0 none) me)
-  swaps_notified _ may = by_step word_step.SwapNotified 1 (λ _. refl) (λ _. refl) (λ _. 0) (SwapsNotified (step slots 1 0 0 none) me) (λ words views rule stands. (refl, may, refl))
+  swaps_notified _ may = by_step word_step.SwapNotified 1 (λ _. refl) (λ _. refl) (λ _. 0) (SwapsNotified (step slots 1 0 0 none) me) (λ words views rule stands. (refl, may, ((refl, refl, refl), refl)))
 
 -- a new pass, and a pass that takes in another, as the table asks
 pub splits : (n id : ℕ) (v : SeatView) → Splits (Ruled n) id v (after_split v) (split_view v)

@@ -3,7 +3,7 @@
 //! A sleep begins on the count that was read before the look at the mask, and only where that look found no
 //! woken slot. Whoever sets the first bit raises the count and ends the sleeps after that, and before it looks
 //! at the blocked flag. So no wake is slept through. Each of these steps takes a value that only the step
-//! before it makes.
+//! before it makes; in `wakes` each is one operation.
 //!
 //! Beside it stands how many threads are on their way to a sleep. A thread counts itself before it reads the
 //! count of wakes, and whoever raises that one looks at the number afterwards: where it finds none, each
@@ -11,35 +11,18 @@
 
 ghost use Rattle.std.specs.Prelude.{◌≡◌, ◌≢◌, ◌<◌, IfOk, IfErr};
 ghost use Rattle.aio_rules.specs.SharedWords.{after};
-ghost use Rattle.aio_rules.specs.declared.seats.Owed.TheVariants as owed;
 ghost use Rattle.aio_rules.specs.declared.seats.WordStep.TheVariants as word_step;
 ghost use Rattle.aio_words.specs.Seats.{Belongs};
 
-use crate::table::WordSeat;
+mod wakes;
+
 use crate::words::{Pass, Words};
 use aio_base::OutOfMemory;
 use std::alloc::Global;
 use std::marker::Model;
 use std::sync::Wait;
-use std::sync::atomic::{AtomicU64, Ordering};
-
-/// How often the mask of one parker got its first bit. A sleep sees only the low 32 bits of its word, so a mask
-/// itself would hide the slots above. Contracts see the parker, by which they tell counts apart.
-#[derive(Drop)]
-pub struct WakeCount {
-    parker: u32,
-    wakes: AtomicU64,
-    /// How many threads have read the count, and neither found a woken slot nor slept since.
-    sleepy: AtomicU64,
-}
-
-impl Model for WakeCount {
-    ghost use Rattle.std.specs.Prelude.{ℕ};
-
-    ghost Value = { ℕ };
-
-    ghost view = { λ c. c.parker };
-}
+use wakes::Reading;
+pub use wakes::{Told, WakeCount};
 
 /// The counts of the parkers. Contracts see for how many parkers they are.
 #[derive(Drop)]
@@ -58,37 +41,7 @@ impl Model for Sleepers {
     ghost invariant = { λ s. s.counts.items ≡ range_with_len 0 (vec_len s.counts) };
 }
 
-/// The parked thread of a parker was told. Contracts see the parker.
-#[derive(Drop)]
-pub struct Told {
-    parker: u32,
-}
-
-impl Model for Told {
-    ghost use Rattle.std.specs.Prelude.{ℕ};
-
-    ghost Value = { ℕ };
-
-    ghost view = { λ t. t.parker };
-}
-
-/// A parker's count, read before a look at its mask. Contracts see the parker and the number read.
-#[derive(Drop)]
-pub struct Reading<'a> {
-    count: &'a WakeCount,
-    found: u64,
-}
-
-impl<'a> Model for Reading<'a> {
-    ghost use Rattle.aio_words.specs.Seats.{CountRead};
-
-    ghost Value = { CountRead };
-
-    ghost view = { λ r. record { parker = r.count.now; found = r.found } };
-}
-
 /// A parker's count, read before a look at its mask that found no woken slot. Contracts see what was read.
-#[derive(Drop)]
 pub struct Unwoken<'a> {
     before: Reading<'a>,
 }
@@ -110,12 +63,7 @@ impl Sleepers {
             return Err(OutOfMemory);
         };
         for parker in 0..parkers {
-            let count = WakeCount {
-                parker,
-                wakes: AtomicU64::new(0),
-                sleepy: AtomicU64::new(0),
-            };
-            if counts.push(count).is_err() {
+            if counts.push(WakeCount::new(parker)).is_err() {
                 return Err(OutOfMemory);
             }
         }
@@ -131,34 +79,6 @@ impl Sleepers {
     }
 }
 
-impl WakeCount {
-    /// Ends the sleep of each thread that is parked for this parker, or is about to sleep: the seat has just
-    /// set the first bit of its mask.
-    pub fn tell(&self, s: &WordSeat) -> Told
-        requires { s.now.view.owes ≡ owed.Look self.now }
-        ensures { result ≡ self.now }
-    {
-        self.wakes.fetch_add(1, Ordering::SeqCst);
-        if self.sleepy.load(Ordering::SeqCst) != 0 {
-            self.wakes.wake_all();
-        }
-        Told {
-            parker: self.parker,
-        }
-    }
-
-    /// Reads the count, for a look at the mask and a sleep.
-    pub fn read(&self) -> Reading<'_>
-        ensures { result.parker ≡ self.now }
-    {
-        self.sleepy.fetch_add(1, Ordering::SeqCst);
-        Reading {
-            count: self,
-            found: self.wakes.load(Ordering::SeqCst),
-        }
-    }
-}
-
 impl<'a> Reading<'a> {
     /// Takes the woken slots of the parker, where there are any.
     pub fn look(self, words: &Words, p: &mut Pass) -> Result<u64, Unwoken<'a>>
@@ -169,10 +89,9 @@ impl<'a> Reading<'a> {
         ensures none { IfErr result (λ none. (none ≡ self.entry)
             × (p.new.view ≡ after (word_step.SwapMask self.entry.parker 0) p.old.view)) }
     {
-        let count = self.count;
-        let slots = words.take(p, count.parker);
+        let slots = words.take(p, self.parker());
         if slots != 0 {
-            count.sleepy.fetch_sub(1, Ordering::SeqCst);
+            self.into_sleepy().count_out();
             return Ok(slots);
         }
         Err(Unwoken { before: self })
@@ -182,8 +101,7 @@ impl<'a> Reading<'a> {
 impl Unwoken<'_> {
     /// Sleeps until the count rises, unless it has risen since it was read.
     pub fn sleep<R: Wait>(self, rt: &R) {
-        let Reading { count, found } = self.before;
-        count.wakes.park(rt, (found & 0xffff_ffff) as u32);
-        count.sleepy.fetch_sub(1, Ordering::SeqCst);
+        let Unwoken { before } = self;
+        before.sleep(rt).count_out();
     }
 }

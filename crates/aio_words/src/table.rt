@@ -1,4 +1,7 @@
 //! The table of the words: the one place where a word is touched, with a call for each kind of step.
+//!
+//! By the rule a step that changes a word shows in its seat. A seat is made by `new` and `split` alone: the
+//! rule refuses one of which nobody has counted the split, but not one that tells of splits of its own.
 
 ghost use Rattle.std.specs.Prelude.{◌≡◌, ◌+◌, ◌-◌, ◌*◌, ◌<◌, ◌≤◌, IfOk, replicate};
 ghost use Rattle.aio_rules.specs.declared.seats.Role.TheVariants as role;

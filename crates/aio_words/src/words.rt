@@ -209,7 +209,7 @@ impl Words {
         ensures view { Parks parker result p.old.view p.new.view }
     {
         for _ in rt.forever() {
-            match self.sleepers.of(parker).read().look(self, p) {
+            match self.sleepers.of(parker).count_in().read().look(self, p) {
                 Ok(slots) => return slots,
                 Err(unwoken) => unwoken.sleep(rt),
             }
@@ -307,7 +307,7 @@ impl Words {
         if others != 0 {
             return false;
         }
-        let told = self.sleepers.of(parker).tell(s);
+        let told = self.sleepers.of(parker).raise(s).call();
         let waits = self.table.load_blocked(s, parker, told);
         if waits != 1 {
             return false;

@@ -1,5 +1,4 @@
-use Rattle.aio_rules.proofs.WordMoves.{start_meets_rule, split_keeps_rule, join_keeps_rule}
-use Rattle.aio_rules.proofs.WordSteps.{step_keeps_rule}
+use Rattle.aio_rules.proofs.WordAccounts.{start_meets_rule, step_keeps_rule, split_keeps_rule, join_keeps_rule}
 use Rattle.aio_rules.proofs.word_laws.every_step_keeps_the_rule_of_the_words.Goals as goal
 
 pub returns-clause-start : goal.returns-clause-start

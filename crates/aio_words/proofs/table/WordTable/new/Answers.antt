@@ -1,6 +1,6 @@
 use Rattle.std.proofs.Common.{rules, ◌≡◌, ◌∙◌, sym, subst, List, [], ◌∷◌, ℕ, replicate}
 use Rattle.aio_rules.specs.SharedWords.{WordRule, first_view, word_count}
-use Rattle.aio_rules.proofs.WordMoves.{start_meets_rule}
+use Rattle.aio_rules.proofs.WordAccounts.{start_meets_rule}
 use Rattle.aio_words.proofs.table.WordTable.new.Goals as goal
 
 pub of_words-requires : goal.of_words-requires

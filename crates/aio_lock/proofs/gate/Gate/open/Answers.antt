@@ -1,7 +1,7 @@
 use Rattle.std.proofs.Common.{rules, ap, sym, subst, ◌∙◌}
 use Rattle.aio_rules.specs.SharedLock.{MayPutBack, is_inside}
 use Rattle.aio_lock.proofs.Allowed.{may_fetch_slot, may_open}
-use Rattle.aio_lock.proofs.gate.Gate.leave.Goals as goal
+use Rattle.aio_lock.proofs.gate.Gate.open.Goals as goal
 
 pub load-requires : goal.load-requires
 load-requires g c = (search rules, search rules, may_fetch_slot _ _ _ _ _ _ c.seat-seat.ensures.rests (ap (λ t. is_inside t.knows) c.token.view_is ∙ c.requires.may.inside))

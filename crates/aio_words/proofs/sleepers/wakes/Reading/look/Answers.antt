@@ -1,5 +1,5 @@
 use Rattle.std.proofs.Common.{rules}
-use Rattle.aio_words.proofs.sleepers.Reading.look.Goals as goal
+use Rattle.aio_words.proofs.sleepers.wakes.Reading.look.Goals as goal
 
 pub returns-then-slots-ne0-clause-words : goal.returns-then-slots-ne0-clause-words
 returns-then-slots-ne0-clause-words c = search rules
