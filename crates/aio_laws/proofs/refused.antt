@@ -12,4 +12,5 @@ mod FalseNotes
 mod FalseRounds
 mod FalseSteps
 mod FalseTimers
+mod FalseWakes
 mod RefusedWorlds

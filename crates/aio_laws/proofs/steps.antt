@@ -1,5 +1,6 @@
 -- What one step does to its own and leaves of others: answers, sources, marks, listeners, timers, calls and counts.
 pub mod Answering
+pub mod AnswersLeft
 pub mod Asides
 pub mod Calling
 pub mod Counting

@@ -10,8 +10,10 @@ pub mod HeldTimers
 pub mod Holding
 pub mod Kept
 pub mod Leaving
+pub mod Numbering
 pub mod OnceRuns
 pub mod Places
 pub mod StoringCounts
 pub mod Taking
 pub mod UnmovedLemmas
+pub mod Waking

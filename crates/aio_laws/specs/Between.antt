@@ -13,7 +13,7 @@ use Rattle.aio_laws.specs.Covered.{Covered, WaitsForLive}
 use Rattle.aio_laws.specs.Clock.{ClockIsSet}
 use Rattle.aio_laws.specs.Counts.{CountsRise}
 use Rattle.aio_laws.specs.Drawn.{DrawsFollow}
-use Rattle.aio_laws.specs.Distinct.{IsOfTimer, NoDoubles}
+use Rattle.aio_laws.specs.Distinct.{IsOfTimer, NoDoubles, StandsOnce}
 use Rattle.aio_laws.specs.FailedArms.{BrokenFollows}
 use Rattle.aio_laws.specs.FirstPolls.{InPollOrder}
 use Rattle.aio_laws.specs.Given.{EachIsGivenOnce}
@@ -21,7 +21,7 @@ use Rattle.aio_laws.specs.Handling.{HandledIsNoted}
 use Rattle.aio_laws.specs.Marks.{MarksFollow}
 use Rattle.aio_laws.specs.Others.{OthersStand}
 use Rattle.aio_laws.specs.Answers.{FitsTheStep}
-use Rattle.aio_laws.specs.Calls.{CallsFollow}
+use Rattle.aio_laws.specs.Calls.{CallsFollow, LeavesOthers}
 use Rattle.aio_laws.specs.Readiness.{ReadyIsTold}
 use Rattle.aio_laws.specs.Sources.{SourcesFollow}
 use Rattle.aio_laws.specs.Own.{KeepsItsOwn}
@@ -30,6 +30,7 @@ use Rattle.aio_laws.specs.Registered.{TimersAreRegistered}
 use Rattle.aio_laws.specs.RoundArming.{RoundArming}
 use Rattle.aio_laws.specs.RoundCounts.{RoundsFollow}
 use Rattle.aio_laws.specs.RoundHands.{HandFollows}
+use Rattle.aio_laws.specs.Waking.{WakesFollow}
 use Rattle.aio_base.specs.Timers.{AllAbove, after_pass}
 
 -- A round is waited out: nothing is in hand, its last wait neither failed nor was interrupted and gave no event, and its limit, if it has one, is not 0.
@@ -60,7 +61,8 @@ is_of_timer (step.End number) = true
 is_of_timer _ = false
 
 -- What stands between a world and the outcome of a step from it, whatever the poller answered. Each field speaks of this step alone, so the
--- entries of a log are judged by it one by one, and a wrong machine breaks it by one step.
+-- entries of a log are judged by it one by one, and a wrong machine breaks it by one step. Of whom the step wakes, who waits after it and whom the
+-- running round has taken, `woken` speaks, where nothing stands twice in the world before; `once` hands that on from entry to entry.
 pub record StepStands (w : World) (s : PolledStep) (o : Outcome) : Type 0 where
   -- where it made a pass, no timer is registered that was due at it
   pub passed : MakesPass w s.step → AllAbove w.now o.world.registrations
@@ -92,12 +94,18 @@ pub record StepStands (w : World) (s : PolledStep) (o : Outcome) : Type 0 where
   pub fits : FitsTheStep w s.step o.answer
   -- it called the poller as it told, told where one of its calls failed, and what is armed is what it asked for
   pub calls : CallsFollow w s.step s.answers o.answer o.calls o.world
+  -- each of its calls took the poller's next answer, and it left all others
+  pub left : LeavesOthers o.calls s.answers o.left
   -- its own source is broken where its last arm failed
   pub broken : BrokenFollows w s.step s.answers o.answer o.calls o.world
   -- a whole round armed just the sources whose events left a waiter, and what it left armed and broken is what these arms made of it
   pub rearmed : RoundArming w s.step s.answers o.calls o.world
   -- its own listener and timer are as it says
   pub own : KeepsItsOwn w s.step o.answer o.world
+  -- it woke whom it had to, and who waits and whom the running round has taken is as it leaves them, by whatever storings the world before it is of
+  pub woken : WakesFollow w s.step s.answers o.wakes o.world
+  -- where nothing stood twice and each registration was that of a timer, so it is after it
+  pub once : StandsOnce w → StandsOnce o.world
   -- where it was refused, it moved its position alone and woke nobody
   pub refused : RefusalLeaves w o.answer o.wakes o.world
 

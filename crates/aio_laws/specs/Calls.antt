@@ -1,5 +1,5 @@
 -- Which calls of the poller a step makes, that it tells where its calls failed, and that no interest changes without one.
-use Rattle.std.specs.Prelude.{◌≡◌, ◌≢◌, ◌⊎◌, ℕ, ◌+◌, ◌≤◌, Bool, true, false, not, ◌||◌, if◌then◌else◌, List, [], ◌∷◌, find, length, None, Some}
+use Rattle.std.specs.Prelude.{◌≡◌, ◌≢◌, ◌⊎◌, ℕ, ◌+◌, ◌≤◌, Bool, true, false, not, ◌||◌, if◌then◌else◌, List, [], ◌∷◌, drop, find, length, None, Some}
 use Rattle.std.specs.List.{Contains}
 use Rattle.aio_base.specs.declared.names.Key.{Key}
 use Rattle.aio_base.specs.declared.names.Waker.{Waker}
@@ -110,6 +110,10 @@ abbrev pub OnlyCleared : Step → List PollerAnswer → Answer → List Which �
 OnlyCleared step.React answers (answer.Round number events end) calls before after =
     calls ≡ which.Wait ∷ [] → after ≡ clear_armed before (events_given (next_answer answers))
 OnlyCleared s answers told calls before after = Unit {0}
+
+-- Each of these calls took the poller's next answer, and all others are left.
+abbrev pub LeavesOthers : List Which → (answers left : List PollerAnswer) → Type 0
+LeavesOthers calls answers left = (left ≡ drop (length calls) answers)
 
 pub record CallsFollow (w : World) (s : Step) (answers : List PollerAnswer) (told : Answer) (calls : List Which) (v : World) : Type 0 where
   pub fit : CallsFit s told calls

@@ -42,3 +42,8 @@ pub record IsOfTimer (timers : List TimerEntry) (r : Registration) : Type 0 wher
   pub id : timer.id ≡ Some r.id
   pub deadline : timer.deadline ≡ Some r.deadline
   pub kept : timer.kept ≡ Some r.waker
+
+-- nothing stands twice in a world, and each registration is that of a timer
+pub record StandsOnce (w : World) : Type 0 where
+  pub distinct : NoDoubles w
+  pub timed : All (IsOfTimer w.timers) w.registrations

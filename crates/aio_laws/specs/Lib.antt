@@ -23,5 +23,6 @@ pub mod FirstPolls
 pub mod Registered
 pub mod Storings
 pub mod Succession
+pub mod Waking
 pub mod Between
 pub mod Resuming

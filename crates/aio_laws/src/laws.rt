@@ -31,6 +31,7 @@ ghost use Rattle.aio_base.specs.Script.{outcomes_from, world_after};
 ghost use Rattle.aio_laws.specs.Sources.{SourcesFollow};
 ghost use Rattle.aio_laws.specs.Storings.{Once, Storings, step_ended, step_storings, storings_of};
 ghost use Rattle.aio_laws.specs.Succession.{StoringsFollow};
+ghost use Rattle.aio_laws.specs.Waking.{AreOf, EachInOneList, WakesFollow, WokeTheSame};
 ghost use Rattle.aio_base.specs.Timers.{AllAbove, BookChange, IsBook, IsFiringOrder, after_pass, changed, due_wakers, fires_before, in_order, pair_of};
 ghost use Rattle.aio_base.specs.World.{PollerAnswer, Registration, RoundState, World, is_broken, opening, serial_of, waiters_of};
 ghost use Rattle.aio_base.specs.declared.names.Dir.{Dir};
@@ -407,7 +408,10 @@ pub fn a_script_is_a_run()
 
 /// What stands of each step of the machine, from any world and whatever the poller answers (`StepStands`),
 /// as one law with no premise. It is of the step and its outcome alone: of no run, and of no world that a
-/// run has to reach. So a list of steps with their outcomes is judged entry by entry.
+/// run has to reach. So a list of steps with their outcomes is judged entry by entry. Whom a step wakes, who
+/// waits after it and whom the running round has taken, it fixes from each world in which nothing stands
+/// twice (`a_step_wakes_whom_it_has_to`), and where besides each registration is that of a timer, so it is
+/// after the step.
 ///
 /// Where the step makes a pass, no timer is registered afterwards that was due at it; where it is not of a
 /// timer, it takes out what its pass does and no other registration. It lets no count fall and gives no
@@ -418,10 +422,26 @@ pub fn a_script_is_a_run()
 /// ready, it changes the sources as its answer tells and its own listener or timer as such a step may, and
 /// it is told ready exactly where it polls what is ready. It is told what fits it, and that it is refused
 /// where what it needs is not to be had. It calls the poller as it tells, and no interest changes without a
-/// call. Its own source is broken where its last arm failed, and a whole round arms just the sources of
-/// which an event left a waiter. Where it is refused it takes its position and does nothing else.
+/// call; each call takes the poller's next answer, and all others are left. Its own source is broken where
+/// its last arm failed, and a whole round arms just the sources of which an event left a waiter. Where it is
+/// refused it takes its position and does nothing else.
 pub fn a_step_stands()
     ensures { (w : World) (s : PolledStep) → StepStands w s (outcome_of w s) }
+{}
+
+/// A step wakes whom it has to, and nobody else: where nothing stands twice in the world before it, whatever
+/// storings of wakers this world is of, those that the step may leave (`StoringsFollow`) are of the world
+/// after it, and the last that they woke are its wakes, in order. No run is needed for it, as each such
+/// world is of some storings (`held`). And only these wakes follow so: another outcome of which the same
+/// stands wakes the same, in the same order, and leaves the same waker at each place and the same ones
+/// taken by the running round (`only`).
+pub fn a_step_wakes_whom_it_has_to()
+    ensures follows { (w : World) (s : PolledStep)
+        → let after = outcome_of w s in WakesFollow w s.step s.answers after.wakes after.world }
+    ensures held { (w : World) → NoDoubles w → (l : Storings) × EachInOneList l × AreOf w l }
+    ensures only { (w : World) (s : PolledStep) (wakes : List Waker) (v : World)
+        → NoDoubles w → WakesFollow w s.step s.answers wakes v
+        → let after = outcome_of w s in WokeTheSame after.wakes after.world wakes v }
 {}
 
 /// A round that was stopped loses nothing. Say that it was begun and waited and handled some of its events,

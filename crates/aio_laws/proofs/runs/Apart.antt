@@ -1,9 +1,9 @@
 -- Lists whose elements have different numbers.
-use Rattle.std.proofs.Common.{◌≡◌, ◌≢◌, ◌⊎◌, ℕ, Bool, true, false, cond, ◌==◌, List, [], ◌∷◌, ◌++◌, map, Some, ap, ◌∙◌, sym, subst, inl, inr, ⊎_elim, arith}
+use Rattle.std.proofs.Common.{◌≡◌, ◌≢◌, ◌⊎◌, ℕ, zero, suc, Bool, true, false, cond, ◌==◌, List, [], ◌∷◌, ◌++◌, map, Some, ap, ◌∙◌, sym, subst, inl, inr, ⊎_elim, arith}
 use Rattle.std.specs.Prelude.{⊤}
 use Rattle.std.specs.List.{Contains, filter, find}
 use Rattle.std.proofs.lemmas.Bool.{eq-eqb, ne_eqb}
-use Rattle.std.proofs.lemmas.List.Elements.{Contains-push_cases}
+use Rattle.std.proofs.lemmas.List.Elements.{All-contains, Contains-push_cases}
 use Rattle.std.proofs.lemmas.List.Kept.{AllPairs-cons}
 use Rattle.aio_laws.specs.Distinct.{Differ}
 use Rattle.aio_base.specs.World.{Registration}
@@ -74,6 +74,14 @@ pub apart_differ : {X K : Type 0} (key : X → K) (xs : List X) → Apart key xs
 apart_differ key [] apart = λ i j d before within. absurd (omega arith)
 apart_differ key (x ∷ xs) apart =
     AllPairs-cons (λ first later. key first ≢ key later) x xs (each_in (λ y. key x ≢ key y) xs apart.0) (apart_differ key xs apart.1)
+
+-- and back
+pub differ_apart : {X K : Type 0} (key : X → K) (xs : List X) → Differ key xs → Apart key xs
+differ_apart key [] differ = tt
+differ_apart key (x ∷ xs) differ = (
+  λ y among. All-contains (λ z. key x ≢ key z) xs y (λ k d within. differ zero (suc k) d (omega arith) (omega arith)) among,
+  differ_apart key xs (λ i j d before within. differ (suc i) (suc j) d (omega arith) (omega arith)),
+)
 
 -- ## Registrations in the order in which they fire
 

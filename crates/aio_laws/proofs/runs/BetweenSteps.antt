@@ -10,6 +10,7 @@ use Rattle.aio_laws.specs.Succession.{StoringsFollow}
 use Rattle.aio_base.specs.Timers.{AllAbove}
 use Rattle.aio_laws.specs.Between.{MakesPass, is_of_timer, StepStands, StandsBetween, StandsAfter}
 use Rattle.aio_laws.proofs.steps.Answering.{answer_fits}
+use Rattle.aio_laws.proofs.steps.AnswersLeft.{answers_left}
 use Rattle.aio_laws.proofs.steps.Calling.{calls_follow}
 use Rattle.aio_laws.proofs.timers.Awaiting.{run_waits_for_timers}
 use Rattle.aio_laws.proofs.steps.Counting.{counts_rise}
@@ -23,6 +24,7 @@ use Rattle.aio_laws.proofs.steps.Marking.{marks_follow}
 use Rattle.aio_laws.proofs.steps.Mending.{broken_follows}
 use Rattle.aio_laws.proofs.rounds.Noting.{handled_is_noted}
 use Rattle.aio_laws.proofs.storings.OnceRuns.{run_once}
+use Rattle.aio_laws.proofs.storings.Waking.{wakes_follow}
 use Rattle.aio_laws.proofs.steps.Owning.{keeps_its_own}
 use Rattle.aio_laws.proofs.timers.PassLemmas.{pass_leaves}
 use Rattle.aio_laws.proofs.steps.Readying.{ready_is_told}
@@ -34,7 +36,7 @@ use Rattle.aio_laws.proofs.rounds.RoundSteps.{rounds_follow, clock_is_set}
 use Rattle.aio_laws.proofs.steps.Sourcing.{sources_follow}
 use Rattle.aio_laws.proofs.steps.Untouched.{others_stand}
 use Rattle.aio_laws.proofs.rounds.WaitedOut.{makes_pass, pass_is_made}
-use Rattle.aio_laws.proofs.runs.Singles.{run_has_no_doubles, run_registers_timers}
+use Rattle.aio_laws.proofs.runs.Singles.{run_has_no_doubles, run_registers_timers, step_stands_once}
 
 -- the world after one step more
 one_more : (w : World) (before : List PolledStep) (last : PolledStep) → world_of w (before ++ last ∷ []) ≡ (outcome_of (world_of w before) last).world
@@ -72,9 +74,12 @@ step_stands w s = record {
   ready = ready_is_told w s.step s.answers;
   fits = answer_fits w s.step s.answers;
   calls = calls_follow w s.step s.answers;
+  left = answers_left w s.step s.answers;
   broken = broken_follows w s.step s.answers;
   rearmed = round_arming w s.step s.answers;
   own = keeps_its_own w s.step s.answers;
+  woken = wakes_follow w s;
+  once = step_stands_once w s;
   refused = refusal_leaves w s.step s.answers;
 }
 

@@ -4,7 +4,7 @@ use Rattle.std.proofs.Common.{◌≡◌, ◌≢◌, ℕ, ◌+◌, ◌≤◌, Boo
 use Rattle.std.specs.Prelude.{nat_lt, nat_le, option_to_list, unwrap_or}
 use Rattle.std.specs.List.{All, Contains, filter, list_any}
 use Rattle.std.proofs.lemmas.Bool.{cond-true, cond-false, eq-eqb, eqb-true, ne_eqb, not_from_false}
-use Rattle.std.proofs.lemmas.List.Elements.{Contains-append_left, Contains-push_cases}
+use Rattle.std.proofs.lemmas.List.Elements.{All-contains, Contains-append_left, Contains-push_cases}
 use Rattle.aio_base.specs.declared.names.Key.{Key}
 use Rattle.aio_base.specs.declared.names.Waker.{Waker}
 use Rattle.aio_base.specs.declared.names.Dir.{Dir}
@@ -15,13 +15,15 @@ use Rattle.aio_base.specs.World.{PollerAnswer, LiveSource, PollWaiter, Mark, Lis
 use Rattle.aio_base.specs.Machine.{Outcome, fails, next_answer, broken_world, armed_world, after_arm, pending, source_limit, free_key, add, del_source, is_fresh_since, is_waker, with_waiter, poll_source, new_listener, is_listener, with_listening, step_listener, drop_listener, is_timer, new_timer, with_timer, unregistered, registered, tick_timer, set_timer, end_timer, set_clock, begin_round, wait_in, without_waiters, world_taken, rearmed, handle_source, handle_first, handle_in, finish_in, react, case_of, step_result, gave_none, is_zero, left_as, worked, state_of}
 use Rattle.aio_base.specs.TimerWork.{TimerState, joining, reset_work}
 use Rattle.aio_base.specs.Timers.{after_pass}
-use Rattle.aio_laws.specs.Distinct.{waiter_direction, mark_direction, IsOfTimer, NoDoubles}
+use Rattle.aio_laws.specs.Distinct.{waiter_direction, mark_direction, IsOfTimer, NoDoubles, StandsOnce}
 use Rattle.aio_base.specs.Runs.{PolledStep, outcome_of, world_of}
-use Rattle.aio_laws.proofs.runs.Apart.{Apart, same_element, filtered_apart, mapped_apart, pushed_apart, replaced_apart, apart_differ}
+use Rattle.aio_laws.proofs.runs.Apart.{Apart, same_element, filtered_apart, mapped_apart, pushed_apart, replaced_apart, apart_differ, differ_apart}
 use Rattle.aio_laws.proofs.steps.FreeKeys.{free_key-free}
 use Rattle.aio_laws.proofs.steps.Frames.{either, either_world, react_any, wait_any}
 use Rattle.aio_base.proofs.Membership.{none_is_in, each_in, filtered_is_in, filtered_passes, passing_is_kept, mapped_from, image_is_in, found_is_in, none_passes}
+use Rattle.aio_laws.proofs.storings.Holding.{Orders, holding_of}
 use Rattle.aio_laws.proofs.storings.OnceRuns.{run_orders}
+use Rattle.aio_laws.proofs.storings.Waking.{step_orders}
 use Rattle.aio_base.proofs.WaiterLemmas.{is_of-from}
 
 -- these lists of a world, and how many numbers were given
@@ -527,26 +529,56 @@ opening_singles = record {
   timed = λ r among. none_is_in r among;
 }
 
+-- where nothing stands twice, in these lists and among listeners and registrations
+no_doubles : (w : World) → Singles (lists_of w) → Orders (holding_of w) → NoDoubles w
+no_doubles w s o = record {
+  keys = apart_differ (λ (s : LiveSource). s.key) w.live s.sources.keys;
+  serials = apart_differ (λ (s : LiveSource). s.serial) w.live s.sources.serials;
+  serials_given = each_in (λ (s : LiveSource). s.serial ≤ w.serials) w.live s.sources.were_given;
+  poll_waiters = apart_differ waiter_direction w.poll_waiters s.polls;
+  marks = apart_differ mark_direction w.marks s.marks;
+  broken = apart_differ (λ (b : BrokenSource). b.serial) w.broken s.broken;
+  listeners = apart_differ (λ (l : ListenerEntry). l.number) w.listeners o.numbers_differ;
+  listeners_drawn = each_in (λ (l : ListenerEntry). l.number ≤ w.listeners_drawn) w.listeners o.numbers_drawn;
+  registrations = apart_differ (λ (r : Registration). r.id) w.registrations o.ids_differ;
+  ids_drawn = each_in (λ (r : Registration). r.id ≤ w.ids_drawn) w.registrations o.ids_drawn;
+  timers = apart_differ (λ (t : TimerEntry). t.number) w.timers s.timers.numbers;
+  timers_made = each_in (λ (t : TimerEntry). t.number ≤ w.timers_made) w.timers s.timers.were_made;
+}
+
 pub run_has_no_doubles : (run : List PolledStep) → NoDoubles (world_of opening run)
-run_has_no_doubles run =
-    let w = world_of opening run in
-    let s = run_singles run opening opening_singles in
-    let o = run_orders run in
-    record {
-      keys = apart_differ (λ (s : LiveSource). s.key) w.live s.sources.keys;
-      serials = apart_differ (λ (s : LiveSource). s.serial) w.live s.sources.serials;
-      serials_given = each_in (λ (s : LiveSource). s.serial ≤ w.serials) w.live s.sources.were_given;
-      poll_waiters = apart_differ waiter_direction w.poll_waiters s.polls;
-      marks = apart_differ mark_direction w.marks s.marks;
-      broken = apart_differ (λ (b : BrokenSource). b.serial) w.broken s.broken;
-      listeners = apart_differ (λ (l : ListenerEntry). l.number) w.listeners o.numbers_differ;
-      listeners_drawn = each_in (λ (l : ListenerEntry). l.number ≤ w.listeners_drawn) w.listeners o.numbers_drawn;
-      registrations = apart_differ (λ (r : Registration). r.id) w.registrations o.ids_differ;
-      ids_drawn = each_in (λ (r : Registration). r.id ≤ w.ids_drawn) w.registrations o.ids_drawn;
-      timers = apart_differ (λ (t : TimerEntry). t.number) w.timers s.timers.numbers;
-      timers_made = each_in (λ (t : TimerEntry). t.number ≤ w.timers_made) w.timers s.timers.were_made;
-    }
+run_has_no_doubles run = no_doubles (world_of opening run) (run_singles run opening opening_singles) (run_orders run)
 
 pub run_registers_timers : (run : List PolledStep) → All (IsOfTimer (world_of opening run).timers) (world_of opening run).registrations
 run_registers_timers run =
     let w = world_of opening run in each_in (IsOfTimer w.timers) w.registrations (run_singles run opening opening_singles).timed
+
+-- ## One step
+
+singles_of : (w : World) → StandsOnce w → Singles (lists_of w)
+singles_of w o =
+    let d = o.distinct in
+    record {
+      sources = record {
+        keys = differ_apart (λ (s : LiveSource). s.key) w.live d.keys;
+        serials = differ_apart (λ (s : LiveSource). s.serial) w.live d.serials;
+        were_given = λ s among. All-contains (λ (s : LiveSource). s.serial ≤ w.serials) w.live s d.serials_given among;
+      };
+      polls = differ_apart waiter_direction w.poll_waiters d.poll_waiters;
+      marks = differ_apart mark_direction w.marks d.marks;
+      broken = differ_apart (λ (b : BrokenSource). b.serial) w.broken d.broken;
+      timers = record {
+        numbers = differ_apart (λ (t : TimerEntry). t.number) w.timers d.timers;
+        were_made = λ t among. All-contains (λ (t : TimerEntry). t.number ≤ w.timers_made) w.timers t d.timers_made among;
+      };
+      timed = λ r among. All-contains (IsOfTimer w.timers) w.registrations r o.timed among;
+    }
+
+pub step_stands_once : (w : World) (s : PolledStep) → StandsOnce w → StandsOnce (outcome_of w s).world
+step_stands_once w s once =
+    let v = (outcome_of w s).world in
+    let after = step_singles w s (singles_of w once) in
+    record {
+      distinct = no_doubles v after (step_orders w s once.distinct);
+      timed = each_in (IsOfTimer v.timers) v.registrations after.timed;
+    }

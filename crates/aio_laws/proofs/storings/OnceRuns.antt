@@ -94,7 +94,7 @@ step_stands w s l between =
     let y = case_leaves w l.woken l s.step s.answers between in
     ended_stands (holding_of o.world) o.wakes l.woken m y.stands
 
-step_wakes : (w : World) (s : PolledStep) (l : Storings) → Between w l
+pub step_wakes : (w : World) (s : PolledStep) (l : Storings) → Between w l
     → map wakers (after_step w s l).woken ≡ map wakers l.woken ++ (outcome_of w s).wakes ∷ []
 unfolding step_result
 step_wakes w s l between =

@@ -40,7 +40,7 @@ stored_times n p waker l =
     let new : Stored = record { number = l.given; place = p; waker = waker } in
     let joined = times-append n l.standing (new ∷ []) in omega arith
 
-woken_all : (woken : List (List Stored)) (waking : List Stored)
+pub woken_all : (woken : List (List Stored)) (waking : List Stored)
     → flat_map (λ (stored : List Stored). stored) (woken ++ waking ∷ []) ≡ flat_map (λ (stored : List Stored). stored) woken ++ waking
 woken_all woken waking =
     flat_map-append (λ (stored : List Stored). stored) woken (waking ∷ []) ∙ ap (λ rest. flat_map (λ (stored : List Stored). stored) woken ++ rest) (append-nil waking)
