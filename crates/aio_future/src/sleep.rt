@@ -1,8 +1,9 @@
 //! A task that sleeps until a moment.
 
-ghost use Rattle.std.specs.Prelude.{◌≡◌, Some};
+ghost use Rattle.std.specs.Prelude.{◌≡◌, None, Some};
 ghost use Rattle.aio_base.specs.Polls.{IfReady};
 ghost use Rattle.aio_future.specs.Sleeping.{FiresBy, PollsTimer};
+ghost use Rattle.aio_future.specs.Timers.{new_timer};
 
 use crate::answers::TimerFault;
 use crate::timer::Timer;
@@ -22,7 +23,7 @@ pub struct Sleep {
 impl Sleep {
     /// A task that sleeps until this moment, and was not polled yet. It takes no memory.
     pub fn until(deadline: Moment) -> Sleep
-        ensures timer { result.timer.deadline ≡ Some deadline }
+        ensures timer { result.timer ≡ new_timer (Some deadline) None }
         ensures polls { result.polls ≡ 0 }
     {
         Sleep {

@@ -4,7 +4,6 @@ use Rattle.std.specs.Prelude.{◌⊎◌, IfSome, IsTrue, option_map}
 use Rattle.std.proofs.Math.Seq.{drop-append-add}
 use Rattle.aio_base.specs.Connections.{Telling, Takes, IsAtItsEnd}
 use Rattle.aio_base.specs.declared.names.Dir.TheVariants.{Read, Write}
-use Rattle.aio_future.specs.declared.tried.TryFault.{TryFault}
 use Rattle.aio_pairs.specs.Backlogs.{SideState, saturated}
 use Rattle.aio_pairs.specs.Calls.{EndCall}
 use Rattle.aio_pairs.specs.Exchanges.{PairOk, OneWay, Exchange, IsLongAt, went_over}
@@ -72,8 +71,9 @@ module _ {E : Type 0} (step : E → EndCall → E → Type 0) (told : E → Tell
       long-before old side (told from_old) (told from) (sure from_old) (sure from) (went_over Read from_calls) (went_over Write to_calls) way.ok way.forwarded way.taken n fits
 
   -- what fits after an exchange fitted before it
-  module _ (a_old b_old a b : E) (from_a_old from_b_old from_a from_b : SideState) (tally_a tally_b : Tally) (more_a more_b : Bool) (fault : Option TryFault)
-      (x : Exchange step told sure count a_old b_old a b from_a_old from_b_old from_a from_b tally_a tally_b more_a more_b fault) where
+  module _ {H : Type 0} {on_host : H → EndCall → H → Type 0} {host_old host : H} (a_old b_old a b : E) (from_a_old from_b_old from_a from_b : SideState)
+      (tally_a tally_b : Tally) (more_a more_b : Bool) (stop : Option PairEnd)
+      (x : Exchange step told sure count on_host host_old host a_old b_old a b from_a_old from_b_old from_a from_b tally_a tally_b more_a more_b stop) where
     may-fail : (sure a ≡ false) ⊎ (sure b ≡ false) → (sure a_old ≡ false) ⊎ (sure b_old ≡ false)
     may-fail h = elim h [ inl is_a ↦ inl (sym x.a_same.still_sure ∙ is_a) | inr is_b ↦ inr (sym x.b_same.still_sure ∙ is_b) ]
 

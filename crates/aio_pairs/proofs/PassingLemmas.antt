@@ -9,12 +9,12 @@ use Rattle.aio_base.specs.declared.names.Waker.{Waker}
 use Rattle.aio_base.specs.declared.outcomes.Poll.{Poll}
 use Rattle.aio_base.specs.declared.outcomes.Poll.TheVariants.{Ready, Pending}
 use Rattle.aio_future.specs.Tries.{bytes_over}
-use Rattle.aio_future.specs.declared.tried.Tried.{Tried}
 use Rattle.aio_future.specs.declared.tried.TryFault.{TryFault}
 use Rattle.aio_pairs.specs.Backlogs.{SideState, ends_with, grown, shrunk}
 use Rattle.aio_pairs.specs.Calls.{EndCall, Reads, Writes}
 use Rattle.aio_pairs.specs.Exchanges.{PairOk, OneWay, IsStuck, IsBlocked, went_over}
 use Rattle.aio_pairs.specs.Lines.{IsPrefix, lines}
+use Rattle.aio_pairs.specs.declared.outcomes.EndTried.{EndTried}
 use Rattle.aio_pairs.specs.declared.outcomes.Tally.{Tally}
 use Rattle.aio_pairs.proofs.LineLemmas.{goes-on, take-same}
 use Rattle.aio_pairs.proofs.Tellings.{takes-nothing, takes-both, sends-nothing, sends-both, end-stays}
@@ -94,7 +94,7 @@ module _ {E : Type 0} (told : E → Telling) where
 
   -- a read of the end from which the bytes come, while no whole line was there
   pub way-reads : (from_old to_old from to new_from : E) (from_calls to_calls : List EndCall) (old side : SideState) (tally : Tally) (before more : Bool)
-      (room : ℕ) (w : Waker) (tried : Tried) (bytes : List ℕ)
+      (room : ℕ) (w : Waker) (tried : EndTried) (bytes : List ℕ)
       → OneWay told from_old to_old from to from_calls to_calls old side tally before
       → lines side.backlog ≡ [] → side.ended ≡ false → length bytes ≡ bytes_over tried.answer
       → ReadTells (told from) (told new_from) bytes (tried.answer ≡ Pending) (tried.answer ≡ Ready (Ok 0))
@@ -124,7 +124,7 @@ module _ {E : Type 0} (told : E → Telling) where
 
   -- the same read, for the bytes that go the other way
   pub way-beside-read : (from_old to_old from to new_to : E) (from_calls to_calls : List EndCall) (old side : SideState) (tally : Tally) (more : Bool)
-      {P Q : Type 0} (room : ℕ) (w : Waker) (tried : Tried) (bytes : List ℕ)
+      {P Q : Type 0} (room : ℕ) (w : Waker) (tried : EndTried) (bytes : List ℕ)
       → OneWay told from_old to_old from to from_calls to_calls old side tally more → ReadTells (told to) (told new_to) bytes P Q
       → OneWay told from_old to_old from new_to from_calls (Reads room w tried bytes ∷ to_calls) old side tally more
   way-beside-read from_old to_old from to new_to from_calls to_calls old side tally more room w tried bytes way tells = record {
@@ -140,7 +140,7 @@ module _ {E : Type 0} (told : E → Telling) where
 
   -- a write to the other end, of whole lines
   pub way-writes : (from_old to_old from to new_to : E) (from_calls to_calls : List EndCall) (old side : SideState) (tally : Tally) (before more : Bool)
-      (w : Waker) (tried : Tried)
+      (w : Waker) (tried : EndTried)
       → OneWay told from_old to_old from to from_calls to_calls old side tally before
       → 0 < length (lines side.backlog) → bytes_over tried.answer ≤ length (lines side.backlog)
       → WriteTells (told to) (told new_to) (take (bytes_over tried.answer) (lines side.backlog)) (tried.answer ≡ Pending)
@@ -172,7 +172,7 @@ module _ {E : Type 0} (told : E → Telling) where
 
   -- the same write, for the bytes that go the other way
   pub way-beside-write : (from_old to_old from to new_from : E) (from_calls to_calls : List EndCall) (old side : SideState) (tally : Tally) (more : Bool)
-      {P : Type 0} (piece : List ℕ) (w : Waker) (tried : Tried) (sent : List ℕ)
+      {P : Type 0} (piece : List ℕ) (w : Waker) (tried : EndTried) (sent : List ℕ)
       → OneWay told from_old to_old from to from_calls to_calls old side tally more → WriteTells (told from) (told new_from) sent P
       → OneWay told from_old to_old new_from to (Writes piece w tried ∷ from_calls) to_calls old side tally more
   way-beside-write from_old to_old from to new_from from_calls to_calls old side tally more piece w tried sent way tells = record {

@@ -5,9 +5,9 @@ use Rattle.aio_base.specs.declared.names.Waker.{Waker}
 use Rattle.aio_base.specs.declared.outcomes.Poll.{Poll}
 use Rattle.aio_base.specs.declared.outcomes.Poll.TheVariants.{Ready, Pending}
 use Rattle.aio_future.specs.Tries.{bytes_over}
-use Rattle.aio_future.specs.declared.tried.Tried.{Tried}
 use Rattle.aio_future.specs.declared.tried.TryFault.{TryFault}
 use Rattle.aio_pairs.specs.Calls.{EndCall, Reads}
+use Rattle.aio_pairs.specs.declared.outcomes.EndTried.{EndTried}
 
 -- The bytes read of it and not yet written; how many were written; and whether a read found its end.
 pub record SideState : Type 0 where
@@ -40,7 +40,7 @@ shrunk side n = record { backlog = drop n side.backlog; forwarded = saturated (s
 
 -- one read of an end, whose bytes the side took up
 pub record TakesUp {E : Type 0} (step : E → EndCall → E → Type 0) (told : E → Telling) (end end_after : E) (side side_after : SideState)
-    (room : ℕ) (w : Waker) (tried : Tried) : Type 0 where
+    (room : ℕ) (w : Waker) (tried : EndTried) : Type 0 where
   pub bytes : List ℕ
   pub size : length bytes ≡ bytes_over tried.answer
   pub side_is : side_after ≡ grown side bytes tried.answer

@@ -1,5 +1,5 @@
 -- What passed between the two ends of a pair in one poll.
-use Rattle.std.specs.Prelude.{◌≡◌, ◌⊎◌, ℕ, ◌+◌, ◌*◌, ◌-◌, ◌<◌, ◌≤◌, Bool, true, false, nat_lt, nat_le, if◌then◌else◌, zero, suc, List, [], ◌∷◌, ◌++◌, length, take, Option, None, Some, IfSome, Result, Ok, Err}
+use Rattle.std.specs.Prelude.{◌≡◌, ◌⊎◌, ℕ, ◌+◌, ◌*◌, ◌-◌, ◌<◌, ◌≤◌, Bool, true, false, nat_lt, nat_le, if◌then◌else◌, zero, suc, List, [], ◌∷◌, ◌++◌, length, take, Option, None, Some, IfSome, Result, Ok, Err, ⊤}
 use Rattle.aio_base.specs.Connections.{Telling, Takes, Joins, IsAtItsEnd}
 use Rattle.aio_base.specs.declared.names.Dir.{Dir}
 use Rattle.aio_base.specs.declared.names.Dir.TheVariants.{Read, Write, Priority}
@@ -10,7 +10,7 @@ use Rattle.aio_future.specs.Tries.{bytes_over, IsReadAnswer, IsWriteAnswer}
 use Rattle.aio_future.specs.declared.tried.TryFault.{TryFault}
 use Rattle.aio_future.specs.declared.tried.TryFault.TheVariants as fault
 use Rattle.aio_pairs.specs.Backlogs.{SideState, saturated}
-use Rattle.aio_pairs.specs.Calls.{EndCall, Reads, Writes, RoseIn}
+use Rattle.aio_pairs.specs.Calls.{EndCall, Reads, Writes, RoseIn, tried_in}
 use Rattle.aio_pairs.specs.Fits.{of_side}
 use Rattle.aio_pairs.specs.Lines.{IsPrefix, lines, unfinished, longest_line}
 use Rattle.aio_pairs.specs.declared.outcomes.PairEnd.{PairEnd}
@@ -48,6 +48,22 @@ abbrev pub EndsIn : TryFault → List EndCall → Type 0
 EndsIn f [] = ⊥
 EndsIn f (Reads room w tried bytes ∷ earlier) = (tried.answer ≡ Ready (Err f)) × IsReadAnswer (Ready (Err f))
 EndsIn f (Writes piece w tried ∷ earlier) = (tried.answer ≡ Ready (Err f)) × IsWriteAnswer (Ready (Err f))
+
+-- These are all the calls on both ends, in the order in which they were made: each is the latest of those on the one or on the other that are left.
+abbrev pub AreAll : (calls a_calls b_calls : List EndCall) → Type 0
+AreAll [] a_calls b_calls = (a_calls ≡ []) × (b_calls ≡ [])
+AreAll (latest ∷ earlier) a_calls b_calls =
+    ((rest : List EndCall) × (a_calls ≡ latest ∷ rest) × AreAll earlier rest b_calls) ⊎ ((rest : List EndCall) × (b_calls ≡ latest ∷ rest) × AreAll earlier a_calls rest)
+
+-- No wake of a waker that one of these calls replaced failed; or the latest of all did, with this fault.
+abbrev pub NoneFailed : List EndCall → Type 0
+NoneFailed [] = ⊤
+NoneFailed (latest ∷ earlier) = ((tried_in latest).woken ≡ Ok tt) × NoneFailed earlier
+
+abbrev pub FailsAt : Option CountFault → List EndCall → Type 0
+FailsAt None calls = NoneFailed calls
+FailsAt (Some f) [] = ⊥
+FailsAt (Some f) (latest ∷ earlier) = ((tried_in latest).woken ≡ Err f) × NoneFailed earlier
 
 -- the latest call in this direction was to be tried again later, on an end that is not prompt
 abbrev pub IsBlocked : Dir → List EndCall → (prompt : Bool) → Type 0
@@ -87,26 +103,75 @@ pub record OneWay {E : Type 0} (told : E → Telling) (from_old to_old from to :
 
 -- ## Both ways
 
--- The calls on both ends so far, what they made of both sides, and the fault of an end in which the latest of them ended.
-pub record Exchange {E : Type 0} (step : E → EndCall → E → Type 0) (told : E → Telling) (sure : E → Bool) (count : E → ℕ) (a_old b_old a b : E)
-    (from_a_old from_b_old from_a from_b : SideState) (tally_a tally_b : Tally) (more_a more_b : Bool) (fault : Option TryFault) : Type 0 where
+-- the fault of a try, as an end of the pair and back
+abbrev pub pair_end_of : TryFault → PairEnd
+pair_end_of (fault.Read f) = pair.ReadFault f
+pair_end_of (fault.Write f) = pair.WriteFault f
+pair_end_of (fault.Arm f) = pair.ArmFault f
+
+abbrev pub try_fault_of : PairEnd → Option TryFault
+try_fault_of (pair.ReadFault f) = Some (fault.Read f)
+try_fault_of (pair.WriteFault f) = Some (fault.Write f)
+try_fault_of (pair.ArmFault f) = Some (fault.Arm f)
+try_fault_of (pair.NotifyFault f) = None
+try_fault_of (pair.TooLong side at) = None
+try_fault_of (pair.Ended to_a to_b) = None
+try_fault_of (pair.Idle last now) = None
+try_fault_of pair.OutOfMemory = None
+
+-- the fault of the host's notifier that an end of the pair tells
+abbrev pub notify_fault_of : PairEnd → Option CountFault
+notify_fault_of (pair.NotifyFault f) = Some f
+notify_fault_of (pair.ReadFault f) = None
+notify_fault_of (pair.WriteFault f) = None
+notify_fault_of (pair.ArmFault f) = None
+notify_fault_of (pair.TooLong side at) = None
+notify_fault_of (pair.Ended to_a to_b) = None
+notify_fault_of (pair.Idle last now) = None
+notify_fault_of pair.OutOfMemory = None
+
+-- the same of calls by which the pair ended, if they did
+abbrev pub try_fault_in : Option PairEnd → Option TryFault
+try_fault_in None = None
+try_fault_in (Some end) = try_fault_of end
+
+abbrev pub notify_fault_in : Option PairEnd → Option CountFault
+notify_fault_in None = None
+notify_fault_in (Some end) = notify_fault_of end
+
+-- what the wake of the waker that a call replaced answered, by the fault that is told of it
+abbrev pub woken_as : Option CountFault → Result (Unit {0}) CountFault
+woken_as None = Ok tt
+woken_as (Some f) = Err f
+
+-- The calls on both ends so far: what they left of each end and, all in order, of the host; what they made of both sides; and the end of the pair by
+-- the latest of them, if that was it. A fault of a connection is what that call answered; one of the notifier is what its wake answered, and no wake
+-- failed but that one.
+pub record Exchange {E H : Type 0} (step : E → EndCall → E → Type 0) (told : E → Telling) (sure : E → Bool) (count : E → ℕ)
+    (on_host : H → EndCall → H → Type 0) (host_old host : H) (a_old b_old a b : E)
+    (from_a_old from_b_old from_a from_b : SideState) (tally_a tally_b : Tally) (more_a more_b : Bool) (stop : Option PairEnd) : Type 0 where
   pub a_calls : List EndCall
   pub b_calls : List EndCall
+  pub calls : List EndCall
+  pub all : AreAll calls a_calls b_calls
   pub a_led : LeadTo step a_calls a_old a
   pub b_led : LeadTo step b_calls b_old b
+  pub host_led : LeadTo on_host calls host_old host
   pub forth : OneWay told a_old b_old a b a_calls b_calls from_a_old from_a tally_a more_a
   pub back : OneWay told b_old a_old b a b_calls a_calls from_b_old from_b tally_b more_b
   pub a_same : IsSameEnd told sure count a_old a
   pub b_same : IsSameEnd told sure count b_old b
-  pub failed : IfSome fault (λ f. EndsIn f a_calls ⊎ EndsIn f b_calls)
+  pub failed : IfSome (try_fault_in stop) (λ f. EndsIn f calls)
+  pub woken : FailsAt (notify_fault_in stop) calls
 
 -- A step of the code from one end to the other: it goes on from whatever passed between them so far, and leaves what goes the other way as it is.
-abbrev pub GoesOn : {E : Type 0} → (step : E → EndCall → E → Type 0) → (told : E → Telling) → (sure : E → Bool) → (count : E → ℕ) → (from to new_from new_to : E)
-    → (side new_side : SideState) → (tally new_tally : Tally) → (more : Bool) → (fault : Option TryFault) → Type 0
-GoesOn {E} step told sure count from to new_from new_to side new_side tally new_tally more fault =
-    (from_old to_old : E) (side_old other_old other : SideState) (other_tally : Tally) (before other_more : Bool)
-    → Exchange step told sure count from_old to_old from to side_old other_old side other tally other_tally before other_more None
-    → Exchange step told sure count from_old to_old new_from new_to side_old other_old new_side other new_tally other_tally more other_more fault
+abbrev pub GoesOn : {E H : Type 0} → (step : E → EndCall → E → Type 0) → (told : E → Telling) → (sure : E → Bool) → (count : E → ℕ)
+    → (on_host : H → EndCall → H → Type 0) → (host new_host : H) → (from to new_from new_to : E)
+    → (side new_side : SideState) → (tally new_tally : Tally) → (more : Bool) → (stop : Option PairEnd) → Type 0
+GoesOn {E} {H} step told sure count on_host host new_host from to new_from new_to side new_side tally new_tally more stop =
+    (host_old : H) (from_old to_old : E) (side_old other_old other : SideState) (other_tally : Tally) (before other_more : Bool)
+    → Exchange step told sure count on_host host_old host from_old to_old from to side_old other_old side other tally other_tally before other_more None
+    → Exchange step told sure count on_host host_old new_host from_old to_old new_from new_to side_old other_old new_side other new_tally other_tally more other_more stop
 
 -- the most bytes that one poll reads of a side
 abbrev pub block : ℕ
@@ -117,19 +182,21 @@ abbrev pub IsOver : (more_a more_b : Bool) → (read_a read_b : ℕ) → Type 0
 IsOver more_a more_b read_a read_b = ((more_a ≡ false) × (more_b ≡ false)) ⊎ ((read_a ≡ block) ⊎ (read_b ≡ block))
 
 -- some steps each way, from whatever passed so far
-pub record Exchanged {E : Type 0} (step : E → EndCall → E → Type 0) (told : E → Telling) (sure : E → Bool) (count : E → ℕ) (a_old b_old a b : E)
-    (from_a_old from_b_old from_a from_b : SideState) (tally_a tally_b : Tally) (over : Type 0) (fault : Option TryFault) : Type 0 where
+pub record Exchanged {E H : Type 0} (step : E → EndCall → E → Type 0) (told : E → Telling) (sure : E → Bool) (count : E → ℕ)
+    (on_host : H → EndCall → H → Type 0) (host_old host : H) (a_old b_old a b : E)
+    (from_a_old from_b_old from_a from_b : SideState) (tally_a tally_b : Tally) (over : Type 0) (stop : Option PairEnd) : Type 0 where
   pub more_a : Bool
   pub more_b : Bool
-  pub exchange : Exchange step told sure count a_old b_old a b from_a_old from_b_old from_a from_b tally_a tally_b more_a more_b fault
+  pub exchange : Exchange step told sure count on_host host_old host a_old b_old a b from_a_old from_b_old from_a from_b tally_a tally_b more_a more_b stop
   pub is_over : over → IsOver more_a more_b tally_a.read tally_b.read
 
-abbrev pub BothGoOn : {E : Type 0} → (step : E → EndCall → E → Type 0) → (told : E → Telling) → (sure : E → Bool) → (count : E → ℕ) → (a b new_a new_b : E)
-    → (from_a from_b new_from_a new_from_b : SideState) → (tally_a tally_b new_tally_a new_tally_b : Tally) → (over : Type 0) → (fault : Option TryFault) → Type 0
-BothGoOn {E} step told sure count a b new_a new_b from_a from_b new_from_a new_from_b tally_a tally_b new_tally_a new_tally_b over fault =
-    (a_old b_old : E) (from_a_old from_b_old : SideState) (more_a more_b : Bool)
-    → Exchange step told sure count a_old b_old a b from_a_old from_b_old from_a from_b tally_a tally_b more_a more_b None
-    → Exchanged step told sure count a_old b_old new_a new_b from_a_old from_b_old new_from_a new_from_b new_tally_a new_tally_b over fault
+abbrev pub BothGoOn : {E H : Type 0} → (step : E → EndCall → E → Type 0) → (told : E → Telling) → (sure : E → Bool) → (count : E → ℕ)
+    → (on_host : H → EndCall → H → Type 0) → (host new_host : H) → (a b new_a new_b : E)
+    → (from_a from_b new_from_a new_from_b : SideState) → (tally_a tally_b new_tally_a new_tally_b : Tally) → (over : Type 0) → (stop : Option PairEnd) → Type 0
+BothGoOn {E} {H} step told sure count on_host host new_host a b new_a new_b from_a from_b new_from_a new_from_b tally_a tally_b new_tally_a new_tally_b over stop =
+    (host_old : H) (a_old b_old : E) (from_a_old from_b_old : SideState) (more_a more_b : Bool)
+    → Exchange step told sure count on_host host_old host a_old b_old a b from_a_old from_b_old from_a from_b tally_a tally_b more_a more_b None
+    → Exchanged step told sure count on_host host_old new_host a_old b_old new_a new_b from_a_old from_b_old new_from_a new_from_b new_tally_a new_tally_b over stop
 
 -- whether a step that answers so will be tried again: one that ended the pair says nothing of it
 abbrev pub tries_again : {T : Type 0} → Result Bool T → Bool
@@ -167,22 +234,6 @@ IsReason is_long failed notifier_failed (pair.Ended to_a to_b) = ⊥
 IsReason is_long failed notifier_failed (pair.Idle last now) = ⊥
 IsReason is_long failed notifier_failed pair.OutOfMemory = ⊥
 
--- the fault of a try, as an end of the pair and back
-abbrev pub pair_end_of : TryFault → PairEnd
-pair_end_of (fault.Read f) = pair.ReadFault f
-pair_end_of (fault.Write f) = pair.WriteFault f
-pair_end_of (fault.Arm f) = pair.ArmFault f
-
-abbrev pub try_fault_of : PairEnd → Option TryFault
-try_fault_of (pair.ReadFault f) = Some (fault.Read f)
-try_fault_of (pair.WriteFault f) = Some (fault.Write f)
-try_fault_of (pair.ArmFault f) = Some (fault.Arm f)
-try_fault_of (pair.NotifyFault f) = None
-try_fault_of (pair.TooLong side at) = None
-try_fault_of (pair.Ended to_a to_b) = None
-try_fault_of (pair.Idle last now) = None
-try_fault_of pair.OutOfMemory = None
-
 -- what a call answered, for the pair: whether to try again, or its end
 abbrev pub after_read : Side → SideState → Poll (Result ℕ TryFault) → Result Bool PairEnd
 after_read here side (Ready (Ok zero)) = Ok false
@@ -198,6 +249,7 @@ after_write (Ready (Ok n)) = Ok true
 after_write (Ready (Err f)) = Err (pair_end_of f)
 after_write Pending = Ok false
 
-abbrev pub failure_in : {T : Type 0} → Result T PairEnd → Option TryFault
-failure_in (Ok done) = None
-failure_in (Err end) = try_fault_of end
+-- the end of the pair that a step answered, if it did
+abbrev pub stop_in : {T : Type 0} → Result T PairEnd → Option PairEnd
+stop_in (Ok done) = None
+stop_in (Err end) = Some end

@@ -10,8 +10,9 @@ ghost use Rattle.aio_pairs.specs.Lines.{lines, unfinished};
 
 use crate::ends::End;
 use crate::lines::{LONGEST, lines_end};
+use crate::outcomes::EndTried;
 use aio_base::{Host, Poll, Waker};
-use aio_future::{Tried, TryFault};
+use aio_future::TryFault;
 use std::alloc::{AllocError, Global};
 use std::marker::Model;
 
@@ -122,7 +123,7 @@ impl Backlog {
         host: &mut H,
         room: usize,
         w: Waker,
-    ) -> Tried
+    ) -> EndTried
         requires written { lines self.old.backlog ≡ [] }
         requires short { length (unfinished self.old.backlog) < LONGEST }
         requires some { 0 < room }
@@ -132,7 +133,7 @@ impl Backlog {
         ensures kind { IsReadAnswer result.answer }
         ensures faults { FaultsWithin (E.fault_count end.old) (E.fault_count end.new)
             (E.is_sure end.old) (E.is_sure end.new) (fault_counts result.answer) }
-        ensures host { LeavesHost H.rules H.is_later H.notifier_is_sure host.old host.new }
+        ensures host { LeavesHost H.rules H.is_later H.notifier_is_sure result host.old host.new }
     {
         let held = self.end - self.start;
         let buffer = self.buffer.as_mut_slice();
@@ -177,7 +178,7 @@ fn read_behind<H: Host, E: End<H>>(
     held: usize,
     room: usize,
     w: Waker,
-) -> Tried
+) -> EndTried
     requires some { 0 < room }
     requires part { start + held ≤ length buffer.old }
     requires fits { held + room ≤ length buffer.old }
@@ -191,7 +192,7 @@ fn read_behind<H: Host, E: End<H>>(
     ensures kind { IsReadAnswer result.answer }
     ensures faults { FaultsWithin (E.fault_count end.old) (E.fault_count end.new)
         (E.is_sure end.old) (E.is_sure end.new) (fault_counts result.answer) }
-    ensures host { LeavesHost H.rules H.is_later H.notifier_is_sure host.old host.new }
+    ensures host { LeavesHost H.rules H.is_later H.notifier_is_sure result host.old host.new }
 {
     if start > 0 {
         buffer.copy_within(start..start + held, 0);

@@ -1,10 +1,13 @@
 //! What a pair reads and writes: the ends of its two connections.
 
 ghost use Rattle.std.specs.Prelude.{◌≡◌, ◌<◌, ◌≤◌, length, take, Ok};
+ghost use Rattle.aio_base.specs.Hosts.{NotifierTells, wake_fault};
 ghost use Rattle.aio_base.specs.declared.outcomes.Poll.TheVariants.{Ready, Pending};
+ghost use Rattle.aio_pairs.specs.Calls.{WakesReplaced};
 
-use aio_base::{Conn, Faults, Host, Tells, Waker};
-use aio_future::{Async, Tried};
+use crate::outcomes::EndTried;
+use aio_base::{Conn, CountFault, Faults, Host, Tells, Waker};
+use aio_future::Async;
 use aio_source::SourceCell;
 
 /// One connection of a pair, as an entered source of a host. It tells of its bytes what the connection
@@ -18,9 +21,11 @@ pub trait End<H: Host>: Tells {
     ghost end_step: { Self → EndCall → Self → Type 0 };
 
     /// What `Async::read_with` does, by the host's ticker: the bytes read are the first of `buf`.
-    fn read(&mut self, host: &mut H, buf: &mut [u8], w: Waker) -> Tried
+    /// Whom that replaced the end wakes by the host.
+    fn read(&mut self, host: &mut H, buf: &mut [u8], w: Waker) -> EndTried
         requires { 0 < length buf.old }
-        ensures host { LeavesHost H.rules H.is_later H.notifier_is_sure host.old host.new }
+        ensures host { LeavesHost H.rules H.is_later H.notifier_is_sure result
+            host.old host.new }
         ensures step { end_step self.old (Reads (length buf.old) w result
             (take (bytes_over result.answer) buf.new)) self.new }
         ensures told { ReadTells (Self.telling self.old) (Self.telling self.new)
@@ -32,9 +37,11 @@ pub trait End<H: Host>: Tells {
             (Self.is_sure self.old) (Self.is_sure self.new) (fault_counts result.answer) };
 
     /// What `Async::write_with` does, by the host's ticker: the bytes written are the first of `piece`.
-    fn write(&mut self, host: &mut H, piece: &[u8], w: Waker) -> Tried
+    /// Whom that replaced the end wakes by the host.
+    fn write(&mut self, host: &mut H, piece: &[u8], w: Waker) -> EndTried
         requires { 0 < length piece.now }
-        ensures host { LeavesHost H.rules H.is_later H.notifier_is_sure host.old host.new }
+        ensures host { LeavesHost H.rules H.is_later H.notifier_is_sure result
+            host.old host.new }
         ensures step { end_step self.old (Writes piece.now w result) self.new }
         ensures told { WriteTells (Self.telling self.old) (Self.telling self.new)
             (take (bytes_over result.answer) piece.now) (result.answer ≡ Pending) }
@@ -80,13 +87,40 @@ impl<H: Host, C: Conn> End<H> for MemEnd<C> {
         C.fault_count C.is_sure before.cell.state before.cell.io call
         after.cell.state after.cell.io };
 
-    fn read(&mut self, host: &mut H, buf: &mut [u8], w: Waker) -> Tried {
+    fn read(&mut self, host: &mut H, buf: &mut [u8], w: Waker) -> EndTried {
         let rounds = host.ticker();
-        Async::of(&mut self.cell, rounds).read_with(buf, w)
+        let tried = Async::of(&mut self.cell, rounds).read_with(buf, w);
+        EndTried {
+            answer: tried.answer,
+            replaced: tried.replaced,
+            rounds,
+            woken: wake_replaced(host, tried.replaced),
+        }
     }
 
-    fn write(&mut self, host: &mut H, piece: &[u8], w: Waker) -> Tried {
+    fn write(&mut self, host: &mut H, piece: &[u8], w: Waker) -> EndTried {
         let rounds = host.ticker();
-        Async::of(&mut self.cell, rounds).write_with(piece, w)
+        let tried = Async::of(&mut self.cell, rounds).write_with(piece, w);
+        EndTried {
+            answer: tried.answer,
+            replaced: tried.replaced,
+            rounds,
+            woken: wake_replaced(host, tried.replaced),
+        }
     }
+}
+
+/// Wakes the waker, if any, that a call of an end took the place of.
+fn wake_replaced<H: Host>(host: &mut H, replaced: Option<Waker>) -> Result<(), CountFault>
+    ensures wakes { WakesReplaced H.rules replaced result host.old host.new }
+    ensures notifier { NotifierTells (H.notifier_is_sure host.old) (H.rules.faults host.old)
+        (H.rules.faults host.new) (wake_fault result) }
+    ensures later { H.is_later host.old host.new }
+    ensures pass { H.rules.pass host.new ≡ H.rules.pass host.old }
+    ensures ids { H.rules.drawn host.new ≡ H.rules.drawn host.old }
+{
+    let Some(waker) = replaced else {
+        return Ok(());
+    };
+    host.wake(waker)
 }

@@ -15,4 +15,4 @@ mod outcomes;
 pub use backlogs::{BLOCK, Backlog, count_of};
 pub use ends::{End, MemEnd};
 pub use lines::{LONGEST, lines_end};
-pub use outcomes::{PairEnd, Side, Tally};
+pub use outcomes::{EndTried, PairEnd, Side, Tally};

@@ -1,8 +1,23 @@
-//! The two sides of a pair, and what it may come to.
+//! What a call of an end comes to; the two sides of a pair, and what it may come to.
 
 ghost use Rattle.std.specs.Prelude.{◌≡◌, ◌+◌, ◌<◌, ◌^◌, ◌||◌, nat_lt, true, false};
 
-use aio_base::{ArmFault, CountFault, Moment};
+use aio_base::{ArmFault, CountFault, Moment, Poll, Waker};
+use aio_future::TryFault;
+
+/// What a read or a write of an end comes to.
+#[derive(Clone, Copy, Debug, PartialEq, Eq)]
+pub struct EndTried {
+    /// The number of bytes that went over, of which 0 read are the end; or pending, while the direction
+    /// is waited for.
+    pub answer: Poll<Result<usize, TryFault>>,
+    /// The waker of another task that waited by polls of this direction, and does no longer.
+    pub replaced: Option<Waker>,
+    /// How many rounds had begun by the host, with which the source was polled.
+    pub rounds: u64,
+    /// What the wake of the replaced waker answered; `Ok` where nobody was replaced.
+    pub woken: Result<(), CountFault>,
+}
 
 /// One of the two connections of a pair.
 #[derive(Clone, Copy, Debug, PartialEq, Eq)]

@@ -1,5 +1,5 @@
 -- Lemmas on one step from one end to the other.
-use Rattle.std.proofs.Common.{◌≡◌, ℕ, ◌+◌, ◌≤◌, Bool, true, false, length, take, drop, refl, ap, ◌∙◌, arith, inl, inr, Result, Ok, Err, length-append, length-drop}
+use Rattle.std.proofs.Common.{◌≡◌, ℕ, ◌+◌, ◌≤◌, Bool, true, false, length, take, drop, refl, ap, ◌∙◌, arith, inl, inr, None, Result, Ok, Err, length-append, length-drop}
 use Rattle.std.specs.Prelude.{◌⊎◌, zero, suc, nat_le, if◌then◌else◌, IfSome}
 use Rattle.std.proofs.lemmas.Bool.{true≢false}
 use Rattle.std.proofs.lemmas.List.{drop-drop, length-take-le}
@@ -10,7 +10,7 @@ use Rattle.aio_future.specs.Tries.{MovesWithin, IsReadAnswer, IsWriteAnswer, byt
 use Rattle.aio_future.specs.declared.tried.TryFault.{TryFault}
 use Rattle.aio_future.specs.declared.tried.TryFault.TheVariants as try
 use Rattle.aio_pairs.specs.Backlogs.{SideState, shrunk, saturated}
-use Rattle.aio_pairs.specs.Exchanges.{IsReason, after_read, after_write, failure_in, tries_again, work_left}
+use Rattle.aio_pairs.specs.Exchanges.{IsReason, after_read, after_write, notify_fault_in, stop_in, tries_again, try_fault_in, work_left}
 use Rattle.aio_pairs.specs.Lines.{lines, longest_line, unfinished}
 use Rattle.aio_pairs.specs.declared.outcomes.PairEnd.{PairEnd}
 use Rattle.aio_pairs.specs.declared.outcomes.PairEnd.TheVariants as pair
@@ -49,10 +49,10 @@ write-over Pending over = (refl, refl)
 
 -- the fault that ends a pair is the answer's
 pub read-failure : (here : Side) (side : SideState) (answer : Poll (Result ℕ TryFault)) → IsReadAnswer answer
-    → IfSome (failure_in (after_read here side answer)) (λ f. (answer ≡ Ready (Err f)) × IsReadAnswer (Ready (Err f)))
+    → IfSome (try_fault_in (stop_in (after_read here side answer))) (λ f. (answer ≡ Ready (Err f)) × IsReadAnswer (Ready (Err f)))
 read-failure here side (Ready (Ok zero)) kind = tt
 read-failure here side (Ready (Ok (suc n))) kind =
-    elim (nat_le longest_line (length (unfinished side.backlog))) as (λ b. IfSome (failure_in (on_more here side b)) (λ f. (answer_of n ≡ Ready (Err f)) × IsReadAnswer (Ready (Err f)))) [
+    elim (nat_le longest_line (length (unfinished side.backlog))) as (λ b. IfSome (try_fault_in (stop_in (on_more here side b))) (λ f. (answer_of n ≡ Ready (Err f)) × IsReadAnswer (Ready (Err f)))) [
       | true ↦ tt
       | false ↦ tt
     ]
@@ -61,12 +61,32 @@ read-failure here side (Ready (Err (try.Write f))) kind = absurd kind
 read-failure here side (Ready (Err (try.Arm f))) kind = (refl, tt)
 read-failure here side Pending kind = tt
 
-pub write-failure : (answer : Poll (Result ℕ TryFault)) → IsWriteAnswer answer → IfSome (failure_in (after_write answer)) (λ f. (answer ≡ Ready (Err f)) × IsWriteAnswer (Ready (Err f)))
+pub write-failure : (answer : Poll (Result ℕ TryFault)) → IsWriteAnswer answer → IfSome (try_fault_in (stop_in (after_write answer))) (λ f. (answer ≡ Ready (Err f)) × IsWriteAnswer (Ready (Err f)))
 write-failure (Ready (Ok n)) kind = tt
 write-failure (Ready (Err (try.Read f))) kind = absurd kind
 write-failure (Ready (Err (try.Write f))) kind = (refl, tt)
 write-failure (Ready (Err (try.Arm f))) kind = (refl, tt)
 write-failure Pending kind = tt
+
+-- no answer of a connection tells a fault of the host's notifier
+pub read-notifies-none : (here : Side) (side : SideState) (answer : Poll (Result ℕ TryFault)) → notify_fault_in (stop_in (after_read here side answer)) ≡ None
+read-notifies-none here side (Ready (Ok zero)) = refl
+read-notifies-none here side (Ready (Ok (suc n))) =
+    elim (nat_le longest_line (length (unfinished side.backlog))) as (λ b. notify_fault_in (stop_in (on_more here side b)) ≡ None) [
+      | true ↦ refl
+      | false ↦ refl
+    ]
+read-notifies-none here side (Ready (Err (try.Read f))) = refl
+read-notifies-none here side (Ready (Err (try.Write f))) = refl
+read-notifies-none here side (Ready (Err (try.Arm f))) = refl
+read-notifies-none here side Pending = refl
+
+pub write-notifies-none : (answer : Poll (Result ℕ TryFault)) → notify_fault_in (stop_in (after_write answer)) ≡ None
+write-notifies-none (Ready (Ok n)) = refl
+write-notifies-none (Ready (Err (try.Read f))) = refl
+write-notifies-none (Ready (Err (try.Write f))) = refl
+write-notifies-none (Ready (Err (try.Arm f))) = refl
+write-notifies-none Pending = refl
 
 -- ## Reasons
 
@@ -82,18 +102,6 @@ reason-on long new_long failed new_failed notified new_notified (pair.NotifyFaul
 reason-on long new_long failed new_failed notified new_notified (pair.Ended to_a to_b) on_long on_failed on_notified is = is
 reason-on long new_long failed new_failed notified new_notified (pair.Idle last now) on_long on_failed on_notified is = is
 reason-on long new_long failed new_failed notified new_notified pair.OutOfMemory on_long on_failed on_notified is = is
-
--- a fault of the host's notifier is none of an end
-pub notifier-alone : (notified : CountFault → Type 0) (end : PairEnd) (Holds : TryFault → Type 0) → IsReason (λ side at. ⊥) (λ f. ⊥) notified end
-    → IfSome (failure_in {T = Bool} (Err end)) Holds
-notifier-alone notified (pair.NotifyFault f) Holds is = tt
-notifier-alone notified (pair.TooLong side at) Holds is = absurd is
-notifier-alone notified (pair.ReadFault f) Holds is = absurd is
-notifier-alone notified (pair.WriteFault f) Holds is = absurd is
-notifier-alone notified (pair.ArmFault f) Holds is = absurd is
-notifier-alone notified (pair.Ended to_a to_b) Holds is = absurd is
-notifier-alone notified (pair.Idle last now) Holds is = absurd is
-notifier-alone notified pair.OutOfMemory Holds is = absurd is
 
 -- ## What is left to do
 

@@ -1,5 +1,5 @@
 -- A pair as contracts see it, and what a poll makes of it.
-use Rattle.std.specs.Prelude.{◌≡◌, ℕ, ◌+◌, ◌^◌, ◌<◌, ◌≤◌, Bool, true, zero, suc, List, [], length, Option, None, max, ⊤}
+use Rattle.std.specs.Prelude.{◌≡◌, ◌⊎◌, ℕ, ◌+◌, ◌^◌, ◌<◌, ◌≤◌, ◌==◌, ◌||◌, Bool, true, false, zero, suc, List, [], length, Option, None, Some, Result, Ok, Err, max, ⊤}
 use Rattle.std.proofs.Common.{le_trans}
 use Rattle.aio_base.specs.Connections.{Telling, IsAtItsEnd}
 use Rattle.aio_base.specs.Devices.{raised}
@@ -12,19 +12,21 @@ use Rattle.aio_base.specs.declared.outcomes.Poll.{Poll}
 use Rattle.aio_base.specs.declared.outcomes.Poll.TheVariants.{Ready, Pending}
 use Rattle.aio_base.specs.declared.tasks.Cx.{Cx}
 use Rattle.aio_future.specs.Timers.{TimerValue, new_timer}
-use Rattle.aio_future.specs.declared.tried.TryFault.{TryFault}
 use Rattle.aio_pairs.specs.Backlogs.{SideState, fresh_side}
-use Rattle.aio_pairs.specs.Calls.{EndCall, HostGoesOn, RoseIn}
-use Rattle.aio_pairs.specs.Exchanges.{Exchanged, IsLongThere, OneFailed, block, try_fault_of, went_over}
+use Rattle.aio_pairs.specs.Calls.{CallsFor, EndCall, HostGoesOn, RoseIn}
+use Rattle.aio_pairs.specs.Exchanges.{Exchanged, IsLongThere, OneFailed, block, went_over}
 use Rattle.aio_pairs.specs.Fits.{ToGive, Fits, to_give}
 use Rattle.aio_pairs.specs.Lines.{lines, longest_line, unfinished}
 use Rattle.aio_pairs.specs.declared.outcomes.PairEnd.{PairEnd}
 use Rattle.aio_pairs.specs.declared.outcomes.PairEnd.TheVariants as pair
 use Rattle.aio_pairs.specs.declared.outcomes.Tally.{Tally}
 use Rattle.aio_base.specs.Hosts.{HostRules, has_id_left}
-use Rattle.aio_relay.specs.Waiting.{GivesUp, IsSetTo, idle_from}
+use Rattle.aio_relay.specs.Waiting.{GivesUp, IsSetTo, Waits, idle_from}
+use Rattle.aio_relay.specs.declared.waiting.WaitFault.{WaitFault}
+use Rattle.aio_relay.specs.declared.waiting.WaitFault.TheVariants as wait_fault
 
--- The two ends and the sides behind them; the idle time, and the moment of the last byte that went over; the timer; and the number of polls.
+-- The two ends and the sides behind them; the idle time, and the moment of the last byte that went over; the timer; the number of polls; and whether
+-- the last one read a block of a side.
 pub record PairState (E : Type 0) : Type 0 where
   pub a : E
   pub b : E
@@ -34,6 +36,7 @@ pub record PairState (E : Type 0) : Type 0 where
   pub last : ℕ
   pub timer : TimerValue
   pub polls : ℕ
+  pub has_more : Bool
 
 -- what holds of a side between two polls
 pub record IsKept (side : SideState) (telling : Telling) : Type 0 where
@@ -56,6 +59,7 @@ fresh_pair a b idle start = record {
   last = start;
   timer = new_timer None None;
   polls = 0;
+  has_more = false;
 }
 
 -- ## What it may come to
@@ -94,37 +98,42 @@ abbrev pub bytes_moved : (a_calls b_calls : List EndCall) → ℕ
 bytes_moved a_calls b_calls =
     (length (went_over Read a_calls) + length (went_over Write b_calls)) + (length (went_over Read b_calls) + length (went_over Write a_calls))
 
+-- whether these calls read a block of a side
+abbrev pub reads_block : (a_calls b_calls : List EndCall) → Bool
+reads_block a_calls b_calls = (length (went_over Read a_calls) == block) || (length (went_over Read b_calls) == block)
+
 -- the moment of the last byte, after so many more at this one
 abbrev pub last_after : (moved : ℕ) → (last now : ℕ) → ℕ
 last_after zero last now = last
 last_after (suc more) last now = max last now
 
--- What passed between the two ends in a poll at this moment: of each side a block was read at most. The timer and the count of polls are another matter.
-pub record Passed {E : Type 0} (step : E → EndCall → E → Type 0) (told : E → Telling) (sure : E → Bool) (count : E → ℕ) (old new : PairState E) (now : ℕ)
-    (over : Type 0) (fault : Option TryFault) : Type 0 where
+-- What passed between the two ends in a poll at this moment: of each side a block was read at most. The timer and the count of polls are another
+-- matter.
+pub record Passed {E H : Type 0} (step : E → EndCall → E → Type 0) (told : E → Telling) (sure : E → Bool) (count : E → ℕ)
+    (on_host : H → EndCall → H → Type 0) (host until : H) (old new : PairState E) (now : ℕ) (over : Type 0) (stop : Option PairEnd) : Type 0 where
   pub tally_a : Tally
   pub tally_b : Tally
-  pub exchanged : Exchanged step told sure count old.a old.b new.a new.b old.from_a old.from_b new.from_a new.from_b tally_a tally_b over fault
+  pub exchanged : Exchanged step told sure count on_host host until old.a old.b new.a new.b old.from_a old.from_b new.from_a new.from_b
+      tally_a tally_b over stop
   pub most_of_a : length (went_over Read exchanged.exchange.a_calls) ≤ block
   pub most_of_b : length (went_over Read exchanged.exchange.b_calls) ≤ block
   pub last : new.last ≡ last_after (bytes_moved exchanged.exchange.a_calls exchanged.exchange.b_calls) old.last now
   pub idle : new.idle ≡ old.idle
+  pub has_more : new.has_more ≡ reads_block exchanged.exchange.a_calls exchanged.exchange.b_calls
 
--- an answer before which all went over that could in this poll
-abbrev pub IsSettled : Poll PairEnd → Type 0
-IsSettled Pending = ⊤
-IsSettled (Ready (pair.Ended to_a to_b)) = ⊤
-IsSettled (Ready (pair.Idle last now)) = ⊤
-IsSettled (Ready pair.OutOfMemory) = ⊤
-IsSettled (Ready (pair.TooLong side at)) = ⊥
-IsSettled (Ready (pair.ReadFault f)) = ⊥
-IsSettled (Ready (pair.WriteFault f)) = ⊥
-IsSettled (Ready (pair.ArmFault f)) = ⊥
-IsSettled (Ready (pair.NotifyFault f)) = ⊥
-
-abbrev pub fault_told : Poll PairEnd → Option TryFault
-fault_told Pending = None
-fault_told (Ready end) = try_fault_of end
+-- What a poll did once the exchange was over, by what it answers. Where a call ended the pair, and where the pair is done or idle, that is nothing
+-- more; else the pair was to wait, and this is how that ended.
+abbrev pub Follows : (stop : Option PairEnd) → (nothing : Type 0) → (waits : Result (Unit {0}) WaitFault → Type 0) → Poll PairEnd → Type 0
+Follows stop nothing waits Pending = (stop ≡ None) × waits (Ok tt)
+Follows stop nothing waits (Ready (pair.Ended to_a to_b)) = (stop ≡ None) × nothing
+Follows stop nothing waits (Ready (pair.Idle last now)) = (stop ≡ None) × nothing
+Follows stop nothing waits (Ready pair.OutOfMemory) = (stop ≡ None) × waits (Err wait_fault.OutOfMemory)
+Follows stop nothing waits (Ready (pair.TooLong side at)) = (stop ≡ Some (pair.TooLong side at)) × nothing
+Follows stop nothing waits (Ready (pair.ReadFault f)) = (stop ≡ Some (pair.ReadFault f)) × nothing
+Follows stop nothing waits (Ready (pair.WriteFault f)) = (stop ≡ Some (pair.WriteFault f)) × nothing
+Follows stop nothing waits (Ready (pair.ArmFault f)) = (stop ≡ Some (pair.ArmFault f)) × nothing
+Follows stop nothing waits (Ready (pair.NotifyFault f)) =
+    ((stop ≡ Some (pair.NotifyFault f)) × nothing) ⊎ ((stop ≡ None) × waits (Err (wait_fault.Notify f)))
 
 -- Nothing that ends a pair holds of it at this moment.
 pub record IsWaiting {E : Type 0} (p : PairState E) (now : ℕ) (w : Waker) (id_left : Bool) : Type 0 where
@@ -145,12 +154,22 @@ Tells failed notifier_failed p now w id_left (Ready (pair.WriteFault f)) = faile
 Tells failed notifier_failed p now w id_left (Ready (pair.ArmFault f)) = failed (record { before = f.before; after = f.after })
 Tells failed notifier_failed p now w id_left (Ready (pair.NotifyFault f)) = notifier_failed f
 
--- A poll of a pair on a host.
+-- the waker of the task that is polled so
+abbrev pub own_of : Cx → Waker
+own_of cx = record { 0 = own_waker cx.parker cx.mask }
+
+-- A poll of a pair on a host: what passed between the ends, with each call for the pair's own waker, until a call ended the pair or all went over that
+-- could; and what it did after that. Where it waits it wakes its own waker exactly where a block of a side was read.
 pub record PollsPair {E H : Type 0} (step : E → EndCall → E → Type 0) (told : E → Telling) (sure : E → Bool) (count : E → ℕ)
-    (rules : HostRules H) (notifier_sure : H → Bool) (old : PairState E) (host : H) (cx : Cx) (answer : Poll PairEnd) (new : PairState E) (left : H) : Type 0 where
-  pub passed : Passed step told sure count old new cx.now (IsSettled answer) (fault_told answer)
+    (rules : HostRules H) (later : H → H → Type 0) (notifier_sure : H → Bool)
+    (old : PairState E) (host : H) (cx : Cx) (answer : Poll PairEnd) (new : PairState E) (left : H) : Type 0 where
+  pub until : H
+  pub stop : Option PairEnd
+  pub passed : Passed step told sure count (CallsFor rules later notifier_sure (own_of cx)) host until old new cx.now (stop ≡ None) stop
+  pub follows : Follows stop ((left ≡ until) × (new.timer ≡ old.timer))
+      (λ result. Waits rules later notifier_sure new.has_more (idle_from new.last new.idle) cx.now (own_of cx) old.timer new.timer until left result) answer
   pub tells : Tells (OneFailed sure count old.a new.a old.b new.b) (RoseIn (rules.faults host) (rules.faults left) (notifier_sure host)) new cx.now
-      (record { 0 = own_waker cx.parker cx.mask }) (has_id_left (rules.drawn left)) answer
+      (own_of cx) (has_id_left (rules.drawn left)) answer
   pub polls : new.polls ≡ raised old.polls
 
 -- an end that is told before the pair would wait; the other two may come of the wait, too
@@ -165,19 +184,21 @@ IsToldBeforeWait (pair.NotifyFault f) = ⊥
 IsToldBeforeWait pair.OutOfMemory = ⊥
 
 -- A poll that ends a pair gives up the registration of the timer that it has then, last of all that it does to the host.
-pub record EndsTimer {H : Type 0} (rules : HostRules H) (later : H → H → Type 0) (end : PairEnd) (old new : TimerValue) (before after : H) : Type 0 where
-  pub kept : TimerValue
-  pub until : H
-  pub goes_on : HostGoesOn rules later before until
-  pub stays : IsToldBeforeWait end → kept ≡ old
-  pub gives_up : GivesUp rules kept new until after
+abbrev pub EndsTimer : {H : Type 0} → HostRules H → Poll PairEnd → (kept new : TimerValue) → (until left : H) → Type 0
+EndsTimer rules Pending kept new until left = (new ≡ kept) × (left ≡ until)
+EndsTimer rules (Ready end) kept new until left = GivesUp rules kept new until left
 
 -- A poll of a pair as a task: what it does, and what becomes of the timer where the pair ends.
 pub record PollsTask {E H : Type 0} (step : E → EndCall → E → Type 0) (told : E → Telling) (sure : E → Bool) (count : E → ℕ)
     (rules : HostRules H) (later : H → H → Type 0) (notifier_sure : H → Bool)
     (old : PairState E) (host : H) (cx : Cx) (answer : Poll PairEnd) (new : PairState E) (left : H) : Type 0 where
-  pub polled : PollsPair step told sure count rules notifier_sure old host cx answer new left
-  pub ends_timer : IfReady answer (λ end. EndsTimer rules later end old.timer new.timer host left)
+  pub kept : TimerValue
+  pub until : H
+  pub polled : PollsPair step told sure count rules later notifier_sure old host cx answer (record new { timer = kept }) until
+  pub goes_on : HostGoesOn rules later host until
+  pub stays : IfReady answer (λ end. IsToldBeforeWait end → kept ≡ old.timer)
+  pub ends_timer : EndsTimer rules answer kept new.timer until left
+  pub ends_later : HostGoesOn rules later until left
 
 -- ## Completeness
 

@@ -14,8 +14,8 @@ use aio_pairs::End;
 /// ran out, where no line is too long and neither the host's notifier nor an end failed in it.
 pub fn a_done_pair_ends<H: Host, E: End<H>>()
     ensures { (old new : PairState E) (host left : H) (cx : Cx) (answer : Poll PairEnd)
-        → PollsPair E.end_step E.telling E.is_sure E.fault_count H.rules H.notifier_is_sure
-        old host cx answer new left
+        → PollsPair E.end_step E.telling E.is_sure E.fault_count
+        H.rules H.is_later H.notifier_is_sure old host cx answer new left
         → BothShort new → BothDone new → ¬ Rose (H.rules.faults host) (H.rules.faults left)
         → ¬ Rose (E.fault_count old.a) (E.fault_count new.a)
         → ¬ Rose (E.fault_count old.b) (E.fault_count new.b) → IsTheEnd answer }

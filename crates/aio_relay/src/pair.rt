@@ -1,14 +1,14 @@
 //! A pair of connections as a task.
 
-ghost use Rattle.std.specs.Prelude.{◌≡◌, ℕ, ◌+◌, ◌<◌, ◌≤◌, ◌||◌, ◌^◌, true, false, length, nat_lt, max, IfOk, IfErr, IsOk, Ok, Err, None, if◌then◌else◌};
+ghost use Rattle.std.specs.Prelude.{◌≡◌, ℕ, ◌+◌, ◌<◌, ◌≤◌, ◌||◌, ◌==◌, ◌^◌, true, false, length, nat_lt, max, IfOk, IfErr, IsOk, Ok, Err, None, if◌then◌else◌};
 ghost use Rattle.aio_base.specs.Devices.{raised};
 ghost use Rattle.aio_base.specs.Polls.{IfReady, WhilePending};
-ghost use Rattle.aio_pairs.specs.Calls.{HostGoesOn, RoseIn};
-ghost use Rattle.aio_pairs.specs.Exchanges.{IsLongThere, IsReason, OneFailed, failure_in};
+ghost use Rattle.aio_pairs.specs.Calls.{CallsFor, HostGoesOn, RoseIn};
+ghost use Rattle.aio_pairs.specs.Exchanges.{IsLongThere, IsReason, OneFailed, stop_in};
 ghost use Rattle.aio_pairs.specs.Fits.{of_side};
 ghost use Rattle.aio_base.specs.Hosts.{has_id_left};
 ghost use Rattle.aio_relay.specs.Pairs.{IsPair, IsDone, BothDone, BothShort, IsToldBeforeWait, Passed, PollsPair, fresh_pair, may_come_to};
-ghost use Rattle.aio_relay.specs.Waiting.{Sets, IsSetTo, WaitFailed, idle_from};
+ghost use Rattle.aio_relay.specs.Waiting.{Sets, IsSetTo, WaitFailed, Waits, WakesIf, idle_from};
 
 use crate::passing::exchange;
 use crate::waiting::{WaitFault, give_up, idle_moment, set_timer, wake};
@@ -37,7 +37,7 @@ pub struct Pair<E: Tells> {
     last: Moment,
     timer: Timer,
     polls: u64,
-    // Whether the last poll stopped at a block of a side. It changes nothing of what a poll does.
+    // Whether the last poll read a block of a side.
     has_more: bool,
 }
 
@@ -55,6 +55,7 @@ impl<E: Tells> Model for Pair<E> {
       last = p.last;
       timer = p.timer;
       polls = p.polls;
+      has_more = p.has_more;
     } };
 
     ghost invariant = { λ p. IsPair E.telling (record {
@@ -66,6 +67,7 @@ impl<E: Tells> Model for Pair<E> {
       last = p.last;
       timer = p.timer;
       polls = p.polls;
+      has_more = p.has_more;
     }) };
 }
 
@@ -104,9 +106,10 @@ impl<E: Tells> Pair<E> {
         }
     }
 
-    /// Whether the last poll stopped because it had read 65,536 bytes of a side, so that a poll at once
-    /// may find more. A hint: no clause speaks of it, and none of a poll depends on it.
-    pub fn has_more(&self) -> bool {
+    /// Whether the last poll read 65,536 bytes of a side, so that a poll at once may find more.
+    pub fn has_more(&self) -> bool
+        ensures { result ≡ self.now.has_more }
+    {
         self.has_more
     }
 
@@ -161,8 +164,10 @@ impl<E: Tells> Pair<E> {
     fn pass<H: Host>(&mut self, host: &mut H, now: Moment, w: Waker) -> Result<bool, PairEnd>
     where
         E: End<H>,
-        ensures passed { Passed E.end_step E.telling E.is_sure E.fault_count self.old self.new now
-            (IsOk result) (failure_in result) }
+        ensures passed { Passed E.end_step E.telling E.is_sure E.fault_count
+            (CallsFor H.rules H.is_later H.notifier_is_sure w) host.old host.new self.old self.new
+            now (IsOk result) (stop_in result) }
+        ensures block { IfOk result (λ more. more ≡ self.new.has_more) }
         ensures short { IsOk result → BothShort self.new }
         ensures reason { IfErr result (IsReason (IsLongThere self.new.from_a self.new.from_b)
             (OneFailed E.is_sure E.fault_count self.old.a self.new.a self.old.b self.new.b)
@@ -205,7 +210,7 @@ impl<E: Tells> Pair<E> {
             → may_come_to E.telling E.is_sure self.new (H.notifier_is_sure host.old) moment end
             → may_come_to E.telling E.is_sure self.old (H.notifier_is_sure host.old) moment end) }
         ensures step { PollsPair E.end_step E.telling E.is_sure E.fault_count H.rules
-            H.notifier_is_sure self.old host.old cx result self.new host.new }
+            H.is_later H.notifier_is_sure self.old host.old cx result self.new host.new }
         ensures host { HostGoesOn H.rules H.is_later host.old host.new }
         ensures stays { IfReady result (λ end. IsToldBeforeWait end
             → self.new.timer ≡ self.old.timer) }
@@ -242,6 +247,9 @@ impl<E: Tells> Pair<E> {
         ensures sets { Sets (idle_from self.old.last self.old.idle) w
             (has_id_left (H.rules.drawn host.new)) (H.rules.faults host.old)
             (H.rules.faults host.new) (H.notifier_is_sure host.old) self.new.timer result }
+        ensures waits { Waits H.rules H.is_later H.notifier_is_sure at_once
+            (idle_from self.old.last self.old.idle) now w self.old.timer self.new.timer
+            host.old host.new result }
         ensures host { HostGoesOn H.rules H.is_later host.old host.new }
     {
         match wake_if(host, at_once, w) {
@@ -299,7 +307,9 @@ fn is_side_done(side: &Backlog) -> bool
 }
 
 // Whether a block of a side was read.
-fn has_block(a: Tally, b: Tally) -> bool {
+fn has_block(a: Tally, b: Tally) -> bool
+    ensures { result ≡ (a.read == BLOCK || b.read == BLOCK) }
+{
     a.read == BLOCK || b.read == BLOCK
 }
 
@@ -316,6 +326,7 @@ fn last_after(moved_a: bool, moved_b: bool, last: Moment, now: Moment) -> Moment
 
 // Wakes a waker where that is asked for.
 fn wake_if<H: Host>(host: &mut H, asked: bool, w: Waker) -> Result<(), WaitFault>
+    ensures wakes { WakesIf H.rules asked w host.old host.new result }
     ensures fails { IfErr result (WaitFailed (H.rules.faults host.old) (H.rules.faults host.new)
         (H.notifier_is_sure host.old)) }
     ensures host { HostGoesOn H.rules H.is_later host.old host.new }

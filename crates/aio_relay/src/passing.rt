@@ -2,8 +2,8 @@
 
 ghost use Rattle.std.specs.Prelude.{◌≡◌, ◌+◌, ◌<◌, ◌≤◌, ◌⊎◌, [], true, false, length, IfErr, IsOk, Ok, ⊤};
 ghost use Rattle.aio_pairs.specs.Backlogs.{saturated};
-ghost use Rattle.aio_pairs.specs.Calls.{HostGoesOn, RoseIn};
-ghost use Rattle.aio_pairs.specs.Exchanges.{BothGoOn, GoesOn, IsLongAt, IsLongHere, IsLongThere, IsOver, IsReason, IsSameEnd, OneFailed, after_read, after_write, failure_in, pair_end_of, tries_again, work_left};
+ghost use Rattle.aio_pairs.specs.Calls.{CallsFor, HostGoesOn, RoseIn};
+ghost use Rattle.aio_pairs.specs.Exchanges.{BothGoOn, GoesOn, IsLongAt, IsLongHere, IsLongThere, IsOver, IsReason, IsSameEnd, OneFailed, after_read, after_write, pair_end_of, stop_in, tries_again, work_left};
 ghost use Rattle.aio_pairs.specs.Lines.{lines, unfinished};
 
 use aio_base::{Host, Poll, Waker};
@@ -24,9 +24,10 @@ pub fn exchange<H: Host, E: End<H>>(
 ) -> Result<(), PairEnd>
     requires room_a { tally_a.old.read < BLOCK }
     requires room_b { tally_b.old.read < BLOCK }
-    ensures passes { BothGoOn E.end_step E.telling E.is_sure E.fault_count a.old b.old a.new b.new
+    ensures passes { BothGoOn E.end_step E.telling E.is_sure E.fault_count
+        (CallsFor H.rules H.is_later H.notifier_is_sure w) host.old host.new a.old b.old a.new b.new
         from_a.old from_b.old from_a.new from_b.new tally_a.old tally_b.old tally_a.new tally_b.new
-        (IsOk result) (failure_in result) }
+        (IsOk result) (stop_in result) }
     ensures most_of_a { tally_a.new.read ≤ BLOCK }
     ensures most_of_b { tally_b.new.read ≤ BLOCK }
     ensures short { IsOk result → (length (unfinished from_a.new.backlog) < LONGEST)
@@ -60,9 +61,10 @@ fn turn<H: Host, E: End<H>>(
 ) -> Result<bool, PairEnd>
     requires room_a { tally_a.old.read < BLOCK }
     requires room_b { tally_b.old.read < BLOCK }
-    ensures passes { BothGoOn E.end_step E.telling E.is_sure E.fault_count a.old b.old a.new b.new
+    ensures passes { BothGoOn E.end_step E.telling E.is_sure E.fault_count
+        (CallsFor H.rules H.is_later H.notifier_is_sure w) host.old host.new a.old b.old a.new b.new
         from_a.old from_b.old from_a.new from_b.new tally_a.old tally_b.old tally_a.new tally_b.new
-        (result ≡ Ok true) (failure_in result) }
+        (result ≡ Ok true) (stop_in result) }
     ensures most_of_a { tally_a.new.read ≤ BLOCK }
     ensures most_of_b { tally_b.new.read ≤ BLOCK }
     ensures room { result ≡ Ok false → (tally_a.new.read < BLOCK) × (tally_b.new.read < BLOCK) }
@@ -117,8 +119,10 @@ fn step<H: Host, E: End<H>>(
     w: Waker,
 ) -> Result<bool, PairEnd>
     requires room { tally.old.read < BLOCK }
-    ensures passes { GoesOn E.end_step E.telling E.is_sure E.fault_count from.old to.old from.new to.new
-        side.old side.new tally.old tally.new (tries_again result) (failure_in result) }
+    ensures passes { GoesOn E.end_step E.telling E.is_sure E.fault_count
+        (CallsFor H.rules H.is_later H.notifier_is_sure w) host.old host.new
+        from.old to.old from.new to.new side.old side.new tally.old tally.new
+        (tries_again result) (stop_in result) }
     ensures block { tally.new.read ≤ BLOCK }
     ensures less { result ≡ Ok true → work_left side.new tally.new < work_left side.old tally.old }
     ensures most { work_left side.new tally.new ≤ work_left side.old tally.old }
@@ -164,8 +168,10 @@ fn read_more<H: Host, E: End<H>>(
     requires not_ended { side.old.ended ≡ false }
     requires short { length (unfinished side.old.backlog) < LONGEST }
     requires room { tally.old.read < BLOCK }
-    ensures passes { GoesOn E.end_step E.telling E.is_sure E.fault_count from.old to.old from.new to.new
-        side.old side.new tally.old tally.new (tries_again result) (failure_in result) }
+    ensures passes { GoesOn E.end_step E.telling E.is_sure E.fault_count
+        (CallsFor H.rules H.is_later H.notifier_is_sure w) host.old host.new
+        from.old to.old from.new to.new side.old side.new tally.old tally.new
+        (tries_again result) (stop_in result) }
     ensures block { tally.new.read ≤ BLOCK }
     ensures less { result ≡ Ok true → work_left side.new tally.new < work_left side.old tally.old }
     ensures most { work_left side.new tally.new ≤ work_left side.old tally.old }
@@ -179,9 +185,9 @@ fn read_more<H: Host, E: End<H>>(
 {
     let tried = side.read_from(from, host, BLOCK - tally.read, w);
     tally.add_read(count_of(tried.answer));
-    match wake_replaced(host, tried.replaced) {
+    match tried.woken {
         Ok(()) => read_answer(here, side, tried.answer),
-        Err(end) => Err(end),
+        Err(fault) => Err(PairEnd::NotifyFault(fault)),
     }
 }
 
@@ -196,8 +202,10 @@ fn write_lines<H: Host, E: End<H>>(
 ) -> Result<bool, PairEnd>
     requires some { 0 < length (lines side.old.backlog) }
     requires block { tally.old.read ≤ BLOCK }
-    ensures passes { GoesOn E.end_step E.telling E.is_sure E.fault_count from.old to.old from.new to.new
-        side.old side.new tally.old tally.new (tries_again result) (failure_in result) }
+    ensures passes { GoesOn E.end_step E.telling E.is_sure E.fault_count
+        (CallsFor H.rules H.is_later H.notifier_is_sure w) host.old host.new
+        from.old to.old from.new to.new side.old side.new tally.old tally.new
+        (tries_again result) (stop_in result) }
     ensures read { tally.new.read ≡ tally.old.read }
     ensures less { result ≡ Ok true → work_left side.new tally.new < work_left side.old tally.old }
     ensures most { work_left side.new tally.new ≤ work_left side.old tally.old }
@@ -213,9 +221,9 @@ fn write_lines<H: Host, E: End<H>>(
     let n = count_of(tried.answer);
     side.shrink(n);
     tally.add_written(n);
-    match wake_replaced(host, tried.replaced) {
+    match tried.woken {
         Ok(()) => write_answer(tried.answer),
-        Err(end) => Err(end),
+        Err(fault) => Err(PairEnd::NotifyFault(fault)),
     }
 }
 
@@ -229,8 +237,10 @@ fn write_if_any<H: Host, E: End<H>>(
     w: Waker,
 ) -> Result<bool, PairEnd>
     requires block { tally.old.read ≤ BLOCK }
-    ensures passes { GoesOn E.end_step E.telling E.is_sure E.fault_count from.old to.old from.new to.new
-        side.old side.new tally.old tally.new (tries_again result) (failure_in result) }
+    ensures passes { GoesOn E.end_step E.telling E.is_sure E.fault_count
+        (CallsFor H.rules H.is_later H.notifier_is_sure w) host.old host.new
+        from.old to.old from.new to.new side.old side.new tally.old tally.new
+        (tries_again result) (stop_in result) }
     ensures read { tally.new.read ≡ tally.old.read }
     ensures most { work_left side.new tally.new ≤ work_left side.old tally.old }
     ensures rest { unfinished side.new.backlog ≡ unfinished side.old.backlog }
@@ -300,19 +310,4 @@ fn long_line_end(side: &Backlog) -> u64
     side.forwarded()
         .saturating_add(waiting as u64)
         .saturating_add(LONGEST as u64)
-}
-
-// Wakes the waker, if any, that a call took the place of.
-fn wake_replaced<H: Host>(host: &mut H, replaced: Option<Waker>) -> Result<(), PairEnd>
-    ensures reason { IfErr result (IsReason (λ side at. ⊥) (λ f. ⊥)
-        (RoseIn (H.rules.faults host.old) (H.rules.faults host.new) (H.notifier_is_sure host.old))) }
-    ensures host { HostGoesOn H.rules H.is_later host.old host.new }
-{
-    let Some(waker) = replaced else {
-        return Ok(());
-    };
-    match host.wake(waker) {
-        Ok(()) => Ok(()),
-        Err(fault) => Err(PairEnd::NotifyFault(fault)),
-    }
 }

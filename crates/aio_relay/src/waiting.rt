@@ -1,8 +1,9 @@
 //! How a pair waits for the moment at which it is idle.
 
-ghost use Rattle.std.specs.Prelude.{◌≡◌, ◌<◌, ◌≤◌, ◌^◌, IfSome, IfErr, IsOk, Some, None};
+ghost use Rattle.std.specs.Prelude.{◌≡◌, ◌⊎◌, ◌<◌, ◌≤◌, ◌^◌, IfSome, IfErr, IsOk, OnErr, OnOk, Some, None};
 ghost use Rattle.aio_base.specs.Hosts.{has_id_left};
-ghost use Rattle.aio_relay.specs.Waiting.{ComesTo, GivesUp, Sets, WaitFailed, idle_from};
+ghost use Rattle.aio_relay.specs.Waiting.{Answers, ComesTo, GivesUp, Registers, Sets, SetsTimer, StaysRegistered, Turns, WaitFailed, Wakes, idle_from};
+ghost use Rattle.aio_future.specs.Timers.{new_timer};
 ghost use Rattle.aio_pairs.specs.Calls.{HostGoesOn};
 
 use aio_base::{CountFault, Host, Moment, Poll, TimerHost, Waker};
@@ -38,6 +39,9 @@ pub fn set_timer<H: Host>(
     requires { IfSome due (λ at. now < at) }
     ensures sets { Sets due w (has_id_left (H.rules.drawn host.new)) (H.rules.faults host.old)
         (H.rules.faults host.new) (H.notifier_is_sure host.old) timer.new result }
+    ensures does { SetsTimer H.rules H.is_later H.notifier_is_sure due now w
+        timer.old timer.new host.old host.new result
+        ⊎ StaysRegistered H.rules timer.old timer.new host.old host.new result }
     ensures host { HostGoesOn H.rules H.is_later host.old host.new }
 {
     match turn_timer(timer, due, host) {
@@ -53,6 +57,9 @@ fn turn_timer<H: Host>(
     host: &mut H,
 ) -> Result<(), WaitFault>
     ensures deadline { IsOk result → timer.new.deadline ≡ due }
+    ensures turns { OnOk result (Turns H.rules due timer.old timer.new host.old host.new) }
+    ensures stays { OnErr result
+        (StaysRegistered H.rules timer.old timer.new host.old host.new result) }
     ensures refused { IfErr result (λ fault. fault ≡ WaitFault.OutOfMemory) }
     ensures host { HostGoesOn H.rules H.is_later host.old host.new }
 {
@@ -61,7 +68,7 @@ fn turn_timer<H: Host>(
     }
     match mem::replace(timer, Timer::never()).close(host) {
         Ok(()) => {
-            *timer = new_timer(due);
+            *timer = timer_at(due);
             Ok(())
         }
         Err(old) => {
@@ -71,8 +78,8 @@ fn turn_timer<H: Host>(
     }
 }
 
-fn new_timer(due: Option<Moment>) -> Timer
-    ensures { result.deadline ≡ due }
+fn timer_at(due: Option<Moment>) -> Timer
+    ensures { result ≡ new_timer due None }
 {
     if let Some(moment) = due {
         return Timer::at(moment);
@@ -91,6 +98,8 @@ fn register<H: Host>(
     ensures sets { Sets timer.old.deadline w (has_id_left (H.rules.drawn host.new))
         (H.rules.faults host.old) (H.rules.faults host.new) (H.notifier_is_sure host.old)
         timer.new result }
+    ensures registers { Registers H.rules H.is_later H.notifier_is_sure now w
+        timer.old timer.new host.old host.new result }
     ensures host { HostGoesOn H.rules H.is_later host.old host.new }
 {
     match timer.poll(host, now, w) {
@@ -116,6 +125,7 @@ pub fn give_up<H: TimerHost>(timer: &mut Timer, host: &mut H)
 fn after_fault<H: Host>(fault: TimerFault, host: &mut H, w: Waker) -> Result<(), WaitFault>
     ensures comes { ComesTo fault (H.rules.faults host.old) (H.rules.faults host.new)
         (H.notifier_is_sure host.old) result }
+    ensures answers { Answers H.rules (Some fault) w host.old host.new result }
     ensures host { HostGoesOn H.rules H.is_later host.old host.new }
     ensures ids { H.rules.drawn host.new ≡ H.rules.drawn host.old }
 {
@@ -126,8 +136,9 @@ fn after_fault<H: Host>(fault: TimerFault, host: &mut H, w: Waker) -> Result<(),
     }
 }
 
-/// Wakes a waker.
+/// Wakes a waker. A fault is told exactly where the host's wake answered one.
 pub fn wake<H: Host>(host: &mut H, w: Waker) -> Result<(), WaitFault>
+    ensures wakes { Wakes H.rules w host.old host.new result }
     ensures fails { IfErr result (WaitFailed (H.rules.faults host.old) (H.rules.faults host.new)
         (H.notifier_is_sure host.old)) }
     ensures host { HostGoesOn H.rules H.is_later host.old host.new }

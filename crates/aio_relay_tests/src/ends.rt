@@ -87,6 +87,22 @@ const WAITING: &[Row<'static>] = &[
         ],
         ..QUIET
     },
+    Row {
+        shows: "a waker that another replaces at a write that waits is woken",
+        a: Peer {
+            first: b"line\n",
+            ..ENDS
+        },
+        b: Peer { room: 3, ..ENDS },
+        acts: &[
+            (At(0), Waits),
+            (Sent(Side::B, "lin"), Is(true)),
+            (Woken, Slots(0)),
+            (BySlotOne(1), Waits),
+            (Woken, Slots(1)),
+        ],
+        ..QUIET
+    },
 ];
 
 #[test]
@@ -171,6 +187,17 @@ const FAILING: &[Row<'static>] = &[
         shows: "a failed notifier ends a pair",
         trouble: Trouble::Notifier,
         acts: &[(At(0), NotifyFails(FIRST)), (Timers, Count(0))],
+        ..QUIET
+    },
+    Row {
+        shows: "a failed wake of a replaced waker ends a pair",
+        trouble: Trouble::Wakes,
+        acts: &[
+            (At(0), Waits),
+            (BySlotOne(0), NotifyFails(FIRST)),
+            (Woken, Slots(1)),
+            (Timers, Count(0)),
+        ],
         ..QUIET
     },
     Row {

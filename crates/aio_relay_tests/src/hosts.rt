@@ -20,6 +20,8 @@ pub(crate) enum Trouble {
     IdsSpent,
     /// Its notifier fails.
     Notifier,
+    /// Its notifier fails in a wake, and in no insert.
+    Wakes,
     /// It has no memory for a timer.
     Memory,
 }
@@ -87,13 +89,18 @@ impl ListHost {
         woken
     }
 
-    /// Makes the notifier's call, and tells its fault.
-    fn notify(&mut self) -> Result<(), CountFault>
+    /// Makes the notifier's call, for a wake or an insert, and tells its fault.
+    fn notify(&mut self, wakes: bool) -> Result<(), CountFault>
         ensures notifier { NotifierTells false self.old.faults self.new.faults (wake_fault result) }
         ensures drawn { self.new.drawn ≡ self.old.drawn }
     {
         let before = self.faults;
-        if let Trouble::Notifier = self.trouble {
+        let fails = match self.trouble {
+            Trouble::Notifier => true,
+            Trouble::Wakes => wakes,
+            _ => false,
+        };
+        if fails {
             self.faults = before.saturating_add(1);
             return Err(CountFault {
                 before,
@@ -110,6 +117,8 @@ impl TimerHost for ListHost {
       removed = λ old at id new. Unit {0};
       insert_refused = λ old at waker new. Unit {0};
       removal_refused = λ old at id new. Unit {0};
+      looked = λ old rounds new. Unit {0};
+      woke = λ old waker told new. Unit {0};
       faults = λ h. h.faults;
       pass = λ h. 0;
       drawn = λ h. h.drawn;
@@ -129,7 +138,7 @@ impl TimerHost for ListHost {
             return Err(InsertRefusal::OutOfMemory);
         }
         self.drawn = drawn;
-        match self.notify() {
+        match self.notify(false) {
             Ok(()) => Ok(id),
             Err(fault) => Err(InsertRefusal::Notify { id, fault }),
         }
@@ -148,6 +157,6 @@ impl Host for ListHost {
 
     fn wake(&mut self, waker: Waker) -> Result<(), CountFault> {
         self.woken |= 1 << (waker.0 % 64);
-        self.notify()
+        self.notify(true)
     }
 }

@@ -140,6 +140,23 @@ const ROWS: &[Row<'static>] = &[
         ],
         ..QUIET
     },
+    Row {
+        shows: "a pair is polled again after a block of side B",
+        a: ENDS,
+        b: Peer {
+            first: MANY,
+            last: b"123456",
+            ..ENDS
+        },
+        acts: &[
+            (At(0), Waits),
+            (Woken, Slots(1)),
+            (At(0), Ended(65_530, 0)),
+            (Length(Side::A), Count(65_530)),
+            (Woken, Slots(0)),
+        ],
+        ..QUIET
+    },
 ];
 
 #[test]

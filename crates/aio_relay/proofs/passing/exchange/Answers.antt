@@ -1,7 +1,7 @@
-use Rattle.std.proofs.Common.{◌≡◌, sym, ap, arith, false, Bool, Ok, None}
+use Rattle.std.proofs.Common.{◌≡◌, sym, ap, arith, false, Bool, Ok, None, Some}
 use Rattle.std.proofs.lemmas.Bool.{true≢false}
-use Rattle.aio_pairs.specs.Exchanges.{try_fault_of}
 use Rattle.aio_pairs.proofs.ExchangeLemmas.{same-on}
+use Rattle.aio_pairs.specs.Calls.{CallsFor}
 use Rattle.aio_relay.proofs.TurnLemmas.{turns-join, over-so, reason-later}
 use Rattle.aio_relay.proofs.passing.exchange.Goals as goal
 
@@ -13,9 +13,11 @@ loop-finished-preserved g c =
     let no : c.in-Ok.finished ≡ false = c.if-finished.false in
     let room = e.room (ap (λ (b : Bool). Ok b) no) in
     record {
-      passes = turns-join g.E.End.end_step g.E.Tells.telling g.E.Faults.is_sure g.E.Faults.fault_count c.args.a.now c.args.b.now i.a i.b t.new.a t.new.b
+      passes = turns-join g.E.End.end_step g.E.Tells.telling g.E.Faults.is_sure g.E.Faults.fault_count
+          (CallsFor g.H.TimerHost.rules g.H.Later.is_later g.H.Later.notifier_is_sure c.args.w) c.args.host.now i.host t.new.host c.args.a.now c.args.b.now i.a i.b t.new.a t.new.b
           c.args.from_a.now c.args.from_b.now i.from_a i.from_b t.new.from_a t.new.from_b c.args.tally_a.now c.args.tally_b.now i.tally_a i.tally_b t.new.tally_a t.new.tally_b None i.invariant.passes
-          (over-so g.E.End.end_step g.E.Tells.telling g.E.Faults.is_sure g.E.Faults.fault_count i.a i.b t.new.a t.new.b i.from_a i.from_b t.new.from_a t.new.from_b i.tally_a i.tally_b t.new.tally_a t.new.tally_b None
+          (over-so g.E.End.end_step g.E.Tells.telling g.E.Faults.is_sure g.E.Faults.fault_count
+          (CallsFor g.H.TimerHost.rules g.H.Later.is_later g.H.Later.notifier_is_sure c.args.w) i.host t.new.host i.a i.b t.new.a t.new.b i.from_a i.from_b t.new.from_a t.new.from_b i.tally_a i.tally_b t.new.tally_a t.new.tally_b None
           (λ never. absurd never) e.passes);
       room_a = room.0;
       room_b = room.1;
@@ -31,19 +33,23 @@ pub returns-then-finished-clause-passes : goal.returns-then-finished-clause-pass
 returns-then-finished-clause-passes g c =
     let i = c.loop-finished in
     let t = c.turn in
-    turns-join g.E.End.end_step g.E.Tells.telling g.E.Faults.is_sure g.E.Faults.fault_count c.args.a.now c.args.b.now i.a i.b t.new.a t.new.b
+    turns-join g.E.End.end_step g.E.Tells.telling g.E.Faults.is_sure g.E.Faults.fault_count
+    (CallsFor g.H.TimerHost.rules g.H.Later.is_later g.H.Later.notifier_is_sure c.args.w) c.args.host.now i.host t.new.host c.args.a.now c.args.b.now i.a i.b t.new.a t.new.b
     c.args.from_a.now c.args.from_b.now i.from_a i.from_b t.new.from_a t.new.from_b c.args.tally_a.now c.args.tally_b.now i.tally_a i.tally_b t.new.tally_a t.new.tally_b None i.invariant.passes
-    (over-so g.E.End.end_step g.E.Tells.telling g.E.Faults.is_sure g.E.Faults.fault_count i.a i.b t.new.a t.new.b i.from_a i.from_b t.new.from_a t.new.from_b i.tally_a i.tally_b t.new.tally_a t.new.tally_b None
+    (over-so g.E.End.end_step g.E.Tells.telling g.E.Faults.is_sure g.E.Faults.fault_count
+    (CallsFor g.H.TimerHost.rules g.H.Later.is_later g.H.Later.notifier_is_sure c.args.w) i.host t.new.host i.a i.b t.new.a t.new.b i.from_a i.from_b t.new.from_a t.new.from_b i.tally_a i.tally_b t.new.tally_a t.new.tally_b None
     (λ over. ap (λ (b : Bool). Ok b) c.if-finished.true) c.in-Ok.ensures.passes)
 
 pub returns-in-Err-clause-passes : goal.returns-in-Err-clause-passes
 returns-in-Err-clause-passes g c =
     let i = c.loop-finished in
     let t = c.turn in
-    turns-join g.E.End.end_step g.E.Tells.telling g.E.Faults.is_sure g.E.Faults.fault_count c.args.a.now c.args.b.now i.a i.b t.new.a t.new.b
-    c.args.from_a.now c.args.from_b.now i.from_a i.from_b t.new.from_a t.new.from_b c.args.tally_a.now c.args.tally_b.now i.tally_a i.tally_b t.new.tally_a t.new.tally_b (try_fault_of c.in-Err.end) i.invariant.passes
-    (over-so g.E.End.end_step g.E.Tells.telling g.E.Faults.is_sure g.E.Faults.fault_count i.a i.b t.new.a t.new.b i.from_a i.from_b t.new.from_a t.new.from_b i.tally_a i.tally_b t.new.tally_a t.new.tally_b
-    (try_fault_of c.in-Err.end) (λ ok. absurd (true≢false (sym ok))) c.in-Err.ensures.passes)
+    turns-join g.E.End.end_step g.E.Tells.telling g.E.Faults.is_sure g.E.Faults.fault_count
+    (CallsFor g.H.TimerHost.rules g.H.Later.is_later g.H.Later.notifier_is_sure c.args.w) c.args.host.now i.host t.new.host c.args.a.now c.args.b.now i.a i.b t.new.a t.new.b
+    c.args.from_a.now c.args.from_b.now i.from_a i.from_b t.new.from_a t.new.from_b c.args.tally_a.now c.args.tally_b.now i.tally_a i.tally_b t.new.tally_a t.new.tally_b (Some c.in-Err.end) i.invariant.passes
+    (over-so g.E.End.end_step g.E.Tells.telling g.E.Faults.is_sure g.E.Faults.fault_count
+    (CallsFor g.H.TimerHost.rules g.H.Later.is_later g.H.Later.notifier_is_sure c.args.w) i.host t.new.host i.a i.b t.new.a t.new.b i.from_a i.from_b t.new.from_a t.new.from_b i.tally_a i.tally_b t.new.tally_a t.new.tally_b
+    (Some c.in-Err.end) (λ ok. absurd (true≢false (sym ok))) c.in-Err.ensures.passes)
 
 pub returns-in-Err-clause-reason : goal.returns-in-Err-clause-reason
 returns-in-Err-clause-reason g c =

@@ -1,7 +1,7 @@
 use Rattle.std.proofs.Common.{◌∙◌, ◌<◌, ℕ, List, refl, sym, ap, subst, arith, length, true, false, Bool, Ok, None}
 use Rattle.std.proofs.lemmas.Bool.{true≢false}
-use Rattle.aio_pairs.specs.Exchanges.{GoesOn, IsLongHere, OneFailed, failure_in, tries_again}
-use Rattle.aio_pairs.specs.Calls.{RoseIn}
+use Rattle.aio_pairs.specs.Exchanges.{GoesOn, IsLongHere, OneFailed, stop_in, tries_again}
+use Rattle.aio_pairs.specs.Calls.{CallsFor, RoseIn}
 use Rattle.aio_pairs.specs.Lines.{longest_line}
 use Rattle.aio_pairs.proofs.ExchangeLemmas.{rests-go-on, same-on}
 use Rattle.aio_relay.proofs.TurnLemmas.{answer-reason, failed-longer, notified-longer, steps-join}
@@ -9,7 +9,8 @@ use Rattle.aio_relay.proofs.passing.step.Goals as goal
 
 pub returns-then-has_long_line-clause-passes : goal.returns-then-has_long_line-clause-passes
 returns-then-has_long_line-clause-passes g c =
-    rests-go-on g.E.End.end_step g.E.Tells.telling g.E.Faults.is_sure g.E.Faults.fault_count c.args.from.now c.args.to.now c.args.side.now c.args.tally.now true (λ over. absurd (true≢false over))
+    rests-go-on g.E.End.end_step g.E.Tells.telling g.E.Faults.is_sure g.E.Faults.fault_count
+    (CallsFor g.H.TimerHost.rules g.H.Later.is_later g.H.Later.notifier_is_sure c.args.w) c.args.host.now c.args.from.now c.args.to.now c.args.side.now c.args.tally.now true _ (λ over. absurd (true≢false over)) refl refl
 
 pub returns-then-has_lines-clause-reason : goal.returns-then-has_lines-clause-reason
 returns-then-has_lines-clause-reason g c =
@@ -21,15 +22,17 @@ returns-then-has_lines-clause-short g c ok =
 
 pub returns-then-ended-clause-passes : goal.returns-then-ended-clause-passes
 returns-then-ended-clause-passes g c =
-    rests-go-on g.E.End.end_step g.E.Tells.telling g.E.Faults.is_sure g.E.Faults.fault_count c.args.from.now c.args.to.now c.args.side.now c.args.tally.now false
-    (λ over. (c.has_lines.ensures.none c.if-has_lines.false, sym c.ended.ensures ∙ c.if-ended.true))
+    rests-go-on g.E.End.end_step g.E.Tells.telling g.E.Faults.is_sure g.E.Faults.fault_count
+    (CallsFor g.H.TimerHost.rules g.H.Later.is_later g.H.Later.notifier_is_sure c.args.w) c.args.host.now c.args.from.now c.args.to.now c.args.side.now c.args.tally.now false None
+    (λ over. (c.has_lines.ensures.none c.if-has_lines.false, sym c.ended.ensures ∙ c.if-ended.true)) refl refl
 
 pub returns-then-more-clause-passes : goal.returns-then-more-clause-passes
 returns-then-more-clause-passes g c =
     let x = c.read_more in
     let y = c.write_if_any in
-    steps-join g.E.End.end_step g.E.Tells.telling g.E.Faults.is_sure g.E.Faults.fault_count c.args.from.now c.args.to.now x.new.from x.new.to y.new.from y.new.to
-    c.args.side.now x.new.side y.new.side c.args.tally.now x.new.tally y.new.tally c.in-Ok.more (tries_again y.result) (failure_in y.result) c.in-Ok.ensures.passes y.ensures.passes
+    steps-join g.E.End.end_step g.E.Tells.telling g.E.Faults.is_sure g.E.Faults.fault_count
+    (CallsFor g.H.TimerHost.rules g.H.Later.is_later g.H.Later.notifier_is_sure c.args.w) c.args.host.now x.new.host y.new.host c.args.from.now c.args.to.now x.new.from x.new.to y.new.from y.new.to
+    c.args.side.now x.new.side y.new.side c.args.tally.now x.new.tally y.new.tally c.in-Ok.more (tries_again y.result) (stop_in y.result) c.in-Ok.ensures.passes y.ensures.passes
 
 pub returns-then-more-clause-reason : goal.returns-then-more-clause-reason
 returns-then-more-clause-reason g c =
@@ -62,7 +65,8 @@ returns-then-more-clause-to_same g c =
 pub returns-clause-passes : goal.returns-clause-passes
 returns-clause-passes g c =
     let x = c.read_more in
-    subst (λ (m : Bool). GoesOn g.E.End.end_step g.E.Tells.telling g.E.Faults.is_sure g.E.Faults.fault_count c.args.from.now c.args.to.now x.new.from x.new.to
+    subst (λ (m : Bool). GoesOn g.E.End.end_step g.E.Tells.telling g.E.Faults.is_sure g.E.Faults.fault_count
+    (CallsFor g.H.TimerHost.rules g.H.Later.is_later g.H.Later.notifier_is_sure c.args.w) c.args.host.now x.new.host c.args.from.now c.args.to.now x.new.from x.new.to
     c.args.side.now x.new.side c.args.tally.now x.new.tally m None) c.if-more.false c.in-Ok.ensures.passes
 
 pub returns-then-more-clause-host : goal.returns-then-more-clause-host

@@ -1,32 +1,36 @@
-use Rattle.std.proofs.Common.{refl, sym, ap, subst, arith, true, Bool, Result, None}
+use Rattle.std.proofs.Common.{refl, sym, ap, subst, arith, true, Bool, Result, None, Some}
 use Rattle.std.specs.Prelude.{IsOk}
 use Rattle.std.proofs.lemmas.Bool.{true≢false}
-use Rattle.aio_pairs.specs.Exchanges.{tries_again, try_fault_of}
+use Rattle.aio_pairs.specs.Exchanges.{tries_again}
 use Rattle.aio_pairs.specs.declared.outcomes.PairEnd.{PairEnd}
 use Rattle.aio_pairs.proofs.ExchangeLemmas.{same-on}
+use Rattle.aio_pairs.specs.Calls.{CallsFor}
 use Rattle.aio_relay.proofs.TurnLemmas.{one-step, both-steps, reason-forth, reason-back}
 use Rattle.aio_relay.proofs.passing.turn.Goals as goal
 
 pub returns-in-Err-clause-passes : goal.returns-in-Err-clause-passes
 returns-in-Err-clause-passes g c =
     let x = c.step in
-    one-step g.E.End.end_step g.E.Tells.telling g.E.Faults.is_sure g.E.Faults.fault_count c.args.a.now c.args.b.now x.new.from x.new.to
-    c.args.from_a.now c.args.from_b.now x.new.side c.args.tally_a.now c.args.tally_b.now x.new.tally true (try_fault_of c.in-Err.end) c.in-Err.ensures.passes
+    one-step g.E.End.end_step g.E.Tells.telling g.E.Faults.is_sure g.E.Faults.fault_count
+    (CallsFor g.H.TimerHost.rules g.H.Later.is_later g.H.Later.notifier_is_sure c.args.w) c.args.host.now x.new.host c.args.a.now c.args.b.now x.new.from x.new.to
+    c.args.from_a.now c.args.from_b.now x.new.side c.args.tally_a.now c.args.tally_b.now x.new.tally true (Some c.in-Err.end) c.in-Err.ensures.passes
     (λ over. true≢false (sym (subst (λ (r : Result Bool PairEnd). IsOk r) (sym over) refl)))
 
 pub returns-in-Err-step-clause-passes : goal.returns-in-Err-step-clause-passes
 returns-in-Err-step-clause-passes g c =
     let x = c.step in
     let y = c.step-2 in
-    both-steps g.E.End.end_step g.E.Tells.telling g.E.Faults.is_sure g.E.Faults.fault_count c.args.a.now c.args.b.now x.new.from x.new.to y.new.to y.new.from
-    c.args.from_a.now c.args.from_b.now x.new.side y.new.side c.args.tally_a.now c.args.tally_b.now x.new.tally y.new.tally c.in-Ok.more true (try_fault_of c.in-Err-step.end)
+    both-steps g.E.End.end_step g.E.Tells.telling g.E.Faults.is_sure g.E.Faults.fault_count
+    (CallsFor g.H.TimerHost.rules g.H.Later.is_later g.H.Later.notifier_is_sure c.args.w) c.args.host.now x.new.host y.new.host c.args.a.now c.args.b.now x.new.from x.new.to y.new.to y.new.from
+    c.args.from_a.now c.args.from_b.now x.new.side y.new.side c.args.tally_a.now c.args.tally_b.now x.new.tally y.new.tally c.in-Ok.more true (Some c.in-Err-step.end)
     c.in-Ok.ensures.passes c.in-Err-step.ensures.passes (λ over. absurd (true≢false (sym (subst (λ (r : Result Bool PairEnd). IsOk r) (sym over) refl))))
 
 pub returns-clause-passes : goal.returns-clause-passes
 returns-clause-passes g c =
     let x = c.step in
     let y = c.step-2 in
-    both-steps g.E.End.end_step g.E.Tells.telling g.E.Faults.is_sure g.E.Faults.fault_count c.args.a.now c.args.b.now x.new.from x.new.to y.new.to y.new.from
+    both-steps g.E.End.end_step g.E.Tells.telling g.E.Faults.is_sure g.E.Faults.fault_count
+    (CallsFor g.H.TimerHost.rules g.H.Later.is_later g.H.Later.notifier_is_sure c.args.w) c.args.host.now x.new.host y.new.host c.args.a.now c.args.b.now x.new.from x.new.to y.new.to y.new.from
     c.args.from_a.now c.args.from_b.now x.new.side y.new.side c.args.tally_a.now c.args.tally_b.now x.new.tally y.new.tally c.in-Ok.more c.in-Ok-step.more None
     c.in-Ok.ensures.passes c.in-Ok-step.ensures.passes (λ over. c.is_finished.ensures.over (ap (λ (r : Result Bool PairEnd). tries_again r) over))
 
