@@ -25,6 +25,8 @@ mod plays;
 #[cfg(test)]
 mod ports;
 #[cfg(test)]
+mod reads;
+#[cfg(test)]
 mod traits;
 #[cfg(test)]
 mod waits;

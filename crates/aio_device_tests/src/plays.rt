@@ -260,6 +260,16 @@ const WAITS: &[Row] = &[
         ],
     },
     Row {
+        shows: "a wait that is told does not sleep, though the one before it was passed over",
+        acts: &[
+            (Watch(7, Interest::READ), Done),
+            (Notify, Done),
+            (Wait(None), Nothing),
+            (Notify, Done),
+            (Wait(None), Nothing),
+        ],
+    },
+    Row {
         shows: "a wait without events is over with its limit",
         acts: &[
             (Watch(1, Interest::READ), Done),

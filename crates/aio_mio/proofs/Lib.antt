@@ -1,1 +1,2 @@
 mod LeftOver
+mod Reading

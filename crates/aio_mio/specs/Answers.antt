@@ -20,3 +20,13 @@ abbrev pub WentDry : Result Did Failed → ℕ → Type 0
 WentDry (Ok (Bytes n)) room = (0 < n) × (n < room)
 WentDry (Ok Blocked) room = ⊤
 WentDry (Err failed) room = ⊥
+
+-- how many bytes went over
+abbrev pub moved : Did → ℕ
+moved (Bytes n) = n
+moved Blocked = 0
+
+-- the same of a call that may have failed, which moves none
+abbrev pub bytes_of : {E : Type 0} → Result Did E → ℕ
+bytes_of (Ok did) = moved did
+bytes_of (Err error) = 0

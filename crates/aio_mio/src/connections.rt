@@ -1,24 +1,22 @@
 //! A connection over a TCP stream.
 
-ghost use Rattle.std.specs.Prelude.{◌≡◌, ◌≤◌, length, false, true, IsErr, IfOk, OnOk, OnErr};
+ghost use Rattle.std.specs.Prelude.{◌≡◌, ◌≤◌, length, false, true, IsErr, OnOk, OnErr};
 ghost use Rattle.aio_base.specs.declared.names.TheConstants.Interest.{NONE};
 ghost use Rattle.aio_base.specs.Devices.{HasCause};
-ghost use Rattle.aio_mio.specs.Answers.{MovesWithin, KeepsOk};
+ghost use Rattle.aio_mio.specs.Answers.{KeepsOk};
 ghost use Rattle.aio_base.specs.World.{has_dir};
 ghost use Rattle.aio_mio.specs.Names.{watched_after};
 
 use crate::answers::{counted, went_dry};
 use crate::names::{token_of, watch_of};
+use crate::reads::{read_from, read_on, write_to};
 use crate::selector::Selector;
 use aio_base::{Arm, Conn, Did, Dir, Failed, Faults, Interest, Key, Tells};
 use mio::net::TcpStream;
 use std::alloc::Global;
-use std::io::{self, ErrorKind, Read, Write};
+use std::io;
 use std::marker::Model;
 use std::sync::Arc;
-
-/// How often a call that a signal interrupts is tried.
-const TRIES: u32 = 1_000;
 
 /// How many bytes a read that left room must have given, so that the system is asked once more.
 const MANY: usize = 4_096;
@@ -46,41 +44,6 @@ impl Model for MioConn {
     ghost Value = { ConnValue };
 
     ghost view = { λ c. record { key = c.key; watched = c.watched; faults = c.faults } };
-}
-
-/// One read, tried again where a signal interrupts it. A read of 0 bytes is the end.
-fn read_from<R: Read>(reader: &mut R, buf: &mut [u8]) -> io::Result<Did>
-    ensures { IfOk result (MovesWithin 0 (length buf.new)) }
-{
-    for _ in 0..TRIES {
-        match reader.read(buf) {
-            Ok(count) => return Ok(Did::Bytes(count)),
-            Err(error) => match error.kind() {
-                ErrorKind::WouldBlock => return Ok(Did::Blocked),
-                ErrorKind::Interrupted => {}
-                _ => return Err(error),
-            },
-        }
-    }
-    Err(io::Error::from(ErrorKind::Interrupted))
-}
-
-/// One write, tried again where a signal interrupts it. A write that takes nothing is an error.
-fn write_to<W: Write>(writer: &mut W, piece: &[u8]) -> io::Result<Did>
-    ensures { IfOk result (MovesWithin 1 (length piece.now)) }
-{
-    for _ in 0..TRIES {
-        match writer.write(piece) {
-            Ok(0) => return Err(io::Error::from(ErrorKind::WriteZero)),
-            Ok(count) => return Ok(Did::Bytes(count)),
-            Err(error) => match error.kind() {
-                ErrorKind::WouldBlock => return Ok(Did::Blocked),
-                ErrorKind::Interrupted => {}
-                _ => return Err(error),
-            },
-        }
-    }
-    Err(io::Error::from(ErrorKind::Interrupted))
 }
 
 impl MioConn {
@@ -167,25 +130,17 @@ impl MioConn {
     /// One more read, behind the first `count` bytes of a buffer, which the read before gave. How many
     /// bytes there are then. Of an end or an error behind them the next read tells: the system tells an
     /// end again, and an error only once.
-    fn read_on(&mut self, buf: &mut [u8], count: usize) -> usize
+    fn read_more(&mut self, buf: &mut [u8], count: usize) -> usize
         requires { count ≤ length buf.old }
         ensures bound { result ≤ length buf.new }
         ensures faults { self.new.faults ≡ self.old.faults }
     {
-        let (_, behind) = buf.split_at_mut(count);
-        let room = behind.len();
-        let more = match read_from(&mut self.stream, behind) {
-            Ok(Did::Blocked) => return count,
-            Ok(Did::Bytes(more)) => more,
-            Err(_) => {
-                self.late = true;
-                0
-            }
-        };
-        if more == 0 || more == room {
+        let read = read_on(&mut self.stream, buf, count);
+        self.late = read.second.is_err();
+        if !went_dry(read.second, buf.len() - count) {
             self.selector.readiness.set(self.key, Dir::Read);
         }
-        count + more
+        read.count
     }
 
     /// What a call with room for so many bytes came to: its fault is counted, and where it did not see the
@@ -280,7 +235,7 @@ impl Conn for MioConn {
         let did = read_from(&mut self.stream, buf);
         match self.settle(Dir::Read, did, buf.len()) {
             Ok(Did::Bytes(count)) if MANY <= count && count < buf.len() => {
-                Ok(Did::Bytes(self.read_on(buf, count)))
+                Ok(Did::Bytes(self.read_more(buf, count)))
             }
             other => other,
         }

@@ -6,7 +6,7 @@ ghost use Rattle.aio_mio.specs.Names.{source_events};
 
 use crate::names::source_event;
 use crate::selector::Selector;
-use crate::wakes::passes_over;
+use crate::wakes::{Plan, plan_of};
 use aio_base::{Event, OutOfMemory};
 use mio::{Events, Poll};
 use std::alloc::Global;
@@ -141,12 +141,12 @@ impl Looks {
         self.given = 0;
         self.came.clear();
         let told = self.selector.wakes.begin();
-        self.passed = passes_over(told, self.passed, limit);
-        if self.passed {
+        let planned = plan_of(told, self.passed, limit);
+        self.passed = planned == Plan::PassesOver;
+        let Plan::Looks(limit) = planned else {
             self.selector.wakes.end();
             return Ok(());
-        }
-        let limit = if told { Some(0) } else { limit };
+        };
         let looked = look_within(&mut self.poll, &mut self.events, limit);
         self.selector.wakes.end();
         gather(&self.events, &mut self.came);

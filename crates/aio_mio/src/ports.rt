@@ -1,6 +1,8 @@
 //! A port of this machine.
 
-ghost use Rattle.std.specs.Prelude.{◌≡◌, ◌≢◌, false, IfOk};
+ghost use Rattle.std.specs.Prelude.{◌≡◌, ◌≢◌, ◌⊎◌, ◌↔◌, false, IfOk};
+ghost use Rattle.std.specs.declared.io.ErrorKind.TheVariants.{ConnectionAborted, Interrupted, WouldBlock};
+ghost use Rattle.aio_mio.specs.declared.ports.AfterError.TheVariants.{Waits, TriesAgain};
 
 use crate::answers::counted;
 use crate::connections::MioConn;
@@ -88,15 +90,38 @@ impl Listening {
         for _ in 0..TURNS {
             match self.try_accept() {
                 Ok(conn) => return Ok(conn),
-                Err(error) => match error.kind() {
-                    ErrorKind::WouldBlock => self.poll.poll(&mut self.events, None)?,
-                    // Others may stand behind it, of which no event comes any more.
-                    ErrorKind::Interrupted | ErrorKind::ConnectionAborted => {}
-                    _ => return Err(error),
+                Err(error) => match after_error(error.kind()) {
+                    AfterError::Waits => self.poll.poll(&mut self.events, None)?,
+                    AfterError::TriesAgain => {}
+                    AfterError::Fails => return Err(error),
                 },
             }
         }
         Err(io::Error::from(ErrorKind::TimedOut))
+    }
+}
+
+/// What an accept does after an error of the system.
+#[derive(Clone, Copy, Debug, PartialEq, Eq)]
+enum AfterError {
+    /// Nobody is there: it waits for the next client.
+    Waits,
+    /// It tries again at once: a signal came, or a client went before it was accepted. Others may stand
+    /// behind it, of which no event comes any more.
+    TriesAgain,
+    /// It fails.
+    Fails,
+}
+
+/// What an accept does after an error of this kind.
+fn after_error(kind: ErrorKind) -> AfterError
+    ensures waits { result ≡ Waits ↔ kind ≡ WouldBlock }
+    ensures again { result ≡ TriesAgain ↔ (kind ≡ Interrupted) ⊎ (kind ≡ ConnectionAborted) }
+{
+    match kind {
+        ErrorKind::WouldBlock => AfterError::Waits,
+        ErrorKind::Interrupted | ErrorKind::ConnectionAborted => AfterError::TriesAgain,
+        _ => AfterError::Fails,
     }
 }
 
