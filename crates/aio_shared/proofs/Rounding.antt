@@ -142,7 +142,7 @@ module _ {W : Type 0} where
     pub runs_on : (ops_after : PassView) → PushedNothing between ops_after → RunsOn all_sure start old handled ops ops_after
     runs_on ops_after d = record { entered = entered; between = between; enters = e; handles = h; cell = hc; drained = d; running = h.running ∙ e.running }
 
-    module _ (new : CellValue W) (ops_after : PassView) (bounds : ClockBounds) (later : ℕ) (one_clock : bounds ≡ start.bounds) (on : start.earliest ≤ later) (f : Finishes bounds later start.latest between ops_after handled.round new.round) (fc : new ≡ record handled { round = new.round })
+    module _ (new : CellValue W) (ops_after : PassView) (bounds : ClockBounds) (later : ℕ) (one_clock : bounds ≡ start.bounds) (on : start.earliest ≤ later) (early : Enters (until later start) old entered ops between) (ended_by : later ≤ start.latest) (f : Finishes bounds later start.latest between ops_after handled.round new.round) (fc : new ≡ record handled { round = new.round })
         (none : handled.round.hand ≡ []) (d : Drained between ops_after) where
       new_is : new ≡ record entered { round = new.round }
       new_is = fc ∙ (λ i. record (hc i) { round = new.round })
@@ -158,13 +158,16 @@ module _ {W : Type 0} where
 
       pub ends : Ends all_sure start old new ops ops_after
       ends = record {
+        mid = later;
+        not_before = on;
+        not_after = ended_by;
         entered = entered;
         between = between;
-        enters = e;
+        enters = early;
         handled = handled.round;
         handles = h;
         none_left = none;
-        finishes = (f.0, f.1, drains_within bounds start.bounds start.earliest later start.latest start.latest between ops_after f.0 _ one_clock on (le_refl start.latest) f.2);
+        finishes = (f.0, f.1, drains_within bounds start.bounds later later start.latest start.latest between ops_after f.0 _ one_clock (le_refl later) (le_refl start.latest) f.2);
         cell = new_is;
         drained = d;
         idle = ap (λ (r : RoundValue). r.running) f.2.did.0;
@@ -201,10 +204,10 @@ module _ {N W : Type 0} (all_sure : Bool) (start : Start W) (old entered handled
   pub ran_out : m1 ≡ record m { ops = m1.ops } → m2 ≡ record m1 { ops = m2.ops } → PushedNothing m.ops m2.ops → PushedNothing m1.ops m2.ops → RanOut all_sure start old handled m m2
   ran_out one two all last = record { member = two ∙ (λ i. record (one i) { ops = m2.ops }); ops = all; round = inr (runs_on all_sure start old entered handled m.ops m1.ops e h hc m2.ops last) }
 
-  module _ (new : CellValue W) (m3 : MemberValue N) (bounds : ClockBounds) (later : ℕ) (one_clock : bounds ≡ start.bounds) (on : start.earliest ≤ later) (f : Finishes bounds later start.latest m1.ops m2.ops handled.round new.round) (fc : new ≡ record handled { round = new.round })
+  module _ (new : CellValue W) (m3 : MemberValue N) (bounds : ClockBounds) (later : ℕ) (one_clock : bounds ≡ start.bounds) (on : start.earliest ≤ later) (early : Enters (until later start) old entered m.ops m1.ops) (ended_by : later ≤ start.latest) (f : Finishes bounds later start.latest m1.ops m2.ops handled.round new.round) (fc : new ≡ record handled { round = new.round })
       (none : handled.round.hand ≡ []) (d : Drained m1.ops m2.ops) (one : m1 ≡ record m { ops = m1.ops }) (two : m2 ≡ record m1 { ops = m2.ops }) (three : m3 ≡ record m2 { pass = m3.pass; notifier = m3.notifier }) where
     ended : Ends all_sure start old new m.ops m2.ops
-    ended = ends all_sure start old entered handled m.ops m1.ops e h hc new m2.ops bounds later one_clock on f fc none d
+    ended = ends all_sure start old entered handled m.ops m1.ops e h hc new m2.ops bounds later one_clock on early ended_by f fc none d
 
     ops_are : m3.ops ≡ m2.ops
     ops_are = ap (λ (x : MemberValue N). x.ops) three
@@ -255,7 +258,7 @@ module _ {N W : Type 0} (all_sure : Bool) (start : Start W) (old entered handled
       told_may fault is = subst (λ (t : ClaimValue). MayTell t.sure_of_wait t.sure_of_arms (Some fault)) claim_is (subst (λ x. MayTell m3.claim.sure_of_wait m3.claim.sure_of_arms x) is new_says.fault)
 
       failed : (fault : CountFault) → new.round.fault ≡ Some (round_fault.Wait fault) → old.round.running ≡ false → WaitFailed old new fault
-      failed fault is idle = wait_failed all_sure start old entered handled m.ops m1.ops e h hc new m2.ops bounds later one_clock on f fc none d fault is idle
+      failed fault is idle = wait_failed all_sure start old entered handled m.ops m1.ops e h hc new m2.ops bounds later one_clock on early ended_by f fc none d fault is idle
 
       answers : (notifier : NotifierCounts) (r : Result ReactedIn ReactFault) → ReportsRound new.round old.round.running (length old.round.hand) notifier r → Reacts parkers all_sure start old new m m3 notifier r
       answers notifier (Ok reacted) t = (finished_is, t)

@@ -2,7 +2,11 @@
 use Rattle.std.specs.Prelude.{◌≡◌, ℕ, Bool, Result}
 use Rattle.aio_base.specs.declared.outcomes.CountFault.{CountFault}
 use Rattle.aio_base.specs.declared.outcomes.Failed.{Failed}
+use Rattle.aio_rules.specs.SharedWords.{after}
+use Rattle.aio_rules.specs.WordCalls.{wake_steps}
+use Rattle.aio_rules.specs.declared.seats.WordStep.TheVariants as word_step
 use Rattle.aio_timers.specs.declared.op.TimerOp.TheVariants as timer_op
+use Rattle.aio_words.specs.Calls.{Offers}
 use Rattle.aio_words.specs.Seats.{SeatValue}
 use Rattle.aio_base.specs.Hosts.{HostRules}
 use Rattle.aio_shared.specs.Members.{IsLaterMember, MemberValue, SharedValue}
@@ -30,6 +34,10 @@ inside_rules calls faults step = record {
       × CarriesOut (timer_op.Remove at id) old.member.ops new.member.ops;
   insert_refused = λ old at waker new. NotCarriedOut old.member new.member;
   removal_refused = λ old at id new. NotCarriedOut old.member new.member;
+  looked = λ old rounds new. (new.member.pass.view ≡ after (word_step.LoadTicker rounds) old.member.pass.view)
+      × (new ≡ with_seat old new.member.pass old.member.notifier);
+  woke = λ old waker told new. Offers calls step (wake_steps waker.0 old.shared.words.parkers) old.member.pass.view new.member.pass.view
+      old.member.notifier new.member.notifier told × (new ≡ with_seat old new.member.pass new.member.notifier);
   faults = λ inside. faults inside.member.notifier;
   pass = λ inside. inside.member.ops.number;
   drawn = λ inside. inside.member.ids;

@@ -172,15 +172,19 @@ module _ {W : Type 0} where
     pub first : Drained ops between
     pub second : Drained between ops_after
 
-  -- A round ended in this call. It was entered, its events in hand were handled, and it was finished after a drain.
+  -- A round ended in this call. It was entered, its events in hand were handled, and it was finished after a drain. Its clock had answered nothing past the one
+  -- moment when it was entered, with its wait; the pass at its end was made at no moment before that one.
   pub record Ends (all_sure : Bool) (start : Start W) (old new : CellValue W) (ops ops_after : PassView) : Type 0 where
+    pub mid : ℕ
+    pub not_before : start.earliest ≤ mid
+    pub not_after : mid ≤ start.latest
     pub entered : CellValue W
     pub between : PassView
-    pub enters : Enters start old entered ops between
+    pub enters : Enters (until mid start) old entered ops between
     pub handled : RoundValue
     pub handles : HandlesSome all_sure entered.round handled
     pub none_left : handled.hand ≡ []
-    pub finishes : Finishes start.bounds start.earliest start.latest between ops_after handled new.round
+    pub finishes : Finishes start.bounds mid start.latest between ops_after handled new.round
     pub cell : new ≡ record entered { round = new.round }
     pub drained : Drained between ops_after
     pub idle : new.round.running ≡ false

@@ -6,7 +6,7 @@ ghost use Rattle.aio_rules.specs.WordCalls.{wake_steps};
 ghost use Rattle.aio_rules.specs.declared.seats.WordStep.TheVariants as word_step;
 ghost use Rattle.aio_base.specs.Hosts.{NotifierTells, wake_fault};
 ghost use Rattle.aio_words.specs.Calls.{Offers};
-ghost use Rattle.aio_shared.specs.Inside.{IsLaterInside, with_seat};
+ghost use Rattle.aio_shared.specs.Inside.{IsLaterInside, inside_rules, with_seat};
 
 use crate::members::Member;
 use crate::shared::Shared;
@@ -87,6 +87,8 @@ impl<R: Wait, N: Notify, A: Arm, W: EventWait> Host for Inside<R, N, A, W> {
             ≡ after (word_step.LoadTicker result) self.old.member.pass.view }
         ensures kept { self.new
             ≡ with_seat self.old self.new.member.pass self.old.member.notifier }
+        ensures looks { (inside_rules N.call_count N.fault_count N.notify_step).looked
+            self.old result self.new }
         ensures least { self.old.member.pass.view.seen ≤ result }
         ensures later { IsLaterInside N.fault_count N.is_sure self.old self.new }
         ensures notifier { NotifierTells (N.is_sure self.old.member.notifier)
@@ -104,6 +106,8 @@ impl<R: Wait, N: Notify, A: Arm, W: EventWait> Host for Inside<R, N, A, W> {
             self.old.member.notifier self.new.member.notifier result }
         ensures kept { self.new
             ≡ with_seat self.old self.new.member.pass self.new.member.notifier }
+        ensures wakes { (inside_rules N.call_count N.fault_count N.notify_step).woke
+            self.old waker result self.new }
         ensures notifier { NotifierTells (N.is_sure self.old.member.notifier)
             (N.fault_count self.old.member.notifier) (N.fault_count self.new.member.notifier)
             (wake_fault result) }

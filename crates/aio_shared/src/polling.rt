@@ -24,6 +24,15 @@ pub enum PollFault {
     Notify(CountFault),
 }
 
+/// What work inside a source came to, and with which number of rounds begun.
+#[derive(Clone, Copy, Debug, Drop, PartialEq, Eq)]
+pub struct Entered<O> {
+    /// How many rounds had begun as the thread entered.
+    pub rounds: u64,
+    /// What the work came to.
+    pub visited: Visited<O>,
+}
+
 impl<R: Wait, N: Notify, A: Arm, W: EventWait> Inside<R, N, A, W> {
     /// Loads the number of rounds begun, takes a source out of its lock, as soon as no round visits it,
     /// makes one visit with that number, and puts the source back.
@@ -31,23 +40,24 @@ impl<R: Wait, N: Notify, A: Arm, W: EventWait> Inside<R, N, A, W> {
         &mut self,
         s: &mut SourceRef<A>,
         visit: &mut V,
-    ) -> Visited<V::Output>
+    ) -> Entered<V::Output>
         requires outside { s.old.inside ≡ false }
-        ensures visits { VisitsOnce A.rest (λ found ticker visited put.
-            V.visits visit.old found ticker visited visit.new put) s.old s.new
-            self.old.member.pass.view self.new.member.pass.view result }
-        ensures arm { IfSome (arm_fault_of result.answer) (IsUnsureArm A.all_sure s.old.key) }
+        ensures visits { VisitsOnce A.rest (λ found ticker visited put. (ticker ≡ result.rounds)
+            × V.visits visit.old found ticker visited visit.new put) s.old s.new
+            self.old.member.pass.view self.new.member.pass.view result.visited }
+        ensures arm { IfSome (arm_fault_of result.visited.answer)
+            (IsUnsureArm A.all_sure s.old.key) }
         ensures kept { self.new
             ≡ with_seat self.old self.new.member.pass self.old.member.notifier }
         ensures notifier { NotifierTells (N.is_sure self.old.member.notifier)
             (N.fault_count self.old.member.notifier) (N.fault_count self.new.member.notifier) None }
         ensures later { IsLaterInside N.fault_count N.is_sure self.old self.new }
     {
-        let ticker = self.ticker();
+        let rounds = self.ticker();
         let mut cell = s.take(&self.rt);
-        let visited = visit.visit(&mut cell, ticker);
+        let visited = visit.visit(&mut cell, rounds);
         s.give(cell);
-        visited
+        Entered { rounds, visited }
     }
 
     /// Wakes the waker that a poll replaced, where it replaced one.
@@ -82,7 +92,7 @@ impl<R: Wait, N: Notify, A: Arm, W: EventWait> Inside<R, N, A, W> {
         ensures leaves { LeavesInside N.fault_count N.is_sure A.all_sure s.old.key
             self.old self.new result }
     {
-        let visited = self.enter_and_leave(s, visit);
+        let visited = self.enter_and_leave(s, visit).visited;
         let woken = self.wake_replaced(visited.replaced);
         told(visited.answer, woken)
     }
@@ -113,14 +123,15 @@ impl<R: Wait, N: Notify, A: Arm, W: EventWait> Inside<R, N, A, W> {
         &mut self,
         s: &mut SourceRef<A>,
         trying: &mut TryDir<'_, T>,
-    ) -> Visited<T::Output>
+    ) -> Entered<T::Output>
         requires outside { s.old.inside ≡ false }
-        ensures tries { VisitsOnce A.rest (λ found ticker tried put.
-            TriesCell A.arm_step A.interests A.rest A.fault_count A.is_sure T.attempts
+        ensures tries { VisitsOnce A.rest (λ found ticker tried put. (ticker ≡ result.rounds)
+            × TriesCell A.arm_step A.interests A.rest A.fault_count A.is_sure T.attempts
             trying.old.poll trying.old.attempt.now found ticker tried trying.new.attempt.now put)
-            s.old s.new self.old.member.pass.view self.new.member.pass.view result }
+            s.old s.new self.old.member.pass.view self.new.member.pass.view result.visited }
         ensures lent { trying.new.attempt.ghost_name ≡ trying.old.attempt.ghost_name }
-        ensures arm { IfSome (arm_fault_of result.answer) (IsUnsureArm A.all_sure s.old.key) }
+        ensures arm { IfSome (arm_fault_of result.visited.answer)
+            (IsUnsureArm A.all_sure s.old.key) }
         ensures kept { self.new
             ≡ with_seat self.old self.new.member.pass self.old.member.notifier }
         ensures notifier { NotifierTells (N.is_sure self.old.member.notifier)
@@ -130,20 +141,22 @@ impl<R: Wait, N: Notify, A: Arm, W: EventWait> Inside<R, N, A, W> {
         self.enter_and_leave(s, trying)
     }
 
-    /// Makes an attempt as `try_source` does, and hands the waker out that it replaced, to be woken.
+    /// Makes an attempt as `try_source` does, tells with which number of rounds, and hands the waker out
+    /// that it replaced, to be woken.
     pub fn try_entered<T: Attempt<A>>(
         &mut self,
         s: &mut SourceRef<A>,
         dir: Dir,
         w: Waker,
         attempt: &mut T,
-    ) -> Visited<T::Output>
+    ) -> Entered<T::Output>
         requires outside { s.old.inside ≡ false }
-        ensures tries { VisitsOnce A.rest (λ found ticker tried put.
-            TriesCell A.arm_step A.interests A.rest A.fault_count A.is_sure T.attempts
+        ensures tries { VisitsOnce A.rest (λ found ticker tried put. (ticker ≡ result.rounds)
+            × TriesCell A.arm_step A.interests A.rest A.fault_count A.is_sure T.attempts
             (record { dir = dir; waker = w }) attempt.old found ticker tried attempt.new put)
-            s.old s.new self.old.member.pass.view self.new.member.pass.view result }
-        ensures arm { IfSome (arm_fault_of result.answer) (IsUnsureArm A.all_sure s.old.key) }
+            s.old s.new self.old.member.pass.view self.new.member.pass.view result.visited }
+        ensures arm { IfSome (arm_fault_of result.visited.answer)
+            (IsUnsureArm A.all_sure s.old.key) }
         ensures kept { self.new
             ≡ with_seat self.old self.new.member.pass self.old.member.notifier }
         ensures notifier { NotifierTells (N.is_sure self.old.member.notifier)
@@ -175,7 +188,7 @@ impl<R: Wait, N: Notify, A: Arm, W: EventWait> Inside<R, N, A, W> {
         ensures leaves { LeavesInside N.fault_count N.is_sure A.all_sure s.old.key
             self.old self.new result }
     {
-        let tried = self.try_entered(s, dir, w, attempt);
+        let tried = self.try_entered(s, dir, w, attempt).visited;
         let woken = self.wake_replaced(tried.replaced);
         told(tried.answer, woken)
     }

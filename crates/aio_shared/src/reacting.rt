@@ -9,7 +9,7 @@ ghost use Rattle.aio_shared.specs.Cells.{Awaits, EndsInRise};
 ghost use Rattle.aio_shared.specs.Notifying.{NotifiesAsWon};
 ghost use Rattle.aio_shared.specs.Members.{IsLaterMember, IsMemberOf, moved_on};
 ghost use Rattle.aio_shared.specs.OneCell.{IsCellOf};
-ghost use Rattle.aio_shared.specs.Reacting.{BeginRefused, BeginsAs, BeginsOver, ClockGoesOn, DrainsAtMost, EnterRefused, Enters, Finishes, FinishesOver, NotifyFailed, Reacts, Settles, ReportsRound, Wakes, looked, rose, start_of, until};
+ghost use Rattle.aio_shared.specs.Reacting.{BeginRefused, BeginsAs, ClockGoesOn, EnterRefused, Enters, Finishes, NotifyFailed, Reacts, Settles, ReportsRound, Wakes, looked, rose, start_of, until};
 ghost use Rattle.aio_shared.specs.Reporting.{Reports};
 ghost use Rattle.aio_shared.specs.Waking.{TellsFirstWake};
 ghost use Rattle.aio_sources.specs.Events.{HandlesSome};
@@ -22,10 +22,9 @@ use crate::shared::Shared;
 use crate::waiting::CellWait;
 use crate::waking::wake_each;
 use aio_base::{Arm, ArmFault, Clock, CountFault, EventWait, Notify, OutOfMemory};
-use aio_ops::{OpPass, Ops};
+use aio_ops::OpPass;
 use aio_react::{Round, RoundFault};
 use aio_source::InHand;
-use aio_timers::TimerBook;
 use aio_words::{RoundSeat, Words};
 use std::sync::Wait;
 
@@ -210,7 +209,10 @@ impl<A: Arm, W: EventWait> Shared<A, W> {
         if rounds == u64::MAX {
             return Err(ReactFault::RoundsSpent);
         }
-        match self.drain_and_begin(rt, ops, round, clock, limit, rounds + 1) {
+        match self
+            .timers
+            .drain_and_begin(&self.ops, rt, ops, round, clock, limit, rounds + 1)
+        {
             Err(_) => return Err(ReactFault::OutOfMemory),
             Ok(()) => {}
         }
@@ -218,30 +220,6 @@ impl<A: Arm, W: EventWait> Shared<A, W> {
             Ok(_) => Ok(()),
             Err(_) => unreachable!(),
         }
-    }
-
-    /// Drains the queue of operations and begins a round, under the lock of the book.
-    fn drain_and_begin<R: Wait, C: Clock>(
-        &self,
-        rt: &R,
-        ops: &mut OpPass,
-        round: &mut Round,
-        clock: &mut C,
-        limit: Option<u64>,
-        number: u64,
-    ) -> Result<(), OutOfMemory>
-        requires ops { ops.old.queue ≡ self.now.ops }
-        requires idle { round.old.running ≡ false }
-        ensures begun { OnOk result
-            (BeginsAs number (C.bounds clock.old) (C.latest clock.old) (C.latest clock.new) limit
-            ops.old ops.new round.new) }
-        ensures drained { OnOk result (Drained ops.old ops.new) }
-        ensures refused { OnErr result (round.new ≡ round.old) }
-        ensures pushed { OnErr result (PushedNothing ops.old ops.new) }
-        ensures clock { ClockGoesOn C.bounds C.latest clock.old clock.new }
-    {
-        let mut guard = self.timers.lock(rt);
-        begin_over(&self.ops, rt, ops, &mut *guard, round, clock, limit, number)
     }
 
     /// Handles each event in hand. `OutOfMemory` leaves in hand what was not handled.
@@ -275,15 +253,8 @@ impl<A: Arm, W: EventWait> Shared<A, W> {
         ensures pushed { OnErr result (PushedNothing m.old.ops m.new.ops) }
         ensures clock { ClockGoesOn C.bounds C.latest clock.old clock.new }
     {
-        let mut guard = self.timers.lock(rt);
-        end_over(
-            &self.ops,
-            rt,
-            &mut m.ops,
-            &mut *guard,
-            &mut cell.work.round,
-            clock,
-        )
+        self.timers
+            .drain_and_end(&self.ops, rt, &mut m.ops, &mut cell.work.round, clock)
     }
 
     /// Wakes each waker that the ended round took, and answers the first fault or what was done.
@@ -343,72 +314,6 @@ fn wait_for_events<W: EventWait>(
 {
     wait.await_events(seat, round);
     words.waited(seat);
-}
-
-/// Drains the queue of operations into the book and begins a round, by a pass over what the drain left.
-fn begin_over<R: Wait, C: Clock>(
-    queue: &Ops,
-    rt: &R,
-    ops: &mut OpPass,
-    book: &mut TimerBook,
-    round: &mut Round,
-    clock: &mut C,
-    limit: Option<u64>,
-    number: u64,
-) -> Result<(), OutOfMemory>
-    requires ops { ops.old.queue ≡ queue.now }
-    requires idle { round.old.running ≡ false }
-    ensures begun { OnOk result
-        (BeginsOver number (C.bounds clock.old) (C.latest clock.old) (C.latest clock.new) limit
-        ops.old ops.new book.old book.new round.new) }
-    ensures drained { OnOk result (Drained ops.old ops.new) }
-    ensures refused { OnErr result (round.new ≡ round.old) }
-    ensures pushed { OnErr result (PushedNothing ops.old ops.new) }
-    ensures kept { OnErr result (DrainsAtMost ops.old ops.new book.old book.new) }
-    ensures clock { ClockGoesOn C.bounds C.latest clock.old clock.new }
-{
-    match queue.drain(rt, ops, book) {
-        Err(refused) => return Err(refused),
-        Ok(_) => {}
-    }
-    let now = clock.now();
-    match round.begin(book, now, limit, number) {
-        Err(refused) => Err(refused),
-        Ok(_) => Ok(()),
-    }
-}
-
-/// Drains the queue of operations into the book and ends the round, by a pass over what the drain left
-/// where the round asks for one.
-fn end_over<R: Wait, C: Clock>(
-    queue: &Ops,
-    rt: &R,
-    p: &mut OpPass,
-    book: &mut TimerBook,
-    round: &mut Round,
-    clock: &mut C,
-) -> Result<(), OutOfMemory>
-    requires ops { p.old.queue ≡ queue.now }
-    requires running { round.old.running ≡ true }
-    requires hand { round.old.hand ≡ [] }
-    ensures finished { OnOk result
-        (FinishesOver (C.bounds clock.old) (C.latest clock.old) (C.latest clock.new)
-        p.old p.new book.old book.new round.old round.new) }
-    ensures drained { OnOk result (Drained p.old p.new) }
-    ensures refused { OnErr result (round.new ≡ round.old) }
-    ensures pushed { OnErr result (PushedNothing p.old p.new) }
-    ensures kept { OnErr result (DrainsAtMost p.old p.new book.old book.new) }
-    ensures clock { ClockGoesOn C.bounds C.latest clock.old clock.new }
-{
-    match queue.drain(rt, p, book) {
-        Err(refused) => return Err(refused),
-        Ok(_) => {}
-    }
-    let now = clock.now();
-    match round.finish(book, now) {
-        Err(no_room) => Err(no_room),
-        Ok(_) => Ok(()),
-    }
 }
 
 /// Clears `notified` for a seat that waits, in a call that made no wait; it blocks again. Any other

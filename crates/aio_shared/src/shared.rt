@@ -12,6 +12,7 @@ use crate::cell::RoundCell;
 use crate::members::Member;
 use crate::round_lock::{Claim, RoundLock};
 use crate::starting::Started;
+use crate::timer_lock::TimerLock;
 use aio_base::{Arm, ArmFault, EventWait, Notify, OutOfMemory};
 use aio_ops::{OpPass, Ops};
 use aio_react::Round;
@@ -29,7 +30,7 @@ pub struct Shared<A: Arm, W: EventWait> {
     pub(crate) words: Arc<Words, Global>,
     pub(crate) ops: Ops,
     pub(crate) sources: Mutex<SourceTable<A>>,
-    pub(crate) timers: Mutex<TimerBook>,
+    pub(crate) timers: TimerLock,
 }
 
 impl<A: Arm, W: EventWait> Model for Shared<A, W> {
@@ -138,7 +139,7 @@ impl<A: Arm + Drop> Parts<A> {
             words,
             ops,
             sources: Mutex::new(table),
-            timers: Mutex::new(TimerBook::new(alloc)),
+            timers: TimerLock::new(TimerBook::new(alloc)),
         };
         let member = Member {
             claim,

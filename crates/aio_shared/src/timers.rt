@@ -1,10 +1,9 @@
 //! The calls on timers: an operation joins the queue, or is applied to the book by the call itself.
 
 ghost use Rattle.std.specs.Prelude.{◌≡◌, ◌+◌, IsTrue, OnOk, OnErr};
-ghost use Rattle.aio_ops.specs.Passes.{AppliesItself};
 ghost use Rattle.aio_base.specs.Hosts.{NotifierTells, has_id_left, insert_fault};
 ghost use Rattle.aio_shared.specs.Members.{IsLaterMember, IsMemberOf};
-ghost use Rattle.aio_shared.specs.TimerCalls.{CarriesOut, GivesUp, Inserts, IsLaterPass, RemovesTimer, Tries, TriesOver};
+ghost use Rattle.aio_shared.specs.TimerCalls.{CarriesOut, GivesUp, Inserts, IsLaterPass, RemovesTimer};
 ghost use Rattle.aio_shared.specs.Reporting.{told_of};
 
 use crate::members::Member;
@@ -12,8 +11,8 @@ use crate::shared::Shared;
 use aio_base::{
     Arm, CountFault, EventWait, InsertRefusal, Moment, Notify, OutOfMemory, TimerId, Waker,
 };
-use aio_ops::{OpPass, Ops};
-use aio_timers::{TimerBook, TimerOp};
+use aio_ops::OpPass;
+use aio_timers::TimerOp;
 use std::sync::Wait;
 
 /// How often a call drains the queue and pushes its operation again, at most.
@@ -97,59 +96,13 @@ impl<A: Arm, W: EventWait> Shared<A, W> {
         }
         let mut tries = 0;
         while tries < TRIES {
-            if self.drain_and_push(rt, p, op)? {
+            if self.timers.drain_and_push(&self.ops, rt, p, op)? {
                 return Ok(());
             }
             tries += 1;
         }
-        self.drain_and_apply(rt, p, op)
+        self.timers.drain_and_apply(&self.ops, rt, p, op)
     }
-
-    /// Drains the queue and pushes an operation, under the lock of the book. Whether the queue took it.
-    fn drain_and_push<R: Wait>(
-        &self,
-        rt: &R,
-        p: &mut OpPass,
-        op: &TimerOp,
-    ) -> Result<bool, OutOfMemory>
-        requires belongs { p.old.queue ≡ self.now.ops }
-        ensures tries { Tries op.now p.old p.new result }
-    {
-        let mut guard = self.timers.lock(rt);
-        push_after_drain(&self.ops, rt, p, &mut *guard, op)
-    }
-
-    /// Drains the queue and applies an operation to the book, under its lock.
-    fn drain_and_apply<R: Wait>(
-        &self,
-        rt: &R,
-        p: &mut OpPass,
-        op: &TimerOp,
-    ) -> Result<(), OutOfMemory>
-        requires belongs { p.old.queue ≡ self.now.ops }
-        ensures applies { OnOk result (AppliesItself op.now p.old p.new) }
-        ensures refused { OnErr result (p.new ≡ p.old) }
-    {
-        let mut guard = self.timers.lock(rt);
-        self.ops.apply_after_drain(rt, p, &mut *guard, *op)
-    }
-}
-
-/// Drains the queue into the book, and then pushes an operation. Whether the queue took it.
-/// `OutOfMemory` where there was no room; then neither.
-fn push_after_drain<R: Wait>(
-    queue: &Ops,
-    rt: &R,
-    p: &mut OpPass,
-    book: &mut TimerBook,
-    op: &TimerOp,
-) -> Result<bool, OutOfMemory>
-    requires belongs { p.old.queue ≡ queue.now }
-    ensures tries { Tries op.now p.old p.new result }
-    ensures over { TriesOver op.now p.old p.new book.old book.new result }
-{
-    queue.drain(rt, p, book)?;
-    Ok(queue.push(rt, p, *op).is_ok())
 }
 
 /// What an insert answers that registered its timer under this id, by the answer of its notify.

@@ -14,9 +14,8 @@ use std::marker::Model;
 use std::sync::Wait;
 
 /// A source that went out of the table and then out of its lock, with its connection.
-/// `SourceRef::take_closed` alone makes one. Contracts see the key of the source, and the rest of its
-/// connection.
-#[derive(Drop)]
+/// `SourceRef::take_closed` alone makes one, and `remove` alone ends it, since it cannot be let go. Contracts
+/// see the key of the source, and the rest of its connection.
 pub(crate) struct Closed<A: Arm> {
     pub(crate) key: Key,
     pub(crate) cell: Sealed<SourceCell<A>>,

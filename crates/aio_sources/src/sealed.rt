@@ -126,8 +126,7 @@ impl<A: Arm> SourceRef<A> {
 
 /// A value that is out of its lock, or on its way into it, and that nobody reads or changes but the steps
 /// of this file. What takes it out, and what puts it in, is for values of every type, and so does
-/// nothing else.
-#[derive(Drop)]
+/// nothing else. It cannot be let go: who has one puts it into a lock, or takes its source out for good.
 pub(crate) struct Sealed<T> {
     value: T,
 }
@@ -144,7 +143,8 @@ impl<T: Noted> Sealed<T> {
         ensures { o.new ≡ owner_of lock.now
             (put_back (T.first_note self.value) (T.second_note self.value) o.old.knows) }
     {
-        lock.give(o, self.value);
+        let Sealed { value } = self;
+        lock.give(o, value);
     }
 
     /// Takes the value out of its lock, as soon as it is there, by its owner.
@@ -174,7 +174,8 @@ impl<T: Noted> Sealed<T> {
         requires first { T.first_note self.value ≡ visit.first }
         requires second { T.second_note self.value ≡ visit.second }
     {
-        lock.lock.leave(visit, self.value);
+        let Sealed { value } = self;
+        lock.lock.leave(visit, value);
     }
 }
 

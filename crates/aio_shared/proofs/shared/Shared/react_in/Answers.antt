@@ -46,7 +46,7 @@ pub returns-clause-reacts : goal.returns-clause-reacts
 returns-clause-reacts g c =
     reacts c.args.self.now.sure_of_arms _ c.args.cell.now c.enter_round.new.cell c.handle_in_hand.new.cell c.args.m.now c.enter_round.new.m c.end_round.new.m
     (entered_until _ _ _ _ _ _ c.in-Ok.ensures.entered c.end_round.ensures.clock.latest) c.handle_in_hand.ensures.handled c.handle_in_hand.ensures.cell c.requires.cell c.requires.belongs.arms
-    c.end_round.new.cell c.wake_taken.new.m _ _ c.enter_round.ensures.clock.bounds c.enter_round.ensures.clock.latest c.in-Ok-end_round.ensures.finished c.end_round.ensures.cell
+    c.end_round.new.cell c.wake_taken.new.m _ _ c.enter_round.ensures.clock.bounds c.enter_round.ensures.clock.latest c.in-Ok.ensures.entered c.end_round.ensures.clock.latest c.in-Ok-end_round.ensures.finished c.end_round.ensures.cell
     c.in-Ok-handle_in_hand.ensures.none_left c.in-Ok-end_round.ensures.drained c.enter_round.ensures.kept c.end_round.ensures.kept c.wake_taken.ensures.kept
     _ c.wake_taken.ensures.woke _ _ _ _ _ (search rules) (search rules) (search rules) c.wake_taken.ensures.tells
 
@@ -63,14 +63,14 @@ pub returns-clause-cell : goal.returns-clause-cell
 returns-clause-cell g c =
     new_says c.args.self.now.sure_of_arms _ c.args.cell.now c.enter_round.new.cell c.handle_in_hand.new.cell c.args.m.now c.enter_round.new.m c.end_round.new.m
     (entered_until _ _ _ _ _ _ c.in-Ok.ensures.entered c.end_round.ensures.clock.latest) c.handle_in_hand.ensures.handled c.handle_in_hand.ensures.cell c.requires.cell c.requires.belongs.arms
-    c.end_round.new.cell c.wake_taken.new.m _ _ c.enter_round.ensures.clock.bounds c.enter_round.ensures.clock.latest c.in-Ok-end_round.ensures.finished c.end_round.ensures.cell
+    c.end_round.new.cell c.wake_taken.new.m _ _ c.enter_round.ensures.clock.bounds c.enter_round.ensures.clock.latest c.in-Ok.ensures.entered c.end_round.ensures.clock.latest c.in-Ok-end_round.ensures.finished c.end_round.ensures.cell
     c.in-Ok-handle_in_hand.ensures.none_left c.in-Ok-end_round.ensures.drained c.enter_round.ensures.kept c.end_round.ensures.kept c.wake_taken.ensures.kept
 
 pub returns-clause-later : goal.returns-clause-later
 returns-clause-later g c =
     is_later c.args.self.now.sure_of_arms _ c.args.cell.now c.enter_round.new.cell c.handle_in_hand.new.cell c.args.m.now c.enter_round.new.m c.end_round.new.m
     (entered_until _ _ _ _ _ _ c.in-Ok.ensures.entered c.end_round.ensures.clock.latest) c.handle_in_hand.ensures.handled c.handle_in_hand.ensures.cell c.requires.cell c.requires.belongs.arms
-    c.end_round.new.cell c.wake_taken.new.m _ _ c.enter_round.ensures.clock.bounds c.enter_round.ensures.clock.latest c.in-Ok-end_round.ensures.finished c.end_round.ensures.cell
+    c.end_round.new.cell c.wake_taken.new.m _ _ c.enter_round.ensures.clock.bounds c.enter_round.ensures.clock.latest c.in-Ok.ensures.entered c.end_round.ensures.clock.latest c.in-Ok-end_round.ensures.finished c.end_round.ensures.cell
     c.in-Ok-handle_in_hand.ensures.none_left c.in-Ok-end_round.ensures.drained c.enter_round.ensures.kept c.end_round.ensures.kept c.wake_taken.ensures.kept
     _ c.wake_taken.ensures.woke _ _ _ c.wake_taken.ensures.faults
 
