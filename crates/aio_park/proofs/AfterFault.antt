@@ -1,5 +1,5 @@
 -- What a call of `react_in` that told a fault, and a look at the ticker after it, come to together.
-use Rattle.std.proofs.Common.{◌≡◌, ◌≢◌, ◌∙◌, ℕ, Bool, true, false, [], ◌∷◌, refl, ap, sym, subst, Option, Result, Ok, Err}
+use Rattle.std.proofs.Common.{◌≡◌, ◌≢◌, ◌-◌, ◌^◌, ◌∙◌, ℕ, Bool, true, false, [], ◌∷◌, refl, ap, sym, subst, Option, Result, Ok, Err}
 use Rattle.aio_base.specs.ClockBounds.{ClockBounds}
 use Rattle.aio_base.specs.Devices.{HasCause, TellsFaults}
 use Rattle.aio_rules.specs.declared.seats.WordStep.TheVariants as word_step
@@ -60,19 +60,19 @@ module _ {N W : Type 0} (parkers : ℕ) (all_sure : Bool) (start : Start W) (old
   handed_on later notifier react_fault.OutOfMemory other r = r
 
   pub tries_after_fault : (faults : N → ℕ) (by later : MemberValue N) (fault : ReactFault) (answer : Result (Option ReactedIn) ReactFault)
-      → Reacts parkers all_sure start old new m by (record { before = faults m.notifier; after = faults by.notifier }) (Err fault) → LooksAfter fault by later answer
+      → (fault ≡ react_fault.RoundsSpent → old.seat.view.seen ≡ 2 ^ 64 - 1) → Reacts parkers all_sure start old new m by (record { before = faults m.notifier; after = faults by.notifier }) (Err fault) → LooksAfter fault by later answer
       → Tries parkers all_sure start old new m later (record { before = faults m.notifier; after = faults later.notifier }) answer
-  tries_after_fault faults by later fault answer r (HandsOn other same is) =
+  tries_after_fault faults by later fault answer at_end r (HandsOn other same is) =
       subst (λ (p : MemberValue N × Result (Option ReactedIn) ReactFault). Tries parkers all_sure start old new m p.0 (record { before = faults m.notifier; after = faults p.0.notifier }) p.1)
       (λ i. (sym same i, sym is i)) (handed_on by _ fault other r)
-  tries_after_fault faults by later fault answer r (FindsEnd found spent did end is) =
+  tries_after_fault faults by later fault answer at_end r (FindsEnd found spent did end is) =
       let none = subst (λ f. Reacts parkers all_sure start old new m by (record { before = faults m.notifier; after = faults by.notifier }) (Err f)) spent r in
       subst (λ (a : Result (Option ReactedIn) ReactFault). Tries parkers all_sure start old new m later (record { before = faults m.notifier; after = faults later.notifier }) a)
-      (sym is) (none.0, looked_rest found by later did ∙ ap (λ (x : MemberValue N). record x { pass = later.pass }) none.1)
-  tries_after_fault faults by later fault answer r (FindsLess found spent did below is) =
+      (sym is) (none.0, at_end spent, did ∙ (λ i. member_did (word_step.LoadTicker (end i)) (none.1 i)))
+  tries_after_fault faults by later fault answer at_end r (FindsLess found spent did below is) =
       let none = subst (λ f. Reacts parkers all_sure start old new m by (record { before = faults m.notifier; after = faults by.notifier }) (Err f)) spent r in
       subst (λ (a : Result (Option ReactedIn) ReactFault). Tries parkers all_sure start old new m later (record { before = faults m.notifier; after = faults later.notifier }) a)
-      (sym is) (nothing_begun old new m by later found none.0 none.1 (looked_rest found by later did) (ap (λ (x : MemberValue N). x.pass.view) did) below)
+      (sym is) (nothing_begun old new m by later found none.0 (at_end spent) none.1 did below)
 
 module _ {N C : Type 0} {faults : N → ℕ} {is_sure : N → Bool} {calls_of : N → ℕ} {bounds_of : C → ClockBounds} {latest_of : C → ℕ} {shared : SharedValue} where
   -- what the call and the look keep of the thread

@@ -15,7 +15,7 @@ use Rattle.aio_park.proofs.Gaining.{gained_is, own-append}
 
 -- ## Moments
 
-abbrev clocked : ClockBounds → ℕ → ℕ → Clocked
+abbrev pub clocked : ClockBounds → ℕ → ℕ → Clocked
 clocked bounds before after = record { bounds = bounds; before = before; after = after }
 
 told_between : (parker : ℕ) (bounds : ClockBounds) (first before after last : ℕ) (cx : Cx) → first ≤ before → after ≤ last → PollsAtNow parker (clocked bounds before after) cx → PollsAtNow parker (clocked bounds first last) cx
@@ -30,7 +30,7 @@ told_between parker bounds first before after last cx least most told = record {
 
 module _ {N T O : Type 0} (step : T → InsideValue N → Cx → Poll O → T → InsideValue N → Type 0) (gives : T → Bool → ℕ → O → Type 0) where
   -- a poll is also one of a clock that is looked at for longer
-  poll_within : (parker mask : ℕ) (bounds : ClockBounds) (first before after last : ℕ) (old : T) (host : InsideValue N) (answer : Poll O) (new : T) (left : InsideValue N) → first ≤ before → after ≤ last
+  pub poll_within : (parker mask : ℕ) (bounds : ClockBounds) (first before after last : ℕ) (old : T) (host : InsideValue N) (answer : Poll O) (new : T) (left : InsideValue N) → first ≤ before → after ≤ last
       → PollsWith step parker (clocked bounds before after) mask old host answer new left → PollsWith step parker (clocked bounds first last) mask old host answer new left
   poll_within parker mask bounds first before after last old host answer new left least most q =
       record { cx = q.cx; told = told_between parker bounds first before after last q.cx least most q.told; mask_is = q.mask_is; polled = q.polled }

@@ -17,7 +17,7 @@ use Rattle.aio_shared.specs.Members.{Extends, IsLaterMember, MemberValue}
 use Rattle.aio_shared.specs.OneCell.{Takes, ClaimValue, with_empties}
 use Rattle.aio_shared.specs.Reacting.{BeginsNone, NotifierCounts, Reacts, Start, until}
 use Rattle.aio_park.specs.Blocking.{gained}
-use Rattle.aio_park.specs.Driving.{ComesToNothing, Drives, DrivesRound, DrivesRounds, DrivesUntilFault, FailsRound, FailsWithin, Holds, Passes, ReactsAtOnce, ReactsBlocked, SwapsFirst, Tries, TriesRound, TriesUntil, TriesWithoutLimit, Waits, member_did}
+use Rattle.aio_park.specs.Driving.{ComesToNothing, Drives, DrivesRound, DrivesRounds, DrivesUntilFault, FailsRound, FailsWithin, Holds, Passes, ReactsAtOnce, ReactsBlocked, SwapsFirst, Tries, TriesInVain, TriesRound, TriesUntil, TriesWithoutLimit, Waits, cell_did, member_did}
 use Rattle.aio_park.proofs.Gaining.{Follows, gained_is, member_itself}
 
 le_same : (a b : ℕ) → b ≡ a → a ≤ b
@@ -103,33 +103,29 @@ module _ {N : Type 0} where
     sure = ap (λ (x : MemberValue N). is_sure x.notifier) is;
   }
 
--- of a cell that only its seat changed, twice
-seats : {K : Type 0} (a b c : CellValue K) → b ≡ record a { seat = b.seat } → c ≡ record b { seat = c.seat } → c ≡ record a { seat = c.seat }
-seats {K = K} a b c first second = second ∙ ap (λ (x : CellValue K). record x { seat = c.seat }) first
+-- one step of the seat that a cell lent
+pub cell_step : {W : Type 0} (step : WordStep) (c : CellValue W) (was now : SeatValue) → was ≡ c.seat → now.words ≡ was.words → now.view ≡ after step was.view
+    → record c { seat = now } ≡ cell_did step c
+cell_step step c was now is words view =
+    λ i. record c { seat = record { words = (words ∙ ap (λ (s : SeatValue). s.words) is) i; view = (view ∙ ap (λ (s : SeatValue). after step s.view) is) i } }
 
 module _ {N W : Type 0} where
-  pub nothing_itself : (c : CellValue W) (m : MemberValue N) → ComesToNothing c c m m
-  nothing_itself c m = record { cell = refl; member = refl; looks = []; did = sym (append-nil m.pass.view.did); below = All-nil (λ found. found ≢ 2 ^ 64 - 1) }
-
-  pub nothing_further : (old mid new : CellValue W) (m by later : MemberValue N) → ComesToNothing old mid m by → ComesToNothing mid new by later → ComesToNothing old new m later
-  nothing_further old mid new m by later x y = record {
-    cell = y.cell ∙ (λ i. record (x.cell i) { seat = new.seat });
-    member = y.member ∙ (λ i. record (x.member i) { pass = later.pass });
-    looks = x.looks ++ y.looks;
-    did = y.did ∙ ap (λ l. l ++ map word_step.LoadTicker y.looks) x.did ∙ append_assoc m.pass.view.did (map word_step.LoadTicker x.looks) (map word_step.LoadTicker y.looks)
-        ∙ ap (λ l. m.pass.view.did ++ l) (sym (map-append word_step.LoadTicker x.looks y.looks));
-    below = All-append (λ found. found ≢ 2 ^ 64 - 1) x.looks y.looks x.below y.below;
-  }
+  -- of the member changed nothing but its seat
+  pub vain_kept : (tries : ℕ) (old new : CellValue W) (m later : MemberValue N) → TriesInVain tries old new m later → later ≡ record m { pass = later.pass }
+  vain_kept zero old new m later x = x.1 ∙ ap (λ (y : MemberValue N). record m { pass = y.pass }) (sym x.1)
+  vain_kept (suc tries) old new m later (last, by, front, one) =
+      let looked : later ≡ record by { pass = later.pass } = one.looks ∙ ap (λ (y : MemberValue N). record by { pass = y.pass }) (sym one.looks) in
+      looked ∙ ap (λ (y : MemberValue N). record y { pass = later.pass }) (vain_kept tries old last m by front)
 
   -- no round began, and the member looked at the ticker
-  pub nothing_begun : (old new : CellValue W) (m by later : MemberValue N) (found : ℕ) → BeginsNone old new → by ≡ m → later ≡ record by { pass = later.pass }
-      → later.pass.view ≡ after (word_step.LoadTicker found) by.pass.view → found ≢ 2 ^ 64 - 1 → ComesToNothing old new m later
-  nothing_begun old new m by later found none same looked view below = record {
-    cell = none.cell;
-    member = looked ∙ (λ i. record (same i) { pass = later.pass });
-    looks = found ∷ [];
-    did = ap (λ (v : SeatView). v.did) view ∙ ap (λ (x : MemberValue N). x.pass.view.did ++ word_step.LoadTicker found ∷ []) same;
-    below = All-cons (λ found. found ≢ 2 ^ 64 - 1) found [] below (All-nil (λ found. found ≢ 2 ^ 64 - 1));
+  pub nothing_begun : (old new : CellValue W) (m by later : MemberValue N) (found : ℕ) → BeginsNone old new → old.seat.view.seen ≡ 2 ^ 64 - 1 → by ≡ m
+      → later ≡ member_did (word_step.LoadTicker found) by → found ≢ 2 ^ 64 - 1 → ComesToNothing old new m later
+  nothing_begun old new m by later found none spent same did below = record {
+    none = none;
+    spent = spent;
+    found = found;
+    looks = did ∙ ap (member_did (word_step.LoadTicker found)) same;
+    below = below;
   }
 
   -- one more round
@@ -152,6 +148,7 @@ module _ {N W : Type 0} where
   round_until : (faults : N → ℕ) (parkers : ℕ) (all_sure : Bool) (start : Start W) (stop : ℕ) (old new : CellValue W) (m later : MemberValue N) (events : ℕ) → start.latest ≤ stop
       → DrivesRound faults parkers all_sure start old new m later events → DrivesRound faults parkers all_sure (until stop start) old new m later events
   round_until faults parkers all_sure start stop old new m later events on x = record {
+    tries = x.tries;
     from = x.from;
     by = x.by;
     first = x.first;
@@ -181,6 +178,7 @@ module _ {N W : Type 0} where
   pub from_earlier : (faults : N → ℕ) (parkers : ℕ) (all_sure : Bool) (start : Start W) (bounds : ClockBounds) (moment : ℕ) (old new : CellValue W) (m later : MemberValue N) (events : ℕ)
       → bounds ≡ start.bounds → start.earliest ≤ moment → DrivesRound faults parkers all_sure (record start { bounds = bounds; earliest = moment }) old new m later events → DrivesRound faults parkers all_sure start old new m later events
   from_earlier faults parkers all_sure start bounds moment old new m later events same before x = record {
+    tries = x.tries;
     from = x.from;
     by = x.by;
     first = x.first;
@@ -249,45 +247,32 @@ module _ {N W : Type 0} where
     try_until start stop given old new m later r on x = record { moment = x.moment; not_before = x.not_before; stop = x.stop; not_after = le_trans x.not_after on; tries = x.tries }
 
     -- tries until a moment are also ones until a later moment
-    pub tries_until : (start : Start W) (stop tries : ℕ) (old new : CellValue W) (m later : MemberValue N) → start.latest ≤ stop
-        → TriesWithoutLimit faults parkers all_sure start tries old new m later → TriesWithoutLimit faults parkers all_sure (until stop start) tries old new m later
-    tries_until start stop zero old new m later on x = x
-    tries_until start stop (suc tries) old new m later on (last, from, by, reacted, front, tried, seat) =
-        (last, from, by, reacted, tries_until start stop tries old last m by on front, try_until start stop None last from by later (Ok reacted) on tried, seat)
+    pub tries_until : (start : Start W) (stop parker tries : ℕ) (old new : CellValue W) (m later : MemberValue N) → start.latest ≤ stop
+        → TriesWithoutLimit faults parkers all_sure start parker tries old new m later → TriesWithoutLimit faults parkers all_sure (until stop start) parker tries old new m later
+    tries_until start stop parker zero old new m later on x = x
+    tries_until start stop parker (suc tries) old new m later on (last, by, reacted, front, tried) =
+        (last, by, reacted, tries_until start stop parker tries old last m by on front, try_until start stop None _ new by later (Ok reacted) on tried)
 
-    -- a step of the seat before them
-    pub tries_before : (start : Start W) (tries : ℕ) (old mid new : CellValue W) (m later : MemberValue N) → mid ≡ record old { seat = mid.seat }
-        → TriesWithoutLimit faults parkers all_sure start tries mid new m later → TriesWithoutLimit faults parkers all_sure start tries old new m later
-    tries_before start zero old mid new m later step (seat, same) = (seats old mid new step seat, same)
-    tries_before start (suc tries) old mid new m later step (last, from, by, reacted, front, tried, seat) =
-        (last, from, by, reacted, tries_before start tries old mid last m by step front, tried, seat)
+    module _ (start : Start W) (parker tries : ℕ) (old last from new : CellValue W) (m by later : MemberValue N)
+        (front : TriesWithoutLimit faults parkers all_sure start parker tries old last m by) (look : from ≡ cell_did (word_step.LoadMask parker 0) last) where
+      -- one more, right after a look that found no woken slot
+      pub tries_further : (reacted : Option ReactedIn)
+          → TriesRound faults parkers all_sure start None from new by later (Ok reacted) → TriesWithoutLimit faults parkers all_sure start parker (suc tries) old new m later
+      tries_further reacted tried =
+          (last, by, reacted, front, subst (λ (c : CellValue W). TriesRound faults parkers all_sure start None c new by later (Ok reacted)) look tried)
 
-    -- and one after them
-    pub tries_after : (start : Start W) (tries : ℕ) (old mid new : CellValue W) (m later : MemberValue N) → new ≡ record mid { seat = new.seat }
-        → TriesWithoutLimit faults parkers all_sure start tries old mid m later → TriesWithoutLimit faults parkers all_sure start tries old new m later
-    tries_after start zero old mid new m later step (seat, same) = (seats old mid new seat step, same)
-    tries_after start (suc tries) old mid new m later step (last, from, by, reacted, front, tried, seat) =
-        (last, from, by, reacted, front, tried, seats from mid new seat step)
-
-    -- one more
-    pub tries_further : (start : Start W) (tries : ℕ) (old mid from new : CellValue W) (m by later : MemberValue N) (reacted : Option ReactedIn)
-        → TriesWithoutLimit faults parkers all_sure start tries old mid m by → from ≡ record mid { seat = from.seat }
-        → TriesRound faults parkers all_sure start None from new by later (Ok reacted) → TriesWithoutLimit faults parkers all_sure start (suc tries) old new m later
-    tries_further start tries old mid from new m by later reacted front step tried = (from, new, by, reacted, tries_after start tries old mid from m by step front, tried, refl)
-
-    -- all of a call between two steps of the seat
-    pub tries_between : {X : Type 0} (start : Start W) (old blocked left new : CellValue W) (m later : MemberValue N) (r : Result X ReactFault) → blocked ≡ record old { seat = blocked.seat }
-        → new ≡ record left { seat = new.seat } → TriesUntil faults parkers all_sure start r blocked left m later → TriesUntil faults parkers all_sure start r old new m later
-    tries_between start old blocked left new m later (Ok done) block unblock (tries, made) =
-        (tries, tries_before start tries old blocked new m later block (tries_after start tries blocked left new m later unblock made))
-    tries_between start old blocked left new m later (Err fault) block unblock (tries, last, from, by, front, tried, seat) =
-        (tries, last, from, by, tries_before start tries old blocked last m by block front, tried, seats from left new seat unblock)
+      -- or one that failed
+      pub tries_fail : (X : Type 0) (fault : ReactFault)
+          → TriesRound faults parkers all_sure start None from new by later (Err fault) → TriesUntil faults parkers all_sure start {X = X} parker (Err fault) old new m later
+      tries_fail X fault tried =
+          (tries, last, by, front, subst (λ (c : CellValue W). TriesRound faults parkers all_sure start None c new by later (Err fault)) look tried)
 
     -- a round that failed in a call that began later is one of a call that began earlier, if the bounds are the same
     pub fails_earlier : (start : Start W) (bounds : ClockBounds) (moment : ℕ) (old new : CellValue W) (m later : MemberValue N) (fault : ReactFault)
         → bounds ≡ start.bounds → start.earliest ≤ moment → FailsRound faults parkers all_sure (record start { bounds = bounds; earliest = moment }) old new m later fault
         → FailsRound faults parkers all_sure start old new m later fault
     fails_earlier start bounds moment old new m later fault same before x = record {
+      before = x.before;
       from = x.from;
       by = x.by;
       first = x.first;

@@ -8,3 +8,4 @@ pub mod Polling
 pub mod Turning
 pub mod Fellows
 pub mod Stops
+pub mod Ending

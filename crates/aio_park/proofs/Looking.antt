@@ -12,7 +12,7 @@ use Rattle.aio_shared.specs.declared.reacting.ReactFault.{ReactFault}
 use Rattle.aio_shared.specs.declared.reacting.ReactFault.TheVariants as react_fault
 use Rattle.aio_shared.specs.Cells.{CellValue}
 use Rattle.aio_shared.specs.Members.{MemberValue}
-use Rattle.aio_shared.specs.Reacting.{BeginsNone, Enters, NotifierCounts, Reacts, RunsOn, Settles, Start, looked}
+use Rattle.aio_shared.specs.Reacting.{BeginsNone, Enters, NotifierCounts, Reacts, RunsOn, Settles, Start, looked, until}
 use Rattle.aio_park.specs.Looks.{LooksFirst, WaitsAfterLooks}
 
 -- what holds without a look before holds with one too
@@ -111,13 +111,13 @@ module _ {W : Type 0} where
     pub reacts_looks : (parker parkers : ℕ) (all_sure : Bool) (start : Start W) (old new : CellValue W) (m later : MemberValue N) (notifier : NotifierCounts) (r : Result ReactedIn ReactFault)
         → Reacts parkers all_sure start old new m later notifier r → WaitsAfterLooks parker true old.seat.view new.seat.view
     reacts_looks parker parkers all_sure start old new m later notifier (Ok reacted) r =
-        let e = r.0.ends in entered_looks parker start old e.entered new m.ops e.between e.enters (ap (λ (c : CellValue W). c.seat) e.cell)
+        let e = r.0.ends in entered_looks parker (until e.mid start) old e.entered new m.ops e.between e.enters (ap (λ (c : CellValue W). c.seat) e.cell)
     reacts_looks parker parkers all_sure start old new m later notifier (Err (react_fault.Wait fault)) r =
-        let e = r.0.ends in entered_looks parker start old e.entered new m.ops e.between e.enters (ap (λ (c : CellValue W). c.seat) e.cell)
+        let e = r.0.ends in entered_looks parker (until e.mid start) old e.entered new m.ops e.between e.enters (ap (λ (c : CellValue W). c.seat) e.cell)
     reacts_looks parker parkers all_sure start old new m later notifier (Err (react_fault.Arm fault)) r =
-        let e = r.0.ends in entered_looks parker start old e.entered new m.ops e.between e.enters (ap (λ (c : CellValue W). c.seat) e.cell)
+        let e = r.0.ends in entered_looks parker (until e.mid start) old e.entered new m.ops e.between e.enters (ap (λ (c : CellValue W). c.seat) e.cell)
     reacts_looks parker parkers all_sure start old new m later notifier (Err (react_fault.Notify fault)) r =
-        let e = r.0.ends in entered_looks parker start old e.entered new m.ops e.between e.enters (ap (λ (c : CellValue W). c.seat) e.cell)
+        let e = r.0.ends in entered_looks parker (until e.mid start) old e.entered new m.ops e.between e.enters (ap (λ (c : CellValue W). c.seat) e.cell)
     reacts_looks parker parkers all_sure start old new m later notifier (Err react_fault.RoundsSpent) r = none_looks parker old new r.0
     reacts_looks parker parkers all_sure start old new m later notifier (Err react_fault.OutOfMemory) r = ran_looks parker all_sure start old new m later r.round
 

@@ -28,17 +28,17 @@ module _ {N W : Type 0} (faults : N → ℕ) (parkers : ℕ) (all_sure : Bool) (
   try_wider given old new m later r x =
       try_of faults parkers all_sure start given bounds x.moment x.stop old new m later r same (le_trans before x.not_before) (le_trans x.not_after on) x.tries
 
-  tries_wider : (tries : ℕ) (old new : CellValue W) (m later : MemberValue N)
-      → TriesWithoutLimit faults parkers all_sure within tries old new m later → TriesWithoutLimit faults parkers all_sure start tries old new m later
-  tries_wider zero old new m later x = x
-  tries_wider (suc tries) old new m later (last, from, by, reacted, front, tried, seat) =
-      (last, from, by, reacted, tries_wider tries old last m by front, try_wider None last from by later (Ok reacted) tried, seat)
+  tries_wider : (parker tries : ℕ) (old new : CellValue W) (m later : MemberValue N)
+      → TriesWithoutLimit faults parkers all_sure within parker tries old new m later → TriesWithoutLimit faults parkers all_sure start parker tries old new m later
+  tries_wider parker zero old new m later x = x
+  tries_wider parker (suc tries) old new m later (last, by, reacted, front, tried) =
+      (last, by, reacted, tries_wider parker tries old last m by front, try_wider None _ new by later (Ok reacted) tried)
 
-  all_wider : {X : Type 0} (r : Result X ReactFault) (old new : CellValue W) (m later : MemberValue N)
-      → TriesUntil faults parkers all_sure within r old new m later → TriesUntil faults parkers all_sure start r old new m later
-  all_wider (Ok done) old new m later (tries, made) = (tries, tries_wider tries old new m later made)
-  all_wider (Err fault) old new m later (tries, last, from, by, front, tried, seat) =
-      (tries, last, from, by, tries_wider tries old last m by front, try_wider None last from by later (Err fault) tried, seat)
+  all_wider : {X : Type 0} (parker : ℕ) (r : Result X ReactFault) (old new : CellValue W) (m later : MemberValue N)
+      → TriesUntil faults parkers all_sure within parker r old new m later → TriesUntil faults parkers all_sure start parker r old new m later
+  all_wider parker (Ok done) old new m later (tries, found, last, made, woken, look) = (tries, found, last, tries_wider parker tries old last m later made, woken, look)
+  all_wider parker (Err fault) old new m later (tries, last, by, front, tried) =
+      (tries, last, by, tries_wider parker tries old last m by front, try_wider None _ new by later (Err fault) tried)
 
   at_once_wider : (m later : MemberValue N) (r : Result (Option ReactedIn) ReactFault)
       → ReactsAtOnce W faults parkers all_sure within m later r → ReactsAtOnce W faults parkers all_sure start m later r
@@ -46,7 +46,7 @@ module _ {N W : Type 0} (faults : N → ℕ) (parkers : ℕ) (all_sure : Bool) (
 
   blocked_wider : (parker : ℕ) (m later : MemberValue N) (r : Result (Unit {0}) ReactFault)
       → ReactsBlocked W faults parkers all_sure within parker m later r → ReactsBlocked W faults parkers all_sure start parker m later r
-  blocked_wider parker m later r x = held_as _ _ _ m later (λ taken left holding done x. (x.0, all_wider r taken left holding done x.1)) x
+  blocked_wider parker m later r x = held_as _ _ _ m later (λ taken left holding done x. (x.0, record { left = x.1.left; tries = all_wider parker r _ x.1.left holding done x.1.tries; unblocks = x.1.unblocks })) x
 
   passes_wider : (m later : MemberValue N) → Passes W faults parkers all_sure within m later → Passes W faults parkers all_sure start m later
   passes_wider m later (FindsNoCell none kept) = FindsNoCell none kept

@@ -34,19 +34,29 @@ pub data LooksAfter {N : Type 0} (fault : ReactFault) (m later : MemberValue N) 
   FindsLess : (found : ℕ) → fault ≡ react_fault.RoundsSpent → later ≡ member_did (word_step.LoadTicker found) m → found ≢ 2 ^ 64 - 1 → answer ≡ Ok None
       → LooksAfter fault m later answer
 
-module _ {N W : Type 0} where
-  -- Tries to begin a round came to nothing: of the cell changed nothing but its seat, and of the member nothing but its seat, which did nothing but look at
-  -- the ticker, and never found its end.
-  pub record ComesToNothing (old new : CellValue W) (m later : MemberValue N) : Type 0 where
-    pub cell : new ≡ record old { seat = new.seat }
-    pub member : later ≡ record m { pass = later.pass }
-    pub looks : List ℕ
-    pub did : later.pass.view.did ≡ m.pass.view.did ++ map word_step.LoadTicker looks
-    pub below : All (λ found. found ≢ 2 ^ 64 - 1) looks
+-- the cell after a step of its seat
+abbrev pub cell_did : {W : Type 0} → WordStep → CellValue W → CellValue W
+cell_did step c = record c { seat = record c.seat { view = after step c.seat.view } }
 
-  -- A call of `react_in` told this fault. Where the fault is that no round can begin, the member looked at the ticker afterwards.
+module _ {N W : Type 0} where
+  -- A try of a round came to nothing: a call of `react_in` answered that no round can begin, as the cell's seat knew the ticker at its end; and the member, which
+  -- did nothing else, looked at the ticker after it and found less.
+  pub record ComesToNothing (old new : CellValue W) (m later : MemberValue N) : Type 0 where
+    pub none : BeginsNone old new
+    pub spent : old.seat.view.seen ≡ 2 ^ 64 - 1
+    pub found : ℕ
+    pub looks : later ≡ member_did (word_step.LoadTicker found) m
+    pub below : found ≢ 2 ^ 64 - 1
+
+  -- so many of these tries, one after the other
+  abbrev pub TriesInVain : ℕ → CellValue W → CellValue W → MemberValue N → MemberValue N → Type 0
+  TriesInVain zero old new m later = (new ≡ old) × (later ≡ m)
+  TriesInVain (suc tries) old new m later = (last : CellValue W) × (by : MemberValue N) × TriesInVain tries old last m by × ComesToNothing last new by later
+
+  -- A call of `react_in` told this fault. Where the fault is that no round can begin, the member looked at the ticker afterwards, and found its end too.
   abbrev pub Fails : ℕ → Bool → Start W → CellValue W → CellValue W → MemberValue N → MemberValue N → NotifierCounts → ReactFault → Type 0
-  Fails parkers all_sure start old new m later notifier react_fault.RoundsSpent = BeginsNone old new × (later ≡ record m { pass = later.pass })
+  Fails parkers all_sure start old new m later notifier react_fault.RoundsSpent =
+      BeginsNone old new × (old.seat.view.seen ≡ 2 ^ 64 - 1) × (later ≡ member_did (word_step.LoadTicker (2 ^ 64 - 1)) m)
   Fails parkers all_sure start old new m later notifier fault = Reacts parkers all_sure start old new m later notifier (Err fault)
 
   -- a call of `react_in`, and a look at the ticker where that answered that no round can begin
@@ -56,11 +66,12 @@ module _ {N W : Type 0} where
   Tries parkers all_sure start old new m later notifier (Err fault) = Fails parkers all_sure start old new m later notifier fault
 
   module _ (faults : N → ℕ) (parkers : ℕ) (all_sure : Bool) (start : Start W) where
-    -- A whole round without a limit, or the rest of one that ran, after tries that came to nothing. It handled so many events.
+    -- A whole round without a limit, or the rest of one that ran, after so many tries that came to nothing. It handled so many events.
     pub record DrivesRound (old new : CellValue W) (m later : MemberValue N) (events : ℕ) : Type 0 where
+      pub tries : ℕ
       pub from : CellValue W
       pub by : MemberValue N
-      pub first : ComesToNothing old from m by
+      pub first : TriesInVain tries old from m by
       pub moment : ℕ
       pub not_before : start.earliest ≤ moment
       pub stop : ℕ
@@ -85,11 +96,12 @@ module _ {N W : Type 0} where
       pub tries : Tries parkers all_sure (record start { given = given; earliest = moment; latest = stop }) old new m later
           (record { before = faults m.notifier; after = faults later.notifier }) answer
 
-    -- After tries that came to nothing, a try of a round without a limit failed by this fault.
+    -- After so many tries that came to nothing, a try of a round without a limit failed by this fault.
     pub record FailsRound (old new : CellValue W) (m later : MemberValue N) (fault : ReactFault) : Type 0 where
+      pub before : ℕ
       pub from : CellValue W
       pub by : MemberValue N
-      pub first : ComesToNothing old from m by
+      pub first : TriesInVain before old from m by
       pub tries : TriesRound None from new by later (Err fault)
 
     -- Fewer rounds than this, one after the other, and then one that failed by this fault.
@@ -102,18 +114,25 @@ module _ {N W : Type 0} where
       pub rounds_are : DrivesRounds made old last m by events
       pub fails : FailsRound last new by later fault
 
-    -- So many tries of a round without a limit, none of which failed, one after the other. Before, between and after them nothing changed but the cell's
-    -- seat.
-    abbrev pub TriesWithoutLimit : ℕ → CellValue W → CellValue W → MemberValue N → MemberValue N → Type 0
-    TriesWithoutLimit zero old new m later = (new ≡ record old { seat = new.seat }) × (later ≡ m)
-    TriesWithoutLimit (suc tries) old new m later = (last from : CellValue W) × (by : MemberValue N) × (reacted : Option ReactedIn)
-        × TriesWithoutLimit tries old last m by × TriesRound None last from by later (Ok reacted) × (new ≡ record from { seat = new.seat })
+    -- So many tries of a round without a limit, none of which failed, one after the other. Right before each of them, and at no other time, the cell's seat
+    -- looked at this parker's mask, and found no woken slot.
+    abbrev pub TriesWithoutLimit : ℕ → ℕ → CellValue W → CellValue W → MemberValue N → MemberValue N → Type 0
+    TriesWithoutLimit parker zero old new m later = (new ≡ old) × (later ≡ m)
+    TriesWithoutLimit parker (suc tries) old new m later = (last : CellValue W) × (by : MemberValue N) × (reacted : Option ReactedIn)
+        × TriesWithoutLimit parker tries old last m by × TriesRound None (cell_did (word_step.LoadMask parker 0) last) new by later (Ok reacted)
 
-    -- The same of a call with this answer: its fault is that of one more try, the last one.
-    abbrev pub TriesUntil : {X : Type 0} → Result X ReactFault → CellValue W → CellValue W → MemberValue N → MemberValue N → Type 0
-    TriesUntil (Ok done) old new m later = (tries : ℕ) × TriesWithoutLimit tries old new m later
-    TriesUntil (Err fault) old new m later = (tries : ℕ) × (last from : CellValue W) × (by : MemberValue N)
-        × TriesWithoutLimit tries old last m by × TriesRound None last from by later (Err fault) × (new ≡ record from { seat = new.seat })
+    -- The same of a call with this answer: then a look found woken slots; or it found none again, and the fault is that of the try after it, the last one.
+    abbrev pub TriesUntil : {X : Type 0} → ℕ → Result X ReactFault → CellValue W → CellValue W → MemberValue N → MemberValue N → Type 0
+    TriesUntil parker (Ok done) old new m later = (tries found : ℕ) × (last : CellValue W)
+        × TriesWithoutLimit parker tries old last m later × (found ≢ 0) × (new ≡ cell_did (word_step.LoadMask parker found) last)
+    TriesUntil parker (Err fault) old new m later = (tries : ℕ) × (last : CellValue W) × (by : MemberValue N)
+        × TriesWithoutLimit parker tries old last m by × TriesRound None (cell_did (word_step.LoadMask parker 0) last) new by later (Err fault)
+
+    -- The same while the cell's seat blocks the parker, which it does first; it unblocks it last.
+    pub record TriesBlocked {X : Type 0} (parker : ℕ) (answer : Result X ReactFault) (old new : CellValue W) (m later : MemberValue N) : Type 0 where
+      pub left : CellValue W
+      pub tries : TriesUntil parker answer (cell_did (word_step.StoreBlocked parker 1 0) old) left m later
+      pub unblocks : new ≡ cell_did (word_step.StoreBlocked parker 0 1) left
 
 -- A member took a cell so, did this with it, and gave it back.
 pub record Holds {N W : Type 0} (Taken : ClaimValue → ClaimValue → CellValue W → Type 0) (Did : CellValue W → CellValue W → MemberValue N → MemberValue N → Type 0) (m later : MemberValue N) : Type 0 where
@@ -152,10 +171,11 @@ module _ {N : Type 0} (W : Type 0) (faults : N → ℕ) where
     -- one round that does not wait, or a try of it
     TriesOneRound : (reacted : Option ReactedIn) → ReactsAtOnce parkers all_sure start m later (Ok reacted) → Passes parkers all_sure start m later
 
-  -- A member took the cell by one try, tried rounds without a limit while the cell's seat blocked this parker, and gave the cell back.
+  -- A member took the cell by one try, tried rounds without a limit while the cell's seat blocked this parker, each right after a look at the parker's mask,
+  -- and gave the cell back.
   abbrev pub ReactsBlocked : ℕ → Bool → Start W → ℕ → MemberValue N → MemberValue N → Result (Unit {0}) ReactFault → Type 0
   ReactsBlocked parkers all_sure start parker m later answer =
-      Holds TakesCell (λ taken left holding done. BlocksWhile parker taken.seat.view left.seat.view answer × TriesUntil faults parkers all_sure start answer taken left holding done) m later
+      Holds TakesCell (λ taken left holding done. BlocksWhile parker taken.seat.view left.seat.view answer × TriesBlocked faults parkers all_sure start parker answer taken left holding done) m later
 
   -- How a member waits for woken slots of this parker, and what its last swap of the mask then finds.
   pub data Waits (parkers : ℕ) (all_sure : Bool) (start : Start W) (parker mask : ℕ) (m later : MemberValue N) : Type 0 where

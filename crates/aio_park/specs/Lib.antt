@@ -6,3 +6,4 @@ pub mod Groups
 pub mod Until
 pub mod Stopping
 pub mod Posts
+pub mod ToEnd

@@ -10,7 +10,7 @@ ghost use Rattle.aio_shared.specs.OneCell.{IsCellOf};
 ghost use Rattle.aio_shared.specs.Reacting.{until, start_of};
 ghost use Rattle.aio_words.specs.Seats.{Blocks};
 ghost use Rattle.aio_park.specs.Blocking.{Gains, GainsOneAtMost, HasFaultCause, IsPast, KeepsThread, PolledUntil, gained, mask_list, taken_of};
-ghost use Rattle.aio_park.specs.Driving.{GainsNone, ParksFor, Passes, ReactsAtOnce, ReactsBlocked, SwapsFirst, TakesTurns, TriesUntil, TurnsOver, Waits, member_did};
+ghost use Rattle.aio_park.specs.Driving.{GainsNone, ParksFor, Passes, ReactsAtOnce, ReactsBlocked, SwapsFirst, TakesTurns, TriesBlocked, TriesUntil, TurnsOver, Waits, member_did};
 ghost use Rattle.aio_park.specs.Looks.{BlocksWhile, HasSeenWoken, WaitsAfterLooks};
 ghost use Rattle.aio_park.specs.Polls.{Polled};
 
@@ -100,7 +100,14 @@ pub fn block_on<
 }
 
 /// Polls the task once, at one reading of the clock.
-fn poll_once<R: Wait, N: Notify, C: Clock, A: Arm, W: EventWait, T: Task<Inside<R, N, A, W>>>(
+pub(crate) fn poll_once<
+    R: Wait,
+    N: Notify,
+    C: Clock,
+    A: Arm,
+    W: EventWait,
+    T: Task<Inside<R, N, A, W>>,
+>(
     host: &mut Inside<R, N, A, W>,
     parker: u32,
     mask: u64,
@@ -327,9 +334,9 @@ fn react_blocking<R: Wait, N: Notify, C: Clock, A: Arm, W: EventWait>(
     requires idle { IsIdle cell.old }
     requires parker { parker < shared.now.words.parkers }
     ensures blocks { BlocksWhile parker cell.old.seat.view cell.new.seat.view result }
-    ensures tries { TriesUntil N.fault_count shared.now.words.parkers shared.now.sure_of_arms
+    ensures tries { TriesBlocked N.fault_count shared.now.words.parkers shared.now.sure_of_arms
         (until (C.latest clock.new) (start_of C.bounds C.latest W.wait_step clock.old))
-        result cell.old cell.new m.old m.new }
+        parker result cell.old cell.new m.old m.new }
     ensures took { GainsNone m.old.pass.view m.new.pass.view }
     ensures keeps { KeepsThread N.fault_count N.is_sure N.call_count C.bounds C.latest
         shared.now m.old m.new clock.old clock.new result }
@@ -364,9 +371,10 @@ fn react_until_woken<R: Wait, N: Notify, C: Clock, A: Arm, W: EventWait>(
     ensures woken { IfOk result (λ none. (parker : ℕ)
         → cell.old.seat.view.mode ≡ mode.Block parker
         → HasSeenWoken parker cell.new.seat.view) }
-    ensures tries { TriesUntil N.fault_count shared.now.words.parkers shared.now.sure_of_arms
+    ensures tries { (parker : ℕ) → cell.old.seat.view.mode ≡ mode.Block parker
+        → TriesUntil N.fault_count shared.now.words.parkers shared.now.sure_of_arms
         (until (C.latest clock.new) (start_of C.bounds C.latest W.wait_step clock.old))
-        result cell.old cell.new m.old m.new }
+        parker result cell.old cell.new m.old m.new }
     ensures took { GainsNone m.old.pass.view m.new.pass.view }
     ensures keeps { KeepsThread N.fault_count N.is_sure N.call_count C.bounds C.latest
         shared.now m.old m.new clock.old clock.new result }

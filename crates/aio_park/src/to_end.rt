@@ -1,13 +1,18 @@
 //! A task that a thread serves to its end, whatever its rounds fault.
 
-ghost use Rattle.std.specs.Prelude.{◌≡◌, false, ℕ, Ok, IfOk, IfErr};
+ghost use Rattle.std.specs.Prelude.{◌≡◌, ◌≤◌, false, ℕ, Ok, IfOk, IfErr};
 ghost use Rattle.aio_base.specs.Devices.{Rose};
 ghost use Rattle.aio_park.specs.Blocking.{IsPast};
 ghost use Rattle.aio_shared.specs.Inside.{IsLaterInside};
+ghost use Rattle.aio_shared.specs.HandOver.{all_slots};
+ghost use Rattle.aio_shared.specs.Waking.{MemberWakes};
+ghost use Rattle.aio_park.specs.Driving.{TurnsOver};
 ghost use Rattle.aio_park.specs.Stopping.{StopsFor};
+ghost use Rattle.aio_park.specs.ToEnd.{PollsUntilReady, RunsThenHandsOver, RunsToEnd, RunsWhereMade};
 
+use crate::blocking::poll_once;
 use crate::thread::Thread;
-use aio_base::{Arm, Clock, CountFault, Cx, EventWait, Notify, OutOfMemory, Poll, Task};
+use aio_base::{Arm, Clock, CountFault, EventWait, Notify, OutOfMemory, Poll, Task};
 use aio_shared::{Inside, ReactFault};
 use std::sync::Wait;
 
@@ -43,6 +48,15 @@ pub fn run_to_end<
         → T.gives task.old (N.is_sure thread.old.host.member.notifier) moment output) }
     ensures cause { IfErr result (StopsFor thread.old.host.member.claim.sure_of_wait
         (N.is_sure thread.old.host.member.notifier)) }
+    ensures runs { RunsToEnd T.poll_step
+        (λ shared. TurnsOver W N.fault_count W.wait_step shared thread.old.parker)
+        N.call_count N.fault_count N.is_sure N.notify_step thread.old.parker
+        (record {
+          bounds = C.bounds thread.old.clock;
+          before = C.latest thread.old.clock;
+          after = C.latest thread.new.clock;
+        })
+        task.old thread.old.host result task.new thread.new.host }
     ensures later { IsLaterInside N.fault_count N.is_sure thread.old.host thread.new.host }
     ensures parker { thread.new.parker ≡ thread.old.parker }
 {
@@ -89,6 +103,15 @@ pub fn run_then_hand_over<
         → T.gives ran (N.is_sure thread.old.host.member.notifier) moment output)) }
     ensures cause { IfErr result (StopsFor thread.old.host.member.claim.sure_of_wait
         (N.is_sure thread.old.host.member.notifier)) }
+    ensures ran { RunsThenHandsOver T.poll_step
+        (λ shared. TurnsOver W N.fault_count W.wait_step shared thread.old.parker)
+        N.call_count N.fault_count N.is_sure N.notify_step thread.old.parker
+        (record {
+          bounds = C.bounds thread.old.clock;
+          before = C.latest thread.old.clock;
+          after = C.latest thread.new.clock;
+        })
+        task thread.old.host result thread.new.host }
     ensures later { IsLaterInside N.fault_count N.is_sure thread.old.host thread.new.host }
     ensures parker { thread.new.parker ≡ thread.old.parker }
 {
@@ -114,6 +137,15 @@ fn run_made<
         → T.gives ran (N.is_sure thread.old.host.member.notifier) moment output)) }
     ensures cause { IfErr result (StopsFor thread.old.host.member.claim.sure_of_wait
         (N.is_sure thread.old.host.member.notifier)) }
+    ensures ran { RunsWhereMade T.poll_step
+        (λ shared. TurnsOver W N.fault_count W.wait_step shared thread.old.parker)
+        N.call_count N.fault_count N.is_sure N.notify_step thread.old.parker
+        (record {
+          bounds = C.bounds thread.old.clock;
+          before = C.latest thread.old.clock;
+          after = C.latest thread.new.clock;
+        })
+        task thread.old.host result thread.new.host }
     ensures later { IsLaterInside N.fault_count N.is_sure thread.old.host thread.new.host }
     ensures parker { thread.new.parker ≡ thread.old.parker }
 {
@@ -127,6 +159,8 @@ fn run_made<
 fn wake_all<R: Wait, N: Notify, A: Arm, W: EventWait>(
     host: &mut Inside<R, N, A, W>,
 ) -> Result<(), CountFault>
+    ensures wakes { MemberWakes N.call_count N.fault_count N.is_sure N.notify_step
+        host.old.shared.words.parkers all_slots host.old.member host.new.member result }
     ensures later { IsLaterInside N.fault_count N.is_sure host.old host.new }
     ensures cause { IfErr result (λ fault. (N.is_sure host.old.member.notifier ≡ false)
         × Rose fault.before fault.after) }
@@ -145,19 +179,22 @@ fn poll_over_and_over<
 >(thread: &mut Thread<R, N, A, W, C>, task: &mut T) -> T::Output
     ensures output { (moment : ℕ) → IsPast (C.bounds thread.old.clock) moment
         → T.gives task.old (N.is_sure thread.old.host.member.notifier) moment result }
+    ensures polled { PollsUntilReady T.poll_step thread.old.parker
+        (record {
+          bounds = C.bounds thread.old.clock;
+          before = C.latest thread.old.clock;
+          after = C.latest thread.new.clock;
+        })
+        task.old thread.old.host result task.new thread.new.host }
+    ensures bounds { C.bounds thread.new.clock ≡ C.bounds thread.old.clock }
+    ensures latest { C.latest thread.old.clock ≤ C.latest thread.new.clock }
     ensures later { IsLaterInside N.fault_count N.is_sure thread.old.host thread.new.host }
     ensures parker { thread.new.parker ≡ thread.old.parker }
 {
     let rt = thread.host.rt;
     for _ in rt.forever() {
-        let now = thread.clock.now();
-        let _bound = now.get();
-        let cx = Cx {
-            parker: thread.parker,
-            mask: u64::MAX,
-            now,
-        };
-        match task.poll(&mut thread.host, cx) {
+        let parker = thread.parker;
+        match poll_once(&mut thread.host, parker, u64::MAX, &mut thread.clock, task) {
             Poll::Ready(output) => return output,
             Poll::Pending => {}
         }

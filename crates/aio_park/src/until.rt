@@ -1,9 +1,10 @@
 //! A task that attempts an operation on a source until it succeeds or a moment comes.
 
-ghost use Rattle.std.specs.Prelude.{◌≡◌, false};
+ghost use Rattle.std.specs.Prelude.{◌≡◌, false, None, Some};
+ghost use Rattle.aio_future.specs.Timers.{new_timer};
 
 use aio_base::{Arm, Cx, Dir, EventWait, Moment, Notify, Poll, Task};
-use aio_future::{Sleep, TimerFault};
+use aio_future::{Sleep, Timer, TimerFault};
 use aio_shared::{Attempt, Inside, PollFault, SourceRef};
 use std::sync::Wait;
 
@@ -41,12 +42,20 @@ impl<A: Arm, T> TryUntil<A, T> {
     /// A task that was not polled yet. It takes no memory.
     pub fn new(source: SourceRef<A>, dir: Dir, attempt: T, until: Moment) -> TryUntil<A, T>
         requires outside { source.inside ≡ false }
+        ensures source { result.source ≡ source }
+        ensures dir { result.dir ≡ dir }
+        ensures attempt { result.attempt ≡ attempt }
+        ensures timer { result.sleep.timer ≡ new_timer (Some until) None }
+        ensures polls { (result.polls ≡ 0) × (result.sleep.polls ≡ 0) }
     {
         TryUntil {
             source,
             dir,
             attempt,
-            sleep: Sleep::until(until),
+            sleep: Sleep {
+                timer: Timer::at(until),
+                polls: 0,
+            },
             polls: 0,
         }
     }

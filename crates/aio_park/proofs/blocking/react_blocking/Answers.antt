@@ -1,10 +1,13 @@
-use Rattle.std.proofs.Common.{◌≡◌, ◌++◌, [], ◌∷◌, rules, refl, ap, ◌∙◌}
+use Rattle.std.proofs.Common.{◌≡◌, ◌++◌, [], ◌∷◌, rules, ap, ◌∙◌, subst}
 use Rattle.aio_rules.specs.declared.seats.Mode.TheVariants as mode
 use Rattle.aio_rules.specs.declared.seats.SeatView.{SeatView}
 use Rattle.aio_rules.specs.declared.seats.WordStep.TheVariants as word_step
 use Rattle.aio_words.specs.Seats.{SeatValue}
+use Rattle.aio_shared.specs.Cells.{CellValue}
+use Rattle.aio_shared.specs.Reacting.{until, start_of}
+use Rattle.aio_park.specs.Driving.{TriesUntil}
 use Rattle.aio_park.specs.Looks.{HasSeenWoken}
-use Rattle.aio_park.proofs.Holding.{tries_between}
+use Rattle.aio_park.proofs.Holding.{cell_step}
 use Rattle.aio_park.proofs.Looking.{of_parker}
 use Rattle.aio_park.proofs.blocking.react_blocking.Goals as goal
 
@@ -39,4 +42,17 @@ returns-clause-blocks g c =
     }
 
 pub returns-clause-tries : goal.returns-clause-tries
-returns-clause-tries g c = tries_between g.N.Faults.fault_count c.args.shared.now.words.parkers c.args.shared.now.sure_of_arms _ c.args.cell.now (record c.args.cell.now { seat = c.block.new.s }) c.react_until_woken-reacted.new.cell _ _ _ c.react_until_woken-reacted.result refl refl c.react_until_woken-reacted.ensures.tries
+returns-clause-tries g c =
+    let parker = c.args.parker in
+    let blocked = ap (λ (v : SeatView). v.mode) c.block.ensures.view in
+    let left = c.react_until_woken-reacted.new.cell in
+    let r = c.react_until_woken-reacted.result in
+    record {
+      left = left;
+      tries = subst (λ (x : CellValue g.row.W.Denot). TriesUntil g.N.Faults.fault_count c.args.shared.now.words.parkers c.args.shared.now.sure_of_arms (until (g.C.Clock.latest c.react_until_woken-reacted.new.clock) (start_of g.C.Clock.bounds g.C.Clock.latest g.W.EventWait.wait_step c.args.clock.now))
+          parker r x left c.args.m.now c.react_until_woken-reacted.new.m)
+          (cell_step (word_step.StoreBlocked parker 1 0) c.args.cell.now _ c.block.new.s c.seat.ensures.value c.block.ensures.words c.block.ensures.view)
+          (c.react_until_woken-reacted.ensures.tries parker blocked);
+      unblocks = cell_step (word_step.StoreBlocked parker 0 1) left _ c.unblock.new.s c.seat-2.ensures.value c.unblock.ensures.words
+          (c.unblock.ensures.view parker (ap (λ (s : SeatValue). s.view.mode) c.seat-2.ensures.value ∙ c.react_until_woken-reacted.ensures.mode ∙ blocked));
+    }

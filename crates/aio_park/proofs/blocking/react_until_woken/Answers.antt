@@ -7,7 +7,7 @@ use Rattle.aio_shared.specs.Members.{MemberValue}
 use Rattle.aio_shared.proofs.Notifying.{notifies_nobody}
 use Rattle.aio_shared.specs.Reacting.{until, start_of}
 use Rattle.aio_park.proofs.Gaining.{gains_itself, gains_neither, member_itself}
-use Rattle.aio_park.proofs.Holding.{tries_after, tries_further, tries_until, try_of}
+use Rattle.aio_park.proofs.Holding.{cell_step, tries_fail, tries_further, tries_until, try_of}
 use Rattle.aio_park.proofs.Keeping.{keeps_as, keeps_member, keeps_then}
 use Rattle.aio_park.proofs.Looking.{looks_further, looks_itself, looks_round, looks_woken}
 use Rattle.aio_park.proofs.blocking.react_until_woken.Goals as goal
@@ -19,7 +19,7 @@ loop-init g c = record {
   claim = refl;
   keeps = keeps_member c.requires.belongs (member_itself _ _ _) (notifies_nobody _ _);
   cell = c.requires.cell;
-  tries = (0, (refl, refl));
+  tries = λ parker is. (0, (refl, refl));
   looks = λ parker is. looks_itself parker _ _;
 }
 
@@ -38,11 +38,13 @@ loop-preserved g c = record {
   claim = ap (λ (x : MemberValue g.row.N.Denot). x.claim) c.react_once.ensures.kept ∙ c.loop.invariant.claim;
   keeps = keeps_then c.loop.invariant.keeps (keeps_as (λ cause. cause) c.in-Ok.ensures.keeps);
   cell = c.react_once.ensures.cell;
-  tries = (
-    suc c.loop.invariant.tries.0,
-    tries_further g.N.Faults.fault_count c.args.shared.now.words.parkers c.args.shared.now.sure_of_arms (until (g.C.Clock.latest c.react_once.new.clock) (start_of g.C.Clock.bounds g.C.Clock.latest g.W.EventWait.wait_step c.args.clock.now)) c.loop.invariant.tries.0 c.args.cell.now c.loop.cell (record c.loop.cell { seat = c.take_or_wait.new.s }) c.react_once.new.cell c.args.m.now c.loop.m c.react_once.new.m c.in-Ok.field-0
-        (tries_until g.N.Faults.fault_count c.args.shared.now.words.parkers c.args.shared.now.sure_of_arms (until (g.C.Clock.latest c.loop.clock) (start_of g.C.Clock.bounds g.C.Clock.latest g.W.EventWait.wait_step c.args.clock.now)) (g.C.Clock.latest c.react_once.new.clock) c.loop.invariant.tries.0 _ _ _ _ c.in-Ok.ensures.keeps.latest c.loop.invariant.tries.1)
-        refl
+  tries = λ parker is. (
+    suc (c.loop.invariant.tries parker is).0,
+    tries_further g.N.Faults.fault_count c.args.shared.now.words.parkers c.args.shared.now.sure_of_arms (until (g.C.Clock.latest c.react_once.new.clock) (start_of g.C.Clock.bounds g.C.Clock.latest g.W.EventWait.wait_step c.args.clock.now)) parker (c.loop.invariant.tries parker is).0 c.args.cell.now c.loop.cell (record c.loop.cell { seat = c.take_or_wait.new.s }) c.react_once.new.cell c.args.m.now c.loop.m c.react_once.new.m
+        (tries_until g.N.Faults.fault_count c.args.shared.now.words.parkers c.args.shared.now.sure_of_arms (until (g.C.Clock.latest c.loop.clock) (start_of g.C.Clock.bounds g.C.Clock.latest g.W.EventWait.wait_step c.args.clock.now)) (g.C.Clock.latest c.react_once.new.clock) parker (c.loop.invariant.tries parker is).0 _ _ _ _ c.in-Ok.ensures.keeps.latest (c.loop.invariant.tries parker is).1)
+        (cell_step (word_step.LoadMask parker 0) c.loop.cell _ c.take_or_wait.new.s c.seat.ensures.value c.take_or_wait.ensures.words
+        (c.in-None-take_or_wait.ensures.view parker (ap (λ (s : SeatValue). s.view.mode) c.seat.ensures.value ∙ c.loop.invariant.mode ∙ is)))
+        c.in-Ok.field-0
         (try_of g.N.Faults.fault_count c.args.shared.now.words.parkers c.args.shared.now.sure_of_arms (until (g.C.Clock.latest c.react_once.new.clock) (start_of g.C.Clock.bounds g.C.Clock.latest g.W.EventWait.wait_step c.args.clock.now)) None (g.C.Clock.bounds c.loop.clock) (g.C.Clock.latest c.loop.clock) (g.C.Clock.latest c.react_once.new.clock) (record c.loop.cell { seat = c.take_or_wait.new.s }) c.react_once.new.cell c.loop.m c.react_once.new.m (Ok c.in-Ok.field-0)
         c.loop.invariant.keeps.bounds c.loop.invariant.keeps.latest (le_refl _) c.in-Ok.ensures.tries),
   );
@@ -80,20 +82,25 @@ returns-in-Some-take_or_wait-clause-woken g c parker is = (
 )
 
 pub returns-in-Err-clause-tries : goal.returns-in-Err-clause-tries
-returns-in-Err-clause-tries g c = (
-  c.loop.invariant.tries.0,
-  (record c.loop.cell { seat = c.take_or_wait.new.s }),
-  c.react_once.new.cell,
-  c.loop.m,
-  tries_after g.N.Faults.fault_count c.args.shared.now.words.parkers c.args.shared.now.sure_of_arms (until (g.C.Clock.latest c.react_once.new.clock) (start_of g.C.Clock.bounds g.C.Clock.latest g.W.EventWait.wait_step c.args.clock.now)) c.loop.invariant.tries.0 c.args.cell.now c.loop.cell (record c.loop.cell { seat = c.take_or_wait.new.s }) c.args.m.now c.loop.m refl
-      (tries_until g.N.Faults.fault_count c.args.shared.now.words.parkers c.args.shared.now.sure_of_arms (until (g.C.Clock.latest c.loop.clock) (start_of g.C.Clock.bounds g.C.Clock.latest g.W.EventWait.wait_step c.args.clock.now)) (g.C.Clock.latest c.react_once.new.clock) c.loop.invariant.tries.0 _ _ _ _ c.in-Err.ensures.keeps.latest c.loop.invariant.tries.1),
-  try_of g.N.Faults.fault_count c.args.shared.now.words.parkers c.args.shared.now.sure_of_arms (until (g.C.Clock.latest c.react_once.new.clock) (start_of g.C.Clock.bounds g.C.Clock.latest g.W.EventWait.wait_step c.args.clock.now)) None (g.C.Clock.bounds c.loop.clock) (g.C.Clock.latest c.loop.clock) (g.C.Clock.latest c.react_once.new.clock) (record c.loop.cell { seat = c.take_or_wait.new.s }) c.react_once.new.cell c.loop.m c.react_once.new.m (Err c.in-Err.fault)
-      c.loop.invariant.keeps.bounds c.loop.invariant.keeps.latest (le_refl _) c.in-Err.ensures.tries,
-  refl,
-)
+returns-in-Err-clause-tries g c parker is =
+    tries_fail g.N.Faults.fault_count c.args.shared.now.words.parkers c.args.shared.now.sure_of_arms (until (g.C.Clock.latest c.react_once.new.clock) (start_of g.C.Clock.bounds g.C.Clock.latest g.W.EventWait.wait_step c.args.clock.now)) parker (c.loop.invariant.tries parker is).0 c.args.cell.now c.loop.cell (record c.loop.cell { seat = c.take_or_wait.new.s }) c.react_once.new.cell c.args.m.now c.loop.m c.react_once.new.m
+    (tries_until g.N.Faults.fault_count c.args.shared.now.words.parkers c.args.shared.now.sure_of_arms (until (g.C.Clock.latest c.loop.clock) (start_of g.C.Clock.bounds g.C.Clock.latest g.W.EventWait.wait_step c.args.clock.now)) (g.C.Clock.latest c.react_once.new.clock) parker (c.loop.invariant.tries parker is).0 _ _ _ _ c.in-Err.ensures.keeps.latest (c.loop.invariant.tries parker is).1)
+    (cell_step (word_step.LoadMask parker 0) c.loop.cell _ c.take_or_wait.new.s c.seat.ensures.value c.take_or_wait.ensures.words
+    (c.in-None-take_or_wait.ensures.view parker (ap (λ (s : SeatValue). s.view.mode) c.seat.ensures.value ∙ c.loop.invariant.mode ∙ is)))
+    (Unit {0}) c.in-Err.fault
+    (try_of g.N.Faults.fault_count c.args.shared.now.words.parkers c.args.shared.now.sure_of_arms (until (g.C.Clock.latest c.react_once.new.clock) (start_of g.C.Clock.bounds g.C.Clock.latest g.W.EventWait.wait_step c.args.clock.now)) None (g.C.Clock.bounds c.loop.clock) (g.C.Clock.latest c.loop.clock) (g.C.Clock.latest c.react_once.new.clock) (record c.loop.cell { seat = c.take_or_wait.new.s }) c.react_once.new.cell c.loop.m c.react_once.new.m (Err c.in-Err.fault)
+    c.loop.invariant.keeps.bounds c.loop.invariant.keeps.latest (le_refl _) c.in-Err.ensures.tries)
 
 pub returns-in-Some-take_or_wait-clause-tries : goal.returns-in-Some-take_or_wait-clause-tries
-returns-in-Some-take_or_wait-clause-tries g c = (c.loop.invariant.tries.0, tries_after g.N.Faults.fault_count c.args.shared.now.words.parkers c.args.shared.now.sure_of_arms (until (g.C.Clock.latest c.loop.clock) (start_of g.C.Clock.bounds g.C.Clock.latest g.W.EventWait.wait_step c.args.clock.now)) c.loop.invariant.tries.0 c.args.cell.now c.loop.cell (record c.loop.cell { seat = c.take_or_wait.new.s }) c.args.m.now c.loop.m refl c.loop.invariant.tries.1)
+returns-in-Some-take_or_wait-clause-tries g c parker is = (
+  (c.loop.invariant.tries parker is).0,
+  c.in-Some-take_or_wait.field-0,
+  c.loop.cell,
+  (c.loop.invariant.tries parker is).1,
+  c.in-Some-take_or_wait.ensures.some.0,
+  cell_step (word_step.LoadMask parker c.in-Some-take_or_wait.field-0) c.loop.cell _ c.take_or_wait.new.s c.seat.ensures.value c.take_or_wait.ensures.words
+      (c.in-Some-take_or_wait.ensures.view parker (ap (λ (s : SeatValue). s.view.mode) c.seat.ensures.value ∙ c.loop.invariant.mode ∙ is)),
+)
 
 pub returns-in-Some-take_or_wait-clause-took : goal.returns-in-Some-take_or_wait-clause-took
 returns-in-Some-take_or_wait-clause-took g c = c.loop.invariant.took

@@ -15,6 +15,7 @@ invariant-loop g l = record {
   claim : l.m.claim ≡ l.initial.m.claim;
   keeps : KeepsThread g.N.Faults.fault_count g.N.Faults.is_sure {X = Unit {0}} g.N.Notify.call_count g.C.Clock.bounds g.C.Clock.latest l.shared l.initial.m l.m l.initial.clock l.clock (Ok tt);
   cell : IsCellOf l.m.claim l.cell;
-  tries : (tries : ℕ) × TriesWithoutLimit g.N.Faults.fault_count l.shared.words.parkers l.shared.sure_of_arms (until (g.C.Clock.latest l.clock) (start_of g.C.Clock.bounds g.C.Clock.latest g.W.EventWait.wait_step l.initial.clock)) tries l.initial.cell l.cell l.initial.m l.m;
+  tries : (parker : ℕ) → l.initial.cell.seat.view.mode ≡ Block parker
+      → (tries : ℕ) × TriesWithoutLimit g.N.Faults.fault_count l.shared.words.parkers l.shared.sure_of_arms (until (g.C.Clock.latest l.clock) (start_of g.C.Clock.bounds g.C.Clock.latest g.W.EventWait.wait_step l.initial.clock)) parker tries l.initial.cell l.cell l.initial.m l.m;
   looks : (parker : ℕ) → l.initial.cell.seat.view.mode ≡ Block parker → WaitsAfterLooks parker false l.initial.cell.seat.view l.cell.seat.view;
 }

@@ -1,4 +1,4 @@
-use Rattle.std.proofs.Common.{ℕ, true, sym, subst, Ok}
+use Rattle.std.proofs.Common.{ℕ, true, sym, ap, subst, Ok, Err}
 use Rattle.aio_shared.specs.OneCell.{ClaimValue, IsCellOf}
 use Rattle.aio_park.specs.Blocking.{KeepsThread}
 use Rattle.aio_park.specs.Driving.{GainsNone}
@@ -41,7 +41,7 @@ returns-in-Ok-clause-looks g c = looks g (goal.at.returns-in-Ok-clause-looks g c
 pub returns-in-Err-clause-tries : goal.returns-in-Err-clause-tries
 returns-in-Err-clause-tries g c =
     tries_after_fault c.args.shared.now.words.parkers c.args.shared.now.sure_of_arms _ c.args.cell.now c.react_in.new.cell c.args.m.now g.N.Faults.fault_count
-    c.react_in.new.m c.after_fault.new.m c.in-Err.fault c.after_fault.result c.in-Err.ensures.reacts c.after_fault.ensures
+    c.react_in.new.m c.after_fault.new.m c.in-Err.fault c.after_fault.result (λ is. (c.in-Err.ensures.spent.0 (ap Err is)).1) c.in-Err.ensures.reacts c.after_fault.ensures
 
 pub returns-in-Err-clause-keeps : goal.returns-in-Err-clause-keeps
 returns-in-Err-clause-keeps g c =

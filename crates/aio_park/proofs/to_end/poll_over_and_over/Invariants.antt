@@ -1,6 +1,7 @@
-use Rattle.std.proofs.Common.{◌≡◌, ℕ}
+use Rattle.std.proofs.Common.{◌≡◌, ◌≤◌, ℕ}
 use Rattle.aio_park.specs.Blocking.{IsPast}
 use Rattle.aio_shared.specs.Inside.{IsLaterInside}
+use Rattle.aio_park.specs.ToEnd.{PollsOver}
 use Rattle.aio_park.proofs.to_end.poll_over_and_over.Given as goal
 
 -- the task allows nothing by now that it did not allow at first
@@ -11,5 +12,9 @@ invariant-loop g l = record {
       → g.T.Task.gives l.initial.task (g.N.Faults.is_sure l.initial.thread.host.member.notifier) moment output;
   later : IsLaterInside g.N.Faults.fault_count g.N.Faults.is_sure l.initial.thread.host l.thread.host;
   parker : l.thread.parker ≡ l.initial.thread.parker;
+  polled : (polls : ℕ) × PollsOver g.T.Task.poll_step l.initial.thread.parker
+      (record { bounds = g.C.Clock.bounds l.initial.thread.clock; before = g.C.Clock.latest l.initial.thread.clock; after = g.C.Clock.latest l.thread.clock })
+      polls l.initial.task l.initial.thread.host l.task l.thread.host;
+  latest : g.C.Clock.latest l.initial.thread.clock ≤ g.C.Clock.latest l.thread.clock;
   bounds : g.C.Clock.bounds l.thread.clock ≡ g.C.Clock.bounds l.initial.thread.clock;
 }
