@@ -8,12 +8,13 @@ use Rattle.aio_base.specs.declared.outcomes.CountFault.{CountFault}
 use Rattle.aio_base.specs.declared.outcomes.Poll.{Poll}
 use Rattle.aio_base.specs.declared.outcomes.Poll.TheVariants.{Ready, Pending}
 use Rattle.aio_base.proofs.ConnectionRests.{reads_sure, reads_telling}
-use Rattle.aio_future.specs.Tries.{FaultsWithin, bytes_over, fault_counts}
+use Rattle.aio_future.specs.Tries.{FaultsWithin, IsReadAnswer, IsWriteAnswer, MovesWithin, bytes_over, fault_counts}
 use Rattle.aio_future.specs.declared.tried.TryFault.{TryFault}
 use Rattle.aio_future.specs.declared.tried.TryFault.TheVariants as fault
 use Rattle.aio_base.specs.declared.names.Waker.{Waker}
-use Rattle.aio_future.specs.declared.tried.Tried.{Tried}
-use Rattle.aio_pairs.specs.Calls.{Reads}
+use Rattle.aio_pairs.specs.Calls.{LeavesHost, Reads}
+use Rattle.aio_pairs.specs.declared.outcomes.EndTried.{EndTried}
+use Rattle.aio_base.specs.Hosts.{HostRules}
 use Rattle.std.proofs.lemmas.Bool.{false≢true}
 use Rattle.aio_places.specs.SourceEnds.{answer_from, call_from, if_bounded, is_sure_end, last_told, told_by, told_from, tried_from}
 
@@ -133,7 +134,7 @@ none_told told (Ready (Err (fault.Write why))) never none = absurd (never refl)
 none_told told (Ready (Err (fault.Arm why))) never none = absurd (never refl)
 
 -- an end that told no fault has told none after a try without one
-pub still_none : (told last : ℕ) (tried answered : Tried) → answered ≡ tried_from told tried → last ≡ last_told told answered.answer → ¬ IsSome (fault_counts tried.answer)
+pub still_none : (told last : ℕ) (tried answered : EndTried) → answered ≡ tried_from told tried → last ≡ last_told told answered.answer → ¬ IsSome (fault_counts tried.answer)
     → told ≡ 0 → last ≡ 0
 still_none told last tried answered is is_last never none = is_last ∙ ap (λ a. last_told told a.answer) is ∙ none_told told tried.answer never none
 
@@ -157,7 +158,7 @@ module _ {C : Type 0} (rest_by : C → List ℕ) (is_sure : C → Bool) (telling
   pub told_as : (c : C) (rest : List ℕ) → rest_by c ≡ rest → told_by rest ≡ telling c
   told_as c rest is = told_of rest (is_sure c) (telling c) (sym is ∙ laid_out c) (bounded c)
 
-  pub end_reads : (told : ℕ) (old new : C) (old_rest new_rest : List ℕ) (tried answered : Tried) (buf : List ℕ)
+  pub end_reads : (told : ℕ) (old new : C) (old_rest new_rest : List ℕ) (tried answered : EndTried) (buf : List ℕ)
       → rest_by old ≡ old_rest → rest_by new ≡ new_rest → answered ≡ tried_from told tried
       → ReadTells (telling old) (telling new) (take (bytes_over tried.answer) buf) (tried.answer ≡ Pending) (tried.answer ≡ Ready (Ok 0))
       → ReadTells (told_by old_rest) (told_by new_rest) (take (bytes_over answered.answer) buf) (answered.answer ≡ Pending) (answered.answer ≡ Ready (Ok 0))
@@ -169,7 +170,7 @@ module _ {C : Type 0} (rest_by : C → List ℕ) (is_sure : C → Bool) (telling
       (answer_from told tried.answer ≡ Ready (Ok 0))) (sym (told_as new new_rest is_new))
       (read_told (telling old) (telling new) told tried.answer buf t)))
 
-  pub end_writes : (told : ℕ) (old new : C) (old_rest new_rest : List ℕ) (tried answered : Tried) (piece : List ℕ)
+  pub end_writes : (told : ℕ) (old new : C) (old_rest new_rest : List ℕ) (tried answered : EndTried) (piece : List ℕ)
       → rest_by old ≡ old_rest → rest_by new ≡ new_rest → answered ≡ tried_from told tried
       → WriteTells (telling old) (telling new) (take (bytes_over tried.answer) piece) (tried.answer ≡ Pending)
       → WriteTells (told_by old_rest) (told_by new_rest) (take (bytes_over answered.answer) piece) (answered.answer ≡ Pending)
@@ -181,7 +182,7 @@ module _ {C : Type 0} (rest_by : C → List ℕ) (is_sure : C → Bool) (telling
       (sym (told_as new new_rest is_new))
       (write_told (telling old) (telling new) told tried.answer piece t)))
 
-  pub end_fails : (told before after last : ℕ) (old new : C) (old_rest new_rest : List ℕ) (tried answered : Tried) → told < 2 ^ 64
+  pub end_fails : (told before after last : ℕ) (old new : C) (old_rest new_rest : List ℕ) (tried answered : EndTried) → told < 2 ^ 64
       → rest_by old ≡ old_rest → rest_by new ≡ new_rest → answered ≡ tried_from told tried → last ≡ last_told told answered.answer
       → FaultsWithin before after (is_sure old) (is_sure new) (fault_counts tried.answer)
       → FaultsWithin told last (is_sure_end old_rest told) (is_sure_end new_rest last) (fault_counts answered.answer)
@@ -194,7 +195,53 @@ module _ {C : Type 0} (rest_by : C → List ℕ) (is_sure : C → Bool) (telling
       (s && (last_told told (answer_from told tried.answer) == 0)) (fault_counts (answer_from told tried.answer))) (sym (sure_by new new_rest is_new))
       (faults_of told before after (is_sure old) (is_sure new) tried.answer few f))))
 
-pub read_alike : (told room : ℕ) (w : Waker) (tried answered : Tried) (buf : List ℕ) → answered ≡ tried_from told tried
+pub read_alike : (told room : ℕ) (w : Waker) (tried answered : EndTried) (buf : List ℕ) → answered ≡ tried_from told tried
     → Reads room w answered (take (bytes_over answered.answer) buf) ≡ call_from told (Reads room w tried (take (bytes_over tried.answer) buf))
 read_alike told room w tried answered buf is =
     ap (λ a. Reads room w a (take (bytes_over a.answer) buf)) is ∙ ap (λ n. Reads room w (tried_from told tried) (take n buf)) (same_bytes told tried.answer)
+
+-- what a call did to its host, whatever counts its fault tells
+pub leaves_alike : {H : Type 0} (rules : HostRules H) (later : H → H → Type 0) (sure : H → Bool) (told : ℕ) (tried answered : EndTried) (before after : H)
+    → answered ≡ tried_from told tried → LeavesHost rules later sure tried before after → LeavesHost rules later sure answered before after
+leaves_alike rules later sure told tried answered before after is l = subst (λ t. LeavesHost rules later sure t before after) (sym is) (record {
+  between = l.between;
+  looks = l.looks;
+  wakes = l.wakes;
+  silent = l.silent;
+  tells = l.tells;
+  goes = l.goes;
+  same_pass = l.same_pass;
+  no_id = l.no_id;
+})
+
+pub same_most : (told : ℕ) (tried answered : EndTried) (most : ℕ) → answered ≡ tried_from told tried → bytes_over tried.answer ≤ most → bytes_over answered.answer ≤ most
+same_most told tried answered most is within =
+    subst (λ t. bytes_over t.answer ≤ most) (sym is) (subst (λ n. n ≤ most) (sym (same_bytes told tried.answer)) within)
+
+same_moves : (told most : ℕ) (answer : Poll (Result ℕ TryFault)) → MovesWithin most answer → MovesWithin most (answer_from told answer)
+same_moves told most Pending within = within
+same_moves told most (Ready (Ok n)) within = within
+same_moves told most (Ready (Err why)) within = tt
+
+pub moves_alike : (told : ℕ) (tried answered : EndTried) (most : ℕ) → answered ≡ tried_from told tried → MovesWithin most tried.answer → MovesWithin most answered.answer
+moves_alike told tried answered most is within = subst (λ t. MovesWithin most t.answer) (sym is) (same_moves told most tried.answer within)
+
+read_fault_from : (told : ℕ) (answer : Poll (Result ℕ TryFault)) → IsReadAnswer answer → IsReadAnswer (answer_from told answer)
+read_fault_from told Pending kind = kind
+read_fault_from told (Ready (Ok n)) kind = kind
+read_fault_from told (Ready (Err (fault.Read f))) kind = tt
+read_fault_from told (Ready (Err (fault.Arm f))) kind = tt
+read_fault_from told (Ready (Err (fault.Write f))) kind = elim kind [ ]
+
+write_fault_from : (told : ℕ) (answer : Poll (Result ℕ TryFault)) → IsWriteAnswer answer → IsWriteAnswer (answer_from told answer)
+write_fault_from told Pending kind = kind
+write_fault_from told (Ready (Ok n)) kind = kind
+write_fault_from told (Ready (Err (fault.Read f))) kind = elim kind [ ]
+write_fault_from told (Ready (Err (fault.Arm f))) kind = tt
+write_fault_from told (Ready (Err (fault.Write f))) kind = tt
+
+pub read_kind_alike : (told : ℕ) (tried answered : EndTried) → answered ≡ tried_from told tried → IsReadAnswer tried.answer → IsReadAnswer answered.answer
+read_kind_alike told tried answered is kind = subst (λ t. IsReadAnswer t.answer) (sym is) (read_fault_from told tried.answer kind)
+
+pub write_kind_alike : (told : ℕ) (tried answered : EndTried) → answered ≡ tried_from told tried → IsWriteAnswer tried.answer → IsWriteAnswer answered.answer
+write_kind_alike told tried answered is kind = subst (λ t. IsWriteAnswer t.answer) (sym is) (write_fault_from told tried.answer kind)

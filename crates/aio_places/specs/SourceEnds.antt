@@ -11,12 +11,16 @@ use Rattle.aio_base.specs.declared.outcomes.CountFault.{CountFault}
 use Rattle.aio_base.specs.declared.outcomes.Failed.{Failed}
 use Rattle.aio_base.specs.declared.outcomes.Poll.{Poll}
 use Rattle.aio_base.specs.declared.outcomes.Poll.TheVariants.{Ready, Pending}
-use Rattle.aio_future.specs.Tries.{counts_in}
-use Rattle.aio_future.specs.declared.tried.Tried.{Tried}
+use Rattle.aio_future.specs.Tries.{counts_in, tried_of}
+use Rattle.aio_future.specs.Visits.{TriesCell}
+use Rattle.aio_future.specs.declared.visits.PollDir.{PollDir}
+use Rattle.aio_future.specs.declared.visits.Visited.{Visited}
 use Rattle.aio_future.specs.declared.tried.TryFault.{TryFault}
 use Rattle.aio_future.specs.declared.tried.TryFault.TheVariants as fault
-use Rattle.aio_pairs.specs.Calls.{EndCall, Enters, Reads, Writes}
+use Rattle.aio_pairs.specs.Calls.{EndCall, Enters, Reads, Writes, entered}
+use Rattle.aio_pairs.specs.declared.outcomes.EndTried.{EndTried}
 use Rattle.aio_source.specs.Values.{SourceValue}
+use Rattle.aio_source.specs.declared.source.SourceCell.{SourceCell}
 
 -- the words of its reactor, its key, the rest of its connection, and the greatest count of faults that it has told
 pub record SourceEndValue : Type 0 where
@@ -93,14 +97,20 @@ last_told told (Ready (Ok n)) = told
 last_told told (Ready (Err f)) = (counts_in f).after
 last_told told Pending = told
 
-abbrev pub tried_from : ℕ → Tried → Tried
-tried_from told tried = record { answer = answer_from told tried.answer; replaced = tried.replaced }
+abbrev pub tried_from : ℕ → EndTried → EndTried
+tried_from told tried = record tried { answer = answer_from told tried.answer }
 
 abbrev pub call_from : ℕ → EndCall → EndCall
 call_from told (Reads room w tried bytes) = Reads room w (tried_from told tried) bytes
 call_from told (Writes piece w tried) = Writes piece w (tried_from told tried)
 
 -- ## Its calls
+
+-- What is attempted inside a source, as the answer of a call: the answer and the waker that was replaced are those of the try.
+abbrev pub TriesCalls : {C T : Type 0} → (C → ArmCall → Result (Unit {0}) Failed → C → Type 0) → (C → Option Interests) → (C → List ℕ) → (C → ℕ) → (C → Bool)
+    → (T → C → Option (Result ℕ TryFault) → T → C → Type 0) → PollDir → T → SourceCell C → ℕ → EndTried → T → SourceCell C → Type 0
+TriesCalls arm_step interests rest_of count sure attempts poll attempt found ticker tried left put = (visited : Visited (Result ℕ TryFault))
+    × (entered tried ≡ tried_of visited) × TriesCell arm_step interests rest_of count sure attempts poll attempt found ticker visited left put
 
 -- what a call answered
 abbrev pub answer_of : EndCall → Poll (Result ℕ TryFault)

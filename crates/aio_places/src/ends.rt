@@ -1,19 +1,25 @@
 //! The ends of a pair over sources of a shared reactor.
 
-ghost use Rattle.std.specs.Prelude.{◌≡◌, ◌<◌, ◌≤◌, false, length, take, IfErr, IsSome, IsTrue, Ok};
+ghost use Rattle.std.specs.Prelude.{◌≡◌, ◌≤◌, false, length, take, IfErr, Ok};
 ghost use Rattle.std.specs.Arc.{arc_value};
-ghost use Rattle.aio_base.specs.Connections.{ReadTells, WriteTells, sure_read};
+ghost use Rattle.aio_base.specs.Hosts.{NotifierTells, wake_fault};
+ghost use Rattle.aio_rules.specs.SharedWords.{after};
+ghost use Rattle.aio_rules.specs.declared.seats.WordStep.TheVariants as word_step;
+ghost use Rattle.aio_base.specs.Connections.{ReadTells};
 ghost use Rattle.aio_base.specs.declared.outcomes.Poll.TheVariants.{Ready, Pending};
-ghost use Rattle.aio_future.specs.Tries.{FaultsWithin, IsReadAnswer, IsWriteAnswer, MovesWithin, bytes_over, counts_in, fault_counts};
-ghost use Rattle.aio_pairs.specs.Calls.{Enters, Reads, Writes};
+ghost use Rattle.aio_future.specs.Tries.{FaultsWithin, IsReadAnswer, bytes_over, counts_in, fault_counts, tried_of};
+ghost use Rattle.aio_pairs.specs.Calls.{LeavesHost, Reads, WakesReplaced, entered};
+ghost use Rattle.aio_shared.specs.Inside.{IsLaterInside, inside_rules};
+ghost use Rattle.aio_shared.specs.Polling.{VisitsOnce};
 ghost use Rattle.aio_sources.specs.Sources.{IsUnsure, Removes};
-ghost use Rattle.aio_places.specs.SourceEnds.{IsRestOf, fault_from, last_told, told_from, tried_from};
+ghost use Rattle.aio_places.specs.SourceEnds.{EntersShared, IsRestOf, TriesCalls, fault_from, is_sure_end, last_told, told_by, told_from, tried_from};
 
-use aio_base::{ArmFault, Conn, CountFault, EventWait, Faults, Host, Notify, Poll, Tells, Waker};
-use aio_future::{Async, Tried, TryFault};
-use aio_pairs::End;
-use aio_shared::{Inside, Shared, SourceRef};
-use aio_source::SourceCell;
+use aio_base::{
+    ArmFault, Conn, CountFault, Dir, EventWait, Faults, Host, Notify, Poll, Tells, Waker,
+};
+use aio_future::{Attempt, Read, Tried, TryFault, Write};
+use aio_pairs::{End, EndTried};
+use aio_shared::{Entered, Inside, Shared, SourceRef};
 use std::alloc::Global;
 use std::marker::Model;
 use std::sync::{Arc, Wait};
@@ -140,56 +146,123 @@ impl<R: Wait, N: Notify, C: Conn, W: EventWait> End<Inside<R, N, C, W>> for Sour
 
     ghost end_step = { EntersShared C.conn_step C.arm_step C.interests C.rest C.fault_count C.is_sure };
 
-    fn read(&mut self, host: &mut Inside<R, N, C, W>, buf: &mut [u8], w: Waker) -> Tried {
-        let rounds = host.ticker();
-        let mut cell = self.token.take(&host.rt);
-        let tried = read_entered(&mut cell, rounds, buf, w);
-        self.token.give(cell);
-        tell(&mut self.told, tried)
+    fn read(&mut self, host: &mut Inside<R, N, C, W>, buf: &mut [u8], w: Waker) -> EndTried {
+        let mut read = Read { buf };
+        self.read_by(host, &mut read, w)
     }
 
-    fn write(&mut self, host: &mut Inside<R, N, C, W>, piece: &[u8], w: Waker) -> Tried {
-        let rounds = host.ticker();
-        let mut cell = self.token.take(&host.rt);
-        let tried = write_entered(&mut cell, rounds, piece, w);
-        self.token.give(cell);
+    fn write(&mut self, host: &mut Inside<R, N, C, W>, piece: &[u8], w: Waker) -> EndTried {
+        let mut write = Write { piece };
+        let tried = write_source(host, &mut self.token, &mut write, w);
         tell(&mut self.told, tried)
     }
 }
 
-/// Reads from the connection of an entered source.
-fn read_entered<C: Conn>(cell: &mut SourceCell<C>, rounds: u64, buf: &mut [u8], w: Waker) -> Tried
-    requires { 0 < length buf.old }
-    ensures enters { Enters C.conn_step C.arm_step C.interests C.rest C.fault_count C.is_sure
-        cell.old.state cell.old.io
-        (Reads (length buf.old) w result (take (bytes_over result.answer) buf.new))
-        cell.new.state cell.new.io }
-    ensures most { bytes_over result.answer ≤ length buf.new }
-    ensures kind { IsReadAnswer result.answer }
-    ensures told { ReadTells (C.telling cell.old.io) (C.telling cell.new.io)
-        (take (bytes_over result.answer) buf.new) (result.answer ≡ Pending)
-        (result.answer ≡ Ready (Ok 0)) }
-    ensures faults { FaultsWithin (C.fault_count cell.old.io) (C.fault_count cell.new.io)
-        (C.is_sure cell.old.io) (C.is_sure cell.new.io) (fault_counts result.answer) }
-    ensures key { cell.new.state.key ≡ cell.old.state.key }
-{
-    Async::of(cell, rounds).read_with(buf, w)
+impl<C: Conn, W: EventWait> SourceEnd<C, W> {
+    /// Reads by such a read, whose buffer stays lent.
+    fn read_by<R: Wait, N: Notify>(
+        &mut self,
+        host: &mut Inside<R, N, C, W>,
+        read: &mut Read<'_>,
+        w: Waker,
+    ) -> EndTried
+        ensures host { LeavesHost (inside_rules N.call_count N.fault_count N.notify_step)
+            (IsLaterInside N.fault_count N.is_sure) (λ inside. N.is_sure inside.member.notifier)
+            result host.old host.new }
+        ensures step { EntersShared C.conn_step C.arm_step C.interests C.rest C.fault_count
+            C.is_sure self.old (Reads (length read.old.buf.now) w result
+            (take (bytes_over result.answer) read.new.buf.now)) self.new }
+        ensures told { ReadTells (told_by self.old.rest) (told_by self.new.rest)
+            (take (bytes_over result.answer) read.new.buf.now)
+            (result.answer ≡ Pending) (result.answer ≡ Ready (Ok 0)) }
+        ensures most { bytes_over result.answer ≤ length read.new.buf.now }
+        ensures kind { IsReadAnswer result.answer }
+        ensures faults { FaultsWithin self.old.told self.new.told
+            (is_sure_end self.old.rest self.old.told) (is_sure_end self.new.rest self.new.told)
+            (fault_counts result.answer) }
+        ensures lent { read.new.buf.ghost_name ≡ read.old.buf.ghost_name }
+    {
+        let tried = read_source(host, &mut self.token, read, w);
+        tell(&mut self.told, tried)
+    }
 }
 
-/// Writes to the connection of an entered source.
-fn write_entered<C: Conn>(cell: &mut SourceCell<C>, rounds: u64, piece: &[u8], w: Waker) -> Tried
-    requires { 0 < length piece.now }
-    ensures enters { Enters C.conn_step C.arm_step C.interests C.rest C.fault_count C.is_sure
-        cell.old.state cell.old.io (Writes piece.now w result) cell.new.state cell.new.io }
-    ensures most { MovesWithin (length piece.now) result.answer }
-    ensures kind { IsWriteAnswer result.answer }
-    ensures told { WriteTells (C.telling cell.old.io) (C.telling cell.new.io)
-        (take (bytes_over result.answer) piece.now) (result.answer ≡ Pending) }
-    ensures faults { FaultsWithin (C.fault_count cell.old.io) (C.fault_count cell.new.io)
-        (C.is_sure cell.old.io) (C.is_sure cell.new.io) (fault_counts result.answer) }
-    ensures key { cell.new.state.key ≡ cell.old.state.key }
+/// Reads from the connection of a source, and wakes whom that replaced. The buffer stays lent.
+fn read_source<'a, R: Wait, N: Notify, C: Conn, W: EventWait>(
+    host: &mut Inside<R, N, C, W>,
+    token: &mut SourceRef<C>,
+    read: &mut Read<'a>,
+    w: Waker,
+) -> EndTried
+    requires outside { token.old.inside ≡ false }
+    ensures tries { VisitsOnce C.rest (λ found ticker tried put. (ticker ≡ tried.rounds)
+        × TriesCalls C.arm_step C.interests C.rest C.fault_count C.is_sure
+        ⟦<Read<'a> as Attempt<C>>⟧.attempts (record { dir = Dir.Read; waker = w })
+        read.old found ticker tried read.new put) token.old token.new host.old.member.pass.view
+        (after (word_step.LoadTicker result.rounds) host.old.member.pass.view) result }
+    ensures lent { read.new.buf.ghost_name ≡ read.old.buf.ghost_name }
+    ensures host { LeavesHost (inside_rules N.call_count N.fault_count N.notify_step)
+        (IsLaterInside N.fault_count N.is_sure) (λ inside. N.is_sure inside.member.notifier)
+        result host.old host.new }
 {
-    Async::of(cell, rounds).write_with(piece, w)
+    let made = host.try_entered(token, Dir::Read, w, read);
+    once_woken(host, made)
+}
+
+/// Writes to the connection of a source, and wakes whom that replaced.
+fn write_source<'a, R: Wait, N: Notify, C: Conn, W: EventWait>(
+    host: &mut Inside<R, N, C, W>,
+    token: &mut SourceRef<C>,
+    write: &mut Write<'a>,
+    w: Waker,
+) -> EndTried
+    requires outside { token.old.inside ≡ false }
+    ensures tries { VisitsOnce C.rest (λ found ticker tried put. (ticker ≡ tried.rounds)
+        × TriesCalls C.arm_step C.interests C.rest C.fault_count C.is_sure
+        ⟦<Write<'a> as Attempt<C>>⟧.attempts (record { dir = Dir.Write; waker = w })
+        write.old found ticker tried write.new put) token.old token.new host.old.member.pass.view
+        (after (word_step.LoadTicker result.rounds) host.old.member.pass.view) result }
+    ensures host { LeavesHost (inside_rules N.call_count N.fault_count N.notify_step)
+        (IsLaterInside N.fault_count N.is_sure) (λ inside. N.is_sure inside.member.notifier)
+        result host.old host.new }
+{
+    let made = host.try_entered(token, Dir::Write, w, write);
+    once_woken(host, made)
+}
+
+/// What a try inside a source comes to, once the waker that it replaced was woken.
+fn once_woken<H: Host>(host: &mut H, made: Entered<Result<usize, TryFault>>) -> EndTried
+    ensures tried { entered result ≡ tried_of made.visited }
+    ensures rounds { result.rounds ≡ made.rounds }
+    ensures wakes { WakesReplaced H.rules result.replaced result.woken host.old host.new }
+    ensures notifier { NotifierTells (H.notifier_is_sure host.old) (H.rules.faults host.old)
+        (H.rules.faults host.new) (wake_fault result.woken) }
+    ensures later { H.is_later host.old host.new }
+    ensures pass { H.rules.pass host.new ≡ H.rules.pass host.old }
+    ensures ids { H.rules.drawn host.new ≡ H.rules.drawn host.old }
+{
+    let tried = Tried::of(made.visited);
+    EndTried {
+        answer: tried.answer,
+        replaced: tried.replaced,
+        rounds: made.rounds,
+        woken: wake_replaced(host, tried.replaced),
+    }
+}
+
+/// Wakes the waker, if any, that a call of an end took the place of.
+fn wake_replaced<H: Host>(host: &mut H, replaced: Option<Waker>) -> Result<(), CountFault>
+    ensures wakes { WakesReplaced H.rules replaced result host.old host.new }
+    ensures notifier { NotifierTells (H.notifier_is_sure host.old) (H.rules.faults host.old)
+        (H.rules.faults host.new) (wake_fault result) }
+    ensures later { H.is_later host.old host.new }
+    ensures pass { H.rules.pass host.new ≡ H.rules.pass host.old }
+    ensures ids { H.rules.drawn host.new ≡ H.rules.drawn host.old }
+{
+    let Some(waker) = replaced else {
+        return Ok(());
+    };
+    host.wake(waker)
 }
 
 /// The two counts of a fault, not below a count that was told before.
@@ -241,8 +314,8 @@ fn last_count(fault: TryFault) -> u64
     }
 }
 
-/// Tells what a try came to, its counts of faults from the greatest one on that was told before.
-fn tell(told: &mut u64, tried: Tried) -> Tried
+/// Tells what a call came to, its counts of faults from the greatest one on that was told before.
+fn tell(told: &mut u64, tried: EndTried) -> EndTried
     ensures told { result ≡ tried_from told.old tried }
     ensures count { told.new ≡ last_told told.old result.answer }
 {
@@ -250,18 +323,18 @@ fn tell(told: &mut u64, tried: Tried) -> Tried
         Poll::Ready(Err(fault)) => {
             let fault = fault_on(*told, fault);
             *told = last_count(fault);
-            Tried {
+            EndTried {
                 answer: Poll::Ready(Err(fault)),
-                replaced: tried.replaced,
+                ..tried
             }
         }
-        Poll::Ready(Ok(count)) => Tried {
+        Poll::Ready(Ok(count)) => EndTried {
             answer: Poll::Ready(Ok(count)),
-            replaced: tried.replaced,
+            ..tried
         },
-        Poll::Pending => Tried {
+        Poll::Pending => EndTried {
             answer: Poll::Pending,
-            replaced: tried.replaced,
+            ..tried
         },
     }
 }

@@ -1,0 +1,82 @@
+use Rattle.std.proofs.Common.{◌≡◌, ◌<◌, ◌^◌, List, ℕ, sym, ap, ◌∙◌, subst}
+use Rattle.std.specs.Prelude.{length, take}
+use Rattle.aio_future.specs.Tries.{FaultsWithin, bytes_over, fault_counts}
+use Rattle.aio_future.specs.declared.attempts.Read.{Read}
+use Rattle.aio_pairs.specs.Calls.{Reads}
+use Rattle.aio_places.specs.SourceEnds.{call_from, is_sure_end, last_told}
+use Rattle.aio_places.proofs.Entering.{enters_to_read, has_read, reads_faults, reads_kind, reads_most}
+use Rattle.aio_places.proofs.Told.{end_reads, read_alike, read_kind_alike, same_most, end_fails, leaves_alike, stays_sure, still_none, sure_by, unsure}
+use Rattle.aio_places.proofs.ends.SourceEnd.read_by.Goals as goal
+
+abbrev bytes_in : Read → List ℕ
+bytes_in read = read.buf.now
+
+pub returns-clause-step : goal.returns-clause-step
+returns-clause-step g c = record {
+  source = c.read_source-tried.ensures.tries.found.state;
+  conn = c.read_source-tried.ensures.tries.found.io;
+  made = Reads (length c.args.read.now.buf.now) c.args.w c.read_source-tried.result (take (bytes_over c.read_source-tried.result.answer) c.read_source-tried.new.read.buf.now);
+  source_after = c.read_source-tried.ensures.tries.put.state;
+  conn_after = c.read_source-tried.ensures.tries.put.io;
+  entered = c.read_source-tried.ensures.tries.rest_is ∙ ap (λ end. end.rest) c.self.view_is;
+  key = c.read_source-tried.ensures.tries.key_is ∙ ap (λ end. end.key) c.self.view_is;
+  tries = enters_to_read g.C.Conn.conn_step g.C.Arm.arm_step g.C.Arm.interests g.C.Arm.rest g.C.Faults.fault_count g.C.Faults.is_sure g.C.Tells.telling
+      g.met.C.Conn.rest_is_laid_out _ bytes_in c.args.w _ c.read_source-tried.ensures.tries.found c.read_source-tried.ensures.tries.ticker c.read_source-tried.result _ c.read_source-tried.ensures.tries.put c.read_source-tried.ensures.tries.visited.0 (λ a io given left io_left at. at.1) c.read_source-tried.ensures.tries.visited.1;
+  told = subst (λ n. Reads (length c.args.read.now.buf.now) c.args.w c.tell.result (take (bytes_over c.tell.result.answer) c.read_source-tried.new.read.buf.now) ≡ call_from n (Reads (length c.args.read.now.buf.now) c.args.w c.read_source-tried.result (take (bytes_over c.read_source-tried.result.answer) c.read_source-tried.new.read.buf.now))) (ap (λ end. end.told) c.self.view_is) (read_alike c.self.inside.told (length c.args.read.now.buf.now) c.args.w c.read_source-tried.result c.tell.result c.read_source-tried.new.read.buf.now c.tell.ensures.told);
+  left = ap (λ token. record { words = token.words; key = token.key; rest = token.rest; told = c.tell.new.told }) c.read_source-tried.ensures.tries.token_is
+      ∙ ap (λ end. record { words = end.words; key = end.key; rest = g.C.Arm.rest c.read_source-tried.ensures.tries.put.io; told = c.tell.new.told }) c.self.view_is
+      ∙ ap (λ told. record { words = c.args.self.now.words; key = c.args.self.now.key; rest = g.C.Arm.rest c.read_source-tried.ensures.tries.put.io; told = told })
+      (c.tell.ensures.count ∙ ap (λ end. last_told end.told c.tell.result.answer) c.self.view_is);
+}
+
+pub returns-clause-host : goal.returns-clause-host
+returns-clause-host g c = leaves_alike _ _ _ c.self.inside.told c.read_source-tried.result c.tell.result _ _ c.tell.ensures.told c.read_source-tried.ensures.host
+
+pub returns-clause-told : goal.returns-clause-told
+returns-clause-told g c =
+    end_reads g.C.Arm.rest g.C.Faults.is_sure g.C.Tells.telling g.met.C.Conn.rest_is_laid_out g.C.Tells.left_is_bounded
+    c.self.inside.told c.read_source-tried.ensures.tries.found.io c.read_source-tried.ensures.tries.put.io c.args.self.now.rest c.read_source-tried.new.token.rest c.read_source-tried.result c.tell.result c.read_source-tried.new.read.buf.now
+    (c.read_source-tried.ensures.tries.rest_is ∙ ap (λ end. end.rest) c.self.view_is) (sym (ap (λ token. token.rest) c.read_source-tried.ensures.tries.token_is))
+    c.tell.ensures.told
+    (has_read g.C.Conn.conn_step g.C.Arm.arm_step g.C.Arm.interests g.C.Arm.rest g.C.Faults.fault_count g.C.Faults.is_sure g.C.Tells.telling
+    g.met.C.Conn.rest_is_laid_out _ bytes_in c.args.w _ c.read_source-tried.ensures.tries.found c.read_source-tried.ensures.tries.ticker c.read_source-tried.result _ c.read_source-tried.ensures.tries.put c.read_source-tried.ensures.tries.visited.0 (λ a io given left io_left at. at.1) c.read_source-tried.ensures.tries.visited.1)
+
+pub returns-clause-most : goal.returns-clause-most
+returns-clause-most g c = same_most c.self.inside.told c.read_source-tried.result c.tell.result _ c.tell.ensures.told
+    (reads_most g.C.Conn.conn_step g.C.Arm.arm_step g.C.Arm.interests g.C.Arm.rest g.C.Faults.fault_count g.C.Faults.is_sure g.C.Tells.telling
+    g.met.C.Conn.rest_is_laid_out _ bytes_in c.args.w _ c.read_source-tried.ensures.tries.found c.read_source-tried.ensures.tries.ticker c.read_source-tried.result _ c.read_source-tried.ensures.tries.put c.read_source-tried.ensures.tries.visited.0 (λ a io given left io_left at. at.1) c.read_source-tried.ensures.tries.visited.1)
+
+pub returns-clause-kind : goal.returns-clause-kind
+returns-clause-kind g c = read_kind_alike c.self.inside.told c.read_source-tried.result c.tell.result c.tell.ensures.told
+    (reads_kind g.C.Conn.conn_step g.C.Arm.arm_step g.C.Arm.interests g.C.Arm.rest g.C.Faults.fault_count g.C.Faults.is_sure g.C.Tells.telling
+    g.met.C.Conn.rest_is_laid_out _ bytes_in c.args.w _ c.read_source-tried.ensures.tries.found c.read_source-tried.ensures.tries.ticker c.read_source-tried.result _ c.read_source-tried.ensures.tries.put c.read_source-tried.ensures.tries.visited.0 (λ a io given left io_left at. at.1) c.read_source-tried.ensures.tries.visited.1)
+
+pub returns-clause-faults : goal.returns-clause-faults
+returns-clause-faults g c =
+    let few : c.self.inside.told < 2 ^ 64 = c.self.ranges.1.1.0.1 in
+    subst (λ told. FaultsWithin told c.tell.new.told (is_sure_end c.args.self.now.rest told) (is_sure_end c.read_source-tried.new.token.rest c.tell.new.told)
+    (fault_counts c.tell.result.answer)) (ap (λ end. end.told) c.self.view_is)
+    (end_fails g.C.Arm.rest g.C.Faults.is_sure g.C.Tells.telling g.met.C.Conn.rest_is_laid_out g.C.Tells.left_is_bounded
+    c.self.inside.told _ _ c.tell.new.told c.read_source-tried.ensures.tries.found.io c.read_source-tried.ensures.tries.put.io c.args.self.now.rest c.read_source-tried.new.token.rest
+    c.read_source-tried.result c.tell.result few
+    (c.read_source-tried.ensures.tries.rest_is ∙ ap (λ end. end.rest) c.self.view_is) (sym (ap (λ token. token.rest) c.read_source-tried.ensures.tries.token_is))
+    c.tell.ensures.told c.tell.ensures.count
+    (reads_faults g.C.Conn.conn_step g.C.Arm.arm_step g.C.Arm.interests g.C.Arm.rest g.C.Faults.fault_count g.C.Faults.is_sure g.C.Tells.telling
+    g.met.C.Conn.rest_is_laid_out _ bytes_in c.args.w _ c.read_source-tried.ensures.tries.found c.read_source-tried.ensures.tries.ticker c.read_source-tried.result _ c.read_source-tried.ensures.tries.put c.read_source-tried.ensures.tries.visited.0 (λ a io given left io_left at. at.1) c.read_source-tried.ensures.tries.visited.1))
+
+pub invariant_of-self : goal.invariant_of-self
+invariant_of-self g c =
+    let left : g.C.Arm.rest c.read_source-tried.ensures.tries.put.io ≡ c.read_source-tried.new.token.rest = sym (ap (λ token. token.rest) c.read_source-tried.ensures.tries.token_is) in
+    let faults = reads_faults g.C.Conn.conn_step g.C.Arm.arm_step g.C.Arm.interests g.C.Arm.rest g.C.Faults.fault_count g.C.Faults.is_sure g.C.Tells.telling
+    g.met.C.Conn.rest_is_laid_out _ bytes_in c.args.w _ c.read_source-tried.ensures.tries.found c.read_source-tried.ensures.tries.ticker c.read_source-tried.result _ c.read_source-tried.ensures.tries.put c.read_source-tried.ensures.tries.visited.0 (λ a io given left io_left at. at.1) c.read_source-tried.ensures.tries.visited.1 in
+    let same = stays_sure g.C.Arm.rest g.C.Faults.is_sure g.C.Tells.telling g.met.C.Conn.rest_is_laid_out g.C.Tells.left_is_bounded
+    c.read_source-tried.ensures.tries.found.io c.read_source-tried.ensures.tries.put.io c.self.inside.token.rest c.read_source-tried.new.token.rest c.read_source-tried.ensures.tries.rest_is left faults.sure in (
+      ap (λ token. token.inside) c.read_source-tried.ensures.tries.token_is ∙ c.self.invariant.0,
+      (c.read_source-tried.ensures.tries.put.io, left),
+      λ sure. still_none c.self.inside.told c.tell.new.told c.read_source-tried.result c.tell.result c.tell.ensures.told c.tell.ensures.count
+          (λ failed. unsure _ _ _ _ _ c.read_source-tried.new.token.rest faults
+          (sure_by g.C.Arm.rest g.C.Faults.is_sure g.C.Tells.telling g.met.C.Conn.rest_is_laid_out g.C.Tells.left_is_bounded c.read_source-tried.ensures.tries.put.io c.read_source-tried.new.token.rest left)
+          failed sure)
+          (c.self.invariant.2 (sym same ∙ sure)),
+      ap (λ token. token.words) c.read_source-tried.ensures.tries.token_is ∙ c.self.invariant.3,
+    )
