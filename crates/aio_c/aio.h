@@ -1,14 +1,30 @@
 /* The calls of the library aio_c. A handle holds a core: the decisions of a reactor, over a poller
- * in memory that is told what the system's poller answered.
+ * in memory that is told what the system's poller answered. A program that goes one round is
+ * shim/programs/one_round.c.
  *
- * Every call takes the handle by value and puts it back through `out`: use what was put back, and
- * the old one no more. One call at a time, ordered by a lock of the caller's. Nothing else is
- * asked of a caller: each number and each order of calls has an answer. Link with the kit's
- * libc_c.
+ * Every call but aio_new and aio_free takes the handle by value and puts it back through `out`. A
+ * caller has to see to this; where it does not, what comes of it is undefined:
  *
- * Keys name sources, at most 4,096 of them. Numbers of wakers are the caller's own: equal numbers
- * are one waker, and a poll with the number of the poll waiter stores nothing anew. Moments and
- * limits are nanoseconds from a start that the caller chose; moments past 10^18 count as that. */
+ * - A handle that is used was put back by the last call for its core, or by an aio_new that
+ *   answered true. It is used once: then no more, nor after aio_free. A zeroed one is none. The
+ *   one that is put back may look like the one that was used, so that wrong use goes unnoticed for
+ *   a while.
+ * - Calls for one core come one at a time, ordered by a lock of the caller's.
+ * - `out` is a place for a handle; it may be the one from which the handle of the call was read.
+ *   What stood there is overwritten, and not freed: another core whose handle stood there is lost.
+ *   `wakers` is a place for `wakers_count` numbers; it may be NULL only where that is 0.
+ *
+ * Moments never fall from one call for a core to the next. Each call has an answer where they do,
+ * but what is promised of the calls after one another (whom a round wakes, that each waker that
+ * was stored is woken once at most) is promised where they do not.
+ *
+ * Nothing else is asked of a caller: each number and each order of calls has an answer. Link with
+ * the kit's libc_c.
+ *
+ * Keys name sources, at most 4,096 of them. Numbers of wakers are the caller's own, and 0 is one
+ * as any other: equal numbers are one waker, and a poll with the number of the poll waiter stores
+ * nothing anew. Moments are nanoseconds from a start that the caller chose, and those past 10^18
+ * count as that; limits are nanoseconds from no start. */
 #ifndef AIO_H
 #define AIO_H
 
@@ -16,15 +32,21 @@
 #include <stddef.h>
 #include <stdint.h>
 
+#ifdef __cplusplus
+extern "C" {
+#endif
+
 /* What is done has a code below 3. A poll: 0 pending, 1 ready, 2 the poller could not be armed.
- * A wait: 1 where it was interrupted. An event that was handled: 2 where the poller could not
- * be armed again. Each other code is a refusal, after which all is as it was: */
+ * With 2 the waker waits all the same, though perhaps no event comes for it: the next poll of the
+ * source arms again, and so does each one until an arm succeeds. A wait: 1 where it was
+ * interrupted. An event that was handled: 2 where the poller could not be armed again. Each code
+ * from 3 on is a refusal, after which all is as it was but where its own line says else: */
 enum {
     AIO_DONE = 0,
     AIO_READY = 1,
     AIO_ARM_FAULT = 2,
     AIO_ADD_FAULT = 3,        /* the poller could not register the source */
-    AIO_WAIT_FAULT = 4,       /* the wait failed; the round keeps that */
+    AIO_WAIT_FAULT = 4,       /* the wait failed; the round goes on, and its end tells that */
     AIO_REMOVE_FAULT = 5,     /* the poller could not take the source out; it is gone too */
     AIO_LOCKED = 6,           /* a round runs */
     AIO_NO_ROUND = 7,         /* no round runs */
@@ -99,17 +121,25 @@ struct aio_ask_answer {
     bool priority;
 };
 
-/* A core with nothing registered; false where memory ran out, and `out` is as it was. */
+/* A core with nothing registered; false where memory ran out. Then `out` is as it was: it has no
+ * handle, and there is nothing to free. */
 bool aio_new(struct aio_handle *out);
 void aio_free(struct aio_handle h);
 
-/* Sources. */
+/* Sources. aio_add gives the least key that no source has, so the key of one that was taken out
+ * comes again: an event of the earlier one that is given after that counts for the new one.
+ * aio_live tells whether a source has this key. */
 struct aio_key_answer aio_add(struct aio_handle h, struct aio_handle *out);
 uint32_t aio_del(struct aio_handle h, struct aio_handle *out, uint32_t key);
 bool aio_live(struct aio_handle h, struct aio_handle *out, uint32_t key);
 
 /* Poll waiters and listeners. What a call would ask of the poller is asked before it; where the
- * system's poller fails at that, aio_fail_next(1) comes before the call. */
+ * system's poller fails at that, aio_fail_next(1) comes before the call.
+ *
+ * A poll waiter is one for each direction of a source: `wakes` in the answer of a poll tells that
+ * another one lost its place, which is to be woken. A source may have many listeners, each with
+ * one waker. A listener waits for what comes after its first aio_step. Once it is ready it stays
+ * so: give it up then. Its number never comes again, and it is of its source until aio_unlisten. */
 struct aio_poll_answer aio_poll(struct aio_handle h, struct aio_handle *out, uint32_t key,
     bool write, uint32_t waker);
 struct aio_ask_answer aio_poll_asks(struct aio_handle h, struct aio_handle *out, uint32_t key,
@@ -130,7 +160,20 @@ struct aio_number_answer aio_listen_priority(struct aio_handle h, struct aio_han
     uint32_t key);
 
 /* A round: begin, the system's wait, aio_give for each of its events, aio_wait, aio_handle until
- * nothing is in hand, finish, and the wakers, each to be woken. */
+ * nothing is in hand, finish, and the wakers, each to be woken, before the next begin.
+ *
+ * One aio_wait takes in hand the first 1,024 events that were given and not yet taken. The others
+ * are for the next one, and so are all events of a wait that failed or was interrupted. The limit
+ * that aio_begin tells knows nothing of them, and the system has cleared the interests of all. So
+ * before the system waits, call aio_wait and handle its events again, in this round or in the
+ * next, until it takes none.
+ *
+ * aio_woken writes the wakers of the last finish, in order, as many of them as there are places;
+ * the places behind them stay as they are. The next begin drops those that were not read by then.
+ * While a round runs it writes whom that has taken so far: nobody is to be woken for it, for they
+ * come again with the finish of this round.
+ *
+ * aio_ticker tells how many rounds have begun, which is the number of the last one. */
 uint64_t aio_ticker(struct aio_handle h, struct aio_handle *out);
 struct aio_begin_answer aio_begin(struct aio_handle h, struct aio_handle *out, uint64_t now,
     bool limited, uint64_t limit);
@@ -140,20 +183,28 @@ struct aio_ask_answer aio_handle_asks(struct aio_handle h, struct aio_handle *ou
 struct aio_finish_answer aio_finish(struct aio_handle h, struct aio_handle *out, uint64_t now);
 void aio_woken(struct aio_handle h, struct aio_handle *out, uint32_t *wakers, size_t wakers_count);
 
-/* Timers. */
+/* Timers. One fires once: in a begin or a finish at its moment or later, which takes it out. To
+ * take one out that is not there, as one that has fired, changes nothing and answers 0. The number
+ * of a timer never comes again. */
 struct aio_number_answer aio_insert_timer(struct aio_handle h, struct aio_handle *out,
     uint64_t at, uint32_t waker);
 uint32_t aio_remove_timer(struct aio_handle h, struct aio_handle *out, uint64_t at, uint64_t id);
 
 /* What the system's poller answered: an event, without urgent readiness or with it; a failure of
- * the next call of a kind (0 a registration, 1 an arm, 2 a removal, 3 a wait); a wait that was
- * interrupted. A failure stays due until the poller in memory is asked for such a call: where the
- * call that follows is refused, or asks for none, the next one that asks takes it, of whatever
- * source. */
+ * the next call of a kind (0 a registration, 1 an arm, 2 a removal, 3 and each other number a
+ * wait); a wait that was interrupted. An event may have any key: one that no source has is
+ * handled, and wakes nobody. One that is refused for want of memory was not given. A failure stays
+ * due until the poller in memory is asked for such a call: where the call that follows is refused,
+ * or asks for none, the next one that asks takes it, of whatever source. Where a wait is to fail
+ * and to be interrupted, it fails, and the next one is interrupted. */
 uint32_t aio_give(struct aio_handle h, struct aio_handle *out, uint32_t key, bool read, bool write);
 uint32_t aio_give_priority(struct aio_handle h, struct aio_handle *out, uint32_t key, bool read,
     bool write);
 void aio_fail_next(struct aio_handle h, struct aio_handle *out, uint32_t kind);
 void aio_interrupt_next(struct aio_handle h, struct aio_handle *out);
+
+#ifdef __cplusplus
+}
+#endif
 
 #endif

@@ -6,8 +6,11 @@
 //! plain struct with a code. Of each it promises that some answer of the core crossed as that
 //! struct, and of that answer what the core's own call promises, clause by clause, over what the
 //! handle held before and holds after. So the machine's rules hold across the handle, for a caller
-//! that keeps the handle's own condition: it is used once, by one call at a time, and never after
-//! `aio_free`.
+//! that keeps to what the proofs take for granted of it. A handle that is used is one that a call, or an
+//! `aio_new` that answered `true`, has put back; it is used once, by one call at a time, and never after
+//! `aio_free`. `out` is a place for a handle, and `wakers` one for as many numbers as it says. And
+//! moments never fall from call to call: each clause is of a world at the moment of its own call, and no
+//! run of the machine leads from a world to one with an earlier clock.
 #![tactic(auto)]
 
 ghost use Rattle.std.specs.Prelude.{◌≡◌, List, true, false};

@@ -20,7 +20,8 @@ fn give(h: Handle, out: &mut Handle, event: Event) -> u32
     memory_code(told)
 }
 
-/// An event of the system's poller without urgent readiness, for the next wait.
+/// An event of the system's poller without urgent readiness, for the next wait that has room for it. Its
+/// key may be one that no source has.
 #[unsafe(no_mangle)]
 pub extern "C" fn aio_give(h: Handle, out: &mut Handle, key: u32, read: bool, write: bool) -> u32
     ensures { Crossed memory_code (λ told. GivePromises h.home.core (record {

@@ -48,7 +48,8 @@ pub extern "C" fn aio_begin(
     begin_answer(told)
 }
 
-/// Waits once: the events that the poller was given are in hand then.
+/// Waits once: the first 1,024 of the events that the poller was given are in hand then. The others are
+/// for the next wait, and all of them where this one fails or is interrupted.
 #[unsafe(no_mangle)]
 pub extern "C" fn aio_wait(h: Handle, out: &mut Handle) -> WaitAnswer
     ensures { Crossed wait_answer
@@ -97,7 +98,9 @@ pub extern "C" fn aio_finish(h: Handle, out: &mut Handle, now: u64) -> FinishAns
     finish_answer(told, wakers)
 }
 
-/// Writes the wakers that the last finish has to wake, in order, as far as there is room.
+/// Where no round runs, writes the wakers that the last finish has to wake, in order, as far as there is
+/// room; the places behind stay as they are. The next begin forgets them. While a round runs it writes
+/// those that this has taken so far, which its finish has to wake.
 #[unsafe(no_mangle)]
 pub extern "C" fn aio_woken(h: Handle, out: &mut Handle, wakers: &mut [u32])
     ensures written { wakers.new ≡ written h.home.core.1.round.taken wakers.old }

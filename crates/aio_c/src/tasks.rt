@@ -74,7 +74,8 @@ pub extern "C" fn aio_poll_priority_asks(h: Handle, out: &mut Handle, key: u32) 
     ask_answer(asked)
 }
 
-/// A new listener of a source for reading, or for writing where `write` says so.
+/// A new listener of a source for reading, or for writing where `write` says so. It waits from its first
+/// `aio_step` on, and once it is ready it stays so. Its number never comes again.
 #[unsafe(no_mangle)]
 pub extern "C" fn aio_listen(h: Handle, out: &mut Handle, key: u32, write: bool) -> NumberAnswer
     ensures { Crossed listener_answer (λ told. ListenPromises h.home.core (record { 0 = key })

@@ -1,10 +1,16 @@
 //! A walk through the exports, as a program outside of Rattle calls them.
 
+use crate::answers::AskAnswer;
 use crate::held::Held;
-use crate::poller::{aio_give, aio_give_priority};
-use crate::rounds::{aio_begin, aio_finish, aio_handle, aio_ticker, aio_wait, aio_woken};
+use crate::poller::{aio_fail_next, aio_give, aio_give_priority, aio_interrupt_next};
+use crate::rounds::{
+    aio_begin, aio_finish, aio_handle, aio_handle_asks, aio_ticker, aio_wait, aio_woken,
+};
 use crate::sources::{aio_add, aio_del, aio_live};
-use crate::tasks::{aio_listen_priority, aio_poll, aio_poll_priority, aio_poll_priority_asks};
+use crate::tasks::{
+    aio_listen, aio_listen_priority, aio_poll, aio_poll_asks, aio_poll_priority,
+    aio_poll_priority_asks, aio_step, aio_step_asks, aio_unlisten,
+};
 use crate::timers::{aio_insert_timer, aio_remove_timer};
 use crate::{Handle, aio_free, aio_new};
 use aio_react::Core;
@@ -25,9 +31,20 @@ enum Call {
     ListenPriority(u32),
     Insert(u64, u32),
     Remove(u64, u64),
+    Listen(u32),
+    ListenWrite(u32),
+    Step(u64, u32),
+    Unlisten(u64),
+    PollAsks(u32),
+    StepAsks(u64),
+    HandleAsks,
     Begin(u64),
+    BeginWithin(u64, u64),
     Give(u32),
+    GiveWrite(u32),
     GiveAll(u32),
+    FailNextArm,
+    InterruptNext,
     Wait,
     Handle,
     Finish(u64),
@@ -37,6 +54,18 @@ enum Call {
 /// What it answered: a code, 0 where it has none, and a number, 0 where it has none.
 #[derive(Clone, Copy, Debug, PartialEq)]
 struct Told(u32, u64);
+
+/// What a call would ask of the poller: 1 where it would arm, and as a number 1 for reading and 2 for
+/// writing, 3 for both.
+fn asked(answer: AskAnswer) -> Told {
+    let on = match (answer.read, answer.write) {
+        (false, false) => 0,
+        (true, false) => 1,
+        (false, true) => 2,
+        (true, true) => 3,
+    };
+    Told(answer.arms as u32, on)
+}
 
 /// A handle for an answer to be put in.
 fn spare(alloc: Global) -> Result<Handle, Fail> {
@@ -52,6 +81,19 @@ fn answer_in_a_round(h: Handle, out: &mut Handle, call: Call) -> Told {
             let begun = aio_begin(h, out, now, false, 0);
             Told(begun.code, begun.number)
         }
+        Call::BeginWithin(now, limit) => {
+            let begun = aio_begin(h, out, now, true, limit);
+            Told(begun.code, begun.limit)
+        }
+        Call::FailNextArm => {
+            aio_fail_next(h, out, 1);
+            Told(0, 0)
+        }
+        Call::InterruptNext => {
+            aio_interrupt_next(h, out);
+            Told(0, 0)
+        }
+        Call::HandleAsks => asked(aio_handle_asks(h, out)),
         Call::Wait => {
             let waited = aio_wait(h, out);
             Told(waited.code, waited.events as u64)
@@ -65,6 +107,23 @@ fn answer_in_a_round(h: Handle, out: &mut Handle, call: Call) -> Told {
             Told(ended.code, ended.wakers)
         }
         _ => Told(0, aio_ticker(h, out)),
+    }
+}
+
+fn answer_of_a_listener(h: Handle, out: &mut Handle, call: Call) -> Told {
+    match call {
+        Call::Listen(key) => {
+            let made = aio_listen(h, out, key, false);
+            Told(made.code, made.number)
+        }
+        Call::ListenWrite(key) => {
+            let made = aio_listen(h, out, key, true);
+            Told(made.code, made.number)
+        }
+        Call::Step(listener, waker) => Told(aio_step(h, out, listener, waker), 0),
+        Call::Unlisten(listener) => Told(aio_unlisten(h, out, listener), 0),
+        Call::StepAsks(listener) => asked(aio_step_asks(h, out, listener)),
+        round => answer_in_a_round(h, out, round),
     }
 }
 
@@ -88,9 +147,11 @@ fn answer(h: Handle, out: &mut Handle, call: Call) -> Told {
             Told(timer.code, timer.number)
         }
         Call::Remove(at, id) => Told(aio_remove_timer(h, out, at, id), 0),
+        Call::PollAsks(key) => asked(aio_poll_asks(h, out, key, false)),
         Call::Give(key) => Told(aio_give(h, out, key, true, false), 0),
+        Call::GiveWrite(key) => Told(aio_give(h, out, key, false, true), 0),
         Call::GiveAll(key) => Told(aio_give_priority(h, out, key, true, true), 0),
-        round => answer_in_a_round(h, out, round),
+        other => answer_of_a_listener(h, out, other),
     }
 }
 
@@ -151,6 +212,82 @@ fn calls_go_through_a_round(rt: HostRuntime) -> Result<(), Fail> {
     aio_woken(ended, &mut next, &mut wakers);
     assert_eq!(rt; wakers, [9, 7, 0]);
     aio_free(walked(&rt, rt.alloc(), next, AN_END)?);
+    Ok(())
+}
+
+/// The last moment.
+const LAST: u64 = 1_000_000_000_000_000_000;
+
+/// A listener waits to write, and a task to read. The first arm fails, the first wait is interrupted,
+/// and where the listener's event was handled the poller cannot be armed for the task again.
+const A_LISTENER: &[(Call, Told)] = &[
+    (Call::Add, Told(0, 0)),
+    (Call::PollAsks(0), Told(1, 1)),
+    (Call::Listen(1), Told(9, 0)),
+    (Call::ListenWrite(0), Told(0, 1)),
+    (Call::Del(0), Told(10, 0)),
+    (Call::StepAsks(1), Told(1, 2)),
+    (Call::StepAsks(2), Told(0, 0)),
+    (Call::FailNextArm, Told(0, 0)),
+    (Call::Step(1, 5), Told(2, 0)),
+    (Call::StepAsks(1), Told(1, 2)),
+    (Call::Step(1, 5), Told(0, 0)),
+    (Call::StepAsks(1), Told(0, 0)),
+    (Call::PollAsks(0), Told(1, 3)),
+    (Call::Poll(0, 7), Told(0, 0)),
+    (Call::PollAsks(0), Told(0, 0)),
+    (Call::Insert(LAST, 3), Told(0, 1)),
+    (Call::BeginWithin(5, 40), Told(0, 40)),
+    (Call::Begin(5), Told(6, 0)),
+    (Call::GiveWrite(0), Told(0, 0)),
+    (Call::InterruptNext, Told(0, 0)),
+    (Call::Wait, Told(1, 0)),
+    (Call::Wait, Told(0, 1)),
+    (Call::HandleAsks, Told(1, 1)),
+    (Call::FailNextArm, Told(0, 0)),
+    (Call::Handle, Told(2, 0)),
+    (Call::Finish(5), Told(0, 1)),
+];
+
+/// The listener is ready and given up. A second round leaves a task that waits to write, and a third
+/// one at the last moment wakes the timer's.
+const LATER_ROUNDS: &[(Call, Told)] = &[
+    (Call::Step(1, 5), Told(1, 0)),
+    (Call::Unlisten(1), Told(0, 0)),
+    (Call::Unlisten(1), Told(15, 0)),
+    (Call::Step(1, 5), Told(15, 0)),
+    (Call::Listen(0), Told(0, 2)),
+    (Call::Unlisten(2), Told(0, 0)),
+    (Call::PollAsks(0), Told(1, 1)),
+    (Call::Poll(0, 7), Told(0, 0)),
+    (Call::PollWrite(0, 2), Told(0, 0)),
+    (Call::BeginWithin(9, LAST), Told(0, LAST - 9)),
+    (Call::Ticker, Told(0, 2)),
+    (Call::Give(0), Told(0, 0)),
+    (Call::Wait, Told(0, 1)),
+    (Call::HandleAsks, Told(1, 2)),
+    (Call::Handle, Told(0, 0)),
+    (Call::HandleAsks, Told(0, 0)),
+    (Call::Finish(9), Told(0, 1)),
+    (Call::Poll(0, 7), Told(1, 0)),
+    (Call::Begin(u64::MAX), Told(0, 3)),
+    (Call::Finish(u64::MAX), Told(0, 1)),
+    (Call::Del(0), Told(0, 0)),
+];
+
+#[test]
+fn a_listener_and_a_task_wait_through_failures(rt: HostRuntime) -> Result<(), Fail> {
+    let first = walked(&rt, rt.alloc(), spare(rt.alloc())?, A_LISTENER)?;
+    let mut next = spare(rt.alloc())?;
+    let mut wakers: [u32; 2] = [0; 2];
+    aio_woken(first, &mut next, &mut wakers);
+    assert_eq!(rt; wakers, [5, 0]);
+    let last = walked(&rt, rt.alloc(), next, LATER_ROUNDS)?;
+    let mut end = spare(rt.alloc())?;
+    let mut woken: [u32; 1] = [0];
+    aio_woken(last, &mut end, &mut woken);
+    assert_eq!(rt; woken, [3]);
+    aio_free(end);
     Ok(())
 }
 

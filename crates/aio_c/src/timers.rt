@@ -10,7 +10,8 @@ use crate::Handle;
 use crate::answers::{NumberAnswer, memory_code, moment_at, timer_answer};
 use aio_base::{TimerHost, TimerId, Waker};
 
-/// Registers a timer for a moment with a waker: its number is its id.
+/// Registers a timer for a moment with a waker: its number is its id. It fires once, and a round that
+/// takes its waker takes it out.
 #[unsafe(no_mangle)]
 pub extern "C" fn aio_insert_timer(h: Handle, out: &mut Handle, at: u64, waker: u32) -> NumberAnswer
     ensures inserted { has_id_left h.home.core.1.ids_drawn ≡ true → Crossed timer_answer
@@ -32,7 +33,7 @@ pub extern "C" fn aio_insert_timer(h: Handle, out: &mut Handle, at: u64, waker: 
     timer_answer(told)
 }
 
-/// Takes the timer of this moment and id out, where there is one.
+/// Takes the timer of this moment and id out, where there is one; it is done where there is none, too.
 #[unsafe(no_mangle)]
 pub extern "C" fn aio_remove_timer(h: Handle, out: &mut Handle, at: u64, id: u64) -> u32
     ensures done { result ≡ 0 }

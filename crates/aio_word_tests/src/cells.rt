@@ -69,6 +69,17 @@ const HISTORIES: &[&[Told]] = &[
         Takes(READING, 8, 1),
         GoesOn(Dir::Read, 1, 0),
     ],
+    // The thousandth round is as any other.
+    &[
+        Waits(Dir::Read, 1, 999),
+        Takes(READING, 1_000, 1),
+        GoesOn(Dir::Read, 1, 1_000),
+        Waits(Dir::Read, 1, 1_000),
+        Takes(READING, 1_000, 1),
+        Waits(Dir::Read, 1, 1_000),
+        Takes(READING, 1_001, 1),
+        GoesOn(Dir::Read, 2, 1_001),
+    ],
     // One event takes the waiters of all directions, and one of reading tells nothing of urgent readiness.
     &[
         Waits(Dir::Priority, 3, 0),
