@@ -1,0 +1,4 @@
+mod Lists
+mod Steps
+mod Parts
+mod RefusedDeques
