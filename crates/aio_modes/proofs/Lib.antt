@@ -1,0 +1,13 @@
+mod TableLemmas
+mod DirectionSets
+mod GivingLemmas
+mod SettingLemmas
+mod CuttingLemmas
+mod AskingLemmas
+mod KeepingLemmas
+mod WaitingLemmas
+mod SwallowingLemmas
+mod FaultLemmas
+mod DoneLemmas
+mod GivenKeys
+mod CutLaws
