@@ -130,6 +130,7 @@ impl ListenerTable {
 
     /// Puts a listener under the next number. `OutOfMemory` where memory ran out; no number is given
     /// then.
+    #[inline(always)]
     pub(crate) fn add(&mut self, listener: Listener) -> Result<u64, OutOfMemory>
         requires { listener.key.0 < 2 ^ 13 }
         ensures number { IfOk result (λ number. number ≡ length self.new) }
@@ -254,6 +255,7 @@ pub(crate) fn listened_in(place: u32, first_poll: &FirstPoll) -> Listened
 }
 
 /// The seat of a listener.
+#[inline(always)]
 fn seat_of(listener: Listener) -> PackedSeat
     requires { listener.key.0 < 2 ^ 13 }
     ensures { opened result ≡ seat_of listener }
@@ -274,6 +276,7 @@ fn seat_of(listener: Listener) -> PackedSeat
 }
 
 /// What a listener remembers of its first poll beside its seat, and zeros where it was not polled.
+#[inline(always)]
 fn first_poll_of(first: Option<Listened>) -> FirstPoll
     ensures { result ≡ first_poll_of first }
 {

@@ -1,6 +1,6 @@
 //! A round in sections.
 
-ghost use Rattle.std.specs.Prelude.{◌≡◌, ◌≢◌, ◌<◌, ◌≤◌, ◌+◌, ◌++◌, [], true, false, not, None, Some, IfOk, IfSome, IsErr, OnOk, OnErr, length, vec_len, vec_capacity};
+ghost use Rattle.std.specs.Prelude.{◌≡◌, ◌≢◌, ◌<◌, ◌≤◌, ◌+◌, ◌++◌, [], true, false, not, None, Some, IfOk, IfSome, IsErr, OnOk, OnErr, length, nat_lt, vec_len, vec_capacity};
 ghost use Rattle.std.specs.List.{All};
 ghost use Rattle.std.specs.Option.{option_or};
 ghost use Rattle.aio_base.specs.Devices.{TellsFaults, raised};
@@ -124,19 +124,18 @@ impl Round {
         ensures spare { OnOk result (book.old.spare ≤ book.new.spare) }
         ensures refused { OnErr result ((self.new ≡ self.old) × (book.new ≡ book.old)) }
     {
-        match make_pass_room(&mut self.taken, book, now) {
+        let has_timers = book.len() > 0;
+        match make_pass_room(&mut self.taken, book, has_timers, now) {
             Ok(()) => {}
             Err(refused) => return Err(refused),
         }
         self.taken.clear();
-        pass_over(book, now, &mut self.taken);
+        pass_over(book, has_timers, now, &mut self.taken);
         let limit = if self.taken.is_empty() {
             lesser(time_left(book, now), given)
         } else {
             Some(0)
         };
-        self.events.clear();
-        self.done = 0;
         self.number = number;
         self.limit = limit;
         self.last = None;
@@ -203,11 +202,12 @@ impl Round {
         ensures wanting { OnErr result (due_wakers now book.old.entries ≢ []) }
     {
         if self.has_second_pass() {
-            match make_pass_room(&mut self.taken, book, now) {
+            let has_timers = book.len() > 0;
+            match make_pass_room(&mut self.taken, book, has_timers, now) {
                 Ok(()) => {}
                 Err(refused) => return Err(refused),
             }
-            pass_over(book, now, &mut self.taken);
+            pass_over(book, has_timers, now, &mut self.taken);
         }
         self.running = false;
         Ok(self.fault)
@@ -260,6 +260,7 @@ impl Round {
 
     /// Whether the last wait gave no event, and had time to wait. A wait that failed or was
     /// interrupted gave none either, but asks for no second pass.
+    #[inline(always)]
     fn has_second_pass(&self) -> bool
         ensures { result ≡ has_second_pass self.now }
     {
@@ -320,17 +321,22 @@ impl InHand for Round {
 /// Makes room for the wakers that a pass takes: for as many as there are timers, so that those which
 /// are due need not be counted; and for these alone where memory is short.
 #[inline(always)]
-fn make_pass_room(taken: &mut Vec<Waker>, book: &TimerBook, now: Moment) -> Result<(), OutOfMemory>
+fn make_pass_room(
+    taken: &mut Vec<Waker>,
+    book: &TimerBook,
+    has_timers: bool,
+    now: Moment,
+) -> Result<(), OutOfMemory>
+    requires { has_timers ≡ nat_lt 0 (length book.now.entries) }
     ensures items { taken.new.items ≡ taken.old.items }
     ensures room { OnOk result (vec_len taken.new + length (due_wakers now book.now.entries)
         ≤ vec_capacity taken.new) }
     ensures wanting { OnErr result (due_wakers now book.now.entries ≢ []) }
 {
-    let timers = book.len();
-    if timers == 0 {
+    if !has_timers {
         return Ok(());
     }
-    if taken.reserve(timers).is_ok() {
+    if taken.reserve(book.len()).is_ok() {
         return Ok(());
     }
     match taken.reserve(book.due_count(now)) {
@@ -341,29 +347,42 @@ fn make_pass_room(taken: &mut Vec<Waker>, book: &TimerBook, now: Moment) -> Resu
 
 /// A pass over the timers, which need not be looked at where there are none.
 #[inline(always)]
-fn pass_over(book: &mut TimerBook, now: Moment, taken: &mut Vec<Waker>)
-    requires { vec_len taken.old + length (due_wakers now book.old.entries)
+fn pass_over(book: &mut TimerBook, has_timers: bool, now: Moment, taken: &mut Vec<Waker>)
+    requires timers { has_timers ≡ nat_lt 0 (length book.old.entries) }
+    requires room { vec_len taken.old + length (due_wakers now book.old.entries)
         ≤ vec_capacity taken.old }
     ensures taken { taken.new.items ≡ taken.old.items ++ due_wakers now book.old.entries }
     ensures entries { book.new.entries ≡ after_pass now book.old.entries }
     ensures later { All (λ (r : Registration). now < r.deadline) book.new.entries }
     ensures spare { book.old.spare ≤ book.new.spare }
 {
-    if book.len() == 0 {
+    if !has_timers {
         return;
     }
     book.pass(now, taken);
 }
 
-/// Makes room behind `taken` for all waiters of a source.
+/// Makes room behind `taken` for all waiters of a source. Where none of its directions has had a
+/// listener they are not counted, for each has its poll waiter at most.
+#[inline(always)]
 fn make_room(taken: &mut Vec<Waker>, s: &SourceState) -> Result<(), OutOfMemory>
     ensures items { taken.new.items ≡ taken.old.items }
     ensures room { OnOk result (vec_len taken.new
         + length (waiters_in directions s.now.directions) ≤ vec_capacity taken.new) }
 {
-    if s.is_only_polled() && taken.capacity() - taken.len() >= DIRS.len() {
+    if taken.capacity() - taken.len() >= DIRS.len() && s.is_only_polled() {
         return Ok(());
     }
+    make_room_for_all(taken, s)
+}
+
+/// Makes room behind `taken` for all waiters of a source, by their count.
+#[inline(always)]
+fn make_room_for_all(taken: &mut Vec<Waker>, s: &SourceState) -> Result<(), OutOfMemory>
+    ensures items { taken.new.items ≡ taken.old.items }
+    ensures room { OnOk result (vec_len taken.new
+        + length (waiters_in directions s.now.directions) ≤ vec_capacity taken.new) }
+{
     match count_waiters(s) {
         Some(waiting) if taken.capacity() - taken.len() >= waiting as usize => Ok(()),
         Some(waiting) => taken.reserve(waiting as usize).map_err(|_| OutOfMemory),

@@ -178,6 +178,7 @@ impl EventWait for ScriptPoller {
     /// Gives the first `room` noted events, or all where there are fewer, without waiting. `Failed`
     /// exactly where a failure of `wait` is due, and else interrupted exactly where that is due;
     /// what was answered is then due no longer, and no event is given.
+    #[inline(always)]
     fn wait(
         &mut self,
         out: &mut Vec<Event>,

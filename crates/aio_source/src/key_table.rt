@@ -152,6 +152,7 @@ fn first_free_place<T>(places: &[Option<T>], from: usize) -> usize
 }
 
 /// Puts a thing at a place, which may be the first past the end.
+#[inline(always)]
 fn fill_place<T: Drop>(places: &mut Vec<Option<T>>, at: usize, x: T)
     requires within { at ≤ vec_len places.old }
     requires room { at < vec_capacity places.old }

@@ -20,8 +20,8 @@ use aio_source::InHand;
 impl<P: Poller> Core<P> {
     /// A whole round at the moment `now`, all in one step of the machine: a begin with the given
     /// limit, one wait, the handling of each event that it gave, and a finish. With no limit it is the
-    /// machine's step of that name. `woken` has the wakers that are to be woken then. A wait or an arm that fails stops nothing, and the first fault is
-    /// answered at the end. `Locked` exactly where a round runs, and then `RoundsSpent` exactly where
+    /// machine's step of that name. `woken` has the wakers that are to be woken then. A wait or an arm
+    /// that fails stops nothing, and the first fault is answered at the end. `Locked` exactly where a round runs, and then `RoundsSpent` exactly where
     /// 2^64 - 1 rounds have begun; all is as before then. `OutOfMemory` where memory ran out: before
     /// the begin all is as before, and no round runs; after it an event is in hand whose waiters found
     /// no memory, and the round runs on with its events, wakers and first fault, which this call met,

@@ -29,7 +29,7 @@ impl<P: Poller> Core<P> {
     /// each where there is one. `Locked` exactly where a round runs, and then `RoundsSpent` exactly
     /// where 2^64 - 1 rounds have begun; `OutOfMemory` where there is no memory for the wakers that
     /// are due. All is as before then.
-    #[inline(never)]
+    #[inline(always)]
     pub fn begin(
         &mut self,
         now: Moment,
@@ -118,7 +118,7 @@ impl<P: Poller> Core<P> {
     /// `woken` has the wakers that are to be woken then. `NoRound` exactly where no round runs, and
     /// then `EventsLeft` exactly where events are in hand; `OutOfMemory` where there is no memory for
     /// the wakers that are due, so only where some are, and the round runs on. All is as before then.
-    #[inline(never)]
+    #[inline(always)]
     pub fn finish(&mut self, now: Moment) -> Result<Option<RoundFault>, CoreRefusal>
         ensures meets { IfSome (finish_reply result) (λ reply. Meets
             (PollerStep P.arm_step P.wait_step) P.interests step.Finish (Some now)
