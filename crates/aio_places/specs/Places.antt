@@ -26,7 +26,7 @@ PlaceValue = Result (SourceEndValue × SourceEndValue) ArmFault
 
 -- the end over the source of a token, which told no fault yet
 abbrev pub new_end : SourceRefValue → SourceEndValue
-new_end token = record { words = token.words; key = token.key; rest = token.rest; told = 0 }
+new_end token = record { words = token.words; key = token.key; lock = token.lock; rest = token.rest; visits = token.visits; taken = token.taken; told = 0 }
 
 -- The place of two connections, by what became of them as the reactor began: their ends, or the first fault of the two.
 abbrev pub IsPlaceOf : (a b : Result SourceRefValue ArmFault) → PlaceValue → Type 0

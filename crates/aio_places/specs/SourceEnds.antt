@@ -22,11 +22,15 @@ use Rattle.aio_pairs.specs.declared.outcomes.EndTried.{EndTried}
 use Rattle.aio_source.specs.Values.{SourceValue}
 use Rattle.aio_source.specs.declared.source.SourceCell.{SourceCell}
 
--- the words of its reactor, its key, the rest of its connection, and the greatest count of faults that it has told
+-- the words of its reactor, its key, the lock of its source, the rest of its connection, how many visits it made of the source and how often it handed that
+-- out, and the greatest count of faults that it has told
 pub record SourceEndValue : Type 0 where
   pub words : TableId
   pub key : ℕ
+  pub lock : TableId
   pub rest : List ℕ
+  pub visits : ℕ
+  pub taken : ℕ
   pub told : ℕ
 
 -- ## What it tells
@@ -117,8 +121,8 @@ abbrev pub answer_of : EndCall → Poll (Result ℕ TryFault)
 answer_of (Reads room w tried bytes) = tried.answer
 answer_of (Writes piece w tried) = tried.answer
 
--- A call entered the source, whose connection had the rest that the end knew, tried it as an entered source is tried, and left it. The end then knows
--- the rest that was left, and the greatest count of faults that it has told.
+-- A call entered the source once, whose connection had the rest that the end knew, tried it as an entered source is tried, and left it as the try did. The
+-- end then knows the rest that was left, and the greatest count of faults that it has told.
 pub record EntersShared {C : Type 0} (conn_step : C → ConnMove → C → Type 0) (arm_step : C → ArmCall → Result (Unit {0}) Failed → C → Type 0)
     (interests : C → Option Interests) (rest_of : C → List ℕ) (count : C → ℕ) (sure : C → Bool)
     (before : SourceEndValue) (call : EndCall) (after : SourceEndValue) : Type 0 where
@@ -131,4 +135,4 @@ pub record EntersShared {C : Type 0} (conn_step : C → ConnMove → C → Type 
   pub key : source.key.0 ≡ before.key
   pub tries : Enters conn_step arm_step interests rest_of count sure source conn made source_after conn_after
   pub told : call ≡ call_from before.told made
-  pub left : after ≡ record before { rest = rest_of conn_after; told = last_told before.told (answer_of call) }
+  pub left : after ≡ record before { rest = rest_of conn_after; visits = raised before.visits; told = last_told before.told (answer_of call) }

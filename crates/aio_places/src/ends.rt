@@ -12,6 +12,7 @@ ghost use Rattle.aio_pairs.specs.Calls.{LeavesHost, Reads, WakesReplaced, entere
 ghost use Rattle.aio_shared.specs.Inside.{IsLaterInside, inside_rules};
 ghost use Rattle.aio_shared.specs.Polling.{VisitsOnce};
 ghost use Rattle.aio_sources.specs.Sources.{IsUnsure, Removes};
+ghost use Rattle.aio_places.specs.Places.{new_end};
 ghost use Rattle.aio_places.specs.SourceEnds.{EntersShared, IsRestOf, TriesCalls, fault_from, is_sure_end, last_told, told_by, told_from, tried_from};
 
 use aio_base::{
@@ -45,7 +46,10 @@ impl<C: Conn, W: EventWait> Model for SourceEnd<C, W> {
     ghost view = { λ end. record {
       words = end.token.words;
       key = end.token.key;
+      lock = end.token.lock;
       rest = end.token.rest;
+      visits = end.token.visits;
+      taken = end.token.taken;
       told = end.told;
     } };
 
@@ -70,7 +74,7 @@ impl<C: Conn, W: EventWait> SourceEnd<C, W> {
         requires belongs { token.words ≡ (arc_value shared).words.identity }
         requires outside { token.inside ≡ false }
         requires rest { IsRestOf C.rest token.rest }
-        ensures { result ≡ record { words = token.words; key = token.key; rest = token.rest; told = 0 } }
+        ensures { result ≡ new_end token }
     {
         SourceEnd {
             shared,
@@ -86,8 +90,11 @@ impl<C: Conn + Drop, W: EventWait + Drop> SourceEnd<C, W> {
         ensures { result ≡ record {
           words = self.words;
           key = self.key;
+          lock = self.lock;
           inside = false;
           rest = self.rest;
+          visits = self.visits;
+          taken = self.taken;
         } }
     {
         let SourceEnd {

@@ -16,6 +16,7 @@ use Rattle.aio_shared.specs.Inside.{InsideValue, IsLaterInside, with_seat}
 use Rattle.aio_base.specs.Hosts.{NotifierTells}
 use Rattle.aio_future.specs.Visits.{IsUnsureArm}
 use Rattle.aio_sources.specs.Sources.{SourceRefValue}
+use Rattle.aio_sources.specs.Visiting.{visited_once}
 use Rattle.aio_shared.specs.declared.polling.PollFault.{PollFault}
 use Rattle.aio_shared.specs.declared.polling.PollFault.TheVariants as poll_fault
 use Rattle.aio_future.specs.declared.visits.Visited.{Visited}
@@ -34,7 +35,7 @@ module _ {S B : Type 0} (rest : S → List ℕ) (visits : SourceCell S → ℕ �
     pub rest_is : rest found.io ≡ token.rest
     pub put : SourceCell S
     pub visited : visits found ticker answer put
-    pub token_is : left ≡ record token { rest = rest put.io }
+    pub token_is : left ≡ visited_once token (rest put.io)
 
 -- ## The waker that was replaced
 

@@ -1,12 +1,13 @@
 //! What a thread does inside a source: it enters the source, works on it once with the number of rounds
 //! begun, and leaves it; then it wakes whom a poll replaced.
 
-ghost use Rattle.std.specs.Prelude.{◌≡◌, ℕ, false, List, length, None, Some, IfOk, IfErr, IfSome};
+ghost use Rattle.std.specs.Prelude.{◌≡◌, true, false, List, length, None, Some, IfOk, IfErr, IfSome};
 ghost use Rattle.aio_base.specs.Hosts.{NotifierTells, wake_fault};
 ghost use Rattle.aio_shared.specs.Inside.{IsLaterInside, with_seat};
 ghost use Rattle.aio_future.specs.Visits.{IsUnsureArm, PollsCell, TriesCell, arm_fault_of};
 ghost use Rattle.aio_shared.specs.Polling.{LeavesInside, VisitsOnce, WakesReplaced, WorksOn, answer_of, arm_fault_in};
-ghost use Rattle.aio_sources.specs.Sources.{Adds, HandsBack, outside, refusal_of};
+ghost use Rattle.aio_sources.specs.Sources.{Adds, HandsBack, TableEntry, entry_of, is_full, keys_of, outside, refusal_of};
+ghost use Rattle.aio_sources.specs.Visiting.{visited_once};
 
 use crate::inside::Inside;
 use aio_base::{Arm, ArmFault, CountFault, Dir, EventWait, Host, Notify, Poll, Waker};
@@ -54,9 +55,7 @@ impl<R: Wait, N: Notify, A: Arm, W: EventWait> Inside<R, N, A, W> {
         ensures later { IsLaterInside N.fault_count N.is_sure self.old self.new }
     {
         let rounds = self.ticker();
-        let mut cell = s.take(&self.rt);
-        let visited = visit.visit(&mut cell, rounds);
-        s.give(cell);
+        let visited = s.visit(&self.rt, visit, rounds);
         Entered { rounds, visited }
     }
 
@@ -110,7 +109,7 @@ impl<R: Wait, N: Notify, A: Arm, W: EventWait> Inside<R, N, A, W> {
         ensures polls { WorksOn N.call_count N.notify_step A.rest
             (PollsCell A.arm_step A.interests A.rest A.fault_count A.is_sure
             (record { dir = dir; waker = w })) s.old s.new self.old self.new result }
-        ensures token { s.new ≡ s.old }
+        ensures token { s.new ≡ visited_once s.old s.old.rest }
         ensures leaves { LeavesInside N.fault_count N.is_sure A.all_sure s.old.key
             self.old self.new result }
     {
@@ -184,7 +183,7 @@ impl<R: Wait, N: Notify, A: Arm, W: EventWait> Inside<R, N, A, W> {
             TriesCell A.arm_step A.interests A.rest A.fault_count A.is_sure T.attempts
             (record { dir = dir; waker = w }) attempt.old found ticker tried attempt.new put)
             s.old s.new self.old self.new result }
-        ensures token { s.new ≡ record s.old { rest = s.new.rest } }
+        ensures token { s.new ≡ visited_once s.old s.new.rest }
         ensures leaves { LeavesInside N.fault_count N.is_sure A.all_sure s.old.key
             self.old self.new result }
     {
@@ -199,11 +198,11 @@ impl<R: Wait, N: Notify, A: Arm + Drop, W: EventWait> Inside<R, N, A, W> {
     /// sources: `Sources::insert`, with its refusals, each of which hands the connection back.
     pub fn insert_source(&self, io: A) -> Result<SourceRef<A>, (A, InsertFault)>
         ensures token { IfOk result (λ s.
-            s ≡ outside self.now.shared.words.identity s.key (A.rest io)) }
+            s ≡ outside self.now.shared.words.identity (entry_of s) (A.rest io)) }
         ensures added { IfOk result (λ s. Adds A.arm_step s.key io) }
-        ensures back { IfErr result (λ back. (keys : List ℕ)
-            × HandsBack A.arm_step A.rest A.fault_count A.is_sure keys io back
-            × (refusal_of result ≡ Some InsertFault.Full → length keys ≡ 4096)) }
+        ensures back { IfErr result (λ back. (entries : List TableEntry)
+            × HandsBack A.arm_step A.rest A.fault_count A.is_sure (keys_of entries) io back
+            × (is_full (refusal_of result) ≡ true → length entries ≡ 4096)) }
     {
         let mut sources = self.shared.sources(&self.rt);
         sources.insert(io)

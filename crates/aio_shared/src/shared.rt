@@ -6,7 +6,7 @@ ghost use Rattle.aio_ops.specs.Passes.{new_pass};
 ghost use Rattle.aio_rules.specs.SharedWords.{first_view, after_split, split_view};
 ghost use Rattle.aio_shared.specs.OneCell.{first_claim};
 ghost use Rattle.aio_shared.specs.Starting.{AreParts, IsFirstMember, IsNewReactor, new_about};
-ghost use Rattle.aio_sources.specs.Starting.{keys_added};
+ghost use Rattle.aio_sources.specs.Starting.{entries_added};
 
 use crate::cell::RoundCell;
 use crate::members::Member;
@@ -111,7 +111,7 @@ impl<A: Arm + Drop> Parts<A> {
         notifier: N,
         sources: Vec<Result<SourceRef<A>, ArmFault>>,
     ) -> Started<A, W, N>
-        requires sources { IsPermutation (keys_added sources.items) self.table }
+        requires sources { IsPermutation (entries_added sources.items) self.table }
         ensures shared { result.shared ≡ record {
           lock = lock;
           words = arc_value self.words;

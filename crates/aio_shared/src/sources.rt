@@ -3,7 +3,8 @@
 
 ghost use Rattle.std.specs.Prelude.{◌≡◌, true, false, IfErr};
 ghost use Rattle.std.specs.List.Sorted.{IsStrictlyIncreasing};
-ghost use Rattle.aio_sources.specs.Sources.{IsUnsure, Removes};
+ghost use Rattle.aio_base.specs.Devices.{raised};
+ghost use Rattle.aio_sources.specs.Sources.{IsUnsure, Removes, keys_of};
 
 use crate::shared::Shared;
 use aio_base::{Arm, CountFault, EventWait};
@@ -16,7 +17,7 @@ impl<A: Arm, W: EventWait> Shared<A, W> {
     /// ask for it: a round visits sources while it has the table.
     pub fn sources<R: Wait>(&self, rt: &R) -> Sources<'_, A>
         ensures words { result.words ≡ self.now.words.identity }
-        ensures rising { IsStrictlyIncreasing result.keys }
+        ensures rising { IsStrictlyIncreasing (keys_of result.entries) }
     {
         Sources::new(self.sources.lock(rt), &self.words)
     }
@@ -28,7 +29,7 @@ impl<A: Arm, W: EventWait> Shared<A, W> {
         requires outside { s.old.inside ≡ false }
         ensures key { result.state.key.0 ≡ s.old.key }
         ensures rest { A.rest result.io ≡ s.old.rest }
-        ensures inside { s.new ≡ record s.old { inside = true } }
+        ensures inside { s.new ≡ record s.old { inside = true; taken = raised s.old.taken } }
     {
         s.take(rt)
     }

@@ -6,8 +6,8 @@ use Rattle.atomic_table.specs.Seated.{TableId}
 use Rattle.aio_base.specs.declared.outcomes.ArmFault.{ArmFault}
 use Rattle.aio_base.specs.declared.outcomes.Failed.{Failed}
 use Rattle.aio_base.specs.Devices.{ArmCall}
-use Rattle.aio_sources.specs.Sources.{SourceRefValue}
-use Rattle.aio_sources.specs.Starting.{BeginAll, keys_added}
+use Rattle.aio_sources.specs.Sources.{SourceRefValue, TableEntry, entry_of}
+use Rattle.aio_sources.specs.Starting.{BeginAll, entries_added}
 use Rattle.std.specs.List.{All, Contains}
 use Rattle.std.proofs.lemmas.List.Elements.{All-contains, All-contains_itself, All-weaker, Contains-append_left, Contains-push}
 
@@ -19,23 +19,23 @@ pub holds_before : {X : Type 0} (P : X → Type 0) (xs : List X) (x : X) → All
 holds_before P xs x all =
     All-weaker (Contains xs) P (λ y among. All-contains P (xs ++ x ∷ []) y all (Contains-append_left xs (x ∷ []) y among)) xs (All-contains_itself xs)
 
--- ## The keys of a table to which connections were added
+-- ## The entries of a table to which connections were added
 
 module _ {S : Type 0} (step : S → ArmCall → Result (Unit {0}) Failed → S → Type 0) (rest : S → List ℕ) (count : S → ℕ) (is_sure : S → Bool) (words : TableId) where
-  added_to : (keys : List ℕ) (ios : List S) (answers : List (Result SourceRefValue ArmFault)) (after : List ℕ) → BeginAll step rest count is_sure words keys ios answers after
-      → IsPermutation (keys ++ keys_added answers) after
-  added_to keys [] [] after is = rw (append-nil keys, is) (IsPermutation-refl keys)
-  added_to keys [] (answer ∷ answers) after is = absurd is
-  added_to keys (io ∷ ios) [] after is = absurd is
-  added_to keys (io ∷ ios) (Err fault ∷ answers) after (mid, fails, all) =
-      subst (λ ks. IsPermutation (ks ++ keys_added answers) after) fails.keys_are (added_to mid ios answers after all)
-  added_to keys (io ∷ ios) (Ok token ∷ answers) after (mid, starts, all) =
-      let key = token.key in
-      let more = keys_added answers in
-      let joined : IsPermutation (key ∷ keys) mid = subst (IsPermutation (key ∷ keys)) (sym starts.keys_are) (IsPermutation-insert keys key key) in
-      IsPermutation-trans (keys ++ key ∷ more) (key ∷ (keys ++ more)) after (IsPermutation-middle keys key more)
-      (IsPermutation-trans (key ∷ (keys ++ more)) (mid ++ more) after (IsPermutation-append (key ∷ keys) mid more more joined (IsPermutation-refl more)) (added_to mid ios answers after all))
+  added_to : (entries : List TableEntry) (ios : List S) (answers : List (Result SourceRefValue ArmFault)) (after : List TableEntry)
+      → BeginAll step rest count is_sure words entries ios answers after → IsPermutation (entries ++ entries_added answers) after
+  added_to entries [] [] after is = rw (append-nil entries, is) (IsPermutation-refl entries)
+  added_to entries [] (answer ∷ answers) after is = absurd is
+  added_to entries (io ∷ ios) [] after is = absurd is
+  added_to entries (io ∷ ios) (Err fault ∷ answers) after (mid, fails, all) =
+      subst (λ es. IsPermutation (es ++ entries_added answers) after) fails.entries_are (added_to mid ios answers after all)
+  added_to entries (io ∷ ios) (Ok token ∷ answers) after (mid, starts, all) =
+      let entry = entry_of token in
+      let more = entries_added answers in
+      let joined : IsPermutation (entry ∷ entries) mid = subst (IsPermutation (entry ∷ entries)) (sym starts.entries_are) (IsPermutation-insert entries token.key entry) in
+      IsPermutation-trans (entries ++ entry ∷ more) (entry ∷ (entries ++ more)) after (IsPermutation-middle entries entry more)
+      (IsPermutation-trans (entry ∷ (entries ++ more)) (mid ++ more) after (IsPermutation-append (entry ∷ entries) mid more more joined (IsPermutation-refl more)) (added_to mid ios answers after all))
 
-  pub all_added : (ios : List S) (answers : List (Result SourceRefValue ArmFault)) (after : List ℕ) → BeginAll step rest count is_sure words [] ios answers after
-      → IsPermutation (keys_added answers) after
+  pub all_added : (ios : List S) (answers : List (Result SourceRefValue ArmFault)) (after : List TableEntry) → BeginAll step rest count is_sure words [] ios answers after
+      → IsPermutation (entries_added answers) after
   all_added ios answers after all = added_to [] ios answers after all

@@ -31,17 +31,12 @@ not_empty l long empty = let none : length l ≡ 0 = ap length empty in omega ar
 
 -- ## One event
 
-abbrev key_in : Key → Option Event → Key
-key_in other None = other
-key_in other (Some event) = event.key
-
--- what was done on a source of the first event's key was done by a source of that key
-module _ {S : Type 0} (step : S → ArmCall → Result (Unit {0}) Failed → S → Type 0) (tells : S → Option Interests) (rest : S → List ℕ) (count : S → ℕ) (is_sure : S → Bool)
-    (event same : Event) (first : Option Event) (is : first ≡ Some event) (is_same : first ≡ Some same) where
-  pub handles_by_key : (found put : SourceCell S) (old new : RoundValue) (answer : Result (Unit {0}) OutOfMemory) → OnOk answer (found.state.key ≡ event.key)
-      → OnOk answer (HandlesBy step tells rest count is_sure found put old new) → OnOk answer (HandlesByKey step tells rest count is_sure same.key old new)
-  handles_by_key found put old new (Ok done) own handles = record { found = found; key_is = own ∙ ap (key_in event.key) (sym is ∙ is_same); put = put; handles = handles }
-  handles_by_key found put old new (Err refused) own handles = tt
+-- what was done on a source of this key was done by a source of that key
+pub handles_by_key : {S : Type 0} (step : S → ArmCall → Result (Unit {0}) Failed → S → Type 0) (tells : S → Option Interests) (rest : S → List ℕ) (count : S → ℕ) (is_sure : S → Bool)
+    (key : Key) (found put : SourceCell S) (old new : RoundValue) (answer : Result (Unit {0}) OutOfMemory) → OnOk answer (found.state.key ≡ key)
+    → OnOk answer (HandlesBy step tells rest count is_sure found put old new) → OnOk answer (HandlesByKey step tells rest count is_sure key old new)
+handles_by_key step tells rest count is_sure key found put old new (Ok done) own handles = record { found = found; key_is = own; put = put; handles = handles }
+handles_by_key step tells rest count is_sure key found put old new (Err refused) own handles = tt
 
 -- the first event is what is in hand before all others
 in_hand : (hand : List Event) (event : Event) → slice_get hand 0 ≡ Some event → hand ≡ event ∷ drop 1 hand
@@ -60,19 +55,18 @@ skips_one all_sure keys event old new first none is = record {
 }
 
 module _ {S : Type 0} (step : S → ArmCall → Result (Unit {0}) Failed → S → Type 0) (tells : S → Option Interests) (rest : S → List ℕ) (count : S → ℕ) (is_sure : S → Bool) where
-  pub handles_one : (all_sure : Bool) (keys : List ℕ) (event : Event) (found put : SourceCell S) (old new : RoundValue) (answer : Result (Unit {0}) OutOfMemory)
-      → slice_get old.hand 0 ≡ Some event → Contains keys event.key.0 → OnOk answer (found.state.key ≡ event.key)
-      → OnOk answer (HandlesBy step tells rest count is_sure found put old new) → OnOk answer (KeepsFault all_sure old.fault new.fault)
-      → OnOk answer ((e : Event) × HandlesOne all_sure keys e old new)
-  handles_one all_sure keys event found put old new (Ok done) first among own handles fault = (
+  pub handles_one : (all_sure : Bool) (keys : List ℕ) (event : Event) (old new : RoundValue) (answer : Result (Unit {0}) OutOfMemory)
+      → slice_get old.hand 0 ≡ Some event → Contains keys event.key.0 → OnOk answer (HandlesByKey step tells rest count is_sure event.key old new)
+      → OnOk answer (KeepsFault all_sure old.fault new.fault) → OnOk answer ((e : Event) × HandlesOne all_sure keys e old new)
+  handles_one all_sure keys event old new (Ok done) first among by fault = (
     event,
     record {
-      hand = in_hand old.hand event first ∙ sym (ap (λ (r : RoundValue). event ∷ r.hand) handles.round);
-      became = inl (among, record { source = found.state; key_is = own; fault = handles.fault; round = handles.round });
+      hand = in_hand old.hand event first ∙ sym (ap (λ (r : RoundValue). event ∷ r.hand) by.handles.round);
+      became = inl (among, record { source = by.found.state; key_is = by.key_is; fault = by.handles.fault; round = by.handles.round });
       fault = fault;
     },
   )
-  handles_one all_sure keys event found put old new (Err refused) first among own handles fault = tt
+  handles_one all_sure keys event old new (Err refused) first among by fault = tt
 
 -- ## One event after the other
 

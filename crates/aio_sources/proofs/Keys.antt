@@ -1,24 +1,22 @@
--- The keys of a table's places: which is the least free one, how many there are, and what a change of one place makes of them.
-use Rattle.std.proofs.Common.{◌≡◌, ◌≢◌, ℕ, zero, suc, ◌+◌, ◌<◌, ◌≤◌, List, [], ◌∷◌, length, set, Option, None, Some, IfSome, IsSome, IsNone, Bor, refl, sym, ap, ⊎_elim, subst, arith}
+-- The places of a table, their keys and their entries: which is the least free one, how many there are, and what a change of one place makes of them.
+use Rattle.std.proofs.Common.{◌≡◌, ◌≢◌, ℕ, zero, suc, ◌+◌, ◌<◌, ◌≤◌, List, [], ◌∷◌, length, set, Option, None, Some, IfSome, IsNone, Bor, refl, sym, ap, ◌∙◌, ⊎_elim, subst, arith}
 use Rattle.std.specs.Prelude.{slice_index}
 use Rattle.std.specs.List.Sorted.{IsStrictlyIncreasing}
 use Rattle.std.specs.List.{Contains, insert}
 use Rattle.std.specs.Option.{option_copied}
 use Rattle.std.proofs.lemmas.Bool.{cases_eq, cases_lt, eq-eqb, ne_eqb}
-use Rattle.aio_base.specs.declared.names.Key.{Key}
 use Rattle.aio_source.specs.KeyTables.{at_key, least_free, put_at}
-use Rattle.aio_sources.specs.Sources.{live_keys, IsLeastFree, with_key, without_key}
+use Rattle.atomic_table.specs.Seated.{TableId}
+use Rattle.aio_sources.specs.Sources.{IsLeastFree, TableEntry, entries_from, keys_of, with_entry, without_entry}
 
 later_is_in : (k : ℕ) (ks : List ℕ) (key : ℕ) → Contains ks key → Contains (k ∷ ks) key
 later_is_in k ks key among = (suc among.0, omega (arith, among.1), among.2)
 
--- a key that another is not stays
-other_stays : (k key : ℕ) (ks kept : List ℕ) → k ≢ key → kept ≡ without_key ks key → k ∷ kept ≡ without_key (k ∷ ks) key
-other_stays k key ks kept apart rest = rw (ne_eqb k key apart) (ap (λ more. k ∷ more) rest)
-
--- and that key itself goes
-same_goes : (k key : ℕ) (ks kept : List ℕ) → k ≡ key → kept ≡ without_key ks key → kept ≡ without_key (k ∷ ks) key
-same_goes k key ks kept same rest = rw (eq-eqb k key same) rest
+-- the keys of the places that have something, where the first place has this key
+abbrev live_keys : {X : Type 0} → ℕ → List (Option X) → List ℕ
+live_keys first [] = []
+live_keys first (None ∷ places) = live_keys (suc first) places
+live_keys first (Some x ∷ places) = first ∷ live_keys (suc first) places
 
 module _ {X : Type 0} where
   -- ## Which keys are live
@@ -43,7 +41,7 @@ module _ {X : Type 0} where
       (λ (apart : first ≢ key). later_is_in first (live_keys (suc first) places) key (live_from (suc first) key places (omega arith) (omega arith)))
       (cases_eq first key)
 
-  pub first_is_free : (places : List (Option X)) → IsLeastFree (live_keys 0 places) (least_free places)
+  first_is_free : (places : List (Option X)) → IsLeastFree (live_keys 0 places) (least_free places)
   first_is_free places = record {
     free = free_from 0 (least_free places) places (omega arith);
     least = λ lesser below. live_from 0 lesser places (omega arith) (omega arith);
@@ -63,7 +61,7 @@ module _ {X : Type 0} where
   rises_at first (Some x ∷ places) zero within = omega (arith, lowest (suc first) places (omega (arith, within)))
   rises_at first (Some x ∷ places) (suc k) within = rises_at (suc first) places k (omega (arith, within))
 
-  pub keys_rise : (first : ℕ) (places : List (Option X)) → IsStrictlyIncreasing (live_keys first places)
+  keys_rise : (first : ℕ) (places : List (Option X)) → IsStrictlyIncreasing (live_keys first places)
   keys_rise first places k within =
       let keys = live_keys first places in
       let next : suc k ≡ k + 1 = omega arith in
@@ -76,7 +74,7 @@ module _ {X : Type 0} where
   few_keys first (None ∷ places) = omega (arith, few_keys (suc first) places)
   few_keys first (Some x ∷ places) = omega (arith, few_keys (suc first) places)
 
-  pub first_few : (first : ℕ) (places : List (Option X)) → least_free places ≤ length (live_keys first places)
+  first_few : (first : ℕ) (places : List (Option X)) → least_free places ≤ length (live_keys first places)
   first_few first [] = omega arith
   first_few first (None ∷ places) = omega arith
   first_few first (Some x ∷ places) = omega (arith, first_few (suc first) places)
@@ -86,47 +84,11 @@ module _ {X : Type 0} where
   all_filled first (None ∷ places) full = absurd (omega (arith, few_keys (suc first) places))
   all_filled first (Some x ∷ places) full = omega (arith, all_filled (suc first) places (omega arith))
 
-  pub full_keys : (places : List (Option X)) (limit : ℕ) → length places ≤ limit → limit ≤ least_free places → length (live_keys 0 places) ≡ limit
+  full_keys : (places : List (Option X)) (limit : ℕ) → length places ≤ limit → limit ≤ least_free places → length (live_keys 0 places) ≡ limit
   full_keys places limit few full = omega (arith, few_keys 0 places, first_few 0 places)
 
-  pub full_first : (places : List (Option X)) (limit : ℕ) → length places ≤ limit → length (live_keys 0 places) ≡ limit → limit ≤ least_free places
+  full_first : (places : List (Option X)) (limit : ℕ) → length places ≤ limit → length (live_keys 0 places) ≡ limit → limit ≤ least_free places
   full_first places limit few full = omega (arith, few_keys 0 places, all_filled 0 places (omega (arith, few_keys 0 places)))
-
-  -- ## A place is filled
-
-  put_from : (first key : ℕ) (places : List (Option X)) (at : ℕ) (x : X) → at ≡ least_free places → key ≡ first + at
-      → live_keys first (put_at places at x) ≡ insert (live_keys first places) at key
-  put_from first key [] zero x free is = let same : first ≡ key = omega arith in ap (λ k. k ∷ []) same
-  put_from first key [] (suc at) x free is = absurd (omega arith)
-  put_from first key (None ∷ places) zero x free is = let same : first ≡ key = omega arith in ap (λ k. k ∷ live_keys (suc first) places) same
-  put_from first key (None ∷ places) (suc at) x free is = absurd (omega arith)
-  put_from first key (Some y ∷ places) zero x free is = absurd (omega arith)
-  put_from first key (Some y ∷ places) (suc at) x free is = ap (λ ks. first ∷ ks) (put_from (suc first) key places at x (omega arith) (omega arith))
-
-  pub put_keys : (places : List (Option X)) (at : ℕ) (x : X) → at ≡ least_free places → live_keys 0 (put_at places at x) ≡ with_key (live_keys 0 places) at
-  put_keys places at x free = put_from 0 at places at x free (omega arith)
-
-  -- ## A place is cleared
-
-  all_stay : (first key : ℕ) (places : List (Option X)) → key < first → live_keys first places ≡ without_key (live_keys first places) key
-  all_stay first key [] below = refl
-  all_stay first key (None ∷ places) below = all_stay (suc first) key places (omega arith)
-  all_stay first key (Some x ∷ places) below =
-      other_stays first key (live_keys (suc first) places) (live_keys (suc first) places) (omega arith) (all_stay (suc first) key places (omega arith))
-
-  cleared_from : (first key : ℕ) (places : List (Option X)) (at : ℕ) → key ≡ first + at
-      → live_keys first (set places at None) ≡ without_key (live_keys first places) key
-  cleared_from first key [] at is = refl
-  cleared_from first key (None ∷ places) zero is = all_stay (suc first) key places (omega arith)
-  cleared_from first key (None ∷ places) (suc at) is = cleared_from (suc first) key places at (omega arith)
-  cleared_from first key (Some x ∷ places) zero is =
-      same_goes first key (live_keys (suc first) places) (live_keys (suc first) places) (omega arith) (all_stay (suc first) key places (omega arith))
-  cleared_from first key (Some x ∷ places) (suc at) is =
-      other_stays first key (live_keys (suc first) places) (live_keys (suc first) (set places at None)) (omega arith)
-      (cleared_from (suc first) key places at (omega arith))
-
-  pub cleared_keys : (places : List (Option X)) (at : ℕ) → live_keys 0 (set places at None) ≡ without_key (live_keys 0 places) at
-  cleared_keys places at = cleared_from 0 at places at (omega arith)
 
 -- there is one least free key
 pub one_least : (keys : List ℕ) (a b : ℕ) → IsLeastFree keys a → IsLeastFree keys b → a ≡ b
@@ -136,13 +98,6 @@ one_least keys a b of_a of_b =
     (cases_lt a b)
 
 module _ {X : Type 0} where
-  live_at : (first key : ℕ) (places : List (Option X)) (at : ℕ) (x : X) → at_key places at ≡ Some x → key ≡ first + at → Contains (live_keys first places) key
-  live_at first key [] at x is same = absurd cc
-  live_at first key (None ∷ places) zero x is same = absurd cc
-  live_at first key (None ∷ places) (suc at) x is same = live_at (suc first) key places at x is (omega arith)
-  live_at first key (Some y ∷ places) zero x is same = (0, omega arith, omega arith)
-  live_at first key (Some y ∷ places) (suc at) x is same = later_is_in first (live_keys (suc first) places) key (live_at (suc first) key places at x is (omega arith))
-
   gone_at : (first key : ℕ) (places : List (Option X)) (at : ℕ) → at_key places at ≡ None → key ≡ first + at → Contains (live_keys first places) key → ⊥
   gone_at first key [] at is same among = let within = among.1 in omega arith
   gone_at first key (None ∷ places) zero is same among = none_below (suc first) key places (omega arith) among
@@ -151,46 +106,117 @@ module _ {X : Type 0} where
   gone_at first key (Some x ∷ places) (suc at) is same (zero, within, found) = omega (arith, found)
   gone_at first key (Some x ∷ places) (suc at) is same (suc k, within, found) = gone_at (suc first) key places at is (omega arith) (k, omega (arith, within), found)
 
-  pub has_no_key : (places : List (Option X)) (at : ℕ) → at_key places at ≡ None → Contains (live_keys 0 places) at → ⊥
+  has_no_key : (places : List (Option X)) (at : ℕ) → at_key places at ≡ None → Contains (live_keys 0 places) at → ⊥
   has_no_key places at is among = gone_at 0 at places at is (omega arith) among
 
-  pub has_key : (places : List (Option X)) (at : ℕ) (x : X) → at_key places at ≡ Some x → Contains (live_keys 0 places) at
-  has_key places at x is = live_at 0 at places at x is (omega arith)
+-- ## Entries
 
-  -- ## What a table answers
+-- an entry of another key stays
+other_stays : (e : TableEntry) (key : ℕ) (es kept : List TableEntry) → e.key ≢ key → kept ≡ without_entry es key → e ∷ kept ≡ without_entry (e ∷ es) key
+other_stays e key es kept apart rest = rw (ne_eqb e.key key apart) (ap (λ more. e ∷ more) rest)
 
-  pub some_key : (places : List (Option X)) (at : ℕ) (found : Option (Bor X)) → option_copied found ≡ at_key places at → IsSome found → Contains (live_keys 0 places) at
-  some_key places at None is some = absurd cc
-  some_key places at (Some x) is some = has_key places at x.now (sym is)
+-- and that of the key goes
+same_goes : (e : TableEntry) (key : ℕ) (es kept : List TableEntry) → e.key ≡ key → kept ≡ without_entry es key → kept ≡ without_entry (e ∷ es) key
+same_goes e key es kept same rest = rw (eq-eqb e.key key same) rest
 
-  pub none_key : (places : List (Option X)) (at : ℕ) (found : Option (Bor X)) → option_copied found ≡ at_key places at → IsNone found → Contains (live_keys 0 places) at → ⊥
-  none_key places at None is none = has_no_key places at (sym is)
-  none_key places at (Some x) is none = absurd cc
+pub keys_are : (first : ℕ) (places : List (Option TableId)) → keys_of (entries_from first places) ≡ live_keys first places
+keys_are first [] = refl
+keys_are first (None ∷ places) = keys_are (suc first) places
+keys_are first (Some lock ∷ places) = ap (λ ks. first ∷ ks) (keys_are (suc first) places)
 
-  pub least_key : (places : List (Option X)) (free : Option Key) → IfSome free (λ (key : Key). key.0 ≡ least_free places)
-      → IfSome free (λ (key : Key). IsLeastFree (live_keys 0 places) key.0)
-  least_key places None is = tt
-  least_key places (Some key) is = subst (λ (n : ℕ). IsLeastFree (live_keys 0 places) n) (sym is) (first_is_free places)
+pub entries_long : (es : List TableEntry) → length (keys_of es) ≡ length es
+entries_long [] = refl
+entries_long (e ∷ es) = ap suc (entries_long es)
 
-  pub key_within : (places : List (Option X)) (free : Option Key) → IfSome free (λ (key : Key). key.0 ≡ least_free places)
-      → IfSome free (λ (key : Key). key.0 ≤ length (live_keys 0 places))
-  key_within places None is = tt
-  key_within places (Some key) is = omega (arith, is, first_few 0 places)
+-- the key of an entry is one of the keys
+pub key_among : (es : List TableEntry) (e : TableEntry) → Contains es e → Contains (keys_of es) e.key
+key_among [] e among = let within = among.1 in absurd (omega arith)
+key_among (x ∷ es) e (zero, within, is) = (0, omega arith, ap (λ (y : TableEntry). y.key) is)
+key_among (x ∷ es) e (suc k, within, is) = later_is_in x.key (keys_of es) e.key (key_among es e (k, omega (arith, within), is))
 
--- a key below a limit is not free where the least one is not
-pub no_key : (free : Option Key) (least limit : ℕ) → IfSome free (λ (key : Key). key.0 ≡ least) → IfSome free (λ (key : Key). key.0 < limit) → limit ≤ least → free ≡ None
-no_key None least limit is below full = refl
-no_key (Some key) least limit is below full = absurd (omega (arith, is, below, full))
+-- the least free key of the places is that of the entries
+pub first_is_free_of : (places : List (Option TableId)) → IsLeastFree (keys_of (entries_from 0 places)) (least_free places)
+first_is_free_of places = subst (λ keys. IsLeastFree keys (least_free places)) (sym (keys_are 0 places)) (first_is_free places)
+
+put_from : (first key : ℕ) (places : List (Option TableId)) (at : ℕ) (x : TableId) → at ≡ least_free places → key ≡ first + at
+    → entries_from first (put_at places at x) ≡ insert (entries_from first places) at (record { key = key; lock = x })
+put_from first key [] zero x free is = let same : first ≡ key = omega arith in ap (λ k. record { key = k; lock = x } ∷ []) same
+put_from first key [] (suc at) x free is = absurd (omega arith)
+put_from first key (None ∷ places) zero x free is = let same : first ≡ key = omega arith in ap (λ k. record { key = k; lock = x } ∷ entries_from (suc first) places) same
+put_from first key (None ∷ places) (suc at) x free is = absurd (omega arith)
+put_from first key (Some y ∷ places) zero x free is = absurd (omega arith)
+put_from first key (Some y ∷ places) (suc at) x free is = ap (λ es. record { key = first; lock = y } ∷ es) (put_from (suc first) key places at x (omega arith) (omega arith))
+
+pub put_entry : (places : List (Option TableId)) (at : ℕ) (x : TableId) → at ≡ least_free places
+    → entries_from 0 (put_at places at x) ≡ with_entry (entries_from 0 places) (record { key = at; lock = x })
+put_entry places at x free = put_from 0 at places at x free (omega arith)
+
+all_stay : (first key : ℕ) (places : List (Option TableId)) → key < first → entries_from first places ≡ without_entry (entries_from first places) key
+all_stay first key [] below = refl
+all_stay first key (None ∷ places) below = all_stay (suc first) key places (omega arith)
+all_stay first key (Some x ∷ places) below = let more = entries_from (suc first) places in
+    other_stays (record { key = first; lock = x }) key more more (omega arith) (all_stay (suc first) key places (omega arith))
+
+cleared_from : (first key : ℕ) (places : List (Option TableId)) (at : ℕ) → key ≡ first + at
+    → entries_from first (set places at None) ≡ without_entry (entries_from first places) key
+cleared_from first key [] at is = refl
+cleared_from first key (None ∷ places) zero is = all_stay (suc first) key places (omega arith)
+cleared_from first key (None ∷ places) (suc at) is = cleared_from (suc first) key places at (omega arith)
+cleared_from first key (Some x ∷ places) zero is = let more = entries_from (suc first) places in
+    same_goes (record { key = first; lock = x }) key more more (omega arith) (all_stay (suc first) key places (omega arith))
+cleared_from first key (Some x ∷ places) (suc at) is =
+    other_stays (record { key = first; lock = x }) key (entries_from (suc first) places) (entries_from (suc first) (set places at None)) (omega arith)
+    (cleared_from (suc first) key places at (omega arith))
+
+pub cleared_entries : (places : List (Option TableId)) (at : ℕ) → entries_from 0 (set places at None) ≡ without_entry (entries_from 0 places) at
+cleared_entries places at = cleared_from 0 at places at (omega arith)
 
 -- a key that was taken out is no longer there
-pub is_gone : (keys : List ℕ) (key : ℕ) → Contains (without_key keys key) key → ⊥
+pub is_gone : (es : List TableEntry) (key : ℕ) → Contains (keys_of (without_entry es key)) key → ⊥
 is_gone [] key among = let within = among.1 in omega arith
-is_gone (k ∷ keys) key among =
-    ⊎_elim (λ (same : k ≡ key). is_gone keys key (subst (λ ks. Contains ks key) (sym (same_goes k key keys (without_key keys key) same refl)) among))
-    (λ (apart : k ≢ key). still_gone (without_key keys key) apart (is_gone keys key)
-    (subst (λ ks. Contains ks key) (sym (other_stays k key keys (without_key keys key) apart refl)) among))
-    (cases_eq k key)
+is_gone (e ∷ es) key among =
+    ⊎_elim (λ (same : e.key ≡ key). is_gone es key (subst (λ xs. Contains (keys_of xs) key) (sym (same_goes e key es (without_entry es key) same refl)) among))
+    (λ (apart : e.key ≢ key). still_gone (without_entry es key) apart (is_gone es key)
+    (subst (λ xs. Contains (keys_of xs) key) (sym (other_stays e key es (without_entry es key) apart refl)) among))
+    (cases_eq e.key key)
   where
-    still_gone : (kept : List ℕ) → k ≢ key → (Contains kept key → ⊥) → Contains (k ∷ kept) key → ⊥
+    still_gone : (kept : List TableEntry) → e.key ≢ key → (Contains (keys_of kept) key → ⊥) → Contains (e.key ∷ keys_of kept) key → ⊥
     still_gone kept apart none (zero, within, is) = apart is
     still_gone kept apart none (suc at, within, is) = none (at, omega (arith, within), is)
+
+entry_at : (first key : ℕ) (places : List (Option TableId)) (at : ℕ) (x : TableId) → at_key places at ≡ Some x → key ≡ first + at
+    → Contains (entries_from first places) (record { key = key; lock = x })
+entry_at first key [] at x is same = absurd cc
+entry_at first key (None ∷ places) zero x is same = absurd cc
+entry_at first key (None ∷ places) (suc at) x is same = entry_at (suc first) key places at x is (omega arith)
+entry_at first key (Some y ∷ places) zero x is same =
+    let of_key : first ≡ key = omega arith in
+    let of_lock : y ≡ x = cc in (0, omega arith, λ i. record { key = of_key i; lock = of_lock i })
+entry_at first key (Some y ∷ places) (suc at) x is same =
+    let among = entry_at (suc first) key places at x is (omega arith) in (suc among.0, omega (arith, among.1), among.2)
+
+-- what a table answers at a key is the lock of the entry of that key
+pub some_entry : (places : List (Option TableId)) (at : ℕ) (found : Option (Bor TableId)) → option_copied found ≡ at_key places at
+    → IfSome found (λ (lock : Bor TableId). Contains (entries_from 0 places) (record { key = at; lock = lock.now }))
+some_entry places at None is = tt
+some_entry places at (Some x) is = entry_at 0 at places at x.now (sym is) (omega arith)
+
+pub none_entry : (places : List (Option TableId)) (at : ℕ) (found : Option (Bor TableId)) → option_copied found ≡ at_key places at → IsNone found
+    → Contains (keys_of (entries_from 0 places)) at → ⊥
+none_entry places at None is none among = has_no_key places at (sym is) (subst (λ keys. Contains keys at) (keys_are 0 places) among)
+none_entry places at (Some x) is none among = absurd cc
+
+entries_many : (places : List (Option TableId)) → length (entries_from 0 places) ≡ length (live_keys 0 places)
+entries_many places = sym (entries_long (entries_from 0 places)) ∙ ap length (keys_are 0 places)
+
+pub full_entries : (places : List (Option TableId)) (limit : ℕ) → length places ≤ limit → limit ≤ least_free places → length (entries_from 0 places) ≡ limit
+full_entries places limit few full = entries_many places ∙ full_keys places limit few full
+
+pub full_places : (places : List (Option TableId)) (limit : ℕ) → length places ≤ limit → length (entries_from 0 places) ≡ limit → limit ≤ least_free places
+full_places places limit few full = full_first places limit few (sym (entries_many places) ∙ full)
+
+pub least_is_few : (places : List (Option TableId)) → least_free places ≤ length (entries_from 0 places)
+least_is_few places = omega (arith, first_few 0 places, entries_many places)
+
+pub entries_rise : (places : List (Option TableId)) → IsStrictlyIncreasing (keys_of (entries_from 0 places))
+entries_rise places = subst IsStrictlyIncreasing (sym (keys_are 0 places)) (keys_rise 0 places)

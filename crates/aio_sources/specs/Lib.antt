@@ -1,3 +1,4 @@
 pub mod Sources
 pub mod Events
 pub mod Starting
+pub mod Visiting

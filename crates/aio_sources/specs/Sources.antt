@@ -12,39 +12,55 @@ use Rattle.aio_words.specs.Calls.{uncounted}
 use Rattle.aio_sources.specs.declared.sources.InsertFault.{InsertFault}
 use Rattle.aio_sources.specs.declared.sources.InsertFault.TheVariants.{Full, AddFault, OutOfMemory}
 
--- ## The keys of the table
+-- ## The table
 
--- the keys of the places that have something, where the first place has this key: they rise
-abbrev pub live_keys : {X : Type 0} → ℕ → List (Option X) → List ℕ
-live_keys first [] = []
-live_keys first (None ∷ places) = live_keys (suc first) places
-live_keys first (Some x ∷ places) = first ∷ live_keys (suc first) places
+-- a source of a table: its key, and the lock in which it lies
+pub record TableEntry : Type 0 where
+  pub key : ℕ
+  pub lock : TableId
+
+-- the locks of these places, where the first place has this key: their keys rise
+abbrev pub entries_from : ℕ → List (Option TableId) → List TableEntry
+entries_from first [] = []
+entries_from first (None ∷ places) = entries_from (suc first) places
+entries_from first (Some lock ∷ places) = record { key = first; lock = lock } ∷ entries_from (suc first) places
+
+abbrev pub keys_of : List TableEntry → List ℕ
+keys_of [] = []
+keys_of (entry ∷ entries) = entry.key ∷ keys_of entries
 
 -- a key that is not in a list, while each lesser one is
 pub record IsLeastFree (keys : List ℕ) (key : ℕ) : Type 0 where
   pub free : Contains keys key → ⊥
   pub least : (lesser : ℕ) → lesser < key → Contains keys lesser
 
--- keys that rise, with their least free key: before it are all lesser ones, so many as it says
-abbrev pub with_key : List ℕ → ℕ → List ℕ
-with_key keys key = insert keys key key
+-- a table whose keys rise, with an entry under its least free key: before it are all lesser ones, so many as it says
+abbrev pub with_entry : List TableEntry → TableEntry → List TableEntry
+with_entry entries entry = insert entries entry.key entry
 
-abbrev pub without_key : List ℕ → ℕ → List ℕ
-without_key keys key = filter (λ k. not (k == key)) keys
+abbrev pub without_entry : List TableEntry → ℕ → List TableEntry
+without_entry entries key = filter (λ entry. not (entry.key == key)) entries
 
 -- ## The token of a source
 
--- the token of a source: the words of the reactor to which it belongs, the key, whether it has taken the source out of its lock, and the rest of the
--- source's connection
+-- the token of a source: the words of the reactor to which it belongs, the key, the lock of the source, whether it has taken the source out of its
+-- lock, the rest of the source's connection, how many visits it made of the source, and how often it handed the source out
 pub record SourceRefValue : Type 0 where
   pub words : TableId
   pub key : ℕ
+  pub lock : TableId
   pub inside : Bool
   pub rest : List ℕ
+  pub visits : ℕ
+  pub taken : ℕ
 
--- a token that has not taken its source
-abbrev pub outside : TableId → ℕ → List ℕ → SourceRefValue
-outside words key rest = record { words = words; key = key; inside = false; rest = rest }
+-- a token that has not taken its source, and never had
+abbrev pub outside : TableId → TableEntry → List ℕ → SourceRefValue
+outside words entry rest = record { words = words; key = entry.key; lock = entry.lock; inside = false; rest = rest; visits = 0; taken = 0 }
+
+-- the entry of the source of a token
+abbrev pub entry_of : SourceRefValue → TableEntry
+entry_of token = record { key = token.key; lock = token.lock }
 
 -- the rest of the connection, behind the key in the note of a source
 abbrev pub rest_of : LockView → List ℕ
@@ -64,21 +80,28 @@ pub record ClosedValue : Type 0 where
 
 -- ## Inserting a source
 
--- the sources of a reactor, as whoever has the table sees them: the words of the reactor, and the keys of the sources, which rise
+-- the sources of a reactor, as whoever has the table sees them: the words of the reactor, and the keys and locks of the sources, whose keys rise
 pub record SourcesValue : Type 0 where
   pub words : TableId
-  pub keys : List ℕ
+  pub entries : List TableEntry
 
--- a source joined them under the least free key
-pub record Joins (old : SourcesValue) (key : ℕ) (new : SourcesValue) : Type 0 where
-  pub key_is : IsLeastFree old.keys key
-  pub keys : new.keys ≡ with_key old.keys key
+-- the source of this token joined them under the least free key: the lock at that key is the token's
+pub record Joins (old : SourcesValue) (token : SourceRefValue) (new : SourcesValue) : Type 0 where
+  pub key_is : IsLeastFree (keys_of old.entries) token.key
+  pub entries : new.entries ≡ with_entry old.entries (entry_of token)
   pub words : new.words ≡ old.words
 
 -- why an insert was refused
 abbrev pub refusal_of : {R S : Type 0} → Result R (S × InsertFault) → Option InsertFault
 refusal_of (Ok token) = None
 refusal_of (Err (back, refusal)) = Some refusal
+
+-- it was refused since 4,096 sources live
+abbrev pub is_full : Option InsertFault → Bool
+is_full None = false
+is_full (Some (Full table)) = true
+is_full (Some (AddFault fault)) = false
+is_full (Some OutOfMemory) = false
 
 module _ {S : Type 0} (step : S → ArmCall → Result (Unit {0}) Failed → S → Type 0) where
   -- this connection became that one by one `add` of this key, which was done
@@ -103,7 +126,7 @@ module _ {S : Type 0} (step : S → ArmCall → Result (Unit {0}) Failed → S �
     -- A refusal hands the connection back: untouched, but where its `add` failed.
     abbrev pub HandsBack : List ℕ → S → S × InsertFault → Type 0
     HandsBack keys io (back, AddFault fault) = (key : ℕ) × IsLeastFree keys key × FailsToAdd key io back fault
-    HandsBack keys io (back, Full) = back ≡ io
+    HandsBack keys io (back, Full table) = back ≡ io
     HandsBack keys io (back, OutOfMemory) = back ≡ io
 
   module _ (rest : S → List ℕ) (count : S → ℕ) where

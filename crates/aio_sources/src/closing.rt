@@ -3,11 +3,10 @@
 
 ghost use Rattle.std.specs.Prelude.{◌≡◌, false, IfErr};
 ghost use Rattle.std.specs.List.{Contains};
-ghost use Rattle.aio_sources.specs.Sources.{IsUnsure, Removes, without_key};
+ghost use Rattle.aio_sources.specs.Sources.{IsUnsure, Removes, keys_of, without_entry};
 
-use crate::sealed::{Sealed, remove_from};
+use crate::sealed::{Sealed, SourceRef, remove_from};
 use crate::source_table::SourceTable;
-use crate::sources::SourceRef;
 use aio_base::{Arm, CountFault, Key};
 use aio_source::SourceCell;
 use std::marker::Model;
@@ -36,7 +35,7 @@ impl<A: Arm + Drop> Closed<A> {
     /// Makes one `remove` of the source's key on its connection, which is let go, and gives the waiters of
     /// the source up. The caller has the table, in which no source has the key.
     fn remove(self, table: &SourceTable<A>) -> Result<(), CountFault>
-        requires out { ¬ Contains table.now self.key }
+        requires out { ¬ Contains (keys_of table.now) self.key }
         ensures removed { Removes A.arm_step A.rest A.fault_count self.key self.rest result }
         ensures cause { IfErr result (λ fault. IsUnsure A.all_sure fault) }
     {
@@ -53,7 +52,7 @@ impl<A: Arm + Drop> SourceTable<A> {
     /// of its type are sure; the source is gone all the same. Takes no memory.
     pub fn close<R: Wait>(&mut self, rt: &R, s: SourceRef<A>) -> Result<(), CountFault>
         requires outside { s.inside ≡ false }
-        ensures keys { self.new ≡ without_key self.old s.key }
+        ensures entries { self.new ≡ without_entry self.old s.key }
         ensures removed { Removes A.arm_step A.rest A.fault_count s.key s.rest result }
         ensures cause { IfErr result (λ fault. IsUnsure A.all_sure fault) }
     {

@@ -16,6 +16,7 @@ mod source_table;
 mod sources;
 mod starting;
 
-pub use source_table::SourceTable;
-pub use sources::{InsertFault, SourceRef, Sources};
+pub use sealed::SourceRef;
+pub use source_table::{SourceTable, TableIsFull};
+pub use sources::{InsertFault, Sources};
 pub use starting::Places;

@@ -5,11 +5,10 @@ ghost use Rattle.std.specs.List.{Contains};
 ghost use Rattle.std.specs.List.Sorted.{IsStrictlyIncreasing};
 ghost use Rattle.std.specs.Arc.{arc_value};
 ghost use Rattle.aio_base.specs.declared.names.Event.{Event};
-ghost use Rattle.aio_sources.specs.Sources.{Adds, FailsToAdd, IsLeastFree, live_keys, outside, with_key, without_key};
+ghost use Rattle.aio_sources.specs.Sources.{Adds, FailsToAdd, IsLeastFree, entry_of, keys_of, outside, with_entry, without_entry};
 ghost use Rattle.aio_sources.specs.Events.{HandlesAt, HandlesByKey, HandlesOne};
 
-use crate::sealed::{Sealed, SharedLock, SourceLock, add_source, handle_in};
-use crate::sources::SourceRef;
+use crate::sealed::{Events, SharedLock, SourceLock, SourceRef, add_source};
 use aio_base::{Arm, CountFault, Key, OutOfMemory};
 use aio_lock::Owner;
 use aio_source::{InHand, KeyTable};
@@ -18,20 +17,20 @@ use std::alloc::Global;
 use std::marker::Model;
 use std::sync::{Arc, Wait};
 
-/// The locks of the sources, each at its key. Contracts see the keys, which rise. It has room for as
-/// many sources as may live.
+/// The locks of the sources, each at its key. Contracts see the keys, which rise, and which lock stands
+/// at each. It has room for as many sources as may live.
 pub struct SourceTable<A: Arm> {
     locks: KeyTable<SourceLock<A>>,
     alloc: Global,
 }
 
 impl<A: Arm> Model for SourceTable<A> {
-    ghost use Rattle.std.specs.Prelude.{ℕ, List};
-    ghost use Rattle.aio_sources.specs.Sources.{live_keys};
+    ghost use Rattle.std.specs.Prelude.{List};
+    ghost use Rattle.aio_sources.specs.Sources.{TableEntry, entries_from};
 
-    ghost Value = { List ℕ };
+    ghost Value = { List TableEntry };
 
-    ghost view = { λ t. live_keys 0 t.locks };
+    ghost view = { λ t. entries_from 0 t.locks };
 }
 
 impl<A: Arm + Drop> Drop for SourceTable<A> {
@@ -64,6 +63,11 @@ impl<A: Arm> Model for Vacancy<A> {
     ghost invariant = { λ v. (v.lent ≡ v.kept)
         × (v.owner ≡ owner_of v.kept (took_out [] [] (first_owner []))) };
 }
+
+/// That a table was asked for a free key and had none, since 4,096 sources lived. The table alone makes
+/// one.
+#[derive(Clone, Copy, Debug, PartialEq, Eq)]
+pub struct TableIsFull(());
 
 /// The key of a source that went out of the table. `SourceTable::take_out` alone makes one, so that what
 /// follows on it cannot be done without it. Contracts see the key.
@@ -129,21 +133,25 @@ impl<A: Arm + Drop> SourceTable<A> {
         Vacancy::new(self.alloc, words)
     }
 
-    /// The least key that no source has. `None` exactly where 4,096 sources live.
-    pub(crate) fn free_key(&self) -> Option<Key>
-        ensures none { (result ≡ None) ↔ (length self.now ≡ 4096) }
-        ensures least { IfSome result (λ key. IsLeastFree self.now key.0) }
-        ensures bound { IfSome result (λ key. key.0 < 4096) }
-        ensures within { IfSome result (λ key. key.0 ≤ length self.now) }
+    /// The least key that no source has. `TableIsFull` exactly where 4,096 sources live.
+    pub(crate) fn free_key(&self) -> Result<Key, TableIsFull>
+        ensures full { OnErr result (length self.now ≡ 4096) }
+        ensures room { OnOk result (length self.now ≢ 4096) }
+        ensures least { IfOk result (λ key. IsLeastFree (keys_of self.now) key.0) }
+        ensures bound { IfOk result (λ key. key.0 < 4096) }
+        ensures within { IfOk result (λ key. key.0 ≤ length self.now) }
     {
-        self.locks.free_key()
+        match self.locks.free_key() {
+            Some(key) => Ok(key),
+            None => Err(TableIsFull(())),
+        }
     }
 
     /// Puts a lock at the place of the least free key.
     fn put(&mut self, key: Key, lock: SourceLock<A>)
-        requires free { IsLeastFree self.old key.0 }
+        requires free { IsLeastFree (keys_of self.old) key.0 }
         requires bound { key.0 < 4096 }
-        ensures { self.new ≡ with_key self.old key.0 }
+        ensures { self.new ≡ with_entry self.old (record { key = key.0; lock = lock }) }
     {
         self.locks.put(key, lock);
     }
@@ -152,8 +160,8 @@ impl<A: Arm + Drop> SourceTable<A> {
     /// answer says so of this key.
     pub(crate) fn take_out(&mut self, key: Key) -> TakenOut
         requires { key.0 < 4096 }
-        ensures keys { self.new ≡ without_key self.old key.0 }
-        ensures gone { ¬ Contains self.new key.0 }
+        ensures entries { self.new ≡ without_entry self.old key.0 }
+        ensures gone { ¬ Contains (keys_of self.new) key.0 }
         ensures out { result ≡ key.0 }
     {
         self.locks.clear(key);
@@ -168,10 +176,11 @@ impl<A: Arm + Drop> SourceTable<A> {
         key: Key,
         io: A,
     ) -> Result<SourceRef<A>, (A, CountFault)>
-        requires free { IsLeastFree self.old key.0 }
+        requires free { IsLeastFree (keys_of self.old) key.0 }
         requires bound { key.0 < 4096 }
-        ensures keys { OnOk result (self.new ≡ with_key self.old key.0) }
-        ensures token { IfOk result (λ s. s ≡ outside vacancy key.0 (A.rest io)) }
+        ensures entries { IfOk result (λ s. self.new ≡ with_entry self.old (entry_of s)) }
+        ensures key { IfOk result (λ s. s.key ≡ key.0) }
+        ensures token { IfOk result (λ s. s ≡ outside vacancy (entry_of s) (A.rest io)) }
         ensures added { OnOk result (Adds A.arm_step key.0 io) }
         ensures refused { OnErr result (self.new ≡ self.old) }
         ensures back { IfErr result (λ back.
@@ -199,15 +208,16 @@ impl<A: Arm + Drop> SourceTable<A> {
 impl<A: Arm> SourceTable<A> {
     /// The law of a table: its keys rise.
     pub(crate) fn keys_rise(&self)
-        ensures { IsStrictlyIncreasing self.now }
+        ensures { IsStrictlyIncreasing (keys_of self.now) }
     {
         let _locks = &self.locks;
     }
 
     /// The lock of the source of a key, where there is one.
     fn lock_of(&self, key: Key) -> Option<&SourceLock<A>>
-        ensures some { IsSome result → Contains self.now key.0 }
-        ensures none { IsNone result → ¬ Contains self.now key.0 }
+        ensures some { IfSome result (λ lock.
+            Contains self.now (record { key = key.0; lock = lock.now })) }
+        ensures none { IsNone result → ¬ Contains (keys_of self.now) key.0 }
     {
         self.locks.get(key)
     }
@@ -220,38 +230,45 @@ impl<A: Arm> SourceTable<A> {
     pub(crate) fn handle<R: Wait, H: InHand>(
         &self,
         rt: &R,
-        round: &mut H,
+        events: &mut Events<'_, H>,
     ) -> Result<(), OutOfMemory>
-        requires { (H.round round.old).hand ≢ [] }
-        ensures handled { OnOk result ((event : Event)
-            × HandlesOne A.all_sure self.now event (H.round round.old) (H.round round.new)) }
-        ensures lent { (event : Event) → slice_get (H.round round.old).hand 0 ≡ Some event
-            → Contains self.now event.key.0 → OnOk result
-            (HandlesByKey A.arm_step A.interests A.rest A.fault_count A.is_sure
-            event.key (H.round round.old) (H.round round.new)) }
-        ensures refused { OnErr result (H.round round.new ≡ H.round round.old) }
+        requires { (H.round events.old.round.now).hand ≢ [] }
+        ensures handled { OnOk result ((event : Event) × HandlesOne A.all_sure (keys_of self.now)
+            event (H.round events.old.round.now) (H.round events.new.round.now)) }
+        ensures lent { (event : Event)
+            → slice_get (H.round events.old.round.now).hand 0 ≡ Some event
+            → Contains (keys_of self.now) event.key.0 → OnOk result
+            (HandlesByKey A.arm_step A.interests A.rest A.fault_count A.is_sure event.key
+            (H.round events.old.round.now) (H.round events.new.round.now)) }
+        ensures refused { OnErr result
+            (H.round events.new.round.now ≡ H.round events.old.round.now) }
+        ensures same { events.new.round.ghost_name ≡ events.old.round.ghost_name }
     {
-        let Some(event) = round.peek() else {
+        let Some(event) = events.first() else {
             unreachable!()
         };
-        let Some(lock) = self.lock_of(event.key) else {
-            round.skip();
-            return Ok(());
-        };
-        let (mut cell, visit) = Sealed::visit(rt, lock);
-        let handled = handle_in(&mut cell, event.key, round);
-        cell.leave(lock, visit);
-        handled
+        match self.lock_of(event.key) {
+            Some(lock) => events.handle_at(rt, self, event.key, lock),
+            None => {
+                events.skip(self, event.key);
+                Ok(())
+            }
+        }
     }
 
-    /// Handles each event in hand of a round, as `handle` does: by this table's source of its key, or it
-    /// is skipped where this table has none. `OutOfMemory` leaves in hand what was not handled.
-    pub fn handle_each<R: Wait, H: InHand>(&self, rt: &R, round: &mut H) -> Result<(), OutOfMemory>
-        ensures handled { HandlesAt self.now A.all_sure (H.round round.old) (H.round round.new) }
-        ensures none_left { OnOk result ((H.round round.new).hand ≡ []) }
+    /// Handles each event in hand, as `handle` does.
+    pub(crate) fn handle_all<R: Wait, H: InHand>(
+        &self,
+        rt: &R,
+        events: &mut Events<'_, H>,
+    ) -> Result<(), OutOfMemory>
+        ensures handled { HandlesAt (keys_of self.now) A.all_sure
+            (H.round events.old.round.now) (H.round events.new.round.now) }
+        ensures none_left { OnOk result ((H.round events.new.round.now).hand ≡ []) }
+        ensures same { events.new.round.ghost_name ≡ events.old.round.ghost_name }
     {
-        while round.in_hand() > 0 {
-            match self.handle(rt, round) {
+        while events.in_hand() > 0 {
+            match self.handle(rt, events) {
                 Err(refused) => return Err(refused),
                 Ok(()) => {}
             }

@@ -6,8 +6,8 @@ ghost use Rattle.std.specs.Arc.{arc_value};
 ghost use Rattle.std.specs.List.{All};
 ghost use Rattle.aio_sources.specs.Starting.{Begins, BeginAll};
 
+use crate::sealed::SourceRef;
 use crate::source_table::{SourceTable, Vacancy};
-use crate::sources::SourceRef;
 use aio_base::{Arm, ArmFault, OutOfMemory};
 use aio_words::Words;
 use std::alloc::Global;
@@ -139,7 +139,7 @@ fn add_one<A: Arm + Drop>(
         vacancy table.old io result table.new }
     ensures len { length table.new ≤ length table.old + 1 }
 {
-    let Some(key) = table.free_key() else {
+    let Ok(key) = table.free_key() else {
         unreachable!()
     };
     match table.admit(vacancy, key, io) {

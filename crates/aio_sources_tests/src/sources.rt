@@ -102,7 +102,7 @@ fn insert_times<R: Wait>(rt: &R, shared: &Sure, times: u32) -> u32 {
 pub(crate) fn assert_full<R: Wait + Abort>(rt: &R, shared: &Sure) {
     match insert(rt, shared, SureArm::new(9)) {
         Ok(_) => rt.panic("a source joined"),
-        Err(refused) => same(rt, refused, (SureArm::new(9), InsertFault::Full)),
+        Err((io, fault)) => same(rt, (io, fault.is_full()), (SureArm::new(9), true)),
     }
 }
 

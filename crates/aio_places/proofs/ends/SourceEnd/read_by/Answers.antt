@@ -3,6 +3,7 @@ use Rattle.std.specs.Prelude.{length, take}
 use Rattle.aio_future.specs.Tries.{FaultsWithin, bytes_over, fault_counts}
 use Rattle.aio_future.specs.declared.attempts.Read.{Read}
 use Rattle.aio_pairs.specs.Calls.{Reads}
+use Rattle.aio_base.specs.Devices.{raised}
 use Rattle.aio_places.specs.SourceEnds.{call_from, is_sure_end, last_told}
 use Rattle.aio_places.proofs.Entering.{enters_to_read, has_read, reads_faults, reads_kind, reads_most}
 use Rattle.aio_places.proofs.Told.{end_reads, read_alike, read_kind_alike, same_most, end_fails, leaves_alike, stays_sure, still_none, sure_by, unsure}
@@ -23,9 +24,9 @@ returns-clause-step g c = record {
   tries = enters_to_read g.C.Conn.conn_step g.C.Arm.arm_step g.C.Arm.interests g.C.Arm.rest g.C.Faults.fault_count g.C.Faults.is_sure g.C.Tells.telling
       g.met.C.Conn.rest_is_laid_out _ bytes_in c.args.w _ c.read_source-tried.ensures.tries.found c.read_source-tried.ensures.tries.ticker c.read_source-tried.result _ c.read_source-tried.ensures.tries.put c.read_source-tried.ensures.tries.visited.0 (λ a io given left io_left at. at.1) c.read_source-tried.ensures.tries.visited.1;
   told = subst (λ n. Reads (length c.args.read.now.buf.now) c.args.w c.tell.result (take (bytes_over c.tell.result.answer) c.read_source-tried.new.read.buf.now) ≡ call_from n (Reads (length c.args.read.now.buf.now) c.args.w c.read_source-tried.result (take (bytes_over c.read_source-tried.result.answer) c.read_source-tried.new.read.buf.now))) (ap (λ end. end.told) c.self.view_is) (read_alike c.self.inside.told (length c.args.read.now.buf.now) c.args.w c.read_source-tried.result c.tell.result c.read_source-tried.new.read.buf.now c.tell.ensures.told);
-  left = ap (λ token. record { words = token.words; key = token.key; rest = token.rest; told = c.tell.new.told }) c.read_source-tried.ensures.tries.token_is
-      ∙ ap (λ end. record { words = end.words; key = end.key; rest = g.C.Arm.rest c.read_source-tried.ensures.tries.put.io; told = c.tell.new.told }) c.self.view_is
-      ∙ ap (λ told. record { words = c.args.self.now.words; key = c.args.self.now.key; rest = g.C.Arm.rest c.read_source-tried.ensures.tries.put.io; told = told })
+  left = ap (λ token. record { words = token.words; key = token.key; lock = token.lock; rest = token.rest; visits = token.visits; taken = token.taken; told = c.tell.new.told }) c.read_source-tried.ensures.tries.token_is
+      ∙ ap (λ end. record { words = end.words; key = end.key; lock = end.lock; visits = raised end.visits; taken = end.taken; rest = g.C.Arm.rest c.read_source-tried.ensures.tries.put.io; told = c.tell.new.told }) c.self.view_is
+      ∙ ap (λ told. record { words = c.args.self.now.words; key = c.args.self.now.key; lock = c.args.self.now.lock; visits = raised c.args.self.now.visits; taken = c.args.self.now.taken; rest = g.C.Arm.rest c.read_source-tried.ensures.tries.put.io; told = told })
       (c.tell.ensures.count ∙ ap (λ end. last_told end.told c.tell.result.answer) c.self.view_is);
 }
 
