@@ -108,6 +108,10 @@ const A_BLOCKED_WRITE: Row = Row {
         (FillAndDrain, Done),
         (Wait(LONG), Event(1, Interest::WRITE)),
         (Write(8), Wrote(1)),
+        // and so does the next one, once its own event came
+        (FillAndDrain, Done),
+        (Wait(LONG), Event(1, Interest::WRITE)),
+        (Write(8), Wrote(1)),
     ],
 };
 

@@ -1,6 +1,6 @@
 //! Items that are dealt to rows in turn, and gathered again.
 
-ghost use Rattle.std.specs.Prelude.{◌≡◌, ◌+◌, ◌<◌, ◌++◌, ◌∷◌, [], ℕ, List, length, map, IfOk, OnOk, IfSome, IfNone};
+ghost use Rattle.std.specs.Prelude.{◌≡◌, ◌+◌, ◌<◌, ◌++◌, ◌∷◌, [], ℕ, List, length, map, drop, IfOk, OnOk, IfSome, IfNone};
 ghost use Rattle.aio_jobs.specs.Dealing.{GivesInTurn, HaveShares, IsAtTurn, IsOver};
 
 use aio_base::OutOfMemory;
@@ -62,10 +62,12 @@ impl<X: Drop> Rows<X> {
         self.rows.pop_front()
     }
 
-    /// Takes the first item of the row whose turn it is; that row's next turn comes last.
+    /// Takes the first item of the row whose turn it is; that row's next turn comes last. `None` where
+    /// there is no row, and where that row is empty; it is let go then, and the others stay.
     pub fn take(&mut self) -> Option<X>
         ensures item { IfSome result (λ x. IsAtTurn self.old x (λ left. self.new ≡ left)) }
         ensures none { IfNone result (IsOver self.old) }
+        ensures left { IfNone result (self.new ≡ drop 1 self.old) }
     {
         let Some(mut row) = self.rows.pop_front() else {
             return None;

@@ -77,6 +77,7 @@ impl<R: Wait, N: Notify, A: Arm, W: EventWait, T: Attempt<A> + Copy + Drop> Task
     ghost gives = { λ t. EndsBy A.all_sure t.source.key t.sleep.timer.deadline };
 
     ghost poll_step = { λ old host cx answer new left. (new.polls ≡ raised old.polls)
+        × (new.dir ≡ old.dir) × (new.attempt ≡ old.attempt)
         × TriesThenSleeps
         (λ slept sleep after host_old host_left. ⟦<Sleep as Task<Inside<R, N, A, W>>>⟧.poll_step
         sleep host_old cx slept after host_left)
