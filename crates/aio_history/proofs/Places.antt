@@ -8,44 +8,44 @@ use Rattle.aio_base.specs.World.{same_dir}
 use Rattle.aio_base.proofs.DirectionLemmas.{same_dir-eq}
 use Rattle.aio_history.specs.declared.steps.CellStep.{CellStep}
 use Rattle.aio_history.specs.declared.steps.CellStep.TheVariants as step
-use Rattle.aio_history.specs.Histories.{Mark, IsPlace, mark_of, mark_here, one_later, waiter_of}
+use Rattle.aio_history.specs.Histories.{StoringPoll, IsPlace, storing_poll, stored_here, one_later, waiter_of}
 
-further : (s : CellStep) (past : List CellStep) (dir : Dir) (kept : Option Mark) (mark : Mark)
-    → ((m : Mark) → kept ≡ Some m → IsPlace past dir m) → one_later s kept ≡ Some mark → IsPlace (s ∷ past) dir mark
+further : (s : CellStep) (past : List CellStep) (dir : Dir) (kept : Option StoringPoll) (mark : StoringPoll)
+    → ((m : StoringPoll) → kept ≡ Some m → IsPlace past dir m) → one_later s kept ≡ Some mark → IsPlace (s ∷ past) dir mark
 further s past dir None mark place found = cc found
 further s past dir (Some m) mark place found =
     let at = place m refl in
-    let moved : Mark = record m { since = s ∷ m.since } in
+    let moved : StoringPoll = record m { since = s ∷ m.since } in
     let e : moved ≡ mark = cc found in
-    subst (λ (k : Mark). IsPlace (s ∷ past) dir k) {x = moved} e (at.0, ap (λ xs. s ∷ xs) at.1)
+    subst (λ (k : StoringPoll). IsPlace (s ∷ past) dir k) {x = moved} e (at.0, ap (λ xs. s ∷ xs) at.1)
 
-here : (waker : Waker) (ticker : ℕ) (past : List CellStep) (d dir : Dir) (mark : Mark) → same_dir d dir ≡ true
-    → Some (mark_here ticker past) ≡ Some mark → IsPlace (step.Poll d waker ticker Pending ∷ past) dir mark
+here : (waker : Waker) (ticker : ℕ) (past : List CellStep) (d dir : Dir) (mark : StoringPoll) → same_dir d dir ≡ true
+    → Some (stored_here ticker past) ≡ Some mark → IsPlace (step.Poll d waker ticker Pending ∷ past) dir mark
 here waker ticker past d dir mark same found =
-    let e : mark_here ticker past ≡ mark = cc found in
+    let e : stored_here ticker past ≡ mark = cc found in
     let d-is : d ≡ dir = same_dir-eq d dir same in
-    subst (λ (k : Mark). IsPlace (step.Poll d waker ticker Pending ∷ past) dir k) {x = mark_here ticker past} e
+    subst (λ (k : StoringPoll). IsPlace (step.Poll d waker ticker Pending ∷ past) dir k) {x = stored_here ticker past} e
     (waker, ap (λ (x : Dir). step.Poll x waker ticker Pending ∷ past) d-is)
 
-seen_step : (mine : Bool) (s : CellStep) (past : List CellStep) (dir : Dir) (mark : Mark)
-    → ((m : Mark) → mark_of past dir ≡ Some m → IsPlace past dir m)
-    → (if mine then None else one_later s (mark_of past dir)) ≡ Some mark → IsPlace (s ∷ past) dir mark
+seen_step : (mine : Bool) (s : CellStep) (past : List CellStep) (dir : Dir) (mark : StoringPoll)
+    → ((m : StoringPoll) → storing_poll past dir ≡ Some m → IsPlace past dir m)
+    → (if mine then None else one_later s (storing_poll past dir)) ≡ Some mark → IsPlace (s ∷ past) dir mark
 seen_step true s past dir mark place found = cc found
-seen_step false s past dir mark place found = further s past dir (mark_of past dir) mark place found
+seen_step false s past dir mark place found = further s past dir (storing_poll past dir) mark place found
 
-stored_step : (mine new : Bool) (d : Dir) (waker : Waker) (ticker : ℕ) (past : List CellStep) (dir : Dir) (mark : Mark) → (mine ≡ true → same_dir d dir ≡ true)
-    → ((m : Mark) → mark_of past dir ≡ Some m → IsPlace past dir m)
-    → (if mine && new then Some (mark_here ticker past) else one_later (step.Poll d waker ticker Pending) (mark_of past dir)) ≡ Some mark
+stored_step : (mine new : Bool) (d : Dir) (waker : Waker) (ticker : ℕ) (past : List CellStep) (dir : Dir) (mark : StoringPoll) → (mine ≡ true → same_dir d dir ≡ true)
+    → ((m : StoringPoll) → storing_poll past dir ≡ Some m → IsPlace past dir m)
+    → (if mine && new then Some (stored_here ticker past) else one_later (step.Poll d waker ticker Pending) (storing_poll past dir)) ≡ Some mark
     → IsPlace (step.Poll d waker ticker Pending ∷ past) dir mark
 stored_step true true d waker ticker past dir mark same place found = here waker ticker past d dir mark (same refl) found
-stored_step true false d waker ticker past dir mark same place found = further (step.Poll d waker ticker Pending) past dir (mark_of past dir) mark place found
-stored_step false new d waker ticker past dir mark same place found = further (step.Poll d waker ticker Pending) past dir (mark_of past dir) mark place found
+stored_step true false d waker ticker past dir mark same place found = further (step.Poll d waker ticker Pending) past dir (storing_poll past dir) mark place found
+stored_step false new d waker ticker past dir mark same place found = further (step.Poll d waker ticker Pending) past dir (storing_poll past dir) mark place found
 
-pub mark_is_place : (past : List CellStep) (dir : Dir) (mark : Mark) → mark_of past dir ≡ Some mark → IsPlace past dir mark
-mark_is_place [] dir mark found = cc found
-mark_is_place (step.Poll d waker ticker (Ready done) ∷ past) dir mark found =
-    seen_step (same_dir d dir) (step.Poll d waker ticker (Ready done)) past dir mark (mark_is_place past dir) found
-mark_is_place (step.Poll d waker ticker Pending ∷ past) dir mark found =
-    stored_step (same_dir d dir) (not (is_waker waker (waiter_of past dir))) d waker ticker past dir mark (λ e. e) (mark_is_place past dir) found
-mark_is_place (step.Handle on round taken ∷ past) dir mark found =
-    further (step.Handle on round taken) past dir (mark_of past dir) mark (mark_is_place past dir) found
+pub storing_poll_is_place : (past : List CellStep) (dir : Dir) (mark : StoringPoll) → storing_poll past dir ≡ Some mark → IsPlace past dir mark
+storing_poll_is_place [] dir mark found = cc found
+storing_poll_is_place (step.Poll d waker ticker (Ready done) ∷ past) dir mark found =
+    seen_step (same_dir d dir) (step.Poll d waker ticker (Ready done)) past dir mark (storing_poll_is_place past dir) found
+storing_poll_is_place (step.Poll d waker ticker Pending ∷ past) dir mark found =
+    stored_step (same_dir d dir) (not (is_waker waker (waiter_of past dir))) d waker ticker past dir mark (λ e. e) (storing_poll_is_place past dir) found
+storing_poll_is_place (step.Handle on round taken ∷ past) dir mark found =
+    further (step.Handle on round taken) past dir (storing_poll past dir) mark (storing_poll_is_place past dir) found

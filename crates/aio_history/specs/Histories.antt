@@ -29,33 +29,33 @@ rounds_of (step.Poll d waker ticker answer ∷ past) dir = rounds_of past dir
 rounds_of (step.Handle on round taken ∷ past) dir = if has_dir on dir then round ∷ rounds_of past dir else rounds_of past dir
 
 -- A poll that a past has: the steps since it, the latest first, its ticker, and the steps before it. So its index is how many are before it.
-pub record Mark : Type 0 where
+pub record StoringPoll : Type 0 where
   pub since : List CellStep
   pub ticker : ℕ
   pub before : List CellStep
 
 -- the poll that comes right after a past
-abbrev pub mark_here : ℕ → List CellStep → Mark
-mark_here ticker past = record { since = []; ticker = ticker; before = past }
+abbrev pub stored_here : ℕ → List CellStep → StoringPoll
+stored_here ticker past = record { since = []; ticker = ticker; before = past }
 
 -- the same poll, once one step more was made
-abbrev pub one_later : CellStep → Option Mark → Option Mark
+abbrev pub one_later : CellStep → Option StoringPoll → Option StoringPoll
 one_later s None = None
 one_later s (Some mark) = Some (record mark { since = s ∷ mark.since })
 
--- The mark of a direction: its last poll that stored a waker, and none where a poll of the direction was ready since. A pending poll stores its waker
+-- The storing poll of a direction: its last poll that stored a waker, and none where a poll of the direction was ready since. A pending poll stores its waker
 -- where the direction has another waiter or none.
-abbrev pub mark_of : List CellStep → Dir → Option Mark
-mark_of [] dir = None
-mark_of (step.Poll d waker ticker (Ready done) ∷ past) dir =
-    if same_dir d dir then None else one_later (step.Poll d waker ticker (Ready done)) (mark_of past dir)
-mark_of (step.Poll d waker ticker Pending ∷ past) dir =
-    if same_dir d dir && not (is_waker waker (waiter_of past dir)) then Some (mark_here ticker past)
-    else one_later (step.Poll d waker ticker Pending) (mark_of past dir)
-mark_of (step.Handle on round taken ∷ past) dir = one_later (step.Handle on round taken) (mark_of past dir)
+abbrev pub storing_poll : List CellStep → Dir → Option StoringPoll
+storing_poll [] dir = None
+storing_poll (step.Poll d waker ticker (Ready done) ∷ past) dir =
+    if same_dir d dir then None else one_later (step.Poll d waker ticker (Ready done)) (storing_poll past dir)
+storing_poll (step.Poll d waker ticker Pending ∷ past) dir =
+    if same_dir d dir && not (is_waker waker (waiter_of past dir)) then Some (stored_here ticker past)
+    else one_later (step.Poll d waker ticker Pending) (storing_poll past dir)
+storing_poll (step.Handle on round taken ∷ past) dir = one_later (step.Handle on round taken) (storing_poll past dir)
 
--- a mark is a place of the past: there stands a pending poll of the direction with the mark's ticker
-abbrev pub IsPlace : List CellStep → Dir → Mark → Type 0
+-- it is a place of the past: there stands a pending poll of the direction with this ticker
+abbrev pub IsPlace : List CellStep → Dir → StoringPoll → Type 0
 IsPlace past dir mark = (waker : Waker) × (past ≡ mark.since ++ step.Poll dir waker mark.ticker Pending ∷ mark.before)
 
 -- ## What the next call answers
@@ -64,17 +64,17 @@ IsPlace past dir mark = (waker : Waker) × (past ≡ mark.since ++ step.Poll dir
 abbrev pub is_news : ℕ → List ℕ → ℕ → Bool
 is_news ticker earlier round = nat_lt ticker round && list_all (λ e. nat_lt e round) earlier
 
--- since the mark some event of the direction was handled by a round above the mark's ticker and above every round that had handled one before the mark
-abbrev pub is_fresh_since : Dir → Mark → Bool
-is_fresh_since dir mark = list_any (is_news mark.ticker (rounds_of mark.before dir)) (rounds_of mark.since dir)
+-- since that poll some event of the direction was handled by a round above its ticker and above every round that had handled one before it
+abbrev pub has_news_since : Dir → StoringPoll → Bool
+has_news_since dir mark = list_any (is_news mark.ticker (rounds_of mark.before dir)) (rounds_of mark.since dir)
 
-abbrev pub is_ready_by : Dir → Option Mark → Bool
+abbrev pub is_ready_by : Dir → Option StoringPoll → Bool
 is_ready_by dir None = false
-is_ready_by dir (Some mark) = is_fresh_since dir mark
+is_ready_by dir (Some mark) = has_news_since dir mark
 
 -- whether a poll of the direction is ready now
 abbrev pub is_ready_after : List CellStep → Dir → Bool
-is_ready_after past dir = is_ready_by dir (mark_of past dir)
+is_ready_after past dir = is_ready_by dir (storing_poll past dir)
 
 abbrev pub answer_to_poll : List CellStep → Dir → Poll (Unit {0})
 answer_to_poll past dir = if is_ready_after past dir then Ready tt else Pending

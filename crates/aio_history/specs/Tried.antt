@@ -18,7 +18,7 @@ waits dir waker ticker = step.Poll dir (record { 0 = waker }) ticker Pending
 abbrev goes_on : Dir → ℕ → ℕ → CellStep
 goes_on dir waker ticker = step.Poll dir (record { 0 = waker }) ticker (Ready tt)
 
--- The last poll waits: round 1 is above neither its mark's ticker nor the round that was handled before the mark.
+-- The last poll waits: round 1 is above neither its ticker nor the round that was handled before it.
 abbrev pub worked_steps : List CellStep
 worked_steps =
     waits Read 1 0 ∷ step.Handle reading 1 1 ∷ goes_on Read 1 1 ∷ waits Read 2 1 ∷ step.Handle reading 1 1 ∷ waits Read 2 1 ∷ []
@@ -40,11 +40,11 @@ wrong_pasts =
     ∷ (goes_on Write 1 0 ∷ step.Handle reading 1 1 ∷ waits Write 2 0 ∷ waits Read 1 0 ∷ [])
     -- ready by a round that had begun before the poll
     ∷ (goes_on Read 1 3 ∷ step.Handle reading 3 1 ∷ waits Read 1 3 ∷ [])
-    -- ready by a round that is not above one from before the mark
+    -- ready by a round that is not above one from before the poll was stored
     ∷ (goes_on Read 1 0 ∷ step.Handle reading 4 1 ∷ waits Read 1 0 ∷ step.Handle reading 4 0 ∷ [])
     -- pending although such a round came
     ∷ (waits Read 1 1 ∷ step.Handle reading 1 1 ∷ waits Read 1 0 ∷ [])
-    -- pending as the waker's second poll moved the mark
+    -- pending as if the waker's second poll were stored anew
     ∷ (waits Read 1 5 ∷ step.Handle reading 3 1 ∷ waits Read 1 5 ∷ waits Read 1 0 ∷ [])
     -- ready as another waker did not move it
     ∷ (goes_on Read 2 5 ∷ step.Handle reading 3 1 ∷ waits Read 2 5 ∷ waits Read 1 0 ∷ [])

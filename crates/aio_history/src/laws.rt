@@ -3,7 +3,7 @@
 ghost use Rattle.std.specs.Prelude.{◌≡◌, ℕ, ◌∷◌, List, Some, length, reverse};
 ghost use Rattle.aio_base.specs.declared.names.Dir.{Dir};
 ghost use Rattle.aio_history.specs.DrawnCalls.{calls_in_all};
-ghost use Rattle.aio_history.specs.Histories.{IsPlace, Mark, Replays, mark_of, step_of};
+ghost use Rattle.aio_history.specs.Histories.{IsPlace, StoringPoll, Replays, storing_poll, step_of};
 ghost use Rattle.aio_history.specs.StepNumbers.{numbers_of, step_numbers};
 ghost use Rattle.aio_history.specs.Tried.{EachFails, worked_steps, wrong_pasts};
 ghost use Rattle.aio_history.specs.declared.steps.CellCall.{CellCall};
@@ -16,11 +16,11 @@ pub fn a_step_with_its_answer_replays()
         → Replays (step_of call past ∷ past) }
 {}
 
-/// The mark of a direction is a place of its past: a poll of the direction that stayed pending, with the
+/// The storing poll of a direction is a place of its past: a poll of the direction that stayed pending, with the
 /// steps before it and those since.
-#[tactic(auto, using(crate::proofs::Places::mark_is_place))]
-pub fn a_mark_is_a_place_of_its_past()
-    ensures { (past : List CellStep) (dir : Dir) (mark : Mark) → mark_of past dir ≡ Some mark
+#[tactic(auto, using(crate::proofs::Places::storing_poll_is_place))]
+pub fn a_storing_poll_is_a_place_of_its_past()
+    ensures { (past : List CellStep) (dir : Dir) (mark : StoringPoll) → storing_poll past dir ≡ Some mark
         → IsPlace past dir mark }
 {}
 

@@ -12,7 +12,7 @@ mod steps;
 
 pub use drawing::{CellDraws, DrawnCall};
 pub use laws::{
-    a_mark_is_a_place_of_its_past, a_step_with_its_answer_replays,
+    a_step_with_its_answer_replays, a_storing_poll_is_a_place_of_its_past,
     every_drawn_call_is_for_one_cell, notes_tell_their_steps, worked_steps_replay,
     wrong_steps_do_not_replay,
 };

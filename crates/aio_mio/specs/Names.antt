@@ -3,6 +3,7 @@ use Rattle.std.specs.Prelude.{◌≡◌, ◌^◌, ◌||◌, Bool, true, false, n
 use Rattle.std.specs.List.{filter_map}
 use Rattle.aio_base.specs.declared.names.Event.{Event}
 use Rattle.aio_base.specs.declared.names.Interest.{Interest}
+use Rattle.aio_base.specs.declared.names.TheConstants.Interest.{NONE}
 use Rattle.mio.specs.declared.interest.Interest as watched
 use Rattle.mio.specs.declared.event.event.Event as given
 use Rattle.mio.specs.Interest.{is_readable as watches_reads, is_writable as watches_writes, is_priority as watches_urgent}
@@ -25,10 +26,9 @@ watched_after old on = if names_any on then record on { priority = false } else 
 
 -- the directions that an event names: reading and writing, each for its end and for an error too
 abbrev pub told_directions : given.Event → Interest
-told_directions e = record {
+told_directions e = record NONE {
   read = is_readable e || is_read_closed e || is_error e;
   write = is_writable e || is_write_closed e || is_error e;
-  priority = false;
 }
 
 -- the event of a source; a number that no key has names none

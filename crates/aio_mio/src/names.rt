@@ -40,7 +40,7 @@ pub(crate) fn source_event(event: &mio::event::Event) -> Option<Event>
         on: Interest {
             read: event.is_readable() || event.is_read_closed() || event.is_error(),
             write: event.is_writable() || event.is_write_closed() || event.is_error(),
-            priority: false,
+            ..Interest::NONE
         },
     })
 }

@@ -29,19 +29,15 @@ LeadTo {S} step (latest ∷ earlier) old new = (before : S) × LeadTo step earli
 abbrev pub went_over : Dir → List EndCall → List ℕ
 went_over dir [] = []
 went_over Read (Reads room w tried bytes ∷ earlier) = went_over Read earlier ++ bytes
-went_over Read (Writes piece w tried ∷ earlier) = went_over Read earlier
-went_over Write (Reads room w tried bytes ∷ earlier) = went_over Write earlier
 went_over Write (Writes piece w tried ∷ earlier) = went_over Write earlier ++ take (bytes_over tried.answer) piece
-went_over Priority (call ∷ earlier) = went_over Priority earlier
+went_over dir (call ∷ earlier) = went_over dir earlier
 
 -- what the latest call in this direction answered
 abbrev pub last_answer : Dir → List EndCall → Option (Poll (Result ℕ TryFault))
 last_answer dir [] = None
 last_answer Read (Reads room w tried bytes ∷ earlier) = Some tried.answer
-last_answer Read (Writes piece w tried ∷ earlier) = last_answer Read earlier
-last_answer Write (Reads room w tried bytes ∷ earlier) = last_answer Write earlier
 last_answer Write (Writes piece w tried ∷ earlier) = Some tried.answer
-last_answer Priority (call ∷ earlier) = last_answer Priority earlier
+last_answer dir (call ∷ earlier) = last_answer dir earlier
 
 -- the latest call of all answered with this fault, and the fault is of such a call
 abbrev pub EndsIn : TryFault → List EndCall → Type 0

@@ -20,8 +20,8 @@ use Rattle.aio_source.specs.Values.{DirectionValue, DirectionValues, SourceValue
 use Rattle.aio_source.specs.Rules.{is_ready, is_idle, is_above, is_above_both, seen, stored, handled, with_direction, with_source_direction, directions_where, direction_of, handled_along, taken_along, waiters_in, Polling, polling}
 use Rattle.aio_history.specs.declared.steps.CellStep.{CellStep}
 use Rattle.aio_history.specs.declared.steps.CellStep.TheVariants as step
-use Rattle.aio_history.specs.Histories.{Mark, mark_here, one_later, waiter_of, rounds_of, mark_of, is_news, is_fresh_since, is_ready_by, is_ready_after, answer_to_poll, waiters_among}
-use Rattle.aio_history.proofs.Places.{mark_is_place}
+use Rattle.aio_history.specs.Histories.{StoringPoll, stored_here, one_later, waiter_of, rounds_of, storing_poll, is_news, has_news_since, is_ready_by, is_ready_after, answer_to_poll, waiters_among}
+use Rattle.aio_history.proofs.Places.{storing_poll_is_place}
 use Rattle.aio_base.specs.declared.outcomes.Failed.{Failed}
 use Rattle.aio_base.specs.declared.outcomes.ArmFault.{ArmFault}
 use Rattle.aio_source.specs.Lent.{fault_of}
@@ -66,8 +66,8 @@ any_new t earlier (round ∷ rounds) =
 above_both : (t g s : ℕ) → is_above t g s ≡ is_above t g (max s g)
 above_both t g s = grind (arith, nat_tests)
 
-place_fresh : (past : List CellStep) (dir : Dir) (mark : Mark) (waker : Waker) → past ≡ mark.since ++ step.Poll dir waker mark.ticker Pending ∷ mark.before
-    → is_above mark.ticker (greatest (rounds_of mark.before dir)) (greatest (rounds_of past dir)) ≡ is_fresh_since dir mark
+place_fresh : (past : List CellStep) (dir : Dir) (mark : StoringPoll) (waker : Waker) → past ≡ mark.since ++ step.Poll dir waker mark.ticker Pending ∷ mark.before
+    → is_above mark.ticker (greatest (rounds_of mark.before dir)) (greatest (rounds_of past dir)) ≡ has_news_since dir mark
 place_fresh past dir mark waker place =
     let earlier = rounds_of mark.before dir in
     let later = rounds_of mark.since dir in
@@ -78,18 +78,18 @@ place_fresh past dir mark waker place =
     ∙ sym (above_both mark.ticker (greatest earlier) (greatest later))
     ∙ sym (any_new mark.ticker earlier later)
 
-fresh_by : (past : List CellStep) (dir : Dir) (kept : Option Mark) → mark_of past dir ≡ kept
+fresh_by : (past : List CellStep) (dir : Dir) (kept : Option StoringPoll) → storing_poll past dir ≡ kept
     → is_above_both (remembered dir kept) (greatest (rounds_of past dir)) ≡ is_ready_by dir kept
 fresh_by past dir None e = refl
-fresh_by past dir (Some mark) e = let place = mark_is_place past dir mark e in place_fresh past dir mark place.0 place.1
+fresh_by past dir (Some mark) e = let place = storing_poll_is_place past dir mark e in place_fresh past dir mark place.0 place.1
 
 -- the two remembered numbers tell what the history says
 pub ready_by : (past : List CellStep) (dir : Dir) → is_ready (direction_left past dir) ≡ is_ready_after past dir
-ready_by past dir = fresh_by past dir (mark_of past dir) refl
+ready_by past dir = fresh_by past dir (storing_poll past dir) refl
 
 -- ## A poll
 
-remembered_further : (dir : Dir) (s : CellStep) (kept : Option Mark) → remembered dir kept ≡ remembered dir (one_later s kept)
+remembered_further : (dir : Dir) (s : CellStep) (kept : Option StoringPoll) → remembered dir kept ≡ remembered dir (one_later s kept)
 remembered_further dir s None = refl
 remembered_further dir s (Some mark) = refl
 
@@ -104,10 +104,10 @@ held_is w (Some v) held = let e : v.0 ≡ w.0 = grind (arith, nat_tests) in ap (
 pending_here : (same : Bool) (past : List CellStep) (dir : Dir) (w : Waker) (ticker : ℕ) → is_waker w (waiter_of past dir) ≡ same
     → (if same then direction_left past dir else stored w ticker (direction_left past dir))
     ≡ fresh_direction (greatest (rounds_of past dir))
-    (remembered dir (if not same then Some (mark_here ticker past) else one_later (step.Poll dir w ticker Pending) (mark_of past dir))) (Some w)
+    (remembered dir (if not same then Some (stored_here ticker past) else one_later (step.Poll dir w ticker Pending) (storing_poll past dir))) (Some w)
 pending_here true past dir w ticker held =
-    ap (λ ticks. fresh_direction (greatest (rounds_of past dir)) ticks (waiter_of past dir)) (remembered_further dir (step.Poll dir w ticker Pending) (mark_of past dir))
-    ∙ ap (λ waiter. fresh_direction (greatest (rounds_of past dir)) (remembered dir (one_later (step.Poll dir w ticker Pending) (mark_of past dir))) waiter) (held_is w (waiter_of past dir) held)
+    ap (λ ticks. fresh_direction (greatest (rounds_of past dir)) ticks (waiter_of past dir)) (remembered_further dir (step.Poll dir w ticker Pending) (storing_poll past dir))
+    ∙ ap (λ waiter. fresh_direction (greatest (rounds_of past dir)) (remembered dir (one_later (step.Poll dir w ticker Pending) (storing_poll past dir))) waiter) (held_is w (waiter_of past dir) held)
 pending_here false past dir w ticker held = refl
 
 pending_left : (past : List CellStep) (dir : Dir) (w : Waker) (ticker : ℕ)
@@ -117,20 +117,20 @@ pending_left past dir w ticker =
     let s = step.Poll dir w ticker Pending in
     pending_here (is_waker w (waiter_of past dir)) past dir w ticker refl
     ∙ ap (λ (own : Bool). fresh_direction (greatest (rounds_of past dir))
-    (remembered dir (if own && not (is_waker w (waiter_of past dir)) then Some (mark_here ticker past) else one_later s (mark_of past dir))) (if own then Some w else waiter_of past dir))
+    (remembered dir (if own && not (is_waker w (waiter_of past dir)) then Some (stored_here ticker past) else one_later s (storing_poll past dir))) (if own then Some w else waiter_of past dir))
     (sym (same_dir-refl dir))
 
 ready_left : (past : List CellStep) (dir : Dir) (w : Waker) (ticker : ℕ)
     → seen (direction_left past dir) ≡ direction_left (step.Poll dir w ticker (Ready tt) ∷ past) dir
 ready_left past dir w ticker =
     ap (λ (own : Bool). fresh_direction (greatest (rounds_of past dir))
-    (remembered dir (if own then None else one_later (step.Poll dir w ticker (Ready tt)) (mark_of past dir))) (waiter_of past dir))
+    (remembered dir (if own then None else one_later (step.Poll dir w ticker (Ready tt)) (storing_poll past dir))) (waiter_of past dir))
     (sym (same_dir-refl dir))
 
 further_ticks : (past : List CellStep) (dir : Dir) (s : CellStep)
-    → direction_left past dir ≡ fresh_direction (greatest (rounds_of past dir)) (remembered dir (one_later s (mark_of past dir))) (waiter_of past dir)
+    → direction_left past dir ≡ fresh_direction (greatest (rounds_of past dir)) (remembered dir (one_later s (storing_poll past dir))) (waiter_of past dir)
 further_ticks past dir s =
-    ap (λ ticks. fresh_direction (greatest (rounds_of past dir)) ticks (waiter_of past dir)) (remembered_further dir s (mark_of past dir))
+    ap (λ ticks. fresh_direction (greatest (rounds_of past dir)) ticks (waiter_of past dir)) (remembered_further dir s (storing_poll past dir))
 
 left_of : (past : List CellStep) (dir : Dir) → direction_of (directions_left past) dir ≡ direction_left past dir
 left_of past dir = direction_of-where (direction_left past) dir
@@ -141,12 +141,12 @@ left_aside : (past : List CellStep) (dir : Dir) (w : Waker) (ticker : ℕ) (answ
 left_aside past dir w ticker (Ready tt) e other =
     let s = step.Poll dir w ticker (Ready tt) in
     further_ticks past e s
-    ∙ ap (λ (own : Bool). fresh_direction (greatest (rounds_of past e)) (remembered e (if own then None else one_later s (mark_of past e))) (waiter_of past e)) (sym other)
+    ∙ ap (λ (own : Bool). fresh_direction (greatest (rounds_of past e)) (remembered e (if own then None else one_later s (storing_poll past e))) (waiter_of past e)) (sym other)
 left_aside past dir w ticker Pending e other =
     let s = step.Poll dir w ticker Pending in
     further_ticks past e s
     ∙ ap (λ (own : Bool). fresh_direction (greatest (rounds_of past e))
-    (remembered e (if own && not (is_waker w (waiter_of past e)) then Some (mark_here ticker past) else one_later s (mark_of past e))) (if own then Some w else waiter_of past e))
+    (remembered e (if own && not (is_waker w (waiter_of past e)) then Some (stored_here ticker past) else one_later s (storing_poll past e))) (if own then Some w else waiter_of past e))
     (sym other)
 
 -- a poll of one direction, which its own direction becomes so, leaves the directions so
@@ -266,9 +266,9 @@ answered past s dir w ticker key before after told answer left sure is =
 handled_dir : (named : Bool) (past : List CellStep) (dir : Dir) (on : Interest) (round n : ℕ)
     → (if named then handled round (direction_left past dir) else direction_left past dir)
     ≡ fresh_direction (greatest (if named then round ∷ rounds_of past dir else rounds_of past dir))
-    (remembered dir (one_later (step.Handle on round n) (mark_of past dir))) (if named then None else waiter_of past dir)
+    (remembered dir (one_later (step.Handle on round n) (storing_poll past dir))) (if named then None else waiter_of past dir)
 handled_dir true past dir on round n =
-    ap (λ ticks. fresh_direction (max (greatest (rounds_of past dir)) round) ticks None) (remembered_further dir (step.Handle on round n) (mark_of past dir))
+    ap (λ ticks. fresh_direction (max (greatest (rounds_of past dir)) round) ticks None) (remembered_further dir (step.Handle on round n) (storing_poll past dir))
 handled_dir false past dir on round n = further_ticks past dir (step.Handle on round n)
 
 abbrev flags : Bool → Bool → Bool → Interest

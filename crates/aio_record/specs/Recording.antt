@@ -10,7 +10,7 @@ use Rattle.aio_source.specs.Values.{DirectionValue, DirectionValues, SourceValue
 use Rattle.aio_source.specs.Rules.{new_source, directions_where, polling, handling}
 use Rattle.aio_source.specs.Lent.{settled}
 use Rattle.aio_history.specs.declared.steps.CellStep.{CellStep}
-use Rattle.aio_history.specs.Histories.{Mark, waiter_of, rounds_of, mark_of, Replays}
+use Rattle.aio_history.specs.Histories.{StoringPoll, waiter_of, rounds_of, storing_poll, Replays}
 
 -- a recorded cell: its steps in the order in which they were made, and its source
 pub record RecordedValue : Type 0 where
@@ -25,7 +25,7 @@ greatest [] = 0
 greatest (round ∷ rounds) = max (greatest rounds) round
 
 -- a mark's ticker, and the greatest round that had handled an event of the direction before it
-abbrev pub remembered : Dir → Option Mark → Option (ℕ × ℕ)
+abbrev pub remembered : Dir → Option StoringPoll → Option (ℕ × ℕ)
 remembered dir None = None
 remembered dir (Some mark) = Some (mark.ticker, greatest (rounds_of mark.before dir))
 
@@ -33,7 +33,7 @@ remembered dir (Some mark) = Some (mark.ticker, greatest (rounds_of mark.before 
 abbrev pub direction_left : List CellStep → Dir → DirectionValue
 direction_left past dir = record {
   tick = greatest (rounds_of past dir);
-  ticks = remembered dir (mark_of past dir);
+  ticks = remembered dir (storing_poll past dir);
   waiter = waiter_of past dir;
   listeners = record { entries = []; drawn = 0 };
 }
