@@ -1,7 +1,9 @@
-//! Links the library. AIO_LIB is its folder, AIO_KIT that of the kit's own C parts.
+//! Links the library. It lies in the folder lib of the package, with the kit's own C parts; AIO_LIB and
+//! AIO_KIT name other folders of the two.
 fn main() {
-    let library = std::env::var("AIO_LIB").expect("AIO_LIB names no folder");
-    let kit = std::env::var("AIO_KIT").expect("AIO_KIT names no folder");
+    let package = std::env::var("CARGO_MANIFEST_DIR").expect("cargo names the package's folder");
+    let folder = |name| std::env::var(name).unwrap_or(format!("{package}/lib"));
+    let (library, kit) = (folder("AIO_LIB"), folder("AIO_KIT"));
     println!("cargo:rustc-link-search=native={library}");
     println!("cargo:rustc-link-search=native={kit}");
     println!("cargo:rustc-link-lib=static=aio_c");

@@ -1,6 +1,6 @@
 /* The calls of the library aio_c. A handle holds a core: the decisions of a reactor, over a poller
  * in memory that is told what the system's poller answered. A program that goes one round is
- * shim/programs/one_round.c.
+ * shim/programs/one_round.c; one that goes many, of 5,000 sources over epoll, rounds.c beside it.
  *
  * Every call but aio_new and aio_free takes the handle by value and puts it back through `out`. A
  * caller has to see to this; where it does not, what comes of it is undefined:
@@ -21,7 +21,8 @@
  * Nothing else is asked of a caller: each number and each order of calls has an answer. Link with
  * the kit's libc_c.
  *
- * Keys name sources, at most 4,096 of them. Numbers of wakers are the caller's own, and 0 is one
+ * Keys name sources, at most 4,096 of them, and one that is free again is given again. The numbers
+ * of listeners, timers and rounds never are. Numbers of wakers are the caller's own, and 0 is one
  * as any other: equal numbers are one waker, and a poll with the number of the poll waiter stores
  * nothing anew. Moments are nanoseconds from a start that the caller chose, and those past 10^18
  * count as that; limits are nanoseconds from no start. */
@@ -48,19 +49,19 @@ enum {
     AIO_ADD_FAULT = 3,        /* the poller could not register the source */
     AIO_WAIT_FAULT = 4,       /* the wait failed; the round goes on, and its end tells that */
     AIO_REMOVE_FAULT = 5,     /* the poller could not take the source out; it is gone too */
-    AIO_LOCKED = 6,           /* a round runs */
+    AIO_LOCKED = 6,           /* a round runs: it ends first */
     AIO_NO_ROUND = 7,         /* no round runs */
     AIO_EVENTS_LEFT = 8,      /* events are in hand */
     AIO_NO_SOURCE = 9,        /* no source has this key */
     AIO_IN_USE = 10,          /* the source has a listener */
     AIO_FULL = 11,            /* 4,096 sources live */
-    AIO_ROUNDS_SPENT = 12,    /* 2^64 - 1 rounds have begun */
-    AIO_OUT_OF_MEMORY = 13,
+    AIO_ROUNDS_SPENT = 12,    /* 2^64 - 1 rounds have begun; this core begins no other */
+    AIO_OUT_OF_MEMORY = 13,   /* nothing was done: the call may be made again */
     AIO_NOTHING_IN_HAND = 14, /* a round runs, and no event is in hand */
     AIO_NO_LISTENER = 15,     /* no listener has this number */
-    AIO_TICKETS_SPENT = 16,   /* 2^64 - 1 listeners came */
+    AIO_TICKETS_SPENT = 16,   /* 2^64 - 1 listeners came; this core has no number for another */
     AIO_NOTIFY_FAULT = 17,    /* not answered by a core, which has nobody to notify */
-    AIO_IDS_SPENT = 18        /* 2^40 - 1 timers were registered */
+    AIO_IDS_SPENT = 18        /* 2^40 - 1 timers were registered; this core takes no other */
 };
 
 struct aio_handle {
@@ -159,14 +160,26 @@ struct aio_ask_answer aio_poll_priority_asks(struct aio_handle h, struct aio_han
 struct aio_number_answer aio_listen_priority(struct aio_handle h, struct aio_handle *out,
     uint32_t key);
 
-/* A round: begin, the system's wait, aio_give for each of its events, aio_wait, aio_handle until
- * nothing is in hand, finish, and the wakers, each to be woken, before the next begin.
+/* A round. Whoever takes these steps in this order, all of them in each round, loses no wake:
  *
- * One aio_wait takes in hand the first 1,024 events that were given and not yet taken. The others
- * are for the next one, and so are all events of a wait that failed or was interrupted. The limit
- * that aio_begin tells knows nothing of them, and the system has cleared the interests of all. So
- * before the system waits, call aio_wait and handle its events again, in this round or in the
- * next, until it takes none.
+ * 1. aio_begin.
+ * 2. The system's wait, no longer than the limit that was told, and for good where there is none.
+ * 3. aio_give for each event that it gave; aio_interrupt_next where it was interrupted;
+ *    aio_fail_next(3) where it failed.
+ * 4. aio_wait, and for each event that it took in hand aio_handle_asks, what that asks of the
+ *    system's poller, and aio_handle. Then this step again, until an aio_wait answers 0 with no
+ *    events.
+ * 5. aio_finish.
+ * 6. aio_woken, with places for as many wakers as the finish told, each of which is then woken.
+ *
+ * Step 4 comes again since an aio_wait takes in hand the first 1,024 events that were given and not
+ * yet taken; the others are for the next one, and so are all where it was interrupted or failed: 1
+ * and 4 are its answers then, and the round goes on. The system has cleared the interests of all of
+ * them, and tells none of them again. So where events were given that no aio_wait has taken,
+ * aio_begin tells the limit 0, whatever limit it is given: a round whose steps came only once is
+ * followed by one that does not wait. Events are handled in the order in which they were given, so
+ * the caller knows of which source aio_handle_asks speaks before aio_handle tells the key. A step
+ * that answers 13 did nothing, and is taken again where there is memory; the round runs until then.
  *
  * aio_woken writes the wakers of the last finish, in order, as many of them as there are places;
  * the places behind them stay as they are. The next begin drops those that were not read by then.

@@ -10,6 +10,8 @@ pub(super) const ARM_FAULT: u32 = 2;
 /// 4,096 sources live.
 pub(super) const FULL: u32 = 11;
 pub(super) const OUT_OF_MEMORY: u32 = 13;
+/// 2^40 - 1 timers were registered.
+pub(super) const IDS_SPENT: u32 = 18;
 
 /// The kinds of failure that the poller in memory is told.
 pub(super) const ARM: u32 = 1;

@@ -2,6 +2,7 @@
 //! Nothing of this file is proved.
 use super::aio::{Core, DONE};
 use super::Source;
+use std::collections::HashSet;
 #[cfg(any(aio_loses_wakes, aio_refuses_memory))]
 use std::sync::atomic::{AtomicU64, Ordering};
 use std::sync::Arc;
@@ -118,8 +119,15 @@ impl Links {
         let mut dropped = Vec::new();
         for listener in &place.listeners {
             self.core.unlisten(*listener);
+        }
+        // One walk over the slots for all of them.
+        if !place.listeners.is_empty() {
+            let left: HashSet<u64> = place.listeners.iter().copied().collect();
             for number in 0..self.slots.len() as u32 {
-                dropped.push(self.give_up_of(number, Home::Listener(*listener)));
+                match self.slots[number as usize].home {
+                    Home::Listener(id) if left.contains(&id) => dropped.push(self.give_up(number)),
+                    _ => {}
+                }
             }
         }
         for number in place.polled {

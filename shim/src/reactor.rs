@@ -601,12 +601,12 @@ fn nanoseconds(duration: Duration) -> u64 {
     duration.as_nanos().min(LAST_MOMENT) as u64
 }
 
-/// The error that tells a refusal of the core.
+/// The error that tells a refusal of the core; that of want of memory is made without memory.
 fn refused(code: u32) -> io::Error {
     let text = match code {
+        aio::OUT_OF_MEMORY => return io::ErrorKind::OutOfMemory.into(),
         aio::FULL => "131,072 sources are registered",
-        aio::OUT_OF_MEMORY => "memory ran out",
-        18 => "2^40 - 1 timers were registered in a core",
+        aio::IDS_SPENT => "2^40 - 1 timers were registered in a core",
         _ => "the core refused the call",
     };
     io::Error::new(io::ErrorKind::Other, text)

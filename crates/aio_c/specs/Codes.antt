@@ -1,7 +1,8 @@
 -- The numbers that stand for a core's answers outside of Rattle, and what crosses of each answer.
-use Rattle.std.specs.Prelude.{ℕ, ◌^◌, ◌==◌, Bool, true, false, if◌then◌else◌, min, Option, None, Some, Result, Ok, Err}
+use Rattle.std.specs.Prelude.{ℕ, ◌^◌, ◌==◌, Bool, true, false, if◌then◌else◌, min, List, [], ◌∷◌, Option, None, Some, Result, Ok, Err}
 use Rattle.aio_base.specs.declared.names.Dir.{Dir}
 use Rattle.aio_base.specs.declared.names.Dir.TheVariants.{Read, Write}
+use Rattle.aio_base.specs.declared.names.Event.{Event}
 use Rattle.aio_base.specs.declared.names.Interest.{Interest}
 use Rattle.aio_base.specs.declared.names.Key.{Key}
 use Rattle.aio_base.specs.declared.names.TimerId.{TimerId}
@@ -154,3 +155,8 @@ moment_at n = min n (10 ^ 18)
 
 abbrev pub limit_in : Bool → ℕ → Option ℕ
 limit_in limited limit = if limited then Some limit else None
+
+-- the limit with which a round begins: no time, where events were given that no wait has taken
+abbrev pub limit_behind : List Event → Bool → ℕ → Option ℕ
+limit_behind [] limited limit = limit_in limited limit
+limit_behind (event ∷ events) limited limit = Some 0

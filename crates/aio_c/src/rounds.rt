@@ -5,7 +5,7 @@ ghost use Rattle.aio_base.specs.World.{World};
 ghost use Rattle.aio_react.specs.Asking.{asked_of, handle_part};
 ghost use Rattle.aio_react.specs.Standing.{Stands};
 ghost use Rattle.aio_c.specs.Codes.{begin_answer, wait_answer, handle_answer, finish_answer};
-ghost use Rattle.aio_c.specs.Codes.{ask_answer, moment_at, limit_in};
+ghost use Rattle.aio_c.specs.Codes.{ask_answer, moment_at, limit_behind};
 ghost use Rattle.aio_c.specs.Promises.{Crossed, BeginPromises, WaitPromises, HandlePromises};
 ghost use Rattle.aio_c.specs.Promises.{FinishPromises, tells, written};
 
@@ -14,6 +14,7 @@ use crate::answers::{
     AskAnswer, BeginAnswer, FinishAnswer, HandleAnswer, WaitAnswer, ask_answer, begin_answer,
     finish_answer, handle_answer, limit_in, moment_at, wait_answer,
 };
+use crate::held::Held;
 use aio_base::Waker;
 
 /// How many rounds have begun.
@@ -30,7 +31,20 @@ pub extern "C" fn aio_ticker(h: Handle, out: &mut Handle) -> u64
     ticker
 }
 
-/// Begins a round at a moment, with a limit for its waits where `limited` says so, in nanoseconds.
+/// The limit with which a round begins: 0 where events were given that no wait has taken, else the given
+/// one where `limited` says that there is one.
+fn begin_limit(held: &mut Held, limited: bool, limit: u64) -> Option<u64>
+    ensures value { result ≡ limit_behind held.old.core.0.noted limited limit }
+    ensures same { held.new ≡ held.old }
+{
+    match held.core.poller().noted() {
+        [] => limit_in(limited, limit),
+        [..] => Some(0),
+    }
+}
+
+/// Begins a round at a moment, with a limit for its waits where `limited` says so, in nanoseconds; with
+/// the limit 0 where events were given that no wait has taken, which the system will not tell again.
 #[unsafe(no_mangle)]
 pub extern "C" fn aio_begin(
     h: Handle,
@@ -40,10 +54,11 @@ pub extern "C" fn aio_begin(
     limit: u64,
 ) -> BeginAnswer
     ensures { Crossed begin_answer (λ told. BeginPromises h.home.core (moment_at now)
-        (limit_in limited limit) told out.new.home.core) result }
+        (limit_behind h.home.core.0.noted limited limit) told out.new.home.core) result }
 {
     let mut held = h.open();
-    let told = held.core.begin(moment_at(now), limit_in(limited, limit));
+    let limit = begin_limit(&mut held, limited, limit);
+    let told = held.core.begin(moment_at(now), limit);
     *out = Handle::close(held);
     begin_answer(told)
 }

@@ -318,6 +318,30 @@ fn asks_for_priority_alone(rt: &impl Abort, h: Handle, out: &mut Handle) {
     assert_eq!(rt; told, [true, false, false, true]);
 }
 
+/// Events that no wait has taken: the next round waits no time for others, whatever limit is given.
+const LEFT_BEHIND: &[(Call, Told)] = &[
+    (Call::Add, Told(0, 0)),
+    (Call::Poll(0, 1), Told(0, 0)),
+    (Call::BeginWithin(0, 40), Told(0, 40)),
+    (Call::Give(0), Told(0, 0)),
+    (Call::Finish(0), Told(0, 0)),
+    (Call::BeginWithin(0, 40), Told(0, 0)),
+    (Call::InterruptNext, Told(0, 0)),
+    (Call::Wait, Told(1, 0)),
+    (Call::Finish(0), Told(0, 0)),
+    (Call::BeginWithin(0, 40), Told(0, 0)),
+    (Call::Wait, Told(0, 1)),
+    (Call::Handle, Told(0, 0)),
+    (Call::Finish(0), Told(0, 1)),
+    (Call::BeginWithin(0, 40), Told(0, 40)),
+];
+
+#[test]
+fn a_round_behind_events_that_were_not_taken_does_not_wait(rt: HostRuntime) -> Result<(), Fail> {
+    aio_free(walked(&rt, rt.alloc(), spare(rt.alloc())?, LEFT_BEHIND)?);
+    Ok(())
+}
+
 #[test]
 fn urgent_readiness_is_woken_last_and_asked_for(rt: HostRuntime) -> Result<(), Fail> {
     let ended = walked(&rt, rt.alloc(), spare(rt.alloc())?, THREE_WAIT)?;
