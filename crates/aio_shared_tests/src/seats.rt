@@ -6,6 +6,7 @@ ghost use Rattle.aio_words.specs.Seats.{Belongs};
 ghost use Rattle.aio_shared.specs.Cells.{IsIdle};
 ghost use Rattle.aio_shared.specs.Members.{IsMemberOf};
 ghost use Rattle.aio_shared.specs.OneCell.{IsCellOf};
+ghost use Rattle.aio_sources.specs.Visiting.{visited_once};
 
 use crate::acts::{Act, Came, reacted, replaced};
 use crate::hosts::{react_by, react_twice_at_most};
@@ -147,7 +148,8 @@ pub(crate) fn poll_while_blocking<R: Wait, N: Notify, A: Arm, W: EventWait>(
     requires parker { 0 < host.old.shared.words.parkers }
     requires outside { source.old.inside ≡ false }
     ensures host { host.new.shared ≡ host.old.shared }
-    ensures source { source.new ≡ source.old }
+    ensures source { let rest = source.old.rest in
+        source.new ≡ visited_once (visited_once source.old rest) rest }
 {
     let mut cell = host.shared.take_round(&host.rt, &mut host.member);
     host.shared.words().block(cell.seat(), 0);
