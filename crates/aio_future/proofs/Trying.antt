@@ -19,7 +19,7 @@ use Rattle.aio_source.specs.declared.source.SourceCell.{SourceCell}
 use Rattle.aio_future.specs.declared.tried.TryFault.{TryFault}
 use Rattle.aio_future.specs.declared.tried.TryFault.TheVariants as fault
 use Rattle.aio_future.specs.declared.visits.PollDir.{PollDir}
-use Rattle.aio_future.specs.declared.visits.Visited.{Visited}
+use Rattle.aio_source.specs.declared.visit.Visited.{Visited}
 use Rattle.aio_future.specs.Tries.{FaultsWithin, IsReadAnswer, IsWriteAnswer, MovesWithin, ReadsNow, TriesNow, Tries, WritesNow, answer_so_far, bytes_over, fault_counts, given_by, read_call, tried_of, try_answer, write_call}
 use Rattle.aio_future.specs.Visits.{BlocksAndPolls, PollsCell, TriesCell, TriesOnce, unready_answer}
 use Rattle.aio_future.proofs.Rests.{told_stays}

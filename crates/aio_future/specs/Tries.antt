@@ -20,7 +20,7 @@ use Rattle.aio_future.specs.Visits.{TriesCell}
 use Rattle.aio_future.specs.declared.tried.Tried.{Tried}
 use Rattle.aio_future.specs.declared.tried.TryFault.{TryFault}
 use Rattle.aio_future.specs.declared.tried.TryFault.TheVariants as fault
-use Rattle.aio_future.specs.declared.visits.Visited.{Visited}
+use Rattle.aio_source.specs.declared.visit.Visited.{Visited}
 
 -- ## Answers of a read or a write
 

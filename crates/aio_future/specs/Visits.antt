@@ -4,13 +4,13 @@ use Rattle.aio_base.specs.declared.outcomes.ArmFault.{ArmFault}
 use Rattle.aio_base.specs.declared.outcomes.Failed.{Failed}
 use Rattle.aio_base.specs.declared.outcomes.Poll.{Poll}
 use Rattle.aio_base.specs.declared.outcomes.Poll.TheVariants.{Ready, Pending}
-use Rattle.aio_base.specs.Devices.{ArmCall, Interests, Rose}
+use Rattle.aio_base.specs.Devices.{ArmCall, Interests}
 use Rattle.aio_source.specs.declared.source.SourceCell.{SourceCell}
 use Rattle.aio_source.specs.Rules.{polling}
 use Rattle.aio_source.specs.Lent.{UsesArm, arm_of, fault_of, settled, arm_answer}
 use Rattle.aio_source.specs.Answers.{armed_in, poll_answer}
 use Rattle.aio_future.specs.declared.visits.PollDir.{PollDir}
-use Rattle.aio_future.specs.declared.visits.Visited.{Visited}
+use Rattle.aio_source.specs.declared.visit.Visited.{Visited}
 
 -- the answer of a poll that is not ready, as that of a try
 abbrev pub unready_answer : {O : Type 0} → Poll (Result (Unit {0}) ArmFault) → Poll (Result O ArmFault)
@@ -74,15 +74,3 @@ module _ {S : Type 0} (step : S → ArmCall → Result (Unit {0}) Failed → S �
     TriesCell poll attempt found ticker tried left put = TriesOnce poll attempt found ticker (Some tried) left put
         ⊎ ((first : T) × (between : SourceCell S) × TriesOnce poll attempt found ticker None first between
         × TriesOnce poll first between ticker (Some tried) left put)
-
--- the fault of an arm that work inside a source came to, and the one that was told of it; and that of a notifier
-abbrev pub arm_fault_of : {O : Type 0} → Poll (Result O ArmFault) → Option ArmFault
-arm_fault_of (Ready (Err fault)) = Some fault
-arm_fault_of (Ready (Ok output)) = None
-arm_fault_of Pending = None
-
--- an arm of this key failed, and its count of faults rose, in a reactor that is not sure of its arms
-pub record IsUnsureArm (all_sure : Bool) (key : ℕ) (fault : ArmFault) : Type 0 where
-  pub key_is : fault.key.0 ≡ key
-  pub unsure : all_sure ≡ false
-  pub rose : Rose fault.before fault.after

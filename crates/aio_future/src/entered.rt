@@ -4,13 +4,14 @@ ghost use Rattle.std.specs.Prelude.{◌≡◌, ◌<◌, ◌≤◌, length, take,
 ghost use Rattle.aio_base.specs.Connections.{ReadTells, WriteTells};
 ghost use Rattle.aio_base.specs.declared.outcomes.Poll.TheVariants.{Ready, Pending};
 ghost use Rattle.aio_future.specs.Tries.{FaultsWithin, IsReadAnswer, IsWriteAnswer, MovesWithin, Polls, Tries, bytes_over, fault_counts, read_call, write_call};
-ghost use Rattle.aio_future.specs.Visits.{IsUnsureArm, TriesCell, arm_fault_of};
+ghost use Rattle.aio_source.specs.Visits.{IsUnsureArm, arm_fault_of};
+ghost use Rattle.aio_future.specs.Visits.{TriesCell};
 
 use crate::attempts::{Attempt, Read, Write};
 use crate::tried::{Tried, TryFault};
-use crate::visits::{PollDir, TryDir, Visit, Visited};
+use crate::visits::{PollDir, TryDir};
 use aio_base::{Arm, Conn, Dir, Waker};
-use aio_source::{Polled, SourceCell};
+use aio_source::{Polled, SourceCell, Visit, Visited};
 
 /// An entered source: the source beside its connection, borrowed, and the number of rounds begun that
 /// its polls count with (`async-io` 2, `lib.rs`, `Async`). Letting it go changes nothing.

@@ -28,4 +28,4 @@ pub use ready::Ready;
 pub use sleep::Sleep;
 pub use timer::Timer;
 pub use tried::{Tried, TryFault};
-pub use visits::{PollDir, TryDir, Visit, Visited};
+pub use visits::{PollDir, TryDir};

@@ -3,8 +3,8 @@
 ghost use Rattle.std.specs.Prelude.{◌≡◌};
 ghost use Rattle.aio_future.specs.Tries.{tried_of};
 
-use crate::visits::Visited;
 use aio_base::{ArmFault, CountFault, Poll, Waker};
+use aio_source::Visited;
 
 /// How a read or a write of an entered source failed. Each case has the counts of the connection's
 /// faults before and after what failed.

@@ -1,43 +1,14 @@
-//! What is done inside a source while it is entered: one visit of it, with the number of rounds begun.
+//! Visits of an entered source: a poll of a direction, and an attempt on its connection that polls where it
+//! would block.
 
 ghost use Rattle.std.specs.Prelude.{◌≡◌, ◌≢◌, ℕ, false, None, Some, IfSome};
 ghost use Rattle.aio_source.specs.Rules.{direction_of, is_ready};
-ghost use Rattle.aio_future.specs.Visits.{IsUnsureArm, PollsCell, TriesCell, TriesOnce, arm_fault_of};
+ghost use Rattle.aio_source.specs.Visits.{IsUnsureArm, arm_fault_of};
+ghost use Rattle.aio_future.specs.Visits.{PollsCell, TriesCell, TriesOnce};
 
 use crate::attempts::Attempt;
-use aio_base::{Arm, ArmFault, Dir, Poll, Waker};
-use aio_source::SourceCell;
-
-/// What a visit of a source came to.
-#[derive(Clone, Copy, Debug, Drop, PartialEq, Eq)]
-pub struct Visited<O> {
-    /// What it gave, or the fault of an arm. Pending where a waker waits.
-    pub answer: Poll<Result<O, ArmFault>>,
-    /// The poll waiter that another one took the place of, to be woken.
-    pub replaced: Option<Waker>,
-}
-
-/// What is done inside a source, once.
-pub trait Visit<A: Arm> {
-    ghost use Rattle.std.specs.Prelude.{ℕ, IfSome};
-    ghost use Rattle.aio_source.specs.declared.source.SourceCell.{SourceCell};
-    ghost use Rattle.aio_future.specs.declared.visits.Visited.{Visited};
-    ghost use Rattle.aio_future.specs.Visits.{IsUnsureArm, arm_fault_of};
-
-    /// What it gives.
-    type Output;
-
-    /// The visit, the source before it, the number of rounds begun, what it came to, the visit after it,
-    /// and the source after it.
-    ghost visits: { Self → SourceCell A → ℕ → Visited Self.Output → Self → SourceCell A → Type 0 };
-
-    /// Works on an entered source, after `ticker` rounds have begun. It keeps the source's key.
-    fn visit(&mut self, cell: &mut SourceCell<A>, ticker: u64) -> Visited<Self::Output>
-        ensures visits { visits self.old cell.old ticker result self.new cell.new }
-        ensures arm { IfSome (arm_fault_of result.answer)
-            (IsUnsureArm A.all_sure cell.old.state.key.0) }
-        ensures key { cell.new.state.key ≡ cell.old.state.key };
-}
+use aio_base::{Arm, Dir, Poll, Waker};
+use aio_source::{SourceCell, Visit, Visited};
 
 /// One poll of a direction of a source with a waker.
 #[derive(Clone, Copy, Debug, PartialEq, Eq)]

@@ -1,6 +1,6 @@
 //! Items that are dealt to rows in turn, and gathered again.
 
-ghost use Rattle.std.specs.Prelude.{◌≡◌, ◌+◌, ◌<◌, ◌++◌, ◌∷◌, [], ℕ, List, length, map, drop, IfOk, OnOk, IfSome, IfNone};
+ghost use Rattle.std.specs.Prelude.{◌≡◌, ◌+◌, ◌<◌, ◌++◌, ◌∷◌, [], ℕ, List, length, map, drop, IfOk, OnOk, OnErr, IfSome, IfNone};
 ghost use Rattle.aio_jobs.specs.Dealing.{GivesInTurn, HaveShares, IsAtTurn, IsOver};
 
 use aio_base::OutOfMemory;
@@ -44,9 +44,11 @@ impl<X: Drop> Rows<X> {
         Ok(made)
     }
 
-    /// One more row, whose turn comes last. `OutOfMemory` where there is no room for it; it is let go.
+    /// One more row, whose turn comes last. `OutOfMemory` where there is no room for it; it is let go, and
+    /// nothing is added.
     pub fn add(&mut self, row: VecDeque<X>) -> Result<(), OutOfMemory>
-        ensures { OnOk result (self.new ≡ self.old ++ row.items ∷ []) }
+        ensures added { OnOk result (self.new ≡ self.old ++ row.items ∷ []) }
+        ensures refused { OnErr result (self.new ≡ self.old) }
     {
         match self.rows.push_back(row) {
             Ok(()) => Ok(()),

@@ -6,7 +6,7 @@ use Rattle.aio_future.specs.declared.answers.TimerFault.{TimerFault}
 use Rattle.aio_future.specs.Sleeping.{FiresBy, fires_later}
 use Rattle.aio_shared.specs.declared.polling.PollFault.{PollFault}
 use Rattle.aio_shared.specs.declared.polling.PollFault.TheVariants as poll_fault
-use Rattle.aio_future.specs.Visits.{IsUnsureArm}
+use Rattle.aio_source.specs.Visits.{IsUnsureArm}
 use Rattle.aio_park.specs.declared.until.UntilFault.{UntilFault}
 use Rattle.aio_park.specs.declared.until.UntilFault.TheVariants.{Source, Timer}
 

@@ -14,7 +14,7 @@ use Rattle.aio_base.specs.declared.outcomes.Poll.TheVariants.{Ready, Pending}
 use Rattle.aio_future.specs.Tries.{counts_in, tried_of}
 use Rattle.aio_future.specs.Visits.{TriesCell}
 use Rattle.aio_future.specs.declared.visits.PollDir.{PollDir}
-use Rattle.aio_future.specs.declared.visits.Visited.{Visited}
+use Rattle.aio_source.specs.declared.visit.Visited.{Visited}
 use Rattle.aio_future.specs.declared.tried.TryFault.{TryFault}
 use Rattle.aio_future.specs.declared.tried.TryFault.TheVariants as fault
 use Rattle.aio_pairs.specs.Calls.{EndCall, Enters, Reads, Writes, entered}

@@ -8,8 +8,8 @@ use Rattle.aio_base.specs.declared.outcomes.Poll.TheVariants.{Ready, Pending}
 use Rattle.aio_base.specs.Hosts.{NotifierTells, wake_fault}
 use Rattle.aio_rules.specs.declared.seats.SeatView.{SeatView}
 use Rattle.aio_source.specs.declared.source.SourceCell.{SourceCell}
-use Rattle.aio_future.specs.Visits.{IsUnsureArm, arm_fault_of}
-use Rattle.aio_future.specs.declared.visits.Visited.{Visited}
+use Rattle.aio_source.specs.Visits.{IsUnsureArm, arm_fault_of}
+use Rattle.aio_source.specs.declared.visit.Visited.{Visited}
 use Rattle.aio_sources.specs.Sources.{SourceRefValue}
 use Rattle.aio_shared.specs.declared.polling.PollFault.{PollFault}
 use Rattle.aio_shared.specs.Inside.{InsideValue, IsLaterInside, with_seat}

@@ -14,12 +14,12 @@ use Rattle.aio_source.specs.declared.source.SourceCell.{SourceCell}
 use Rattle.aio_words.specs.Calls.{Offers}
 use Rattle.aio_shared.specs.Inside.{InsideValue, IsLaterInside, with_seat}
 use Rattle.aio_base.specs.Hosts.{NotifierTells}
-use Rattle.aio_future.specs.Visits.{IsUnsureArm}
+use Rattle.aio_source.specs.Visits.{IsUnsureArm}
 use Rattle.aio_sources.specs.Sources.{SourceRefValue}
 use Rattle.aio_sources.specs.Visiting.{visited_once}
 use Rattle.aio_shared.specs.declared.polling.PollFault.{PollFault}
 use Rattle.aio_shared.specs.declared.polling.PollFault.TheVariants as poll_fault
-use Rattle.aio_future.specs.declared.visits.Visited.{Visited}
+use Rattle.aio_source.specs.declared.visit.Visited.{Visited}
 
 -- ## A visit of a source
 

@@ -45,10 +45,17 @@ pub record DrainsThen (bounds : ClockBounds) (earliest latest : ℕ) (ops ops_af
   pub moment : IsMoment bounds earliest latest now
   pub did : Did now book
 
+-- A round of this number began by a pass at this moment over this book, which was left so.
+abbrev pub BegunAt : ℕ → Option ℕ → RoundValue → Book → ℕ → Book → Type 0
+BegunAt number given new left now book = (new ≡ begun number (limit_of now book.entries given) (due_wakers now book.entries)) × (left.entries ≡ after_pass now book.entries)
+
+-- A round ended at this moment, where it asks for it by a second pass over this book, which was left so.
+abbrev pub FinishedAt : RoundValue → RoundValue → Book → ℕ → Book → Type 0
+FinishedAt old new left now book = (new ≡ finished old (second_wakers old now book.entries)) × (left.entries ≡ second_book old now book.entries)
+
 -- A round of this number began over this book, once the queue was drained into it: by a pass, which left the book so.
 abbrev pub BeginsOver : ℕ → ClockBounds → ℕ → ℕ → Option ℕ → PassView → PassView → Book → Book → RoundValue → Type 0
-BeginsOver number bounds earliest latest given ops ops_after found left new = DrainsThen bounds earliest latest ops ops_after found
-    (λ now book. (new ≡ begun number (limit_of now book.entries given) (due_wakers now book.entries)) × (left.entries ≡ after_pass now book.entries))
+BeginsOver number bounds earliest latest given ops ops_after found left new = DrainsThen bounds earliest latest ops ops_after found (BegunAt number given new left)
 
 -- the same over some book
 abbrev pub BeginsAs : ℕ → ClockBounds → ℕ → ℕ → Option ℕ → PassView → PassView → RoundValue → Type 0
@@ -56,8 +63,7 @@ BeginsAs number bounds earliest latest given ops ops_after new = (found left : B
 
 -- A round ended over this book, once the queue was drained into it: where the round asks for it by a second pass, which left the book so.
 abbrev pub FinishesOver : ClockBounds → ℕ → ℕ → PassView → PassView → Book → Book → RoundValue → RoundValue → Type 0
-FinishesOver bounds earliest latest ops ops_after found left old new = DrainsThen bounds earliest latest ops ops_after found
-    (λ now book. (new ≡ finished old (second_wakers old now book.entries)) × (left.entries ≡ second_book old now book.entries))
+FinishesOver bounds earliest latest ops ops_after found left old new = DrainsThen bounds earliest latest ops ops_after found (FinishedAt old new left)
 
 -- the same over some book
 abbrev pub Finishes : ClockBounds → ℕ → ℕ → PassView → PassView → RoundValue → RoundValue → Type 0

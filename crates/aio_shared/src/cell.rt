@@ -5,7 +5,7 @@ ghost use Rattle.std.specs.Borrow.{sem};
 ghost use Rattle.aio_react.specs.Rounds.{new_round};
 ghost use Rattle.aio_shared.specs.CellLending.{LendsSeat};
 
-use crate::waiting::CellWait;
+use crate::waiting::{CellRound, CellWait};
 use aio_base::EventWait;
 use aio_react::Round;
 use aio_words::RoundSeat;
@@ -15,7 +15,7 @@ use std::marker::Model;
 /// A round and the half of a poller that waits for its events.
 #[derive(Drop)]
 pub(crate) struct Work<W: EventWait> {
-    pub(crate) round: Round,
+    pub(crate) round: CellRound,
     pub(crate) wait: CellWait<W>,
 }
 
@@ -64,6 +64,7 @@ impl<W: EventWait> RoundCell<W> {
         }) }
         ensures back { IfErr result (λ back. back ≡ wait) }
     {
+        let round = CellRound::new(round);
         let wait = CellWait::new(wait);
         match Box::new(alloc, Work { round, wait }) {
             Ok(work) => Ok(RoundCell { seat, work }),
@@ -92,7 +93,7 @@ impl<W: EventWait> RoundCell<W> {
     pub fn round(&self) -> &Round
         ensures { result.now ≡ self.now.round }
     {
-        &self.work.round
+        self.work.round.as_round()
     }
 
     /// How many waits the half that waits has made.

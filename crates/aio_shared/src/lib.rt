@@ -15,6 +15,7 @@
 mod cell;
 mod hand_over;
 mod inside;
+mod locked;
 mod members;
 mod polling;
 mod reacting;
@@ -28,7 +29,8 @@ mod timers;
 mod waiting;
 mod waking;
 
-pub use aio_future::{Attempt, PollDir, TryDir, Visit, Visited};
+pub use aio_future::{Attempt, PollDir, TryDir};
+pub use aio_source::{Visit, Visited};
 pub use aio_sources::{InsertFault, SourceRef, Sources};
 pub use cell::RoundCell;
 pub use inside::Inside;

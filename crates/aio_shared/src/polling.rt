@@ -4,14 +4,16 @@
 ghost use Rattle.std.specs.Prelude.{◌≡◌, true, false, List, length, None, Some, IfOk, IfErr, IfSome};
 ghost use Rattle.aio_base.specs.Hosts.{NotifierTells, wake_fault};
 ghost use Rattle.aio_shared.specs.Inside.{IsLaterInside, with_seat};
-ghost use Rattle.aio_future.specs.Visits.{IsUnsureArm, PollsCell, TriesCell, arm_fault_of};
+ghost use Rattle.aio_source.specs.Visits.{IsUnsureArm, arm_fault_of};
+ghost use Rattle.aio_future.specs.Visits.{PollsCell, TriesCell};
 ghost use Rattle.aio_shared.specs.Polling.{LeavesInside, VisitsOnce, WakesReplaced, WorksOn, answer_of, arm_fault_in};
 ghost use Rattle.aio_sources.specs.Sources.{Adds, HandsBack, TableEntry, entry_of, is_full, keys_of, outside, refusal_of};
 ghost use Rattle.aio_sources.specs.Visiting.{visited_once};
 
 use crate::inside::Inside;
 use aio_base::{Arm, ArmFault, CountFault, Dir, EventWait, Host, Notify, Poll, Waker};
-use aio_future::{Attempt, PollDir, TryDir, Visit, Visited};
+use aio_future::{Attempt, PollDir, TryDir};
+use aio_source::{Visit, Visited};
 use aio_sources::{InsertFault, SourceRef};
 use std::sync::Wait;
 

@@ -19,7 +19,7 @@ ghost use Rattle.aio_shared.specs.TimerCalls.{PushedNothing};
 use crate::cell::RoundCell;
 use crate::members::Member;
 use crate::shared::Shared;
-use crate::waiting::CellWait;
+use crate::waiting::{CellRound, CellWait};
 use crate::waking::wake_each;
 use aio_base::{Arm, ArmFault, Clock, CountFault, EventWait, Notify, OutOfMemory};
 use aio_ops::OpPass;
@@ -164,7 +164,7 @@ impl<A: Arm, W: EventWait> Shared<A, W> {
     {
         let seat = &mut cell.seat;
         let work = &mut *cell.work;
-        if work.round.is_idle() {
+        if work.round.as_round().is_idle() {
             match self.begin_round(rt, &mut m.ops, seat, &mut work.round, clock, limit) {
                 Err(fault) => {
                     settle(&self.words, seat);
@@ -186,7 +186,7 @@ impl<A: Arm, W: EventWait> Shared<A, W> {
         rt: &R,
         ops: &mut OpPass,
         seat: &mut RoundSeat,
-        round: &mut Round,
+        round: &mut CellRound,
         clock: &mut C,
         limit: Option<u64>,
     ) -> Result<(), ReactFault>
@@ -229,7 +229,7 @@ impl<A: Arm, W: EventWait> Shared<A, W> {
         ensures none_left { OnOk result (cell.new.round.hand ≡ []) }
     {
         let table = self.sources.lock(rt);
-        table.handle_each(rt, &mut cell.work.round)
+        cell.work.round.handle_each(rt, &table)
     }
 
     /// Ends the round, after a drain, under the lock of the book.
@@ -280,13 +280,9 @@ impl<A: Arm, W: EventWait> Shared<A, W> {
         ensures faults { TellsFaults N.fault_count N.is_sure m.old.notifier m.new.notifier
             (NotifyFailed result) }
     {
-        let failed = wake_each(
-            &self.words,
-            &mut m.pass,
-            cell.work.round.woken(),
-            &mut m.notifier,
-        );
-        report(&cell.work.round, failed, resumed, in_hand)
+        let round = cell.round();
+        let failed = wake_each(&self.words, &mut m.pass, round.woken(), &mut m.notifier);
+        report(round, failed, resumed, in_hand)
     }
 }
 
@@ -295,7 +291,7 @@ impl<A: Arm, W: EventWait> Shared<A, W> {
 fn wait_for_events<W: EventWait>(
     words: &Words,
     seat: &mut RoundSeat,
-    round: &mut Round,
+    round: &mut CellRound,
     wait: &mut CellWait<W>,
 )
     requires words { Belongs words.now seat.old }

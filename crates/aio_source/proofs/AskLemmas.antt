@@ -17,7 +17,7 @@ use Rattle.aio_listen.specs.Tickets.{same_ticket}
 use Rattle.aio_listen.specs.Listening.{Entry, Holds, has_ticket, wakers_of, with_waker}
 use Rattle.aio_source.specs.Values.{DirectionValue, DirectionValues, SourceValue}
 use Rattle.aio_source.specs.declared.answers.Listened.{Listened}
-use Rattle.aio_source.specs.Rules.{Polling, is_idle, is_ready, is_above, wanted, direction_of, with_direction, with_source_direction, seen, listening, listening_again, stored, handled, handled_in, handled_along, part_of, polling, listening_first, polling_again, handling, Covers}
+use Rattle.aio_source.specs.Rules.{Polling, is_idle, is_ready, is_above, wanted, waiters_in, waiters_of, direction_of, with_direction, with_source_direction, seen, listening, listening_again, stored, handled, handled_in, handled_along, part_of, polling, listening_first, polling_again, handling, Covers}
 use Rattle.aio_source.specs.Lent.{UsesArm, arm_answer, asked_by, asked_for, asked_with, left_of}
 use Rattle.aio_base.proofs.DirectionLemmas.{same_dir-refl, where_same, has_dir-where, named_where}
 use Rattle.aio_source.proofs.DirectionCases.{each_put, put_itself}
@@ -182,16 +182,41 @@ idle_step false true broken covers none whole = absurd cc
 idle_step false false true covers none whole = absurd cc
 idle_step false false false covers none whole = cc (covers refl)
 
--- where nothing was asked for and no arm failed, nobody waits, and an event leaves nobody
+-- where nothing was asked for and no arm failed, nobody waits
+pub nobody : (ds : DirectionValues) (asked : Interest) (broken : Bool) (may : Bool) → Covers ds asked broken → may ≡ (broken || has_any asked) → may ≡ false
+    → (dir : Dir) → is_idle (direction_of ds dir) ≡ true
+nobody ds asked broken may covers is none dir =
+    let parts = or_parts broken (has_any asked) (sym is ∙ none) in
+    idle_step (is_idle (direction_of ds dir)) (has_dir asked dir) broken (covers dir) (unasked asked parts.1 dir) parts.0
+
+empty_with : (ws rest : List Waker) → is_empty_list ws ≡ true → rest ≡ [] → ws ++ rest ≡ []
+empty_with [] rest none empty = empty
+empty_with (w ∷ ws) rest none empty = absurd cc
+
+nobody_along : (ds : DirectionValues) (dirs : List Dir) → ((dir : Dir) → is_idle (direction_of ds dir) ≡ true) → waiters_in dirs ds ≡ []
+nobody_along ds [] idle = refl
+nobody_along ds (dir ∷ dirs) idle = empty_with (waiters_of (direction_of ds dir)) (waiters_in dirs ds) (idle dir) (nobody_along ds dirs idle)
+
+pub nobody_in : (ds : DirectionValues) (asked : Interest) (broken : Bool) (may : Bool) → Covers ds asked broken → may ≡ (broken || has_any asked) → may ≡ false
+    → waiters_in directions ds ≡ []
+nobody_in ds asked broken may covers is none = nobody_along ds directions (nobody ds asked broken may covers is none)
+
+-- nobody waits where an event took the waiters of one more direction, either
+pub nobody_next : (round : ℕ) (now after : DirectionValues) (dir : Dir) (lent emptied : DirectionValue) → emptied ≡ handled round lent → after ≡ with_direction now dir emptied
+    → ((e : Dir) → is_idle (direction_of now e) ≡ true) → (e : Dir) → is_idle (direction_of after e) ≡ true
+nobody_next round now after dir lent emptied emptied-is after-is idle e =
+    subst (λ (ds : DirectionValues). is_idle (direction_of ds e) ≡ true) (sym after-is)
+    (each_put (λ e d. is_idle d ≡ true) now dir emptied (ap is_idle emptied-is ∙ idle_handled round lent) (λ e other. idle e) e)
+
+-- an event leaves nobody, then
 pub none_left : (ds left : DirectionValues) (asked : Interest) (broken : Bool) (on : Interest) (round : ℕ) (may : Bool) → Covers ds asked broken → may ≡ (broken || has_any asked)
     → left ≡ handled_along on round directions ds → may ≡ false → has_any (wanted left) ≡ false
 none_left ds left asked broken on round may covers is after none =
-    let parts = or_parts broken (has_any asked) (sym is ∙ none) in
     ap (λ (d : DirectionValues). has_any (wanted d)) after
     ∙ ap has_any (where_same (λ e. not (is_idle (direction_of (handled_along on round directions ds) e))) (λ e. false)
     (λ e. ap not (idle_along on round directions ds e
     ∙ ap (λ (idle : Bool). list_any (λ (d : Dir). has_dir on d && same_dir e d) directions || idle)
-    (idle_step (is_idle (direction_of ds e)) (has_dir asked e) broken (covers e) (unasked asked parts.1 e) parts.0)
+    (nobody ds asked broken may covers is none e)
     ∙ or_always (list_any (λ (d : Dir). has_dir on d && same_dir e d) directions))))
 
 -- ## A lent arm

@@ -1,5 +1,5 @@
 -- Who waits for a direction, and what its calls make of that.
-use Rattle.std.specs.Prelude.{◌≡◌, ◌==◌, ◌≤◌, Bool, true, false, not, ◌||◌, IsTrue, if◌then◌else◌, List, [], ◌∷◌, ◌++◌, length, Option, None, Some, option_to_list, refl}
+use Rattle.std.specs.Prelude.{◌≡◌, ◌==◌, ◌≤◌, Bool, true, false, not, ◌||◌, IsTrue, if◌then◌else◌, List, [], ◌∷◌, ◌++◌, length, Option, None, Some, option_to_list, ℕ, max, refl}
 use Rattle.std.proofs.Common.{ap, sym, ◌∙◌, arith, length-append}
 use Rattle.std.specs.List.{list_any}
 use Rattle.std.proofs.lemmas.Bool.Decides.{nat_tests}
@@ -12,7 +12,7 @@ use Rattle.aio_listen.specs.declared.ticket.Ticket.{Ticket}
 use Rattle.aio_listen.specs.Tickets.{same_ticket}
 use Rattle.aio_listen.specs.Listening.{Entry, Holds, has_ticket, wakers_of, with_waker, without, emptied}
 use Rattle.aio_source.specs.Values.{DirectionValue, DirectionValues}
-use Rattle.aio_source.specs.Rules.{is_idle, waiters_of, waiters_in, without_listener, direction_of, with_direction, Covers}
+use Rattle.aio_source.specs.Rules.{is_idle, waiters_of, waiters_in, handled, without_listener, direction_of, with_direction, Covers}
 use Rattle.aio_base.proofs.DirectionLemmas.{each_direction}
 use Rattle.aio_base.proofs.Membership.{any_from}
 use Rattle.aio_base.proofs.Searching.{false_unless}
@@ -79,6 +79,35 @@ last_with_waker (e ∷ entries) ticket waker fresh =
 pub none_emptied : (entries : List (Entry Waker)) → wakers_of (emptied entries) ≡ []
 none_emptied [] = refl
 none_emptied (e ∷ entries) = none_emptied entries
+
+none_kept : (held : Option Waker) (t : Ticket) (entries : List (Entry Waker)) → (is_empty_list (wakers_of entries) ≡ true → emptied entries ≡ entries)
+    → is_empty_list (wakers_of ((t, held) ∷ entries)) ≡ true → emptied ((t, held) ∷ entries) ≡ (t, held) ∷ entries
+none_kept (Some waker) t entries step none = absurd cc
+none_kept None t entries step none = ap (λ es. (t, None) ∷ es) (step none)
+
+-- and those of which none held one stay as they are
+pub kept_emptied : (entries : List (Entry Waker)) → is_empty_list (wakers_of entries) ≡ true → emptied entries ≡ entries
+kept_emptied [] none = refl
+kept_emptied (e ∷ entries) none = none_kept e.1 e.0 entries (kept_emptied entries) none
+
+idle_parts : (waiter : Option Waker) (wakers : List Waker) → is_empty_list (option_to_list waiter ++ wakers) ≡ true
+    → (waiter ≡ None) × (is_empty_list wakers ≡ true)
+idle_parts None wakers idle = (refl, idle)
+idle_parts (Some waker) wakers idle = absurd cc
+
+no_waker : (wakers : List Waker) → is_empty_list wakers ≡ true → wakers ≡ []
+no_waker [] none = refl
+no_waker (w ∷ wakers) none = absurd cc
+
+-- an event of a round raises the tick of a direction without a waiter, and that is all
+pub handled_idle : (round : ℕ) (d : DirectionValue) → is_idle d ≡ true → handled round d ≡ record d { tick = max d.tick round }
+handled_idle round d idle =
+    let parts = idle_parts d.waiter (wakers_of d.listeners.entries) idle in
+    ap (λ (waiter : Option Waker). record d { tick = max d.tick round; waiter = waiter; listeners = record d.listeners { entries = emptied d.listeners.entries } }) (sym parts.0)
+    ∙ ap (λ (entries : List (Entry Waker)). record d { tick = max d.tick round; listeners = record d.listeners { entries = entries } }) (kept_emptied d.listeners.entries parts.1)
+
+pub idle_none : (d : DirectionValue) → is_idle d ≡ true → waiters_of d ≡ []
+idle_none d idle = no_waker (waiters_of d) idle
 
 -- where nothing was asked for, no direction is
 pub unasked : (asked : Interest) → has_any asked ≡ false → (dir : Dir) → has_dir asked dir ≡ false

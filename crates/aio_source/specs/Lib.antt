@@ -7,3 +7,4 @@ pub mod Noting
 pub mod KeyTables
 pub mod TableLending
 pub mod InHand
+pub mod Visits

@@ -1,6 +1,6 @@
 //! One direction of a source.
 
-ghost use Rattle.std.specs.Prelude.{◌≡◌, ◌+◌, ◌-◌, ◌^◌, ◌<◌, ◌≤◌, ◌++◌, ◌↔◌, true, not, length, max, IfOk, OnErr, IsErrOf, None, if◌then◌else◌, vec_len, vec_capacity};
+ghost use Rattle.std.specs.Prelude.{◌≡◌, ◌+◌, ◌-◌, ◌^◌, ◌<◌, ◌≤◌, ◌++◌, ◌↔◌, true, not, length, max, IfOk, OnErr, IsErrOf, None, false, if◌then◌else◌, vec_len, vec_capacity};
 ghost use Rattle.aio_base.specs.Machine.{is_waker};
 ghost use Rattle.aio_listen.specs.Listening.{Holds, has_ticket};
 ghost use Rattle.aio_source.specs.Rules.{new_direction, is_above, is_ready, waiters_of, is_idle, seen, stored, listening, listening_again, without_listener, handled};
@@ -172,19 +172,22 @@ impl Direction {
     }
 
     /// Moves the waiters to the end of `taken` for an event of this round, the poll waiter first; the
-    /// listeners stay, with no waker.
+    /// listeners stay, with no waker. `may` is false only if none waits.
     #[inline(always)]
-    pub(crate) fn take_waiters(&mut self, round: u64, taken: &mut Vec<Waker>)
-        requires { vec_len taken.old + length (waiters_of self.old) ≤ vec_capacity taken.old }
+    pub(crate) fn take_waiters(&mut self, may: bool, round: u64, taken: &mut Vec<Waker>)
+        requires room { vec_len taken.old + length (waiters_of self.old) ≤ vec_capacity taken.old }
+        requires nobody { may ≡ false → is_idle self.old ≡ true }
         ensures after { self.new ≡ handled round self.old }
         ensures taken { taken.new.items ≡ taken.old.items ++ waiters_of self.old }
         ensures capacity { vec_capacity taken.new ≡ vec_capacity taken.old }
     {
-        match self.waiter.take() {
-            None => {}
-            Some(waker) => taken.push_reserved(waker),
+        if may {
+            match self.waiter.take() {
+                None => {}
+                Some(waker) => taken.push_reserved(waker),
+            }
+            self.listeners.drain_into(taken);
         }
-        self.listeners.drain_into(taken);
         self.tick = self.tick.max(round);
     }
 }

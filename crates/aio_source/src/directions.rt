@@ -2,8 +2,9 @@
 
 ghost use Rattle.std.specs.Prelude.{◌≡◌, ◌+◌, ◌≤◌, ◌++◌, false, true, length, vec_len, vec_capacity};
 ghost use Rattle.std.specs.Borrow.{sem};
+ghost use Rattle.aio_base.specs.declared.names.Dir.{Dir};
 ghost use Rattle.aio_base.specs.World.{directions, has_any};
-ghost use Rattle.aio_source.specs.Rules.{new_directions, direction_of, wanted, waiters_in, handled_along, taken_along};
+ghost use Rattle.aio_source.specs.Rules.{new_directions, direction_of, is_idle, wanted, waiters_in, handled_along, taken_along};
 ghost use Rattle.aio_source.specs.Lending.{LendsDirection};
 
 use crate::direction::Direction;
@@ -94,11 +95,18 @@ impl Directions {
     }
 
     /// Moves the waiters of the directions that an event of this round names to the end of `taken`,
-    /// direction by direction in the order of `DIRS`.
+    /// direction by direction in the order of `DIRS`. `may` is false only if none waits.
     #[inline(always)]
-    pub(crate) fn take_waiters(&mut self, on: Interest, round: u64, taken: &mut Vec<Waker>)
-        requires { vec_len taken.old + length (waiters_in directions self.old)
+    pub(crate) fn take_waiters(
+        &mut self,
+        may: bool,
+        on: Interest,
+        round: u64,
+        taken: &mut Vec<Waker>,
+    )
+        requires room { vec_len taken.old + length (waiters_in directions self.old)
             ≤ vec_capacity taken.old }
+        requires nobody { may ≡ false → (dir : Dir) → is_idle (direction_of self.old dir) ≡ true }
         ensures after { self.new ≡ handled_along on round directions self.old }
         ensures taken { taken.new.items
             ≡ taken.old.items ++ taken_along on round directions self.old }
@@ -106,7 +114,7 @@ impl Directions {
     {
         for dir in DIRS {
             if on.has(dir) {
-                self.get_mut(dir).take_waiters(round, taken);
+                self.get_mut(dir).take_waiters(may, round, taken);
             }
         }
     }

@@ -1,6 +1,6 @@
 //! The state of a source and its calls.
 
-ghost use Rattle.std.specs.Prelude.{◌≡◌, ◌+◌, ◌-◌, ◌^◌, ◌<◌, ◌≤◌, ◌++◌, ◌↔◌, false, true, length, IfSome, IsErrOf, vec_len, vec_capacity};
+ghost use Rattle.std.specs.Prelude.{◌≡◌, ◌+◌, ◌-◌, ◌^◌, ◌<◌, ◌≤◌, ◌++◌, ◌↔◌, [], false, true, length, IfSome, IsErrOf, vec_len, vec_capacity};
 ghost use Rattle.aio_base.specs.World.{directions};
 ghost use Rattle.aio_listen.specs.Listening.{Holds, has_ticket};
 ghost use Rattle.aio_source.specs.Rules.{new_source, is_above, waiters_of, waiters_in, direction_of, taken_along, polling, listening_first, listening_on, polling_again, unlistened, handling, Covered};
@@ -101,6 +101,15 @@ impl SourceState {
         ensures { result ≡ true → length (waiters_in directions self.now.directions) ≤ length directions }
     {
         self.directions.are_only_polled()
+    }
+
+    /// Whether a waiter may wait: false only if none does. It is told by what was asked of the poller.
+    #[inline(always)]
+    #[tactic(auto, using(crate::proofs::AskLemmas::nobody_in))]
+    pub fn may_wait(&self) -> bool
+        ensures { result ≡ false → waiters_in directions self.now.directions ≡ [] }
+    {
+        self.arming.may_wait()
     }
 
     /// Whether the last round that handled an event of a direction is above both numbers.
@@ -320,7 +329,7 @@ impl SourceState {
             p.arms (arm_of p.source) (arm_answer result) arm.old arm.new }
     {
         let may = self.arming.may_wait();
-        self.directions.take_waiters(e.on, round, taken);
+        self.directions.take_waiters(may, e.on, round, taken);
         self.arming.asked = Interest::NONE;
         let left = self.directions.has_waiter_where(may);
         self.arming.arm_where(left, arm, self.key, &self.directions)

@@ -1,34 +1,35 @@
 //! The locks of sources, and what is done to a source that a round or a call took out of one.
 //!
-//! Whoever has the table has these locks, and reaches a source in them by the steps of this file alone: a
-//! source that joins is added, one that an event is for handles it, and one that was closed is removed.
-//! Each step says what the source and its connection are afterwards, so that nothing else was done to them.
+//! Whoever has the table has these locks, and reaches a source in them by the steps of `steps` alone: a
+//! source that joins is added, one that an event is for handles it, one that is entered is visited, and one
+//! that was closed is removed. Each step says what the source and its connection are afterwards, so that
+//! nothing else was done to them.
 
-ghost use Rattle.std.specs.Prelude.{◌≡◌, ◌≢◌, ◌<◌, ◌≤◌, [], ◌∷◌, true, false, None, Some, length, IfOk, IfErr, IfSome, OnOk, OnErr, option_map, slice_get};
+ghost use Rattle.std.specs.Prelude.{◌≡◌, ◌≢◌, ◌<◌, [], ◌∷◌, true, false, None, Some, length, IfOk, OnOk, OnErr, option_map, slice_get};
 ghost use Rattle.std.specs.List.{Contains};
 ghost use Rattle.std.specs.Arc.{arc_value};
-ghost use Rattle.aio_base.specs.Devices.{RemoveOf, raised};
+ghost use Rattle.aio_base.specs.Devices.{raised};
 ghost use Rattle.aio_base.specs.declared.names.Event.{Event};
 ghost use Rattle.aio_rules.specs.SharedLock.{AgreesWithNotes, first_owner, is_inside, put_back, taken_first, taken_second, took_out};
 ghost use Rattle.aio_source.specs.InHand.{skipped};
-ghost use Rattle.aio_source.specs.Rules.{new_source};
-ghost use Rattle.aio_future.specs.Visits.{IsUnsureArm, arm_fault_of};
 ghost use Rattle.aio_lock.specs.Tokens.{owner_of};
-ghost use Rattle.aio_words.specs.Calls.{uncounted};
-ghost use Rattle.aio_sources.specs.Sources.{AddedAs, FailsToAdd, IsUnsure, keys_of, outside, rest_of};
+ghost use Rattle.aio_sources.specs.Sources.{keys_of, outside, rest_of};
 ghost use Rattle.aio_sources.specs.Events.{HandlesAt, HandlesBy, HandlesByKey, KeepsFault};
+
+mod steps;
 
 use crate::closing::Closed;
 use crate::source_table::{SourceTable, TakenOut};
-use aio_base::{Arm, CountFault, Event, Key, OutOfMemory};
-use aio_future::{Visit as SourceVisit, Visited};
-use aio_lock::{Lock, Owner, Visit};
+use aio_base::{Arm, Event, Key, OutOfMemory};
+use aio_lock::{Lock, Owner};
 use aio_rules::Noted;
-use aio_source::{InHand, SourceCell, SourceState};
+use aio_source::{InHand, SourceCell};
 use aio_words::Words;
 use std::alloc::Global;
 use std::marker::Model;
 use std::sync::{Arc, Wait};
+use steps::handle_in;
+pub(crate) use steps::{Left, Sealed, add_source, remove_from, visit_in};
 
 /// The lock of a value, which several hold. A caller with no token reaches the value by `Sealed::visit`
 /// alone. Contracts see which lock it is.
@@ -185,8 +186,7 @@ impl<A: Arm> SourceRef<A> {
     }
 }
 
-// These four stand here since they name the lock itself: behind one call more a source is copied once
-// more, each way.
+// `take` and `give` name the lock itself: behind one call more a source is copied once more, each way.
 impl<A: Arm> SourceRef<A> {
     /// Takes the source out of its lock, as soon as no round visits it, and hands it out. Its connection
     /// has the rest that the token knows, whatever rounds did in between. Takes no memory.
@@ -220,18 +220,16 @@ impl<A: Arm> SourceRef<A> {
             ≡ record self.old { inside = true; visits = raised self.old.visits } }
     {
         self.visits = self.visits.saturating_add(1);
-        let value = self.lock.lock.take(rt, &mut self.owner);
-        Sealed { value }
+        Sealed::take(rt, &self.lock, &mut self.owner)
     }
 
     /// Puts the source back as a visit left it.
-    pub(crate) fn leave(&mut self, left: Left<A>)
+    pub(crate) fn leave(&mut self, left: Left<SourceCell<A>>)
         requires inside { self.old.inside ≡ true }
-        requires key { left.cell.state.key.0 ≡ self.old.key }
-        ensures { self.new ≡ record self.old { inside = false; rest = A.rest left.cell.io } }
+        requires key { left.value.state.key.0 ≡ self.old.key }
+        ensures { self.new ≡ record self.old { inside = false; rest = A.rest left.value.io } }
     {
-        let Left { cell } = left;
-        self.lock.lock.give(&mut self.owner, cell);
+        left.give(&self.lock, &mut self.owner);
     }
 }
 
@@ -262,143 +260,6 @@ impl<A: Arm + Drop> SourceRef<A> {
             key: out.key(),
             cell,
         }
-    }
-}
-
-/// A value that is out of its lock, or on its way into it, and that nobody reads or changes but the steps
-/// of this file. What takes it out, and what puts it in, is for values of every type, and so does
-/// nothing else. It cannot be let go: who has one puts it into a lock, or takes its source out for good.
-pub(crate) struct Sealed<T> {
-    value: T,
-}
-
-impl<T: Noted> Sealed<T> {
-    /// Puts the value into its lock, as it is, by its owner.
-    pub(crate) fn give(self, lock: &SharedLock<T>, o: &mut Owner)
-        requires belongs { o.old.lock ≡ lock.now }
-        requires inside { is_inside o.old.knows ≡ true }
-        requires first { o.old.knows.owns_first ≡ false
-            → T.first_note self.value ≡ taken_first o.old.knows }
-        requires second { o.old.knows.owns_second ≡ false
-            → T.second_note self.value ≡ taken_second o.old.knows }
-        ensures { o.new ≡ owner_of lock.now
-            (put_back (T.first_note self.value) (T.second_note self.value) o.old.knows) }
-    {
-        let Sealed { value } = self;
-        lock.give(o, value);
-    }
-
-    /// Takes the value out of its lock, as soon as it is there, by its owner.
-    pub(crate) fn take<R: Wait>(rt: &R, lock: &SharedLock<T>, o: &mut Owner) -> Sealed<T>
-        requires belongs { o.old.lock ≡ lock.now }
-        requires outside { o.old.knows.taken ≡ None }
-        ensures { AgreesWithNotes o.old.knows
-            (T.first_note result.value) (T.second_note result.value) }
-    {
-        let value = lock.take(rt, o);
-        Sealed { value }
-    }
-
-    /// Takes the value out of its lock, as soon as it is there, for a caller that has no token.
-    pub(crate) fn visit<R: Wait>(rt: &R, lock: &SharedLock<T>) -> (Sealed<T>, Visit)
-        ensures lock { result.1.lock ≡ lock.now }
-        ensures first { result.1.first ≡ T.first_note result.0.value }
-        ensures second { result.1.second ≡ T.second_note result.0.value }
-    {
-        let (value, visit) = lock.lock.visit(rt);
-        (Sealed { value }, visit)
-    }
-
-    /// Puts the value of a visit back, as it is, with the notes that it had.
-    pub(crate) fn leave(self, lock: &SharedLock<T>, visit: Visit)
-        requires belongs { visit.lock ≡ lock.now }
-        requires first { T.first_note self.value ≡ visit.first }
-        requires second { T.second_note self.value ≡ visit.second }
-    {
-        let Sealed { value } = self;
-        lock.lock.leave(visit, value);
-    }
-}
-
-/// A source as one visit left it. `visit_in` alone makes one, and nobody reads or changes it: who has one
-/// puts it back, since it cannot be let go.
-pub(crate) struct Left<A: Arm> {
-    cell: SourceCell<A>,
-}
-
-/// Makes one visit of a source that is out of its lock, after `ticker` rounds have begun, and does nothing
-/// else to it.
-#[inline(always)]
-pub(crate) fn visit_in<A: Arm, V: SourceVisit<A>>(
-    cell: Sealed<SourceCell<A>>,
-    visit: &mut V,
-    ticker: u64,
-) -> (Left<A>, Visited<V::Output>)
-    ensures visits { V.visits visit.old cell.value ticker result.1 visit.new result.0.cell }
-    ensures arm { IfSome (arm_fault_of result.1.answer)
-        (IsUnsureArm A.all_sure cell.value.state.key.0) }
-    ensures key { result.0.cell.state.key ≡ cell.value.state.key }
-{
-    let Sealed { value: mut cell } = cell;
-    let visited = visit.visit(&mut cell, ticker);
-    (Left { cell }, visited)
-}
-
-/// Adds a connection under a key, for a source with no waiter: the `add` is the one call on it. Where it
-/// fails the connection comes back. Takes no memory.
-pub(crate) fn add_source<A: Arm>(
-    alloc: Global,
-    key: Key,
-    mut io: A,
-) -> Result<Sealed<SourceCell<A>>, (A, CountFault)>
-    requires { key.0 < 4096 }
-    ensures added { IfOk result (λ source. AddedAs A.arm_step key io source.value.io) }
-    ensures state { IfOk result (λ source. source.value.state ≡ new_source key) }
-    ensures rest { IfOk result (λ source. A.rest source.value.io ≡ A.rest io) }
-    ensures back { IfErr result (λ back.
-        FailsToAdd A.arm_step A.rest A.fault_count A.is_sure key.0 io back.0 back.1) }
-{
-    let before = io.faults();
-    match io.add(key) {
-        Ok(()) => {}
-        Err(_) => {
-            let after = io.faults();
-            return Err((io, CountFault { before, after }));
-        }
-    }
-    let state = SourceState::new(alloc, key);
-    Ok(Sealed {
-        value: SourceCell { state, io },
-    })
-}
-
-/// Handles the first event in hand, which is of this key, on a source, with its connection as the arm, and
-/// does nothing else to either. `OutOfMemory` where there is no memory for the wakers; source and
-/// connection are then as they were. A source of another key, which no call puts at this place, answers so
-/// too: no event is lost then.
-fn handle_in<A: Arm, H: InHand>(
-    cell: &mut Sealed<SourceCell<A>>,
-    key: Key,
-    round: &mut H,
-) -> Result<(), OutOfMemory>
-    requires { option_map (λ (event : Event). event.key) (slice_get (H.round round.old).hand 0)
-        ≡ Some key }
-    ensures key { cell.new.value.state.key ≡ cell.old.value.state.key }
-    ensures rest { A.rest cell.new.value.io ≡ A.rest cell.old.value.io }
-    ensures own { OnOk result (cell.old.value.state.key ≡ key) }
-    ensures handled { OnOk result (HandlesBy A.arm_step A.interests A.rest A.fault_count A.is_sure
-        cell.old.value cell.new.value (H.round round.old) (H.round round.new)) }
-    ensures fault { OnOk result
-        (KeepsFault A.all_sure (H.round round.old).fault (H.round round.new).fault) }
-    ensures refused { OnErr result (H.round round.new ≡ H.round round.old) }
-    ensures untouched { OnErr result (cell.new.value ≡ cell.old.value) }
-{
-    if cell.value.state.key() != key {
-        return Err(OutOfMemory);
-    }
-    match round.handle(&mut cell.value.state, &mut cell.value.io) {
-        Ok(_) => Ok(()),
-        Err(refused) => Err(refused),
     }
 }
 
@@ -478,46 +339,5 @@ impl<A: Arm> SourceTable<A> {
     {
         let mut events = Events { round };
         self.handle_all(rt, &mut events)
-    }
-}
-
-/// What the one `remove` of a connection answered, beside the connection, which nobody calls any more.
-#[derive(Drop)]
-pub(crate) struct Removed<A> {
-    answer: Result<(), CountFault>,
-    io: A,
-}
-
-/// Makes one `remove` of this key on the connection of a source that is out of its lock for good. The
-/// waiters of the source are given up.
-pub(crate) fn remove_from<A: Arm>(cell: Sealed<SourceCell<A>>, key: Key) -> Removed<A>
-    requires { key.0 < 4096 }
-    ensures step { A.arm_step cell.value.io (RemoveOf key) (uncounted result.answer) result.io }
-    ensures counts { IfErr result.answer (λ fault. fault ≡ record {
-      before = A.fault_count cell.value.io;
-      after = A.fault_count result.io;
-    }) }
-    ensures cause { IfErr result.answer (λ fault. IsUnsure A.all_sure fault) }
-{
-    let Sealed { value } = cell;
-    let SourceCell { state: _, mut io } = value;
-    let before = io.faults();
-    let answer = match io.remove(key) {
-        Ok(()) => Ok(()),
-        Err(_) => Err(CountFault {
-            before,
-            after: io.faults(),
-        }),
-    };
-    Removed { answer, io }
-}
-
-impl<A: Drop> Removed<A> {
-    /// The answer. The connection is let go: as a value of any type, it is called by nobody here.
-    pub(crate) fn into_answer(self) -> Result<(), CountFault>
-        ensures { result ≡ self.answer }
-    {
-        let Removed { answer, io: _ } = self;
-        answer
     }
 }

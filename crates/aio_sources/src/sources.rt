@@ -3,14 +3,14 @@
 ghost use Rattle.std.specs.Prelude.{◌≡◌, ◌↔◌, true, false, length, IfOk, IfErr, IfSome, OnErr, Some};
 ghost use Rattle.std.specs.List.Sorted.{IsStrictlyIncreasing};
 ghost use Rattle.std.specs.Arc.{arc_value};
-ghost use Rattle.aio_future.specs.Visits.{IsUnsureArm, arm_fault_of};
+ghost use Rattle.aio_source.specs.Visits.{IsUnsureArm, arm_fault_of};
 ghost use Rattle.aio_sources.specs.Sources.{Adds, HandsBack, Joins, entry_of, is_full, keys_of, outside, refusal_of};
 ghost use Rattle.aio_sources.specs.Visiting.{VisitsSource};
 
 use crate::sealed::{SourceRef, visit_in};
 use crate::source_table::{SourceTable, TableIsFull};
 use aio_base::{Arm, CountFault};
-use aio_future::{Visit, Visited};
+use aio_source::{Visit, Visited};
 use aio_words::Words;
 use std::alloc::Global;
 use std::marker::Model;

@@ -4,7 +4,7 @@ use Rattle.aio_jobs.proofs.rows.empty_rows.Goals as goal
 
 pub loop-made-preserved : goal.loop-made-preserved
 loop-made-preserved g c =
-    let more : c.add.new.self ≡ c.loop-made.rows ++ [] ∷ [] = c.in_ok-add.ensures ∙ ap (λ row. c.loop-made.rows ++ row ∷ []) c.new.ensures.items in (
+    let more : c.add.new.self ≡ c.loop-made.rows ++ [] ∷ [] = c.in_ok-add.ensures.added ∙ ap (λ row. c.loop-made.rows ++ row ∷ []) c.new.ensures.items in (
       subst HaveNone (sym more) (none_more c.loop-made.rows c.loop-made.invariant.0),
       omega (arith, ap length more, length-append c.loop-made.rows ([] ∷ []), c.loop-made.invariant.1),
     )

@@ -9,15 +9,15 @@ use Rattle.aio_shared.proofs.shared.Shared.wake_taken.Goals as goal
 pub returns-clause-tells : goal.returns-clause-tells
 returns-clause-tells g c =
     let told = subst (λ (r : RoundValue). Reports r c.wake_each-failed.result c.args.resumed c.args.in_hand c.report.result)
-    (ap (λ w. w.round) c.deref-3.ensures ∙ ap (λ v. v.round) c.cell.view_is) c.report.ensures in
+    c.round-round.ensures c.report.ensures in
     rw (← c.m.view_is) (reports_round c.args.cell.now.round _ _ _ _ _ told c.wake_each-failed.ensures.wakes.cause)
 
 pub returns-clause-first : goal.returns-clause-first
 returns-clause-first g c =
     let told = subst (λ (r : RoundValue). Reports r c.wake_each-failed.result c.args.resumed c.args.in_hand c.report.result)
-    (ap (λ w. w.round) c.deref-3.ensures ∙ ap (λ v. v.round) c.cell.view_is) c.report.ensures in
+    c.round-round.ensures c.report.ensures in
     let parkers : c.deref.result.now.parkers ≡ c.args.self.now.words.parkers = ap (λ w. w.parkers) c.deref.ensures ∙ ap (λ s. s.words.parkers) c.self.view_is in
-    let wakers : c.woken.result.now ≡ c.args.cell.now.round.taken = c.woken.ensures ∙ ap (λ w. w.round.taken) c.deref-2.ensures ∙ ap (λ v. v.round.taken) c.cell.view_is in
+    let wakers : c.woken.result.now ≡ c.args.cell.now.round.taken = c.woken.ensures ∙ ap (λ (r : RoundValue). r.taken) c.round-round.ensures in
     let wakes = subst (λ (x : ℕ × List Waker). WakesThese g.N.Notify.call_count g.N.Faults.fault_count g.N.Faults.is_sure g.N.Notify.notify_step x.0 x.1
     c.m.inside.pass c.wake_each-failed.new.p c.m.inside.notifier c.wake_each-failed.new.n c.wake_each-failed.result) (λ i. (parkers i, wakers i)) c.wake_each-failed.ensures.wakes in
     rw (← c.m.view_is) (reports_first c.args.cell.now.round _ _ _ _ _ _ _ _ _ _ _ _ _ told wakes.first)
@@ -25,4 +25,4 @@ returns-clause-first g c =
 pub returns-clause-faults : goal.returns-clause-faults
 returns-clause-faults g c =
     let told = c.report.ensures in
-    rw (← c.m.view_is) (reports_faults c.deref-3.result.now.round _ _ _ _ _ _ _ _ told c.wake_each-failed.ensures.wakes.faults)
+    rw (← c.m.view_is) (reports_faults c.round-round.result.now _ _ _ _ _ _ _ _ told c.wake_each-failed.ensures.wakes.faults)

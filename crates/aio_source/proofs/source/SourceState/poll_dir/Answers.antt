@@ -1,6 +1,6 @@
 use Rattle.std.proofs.Common.{◌≡◌, false, if◌then◌else◌, ap, ◌∙◌, arith}
 use Rattle.std.proofs.lemmas.Grind.{common_steps}
-use Rattle.aio_base.specs.Devices.{ArmCall, ArmOf}
+use Rattle.aio_base.specs.Devices.{ArmOf}
 use Rattle.aio_base.specs.Machine.{is_waker}
 use Rattle.aio_source.proofs.AskLemmas.{lent_alike, polling_unready}
 use Rattle.aio_source.specs.Rules.{is_ready, direction_of, with_direction, stored, wanted}

@@ -1,5 +1,5 @@
 use Rattle.std.proofs.Common.{rules}
-use Rattle.aio_sources.proofs.sealed.remove_from.Goals as goal
+use Rattle.aio_sources.proofs.sealed.steps.remove_from.Goals as goal
 
 pub returns-clause-step : goal.returns-clause-step
 returns-clause-step g c = search rules

@@ -1,5 +1,5 @@
 use Rattle.std.proofs.Common.{rules}
-use Rattle.aio_sources.proofs.sealed.handle_in.Goals as goal
+use Rattle.aio_sources.proofs.sealed.steps.handle_in.Goals as goal
 
 pub returns-in-Ok-clause-handled : goal.returns-in-Ok-clause-handled
 returns-in-Ok-clause-handled g c = search rules
