@@ -3,7 +3,7 @@
 
 ghost use Rattle.std.specs.Prelude.{◌≡◌, ℕ, ◌<◌, ◌≤◌, ◌^◌, ◌++◌, ◌⊎◌, IfOk, OnOk, decimal};
 ghost use Rattle.aio_base.specs.Devices.{TellsFaults};
-ghost use Rattle.aio_base.specs.Generated.{counts_line, generated_steps};
+ghost use Rattle.aio_base.specs.Generated.{counts_line, generated_steps, run_counts};
 ghost use Rattle.aio_base.specs.Lines.{IsInRange, NamesNoPriority, written_line};
 ghost use Rattle.aio_base.specs.Text.{ended_line};
 ghost use Rattle.aio_bytes.specs.Sinks.{HasFailed, Writes};
@@ -14,7 +14,7 @@ ghost use Rattle.aio_replay.specs.Driving.{BlockWent, Causes};
 ghost use Rattle.aio_replay.specs.Summing.{counts_told};
 
 use crate::status::Why;
-use aio_base::{CountFault, Step};
+use aio_base::{CountFault, OutOfMemory, Step};
 use aio_bytes::{BLOCK, Sink, SinkRefusal, flush, write_all};
 use aio_generator::gen_steps;
 use aio_replay::{Summary, summary};
@@ -121,7 +121,7 @@ fn write_summary<K: Sink>(alloc: Global, n: u32, seed: u64, out: &mut K) -> Resu
         (summary_text (generated_steps n seed)) }
     ensures cause { TellsFaults K.fault_count K.is_sure out.old out.new (HasFailed result) }
 {
-    let counts = match summary(alloc, n, seed) {
+    let counts = match counts_of_run(alloc, n, seed) {
         Ok(counts) => counts,
         Err(_) => return Err(SinkRefusal::OutOfMemory),
     };
@@ -129,6 +129,17 @@ fn write_summary<K: Sink>(alloc: Global, n: u32, seed: u64, out: &mut K) -> Resu
         Ok(line) => write_all(out, line.as_slice()),
         Err(_) => Err(SinkRefusal::OutOfMemory),
     }
+}
+
+/// What the run of the first `n` steps comes to. It stands apart from what writes that, so that the loop over
+/// steps has the registers to itself. `OutOfMemory` where memory ran out for a step.
+#[inline(never)]
+fn counts_of_run(alloc: Global, n: u32, seed: u64) -> Result<Summary, OutOfMemory>
+    requires few { n ≤ 999999 }
+    requires seed { seed < 2 ^ 48 }
+    ensures { IfOk result (λ counts. counts_told counts ≡ run_counts (generated_steps n seed)) }
+{
+    summary(alloc, n, seed)
 }
 
 /// The line of a summary, with its line feed.

@@ -89,6 +89,9 @@ pub(crate) struct FirstPoll {
     pub(crate) b: u64,
 }
 
+/// For how many listeners there is room from the start.
+const LISTENER_ROOM: usize = 8192;
+
 /// The listeners of a core under numbers from 1, in the order in which they came. A number stays
 /// given where its listener was given up.
 ///
@@ -118,14 +121,18 @@ impl Model for ListenerTable {
 }
 
 impl ListenerTable {
-    /// No number was given. It takes no memory; `add` takes it from `alloc`.
-    pub(crate) fn new(alloc: Global) -> ListenerTable
-        ensures { result ≡ [] }
+    /// No number was given, and there is room for 8,192. `OutOfMemory` where memory ran out; `add` takes
+    /// more from `alloc`.
+    pub(crate) fn new(alloc: Global) -> Result<ListenerTable, OutOfMemory>
+        ensures { IfOk result (λ table. table ≡ []) }
     {
-        ListenerTable {
-            seats: Vec::new(alloc),
-            first_polls: Vec::new(alloc),
-        }
+        let Ok(seats) = Vec::with_capacity(alloc, LISTENER_ROOM) else {
+            return Err(OutOfMemory);
+        };
+        let Ok(first_polls) = Vec::with_capacity(alloc, LISTENER_ROOM) else {
+            return Err(OutOfMemory);
+        };
+        Ok(ListenerTable { seats, first_polls })
     }
 
     /// Puts a listener under the next number. `OutOfMemory` where memory ran out; no number is given

@@ -89,7 +89,7 @@ impl<P: Poller> Core<P> {
     ghost use Rattle.aio_source.specs.declared.in_hand.RoundFault.TheVariants.{Wait};
 
     /// A reactor with no source, no listener, no timer and no round, and with room for 4,096
-    /// sources. It stands for the opening world with the interests that the poller tells. Where
+    /// sources and 8,192 listeners. It stands for the opening world with the interests that the poller tells. Where
     /// memory ran out the poller is handed back.
     #[tactic(auto, using(crate::proofs::steps::Opening::opening_stands))]
     pub fn new(alloc: Global, poller: P) -> Result<Core<P>, P>
@@ -105,10 +105,13 @@ impl<P: Poller> Core<P> {
         let Ok(sources) = KeyTable::new(alloc) else {
             return Err(poller);
         };
+        let Ok(listeners) = ListenerTable::new(alloc) else {
+            return Err(poller);
+        };
         Ok(Core {
             poller,
             sources,
-            listeners: ListenerTable::new(alloc),
+            listeners,
             ticker: 0,
             book: TimerBook::new(alloc),
             ids_drawn: 0,

@@ -303,10 +303,13 @@ impl InHand for Round {
             Ok(()) => {}
             Err(refusal) => return Err(refusal),
         }
-        self.done += 1;
         match s.handle(arm, event, self.number, &mut self.taken) {
-            Ok(()) => Ok(None),
+            Ok(()) => {
+                self.done += 1;
+                Ok(None)
+            }
             Err(fault) => {
+                self.done += 1;
                 self.keep(RoundFault::Arm(fault));
                 Ok(Some(fault))
             }
@@ -362,14 +365,17 @@ fn pass_over(book: &mut TimerBook, has_timers: bool, now: Moment, taken: &mut Ve
     book.pass(now, taken);
 }
 
-/// Makes room behind `taken` for all waiters of a source. Where none of its directions has had a
-/// listener they are not counted, for each has its poll waiter at most.
+/// Makes room behind `taken` for all waiters of a source, where one may wait. Where none of its
+/// directions has had a listener they are not counted, for each has its poll waiter at most.
 #[inline(always)]
 fn make_room(taken: &mut Vec<Waker>, s: &SourceState) -> Result<(), OutOfMemory>
     ensures items { taken.new.items ≡ taken.old.items }
     ensures room { OnOk result (vec_len taken.new
         + length (waiters_in directions s.now.directions) ≤ vec_capacity taken.new) }
 {
+    if !s.may_wait() {
+        return Ok(());
+    }
     if taken.capacity() - taken.len() >= DIRS.len() && s.is_only_polled() {
         return Ok(());
     }

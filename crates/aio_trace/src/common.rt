@@ -27,8 +27,8 @@ pub(crate) fn take_common<T: StepTaker>(line: &[u8], taker: &mut T) -> Option<T:
     ensures { MatchOption result (taker.new ≡ taker.old)
         (λ answer. HandsStep T.takes taker.old line.now answer taker.new) }
 {
-    if let [a, b, c, d, b't', b' ', places @ ..] = line {
-        if are_letters([*a, *b, *c, *d], *b"even") {
+    if let [a, b, c, d, e, f, places @ ..] = line {
+        if are_letters([*a, *b, *c, *d], *b"even") && are_two([*e, *f], *b"t ") {
             let Some(step) = event_step(places) else {
                 return None;
             };
@@ -72,6 +72,14 @@ fn are_letters(front: [u8; 4], letters: [u8; 4]) -> bool
     ensures { (result ≡ true) ↔ (front ≡ letters) }
 {
     u32::from_le_bytes(front) == u32::from_le_bytes(letters)
+}
+
+/// The same of two bytes.
+#[inline(always)]
+fn are_two(front: [u8; 2], letters: [u8; 2]) -> bool
+    ensures { (result ≡ true) ↔ (front ≡ letters) }
+{
+    u16::from_le_bytes(front) == u16::from_le_bytes(letters)
 }
 
 /// The same of the other commands.

@@ -5,7 +5,7 @@ ghost use Rattle.aio_base.specs.Script.{reply_text};
 ghost use Rattle.aio_base.specs.Text.{answer_line, end_text, ended_line, fault_text, limit_text};
 ghost use Rattle.aio_writing.specs.Writing.{Pushes};
 
-use crate::writing::{push_before, push_numbered};
+use crate::writing::{push_before, push_known, push_numbered};
 use aio_base::{Answer, EndWord, Key, Waker};
 use itoa::write_digits;
 use std::alloc::AllocError;
@@ -53,11 +53,27 @@ fn push_wakes(wakes: &[Waker], out: &mut Vec<u8>) -> Result<(), AllocError>
 }
 
 /// Writes the line of a wake.
-#[inline]
+#[inline(never)]
 fn push_wake(out: &mut Vec<u8>, waker: Waker) -> Result<(), AllocError>
     ensures pushes { Pushes out.old out.new (ended_line (codes "wake " ++ decimal waker.0)) result }
 {
-    push_numbered(out, b"wake ", u64::from(waker.0))
+    push_known(out, b"wake ", u64::from(waker.0))
+}
+
+/// Writes the line of a new listener.
+#[inline(never)]
+fn push_listener(out: &mut Vec<u8>, number: u64) -> Result<(), AllocError>
+    ensures pushes { Pushes out.old out.new (ended_line (codes "listener " ++ decimal number)) result }
+{
+    push_known(out, b"listener ", number)
+}
+
+/// Writes the line of a new timer.
+#[inline(never)]
+fn push_timer(out: &mut Vec<u8>, number: u64) -> Result<(), AllocError>
+    ensures pushes { Pushes out.old out.new (ended_line (codes "timer " ++ decimal number)) result }
+{
+    push_known(out, b"timer ", number)
 }
 
 /// Writes an answer's line. All answers have their arms here, in the function that is handed the
@@ -89,8 +105,8 @@ pub(crate) fn push_answer(answer: Answer, out: &mut Vec<u8>) -> Result<(), Alloc
         Answer::NoRound => out.extend_from_slice(b"no round\n"),
         Answer::Empty => out.extend_from_slice(b"empty\n"),
         Answer::KeyIs(key) => push_numbered(out, b"key ", u64::from(key.0)),
-        Answer::Listener(number) => push_numbered(out, b"listener ", number),
-        Answer::Timer(number) => push_numbered(out, b"timer ", number),
+        Answer::Listener(number) => push_listener(out, number),
+        Answer::Timer(number) => push_timer(out, number),
         Answer::ReadyAt(deadline) => push_numbered(out, b"ready ", deadline.get()),
         Answer::At(moment) => push_numbered(out, b"at ", moment.get()),
         Answer::Back(moment) => push_numbered(out, b"back ", moment.get()),

@@ -89,11 +89,24 @@ pub fn write_reply(
     }
 }
 
-/// Writes a line of a word and a number. Where there is room for the longest such line, it is written in
-/// place, with line feeds behind the word that the digits then replace but for one: the digits are counted
-/// first, and nothing that was just written is read again.
-#[inline]
+/// Writes a line of a word and a number.
+#[inline(never)]
 pub(crate) fn push_numbered<const N: usize>(
+    out: &mut Vec<u8>,
+    word: &[u8; N],
+    number: u64,
+) -> Result<(), AllocError>
+    requires { N ≤ 11 }
+    ensures pushes { Pushes out.old out.new (ended_line (word.now ++ decimal number)) result }
+{
+    push_known(out, word, number)
+}
+
+/// The same, compiled where it is used, for a word that is known there. Where there is room for the longest
+/// such line, it is written in place, with line feeds behind the word that the digits then replace but for
+/// one: the digits are counted first, and nothing that was just written is read again.
+#[inline(always)]
+pub(crate) fn push_known<const N: usize>(
     out: &mut Vec<u8>,
     word: &[u8; N],
     number: u64,

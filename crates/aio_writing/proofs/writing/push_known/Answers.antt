@@ -7,7 +7,7 @@ use Rattle.std.proofs.Math.Seq.{take-append-add}
 use Rattle.std.proofs.Math.Seq.{drop-append-add}
 use Rattle.std.proofs.lemmas.List.{drop-replicate}
 use Rattle.std.proofs.lemmas.List.{take-append-drop}
-use Rattle.aio_writing.proofs.writing.push_numbered.Goals as goal
+use Rattle.aio_writing.proofs.writing.push_known.Goals as goal
 
 abbrev feeds : List ℕ
 feeds = replicate 21 10
