@@ -3,8 +3,8 @@
 
 use crate::joined::{LONG, PIECE, client_of, connected};
 use crate::plays::Act::{
-    Add, End, Faults, FillAndDrain, Read, ReadPiece, ReadToEnd, Send, SendHalf, SendLast, Wait,
-    Watch, Write,
+    Add, Arm, End, Faults, FillAndDrain, Read, ReadPiece, ReadToEnd, Send, SendHalf, SendLast,
+    Wait, Watch, Write,
 };
 use crate::plays::Came::{Blocked, Done, Event, Number, Refused, Went, Wrote};
 use crate::plays::{Row, plays, plays_with};
@@ -29,6 +29,27 @@ fn an_end_that_came_with_the_last_bytes_is_read(rt: HostRuntime) {
     plays(&rt, rt.alloc(), &AN_END);
 }
 
+const AN_END_AGAIN: Row = Row {
+    shows: "an end that came with the last bytes, armed for after them",
+    acts: &[
+        (Watch(9, Interest::READ), Done),
+        (Read, Blocked),
+        (SendLast(5), Done),
+        (Wait(LONG), Event(9, Interest::READ)),
+        (Read, Went(1, 5)),
+        (Arm(9, Interest::READ), Done),
+        (Wait(LONG), Event(9, Interest::READ)),
+        (Read, Went(0, 0)),
+        (Arm(9, Interest::READ), Done),
+        (Wait(LONG), Event(9, Interest::READ)),
+    ],
+};
+
+#[test]
+fn an_end_that_came_with_the_last_bytes_gives_an_event_of_its_own(rt: HostRuntime) {
+    plays(&rt, rt.alloc(), &AN_END_AGAIN);
+}
+
 const MANY_BYTES: Row = Row {
     shows: "many bytes",
     acts: &[
@@ -36,6 +57,7 @@ const MANY_BYTES: Row = Row {
         (SendHalf(3), Done),
         (Wait(LONG), Event(9, Interest::READ)),
         (ReadPiece, Went(PIECE / 2, 3)),
+        (Arm(9, Interest::READ), Done),
         (Send(5), Done),
         (ReadPiece, Blocked),
         (Wait(LONG), Event(9, Interest::READ)),

@@ -13,6 +13,8 @@ mod clocks;
 #[cfg(test)]
 mod connections;
 #[cfg(test)]
+mod edges;
+#[cfg(test)]
 mod joined;
 #[cfg(test)]
 mod memory_connections;

@@ -2,7 +2,7 @@
 //! event is lost for want of room.
 
 use crate::asserts::{MEMORY, same};
-use crate::joined::{Joined, LONG, accepted, client_of, connected, one_event, watch};
+use crate::joined::{Joined, LONG, accepted, client_of, connected, one_event, send_all, watch};
 use aio_base::{Arm, Event, EventWait, Failed, Faults, Interest, Key, Notify};
 use aio_mio::{MioConn, MioNotify, MioWait};
 use std::alloc::Global;
@@ -36,6 +36,43 @@ fn a_notify_of_another_thread_ends_a_wait_without_an_event(rt: HostRuntime) {
         same(&rt, ended, (Ok(true), Ok(())));
         drop(j);
     }
+}
+
+/// A wait without a limit, and beside it an arm that comes a while later. What both answer.
+fn arm_later<R: Threads + Clock + Sync>(
+    rt: &R,
+    alloc: Global,
+    wait: &mut MioWait,
+    conn: &mut MioConn,
+) -> (Result<Option<Event>, Failed>, Result<(), Failed>) {
+    join(
+        rt,
+        || one_event(wait, alloc, None),
+        || {
+            sleep(rt, Duration::from_millis(20));
+            conn.arm(Key(7), Interest::READ)
+        },
+    )
+}
+
+/// What is not read yet.
+const NOT_READ: Event = Event {
+    key: Key(7),
+    on: Interest::READ,
+};
+
+#[test]
+fn an_arm_of_another_thread_ends_a_wait_with_the_edge_that_came_before(rt: HostRuntime) {
+    let mut j = connected(&rt, rt.alloc());
+    same(&rt, watch(&mut j.conn, 7, Interest::READ), Ok(()));
+    same(&rt, send_all(&mut j.client, &[1]), true);
+    let first = one_event(&mut j.wait, rt.alloc(), LONG);
+    same(&rt, first, Ok(Some(NOT_READ)));
+    for _ in 0..5 {
+        let ended = arm_later(&rt, rt.alloc(), &mut j.wait, &mut j.conn);
+        same(&rt, ended, (Ok(Some(NOT_READ)), Ok(())));
+    }
+    drop(j);
 }
 
 /// Asserts that a twin of this notifier ends a wait, and counts for itself.

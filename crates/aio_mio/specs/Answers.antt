@@ -1,5 +1,5 @@
 -- What is made of the system's answers.
-use Rattle.std.specs.Prelude.{◌≡◌, ℕ, ◌<◌, ◌≤◌, Result, Ok, Err, ⊤}
+use Rattle.std.specs.Prelude.{◌≡◌, ℕ, Bool, false, ◌<◌, ◌≤◌, Result, Ok, Err, ⊤}
 use Rattle.aio_base.specs.declared.connections.Did.{Did}
 use Rattle.aio_base.specs.declared.connections.Did.TheVariants.{Bytes, Blocked}
 use Rattle.aio_base.specs.declared.outcomes.Failed.{Failed}
@@ -15,11 +15,11 @@ abbrev pub MovesWithin : ℕ → ℕ → Did → Type 0
 MovesWithin least most (Bytes n) = (least ≤ n) × (n ≤ most)
 MovesWithin least most Blocked = ⊤
 
--- A call with room for so many bytes was blocked, or some went over and fewer than there was room for.
-abbrev pub WentDry : Result Did Failed → ℕ → Type 0
-WentDry (Ok (Bytes n)) room = (0 < n) × (n < room)
-WentDry (Ok Blocked) room = ⊤
-WentDry (Err failed) room = ⊥
+-- A call with room for so many bytes was blocked, or some went over and fewer than there was room for, of a source of which that shows it.
+abbrev pub WentDry : Result Did Failed → ℕ → (unsure : Bool) → Type 0
+WentDry (Ok (Bytes n)) room unsure = (unsure ≡ false) × (0 < n) × (n < room)
+WentDry (Ok Blocked) room unsure = ⊤
+WentDry (Err failed) room unsure = ⊥
 
 -- how many bytes went over
 abbrev pub moved : Did → ℕ

@@ -3,26 +3,33 @@ use Rattle.std.specs.Prelude.{◌≡◌, ◌^◌, ◌||◌, Bool, true, false, n
 use Rattle.std.specs.List.{filter_map}
 use Rattle.aio_base.specs.declared.names.Event.{Event}
 use Rattle.aio_base.specs.declared.names.Interest.{Interest}
-use Rattle.aio_base.specs.declared.names.TheConstants.Interest.{NONE}
+use Rattle.aio_base.specs.declared.names.Key.{Key}
+use Rattle.aio_base.specs.declared.names.TheConstants.Interest.{NONE, READ_WRITE}
 use Rattle.mio.specs.declared.interest.Interest as watched
 use Rattle.mio.specs.declared.event.event.Event as given
 use Rattle.mio.specs.Interest.{is_readable as watches_reads, is_writable as watches_writes, is_priority as watches_urgent}
-use Rattle.mio.specs.Event.{is_readable, is_writable, is_error, is_read_closed, is_write_closed}
+use Rattle.mio.specs.Event.{is_readable, is_writable, is_error, is_read_closed, is_write_closed, is_priority}
 
 -- there is reading or writing among these, for which alone the system is asked
 abbrev pub names_any : Interest → Bool
 names_any on = on.read || on.write
 
--- the system is asked to watch for reading and writing exactly where they are among these, never for urgent readiness, and it is asked nothing
--- exactly where neither is
-abbrev pub Watches : Interest → Option watched.Interest → Type 0
-Watches on None = names_any on ≡ false
-Watches on (Some interest) =
-    (names_any on ≡ true) × (watches_reads interest ≡ on.read) × (watches_writes interest ≡ on.write) × (watches_urgent interest ≡ false)
+-- the system is asked to watch for reading and writing, and for urgent data
+abbrev pub WatchesAll : watched.Interest → Type 0
+WatchesAll interest = (watches_reads interest ≡ true) × (watches_writes interest ≡ true) × (watches_urgent interest ≡ true)
 
--- what is watched once a registration succeeded: these directions but for urgent readiness, or the old ones where it asked for none
+-- what is watched of a stream that is registered under this key, or is not
+abbrev pub watched_by : Option Key → Interest
+watched_by None = NONE
+watched_by (Some key) = READ_WRITE
+
+-- what is watched once an arm succeeded: reading and writing, both from the first arm on that names one of them
 abbrev pub watched_after : Interest → Interest → Interest
-watched_after old on = if names_any on then record on { priority = false } else old
+watched_after old on = if names_any on then READ_WRITE else old
+
+-- an event that tells more than that a direction is ready: the end of a direction, an error or urgent data
+abbrev pub tells_more : given.Event → Bool
+tells_more e = is_read_closed e || is_write_closed e || is_error e || is_priority e
 
 -- the directions that an event names: reading and writing, each for its end and for an error too
 abbrev pub told_directions : given.Event → Interest

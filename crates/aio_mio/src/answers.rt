@@ -23,12 +23,13 @@ pub(crate) fn counted<T, E: Drop>(answer: Result<T, E>, faults: &mut u64) -> Res
 
 /// Whether a read or a write with room for so many bytes left nothing that could go over at once
 /// (`epoll(7)`: of a stream this is seen by a call that moved fewer bytes than it was asked for). After
-/// the end of a connection and after a fault the system has still something to tell.
-pub(crate) fn went_dry(answer: Result<Did, Failed>, room: usize) -> bool
-    ensures { IsTrue result ↔ WentDry answer room }
+/// the end of a connection and after a fault the system has still something to tell; where the source is
+/// unsure, it may have behind fewer bytes too.
+pub(crate) fn went_dry(answer: Result<Did, Failed>, room: usize, unsure: bool) -> bool
+    ensures { IsTrue result ↔ WentDry answer room unsure }
 {
     match answer {
-        Ok(Did::Bytes(count)) => 0 < count && count < room,
+        Ok(Did::Bytes(count)) => !unsure && 0 < count && count < room,
         Ok(Did::Blocked) => true,
         Err(_) => false,
     }

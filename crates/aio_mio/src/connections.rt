@@ -1,14 +1,14 @@
 //! A connection over a TCP stream.
 
 ghost use Rattle.std.specs.Prelude.{◌≡◌, ◌≤◌, length, false, true, IsErr, OnOk, OnErr};
+ghost use Rattle.aio_base.specs.declared.names.TheConstants.Interest.{READ_WRITE};
 ghost use Rattle.aio_base.specs.declared.names.TheConstants.Interest.{NONE};
 ghost use Rattle.aio_base.specs.Devices.{HasCause};
 ghost use Rattle.aio_mio.specs.Answers.{KeepsOk};
-ghost use Rattle.aio_base.specs.World.{has_dir};
 ghost use Rattle.aio_mio.specs.Names.{watched_after};
 
 use crate::answers::{counted, went_dry};
-use crate::names::{token_of, watch_of};
+use crate::names::{asks_for_any, token_of, watch_all};
 use crate::reads::{read_from, read_on, write_to};
 use crate::selector::Selector;
 use aio_base::{Arm, Conn, Did, Dir, Failed, Faults, Interest, Key, Tells};
@@ -31,19 +31,24 @@ pub struct MioConn {
     stream: TcpStream,
     selector: Arc<Selector, Global>,
     key: Key,
-    // What the system watches for; no direction exactly while the stream is not registered.
-    watched: Interest,
+    // The key under which the system watches the stream; `None` while it is not registered.
+    watched_as: Option<Key>,
     faults: u64,
     // The system told an error behind the bytes that the last read gave: the next one fails by it.
     late: bool,
 }
 
 impl Model for MioConn {
+    ghost use Rattle.aio_mio.specs.Names.{watched_by};
     ghost use Rattle.aio_mio.specs.Values.{ConnValue};
 
     ghost Value = { ConnValue };
 
-    ghost view = { λ c. record { key = c.key; watched = c.watched; faults = c.faults } };
+    ghost view = { λ c. record {
+      key = c.key;
+      watched = watched_by c.watched_as;
+      faults = c.faults;
+    } };
 }
 
 impl MioConn {
@@ -56,75 +61,104 @@ impl MioConn {
             stream,
             selector,
             key: Key(0),
-            watched: Interest::NONE,
+            watched_as: None,
             faults: 0,
             late: false,
         }
     }
 
-    /// Takes this key, under which all may be ready.
+    /// Takes this key, under which all may be ready and nothing is armed.
     fn take_key(&mut self, key: Key)
         ensures key { self.new.key ≡ key }
         ensures faults { self.new.faults ≡ self.old.faults }
         ensures watched { self.new.watched ≡ self.old.watched }
     {
         self.key = key;
-        self.selector.readiness.set_all(key, Interest::READ_WRITE);
+        self.selector.edges.join(key);
     }
 
-    /// Registers the stream under its key, or registers it again, by which the system tells anew what is
-    /// ready. The system is asked to watch for reading and writing alone, and not asked for neither. An
-    /// error leaves what it watches as it was.
-    fn register(&mut self, on: Interest) -> io::Result<()>
+    /// Whether the system watches the stream under its key.
+    fn is_watched(&self) -> bool
+        ensures watched { result ≡ true → self.now.watched ≡ READ_WRITE }
+        ensures none { self.now.watched ≡ NONE → result ≡ false }
+    {
+        match self.watched_as {
+            Some(key) => key == self.key,
+            None => false,
+        }
+    }
+
+    /// Arms these directions and no other. The system is called only where they ask for one that it does not watch.
+    /// An error leaves what it watches as it was.
+    fn arm_for(&mut self, on: Interest) -> io::Result<()>
         ensures watched { OnOk result (self.new.watched ≡ watched_after self.old.watched on) }
         ensures stays { OnErr result (self.new.watched ≡ self.old.watched) }
         ensures key { self.new.key ≡ self.old.key }
         ensures faults { self.new.faults ≡ self.old.faults }
     {
-        let Some(watch) = watch_of(on) else {
-            return Ok(());
-        };
+        if asks_for_any(on) && !self.is_watched() {
+            self.selector.edges.expect(self.key, on);
+            return self.register();
+        }
+        self.selector.arm(self.key, on)
+    }
+
+    /// Registers the stream under its key for all that the system tells, by which it tells what is ready. After an
+    /// error nothing is armed.
+    fn register(&mut self) -> io::Result<()>
+        ensures watched { OnOk result (self.new.watched ≡ READ_WRITE) }
+        ensures stays { OnErr result (self.new.watched ≡ self.old.watched) }
+        ensures key { self.new.key ≡ self.old.key }
+        ensures faults { self.new.faults ≡ self.old.faults }
+    {
         let token = token_of(self.key);
         let registry = &self.selector.registry;
-        let registered = if self.watched == Interest::NONE {
-            registry.register(&mut self.stream, token, watch)
+        let registered = if self.watched_as.is_none() {
+            registry.register(&mut self.stream, token, watch_all())
         } else {
-            registry.reregister(&mut self.stream, token, watch)
+            registry.reregister(&mut self.stream, token, watch_all())
         };
         if registered.is_ok() {
-            self.watched = Interest {
-                priority: false,
-                ..on
-            };
+            self.watched_as = Some(self.key);
+        } else {
+            self.selector.edges.disarm(self.key);
         }
         registered
     }
 
-    /// Takes the registration back, where there is one.
+    /// Takes the registration back, where there is one. Nothing is armed.
     fn deregister(&mut self) -> io::Result<()>
         ensures watched { self.new.watched ≡ NONE }
         ensures faults { self.new.faults ≡ self.old.faults }
     {
-        if self.watched == Interest::NONE {
+        self.selector.edges.disarm(self.key);
+        if self.watched_as.is_none() {
             return Ok(());
         }
-        self.watched = Interest::NONE;
+        self.watched_as = None;
         self.selector.registry.deregister(&mut self.stream)
     }
 
-    /// Whether the system watches for a direction.
-    fn watches(&self, dir: Dir) -> bool
-        ensures { result ≡ has_dir self.now.watched dir }
+    /// Whether the system is to be asked whether something goes over in this direction. It always is where
+    /// it does not watch the stream, since no event would tell of it.
+    fn may_move(&self, dir: Dir) -> bool
+        ensures { self.now.watched ≡ NONE → result ≡ true }
     {
-        self.watched.has(dir)
+        !self.is_watched() || self.selector.edges.take(self.key, dir)
     }
 
-    /// Whether the system is to be asked whether something goes over in this direction. It always is where
-    /// it does not watch for the direction, since no event would tell of it.
-    fn may_move(&self, dir: Dir) -> bool
-        ensures { has_dir self.now.watched dir ≡ false → result ≡ true }
+    /// After a call with this answer that had room for so many bytes: the direction may still be ready, unless the
+    /// call saw the system run dry. Where a wait cannot be told so, that is a fault.
+    fn keep_unless_dry(&mut self, dir: Dir, answer: Result<Did, Failed>, room: usize)
+        ensures key { self.new.key ≡ self.old.key }
+        ensures watched { self.new.watched ≡ self.old.watched }
+        ensures faults { HasCause self.old.faults self.new.faults false ⊥ }
     {
-        !self.watches(dir) || self.selector.readiness.take(self.key, dir)
+        if went_dry(answer, room, self.selector.edges.is_unsure(self.key)) {
+            return;
+        }
+        let told = self.selector.keep(self.key, dir);
+        let _ = counted(told, &mut self.faults);
     }
 
     /// One more read, behind the first `count` bytes of a buffer, which the read before gave. How many
@@ -133,13 +167,11 @@ impl MioConn {
     fn read_more(&mut self, buf: &mut [u8], count: usize) -> usize
         requires { count ≤ length buf.old }
         ensures bound { result ≤ length buf.new }
-        ensures faults { self.new.faults ≡ self.old.faults }
+        ensures faults { HasCause self.old.faults self.new.faults false ⊥ }
     {
         let read = read_on(&mut self.stream, buf, count);
         self.late = read.second.is_err();
-        if !went_dry(read.second, buf.len() - count) {
-            self.selector.readiness.set(self.key, Dir::Read);
-        }
+        self.keep_unless_dry(Dir::Read, read.second, buf.len() - count);
         read.count
     }
 
@@ -150,9 +182,7 @@ impl MioConn {
         ensures cause { HasCause self.old.faults self.new.faults false (IsErr result) }
     {
         let answer = counted(did, &mut self.faults);
-        if !went_dry(answer, room) {
-            self.selector.readiness.set(self.key, dir);
-        }
+        self.keep_unless_dry(dir, answer, room);
         answer
     }
 }
@@ -190,18 +220,18 @@ impl Arm for MioConn {
         Ok(())
     }
 
-    /// Registers the stream at the first call, and again at each later one, so that the system tells what
-    /// is ready by then. For urgent readiness it is never asked. For an interest without reading and
-    /// writing it is not asked at all, and goes on to watch as before.
+    /// Registers the stream at the first call that names reading or writing, and under another key anew. Each
+    /// other call leaves the system alone: where an edge came of a direction that is armed now, the next wait gives
+    /// it. Urgent readiness is armed for nothing, since no event tells it.
     fn arm(&mut self, key: Key, on: Interest) -> Result<(), Failed> {
         if key != self.key {
             self.take_key(key);
         }
-        let registered = self.register(on);
-        counted(registered, &mut self.faults)
+        let armed = self.arm_for(on);
+        counted(armed, &mut self.faults)
     }
 
-    /// Takes the registration back; the system is not asked where there is none.
+    /// Takes the registration back; the system is not asked where there is none. Nothing is armed.
     fn remove(&mut self, _key: Key) -> Result<(), Failed> {
         let done = self.deregister();
         counted(done, &mut self.faults)

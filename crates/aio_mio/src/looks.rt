@@ -1,13 +1,14 @@
 //! The looks of a wait at the system, and the events that they bring.
 
-ghost use Rattle.std.specs.Prelude.{◌≡◌, ◌≢◌, ◌+◌, ◌≤◌, [], ◌++◌, length, take, drop, min, false, IfOk, OnErr, vec_len, vec_capacity};
+ghost use Rattle.std.specs.Prelude.{◌≡◌, ◌≢◌, ◌+◌, ◌≤◌, [], ◌++◌, length, take, drop, min, Some, if◌then◌else◌, IfOk, OnErr, vec_len, vec_capacity};
 ghost use Rattle.mio.specs.Events.{items, capacity as events_capacity};
-ghost use Rattle.aio_mio.specs.Names.{source_events};
+ghost use Rattle.aio_edges.specs.Given.{AddsNamed};
 
-use crate::names::source_event;
+use crate::names::{is_unsure, source_event};
 use crate::selector::Selector;
 use crate::wakes::{Plan, plan_of};
 use aio_base::{Event, OutOfMemory};
+use aio_edges::Edges;
 use mio::{Events, Poll};
 use std::alloc::Global;
 use std::io;
@@ -17,12 +18,15 @@ use std::time::Duration;
 /// How many events one look at the system gives at most, the waker's among them.
 const EVENTS: usize = 1_024;
 
+/// How many keys can be due.
+const KEYS: usize = 4_096;
+
 /// What looks at the system, with the events of its last look.
 #[derive(Drop)]
 pub(crate) struct Looks {
     poll: Poll,
     events: Events,
-    // The events of sources that the last look gave, and how many of them were given on.
+    // The events that came of the last look, and how many of them were given on.
     came: Vec<Event>,
     given: usize,
     selector: Arc<Selector, Global>,
@@ -32,18 +36,28 @@ pub(crate) struct Looks {
     ghost bound: { given ≤ vec_len came },
 }
 
-/// The events of sources among those that the system gave, in order.
-fn gather(events: &Events, came: &mut Vec<Event>)
+/// Keeps the edges that the system told, in order, and adds the events that they give.
+fn gather(edges: &Edges, events: &Events, came: &mut Vec<Event>)
     requires empty { came.old.items ≡ [] }
     requires room { length (items events.now) ≤ vec_capacity came.old }
-    ensures events { came.new.items ≡ source_events (items events.now) }
+    ensures added { AddsNamed came.old.items came.new.items }
     ensures capacity { vec_capacity came.new ≡ vec_capacity came.old }
 {
     for event in events.iter() {
-        if let Some(event) = source_event(event) {
-            came.push_reserved(event);
+        if let Some(told) = source_event(event) {
+            let on = edges.tell(told.key, told.on, is_unsure(event));
+            if !on.is_none() {
+                came.push_reserved(Event { key: told.key, on });
+            }
         }
     }
+}
+
+/// The limit of a wait: where a key is due it only looks.
+fn limit_with(limit: Option<u64>, has_due: bool) -> Option<u64>
+    ensures { result ≡ (if has_due then Some 0 else limit) }
+{
+    if has_due { Some(0) } else { limit }
 }
 
 /// Adds the first events, as many as there is room for. How many it added.
@@ -87,7 +101,7 @@ impl Looks {
         let Ok(events) = Events::with_capacity(alloc, EVENTS) else {
             return Err(OutOfMemory);
         };
-        let Ok(came) = Vec::with_capacity(alloc, EVENTS) else {
+        let Ok(came) = Vec::with_capacity(alloc, EVENTS + KEYS) else {
             return Err(OutOfMemory);
         };
         let Ok(selector) = Arc::try_clone(selector) else {
@@ -130,17 +144,16 @@ impl Looks {
     }
 
     /// Looks at the system for at most `limit` nanoseconds, or not at all where the wait is passed
-    /// over; then each direction that an event names may be ready. An error is that of the system,
-    /// and nothing came.
+    /// over; where a key is due it only looks. Then what the edges give came, and the events of the keys
+    /// that are due. An error is that of the system, and nothing came.
     fn look(&mut self, limit: Option<u64>) -> io::Result<()>
         ensures given { self.new.given ≡ 0 }
-        ensures came { self.new.passed ≡ false
-            → self.new.came.items ≡ source_events (items self.new.events) }
         ensures none { OnErr result (self.new.came.items ≡ []) }
     {
         self.given = 0;
         self.came.clear();
         let told = self.selector.wakes.begin();
+        let limit = limit_with(limit, self.selector.edges.has_due());
         let planned = plan_of(told, self.passed, limit);
         self.passed = planned == Plan::PassesOver;
         let Plan::Looks(limit) = planned else {
@@ -149,10 +162,9 @@ impl Looks {
         };
         let looked = look_within(&mut self.poll, &mut self.events, limit);
         self.selector.wakes.end();
-        gather(&self.events, &mut self.came);
-        for event in &self.came {
-            self.selector.readiness.set_all(event.key, event.on);
-        }
-        looked
+        looked?;
+        gather(&self.selector.edges, &self.events, &mut self.came);
+        self.selector.edges.give_due(&mut self.came);
+        Ok(())
     }
 }

@@ -2,18 +2,19 @@
 
 use crate::names::WAKER;
 use crate::parts::MioRefusal;
-use crate::readiness::Readiness;
 use crate::wakes::Wakes;
+use aio_base::{Dir, Interest, Key};
+use aio_edges::Edges;
 use mio::{Poll, Registry, Waker};
 use std::alloc::Global;
 use std::io;
 use std::sync::Arc;
 
-/// A second owner of the registrations of a poll, and what is remembered about them.
+/// A second owner of the registrations of a poll, and what is kept beside them.
 #[derive(Drop)]
 pub(crate) struct Selector {
     pub(crate) registry: Registry,
-    pub(crate) readiness: Readiness,
+    pub(crate) edges: Edges,
     pub(crate) wakes: Wakes,
 }
 
@@ -27,18 +28,35 @@ fn second_owner(poll: &Poll) -> io::Result<(Registry, Waker)> {
 impl Selector {
     /// What is to be shared of a poll.
     pub(crate) fn shared(alloc: Global, poll: &Poll) -> Result<Arc<Selector, Global>, MioRefusal> {
-        let readiness = Readiness::new(alloc)?;
+        let edges = Edges::new(alloc)?;
         let Ok((registry, waker)) = second_owner(poll) else {
             return Err(MioRefusal::System);
         };
         let selector = Selector {
             registry,
-            readiness,
+            edges,
             wakes: Wakes::new(waker),
         };
         match Arc::new(alloc, selector) {
             Ok(selector) => Ok(selector),
             Err(_) => Err(MioRefusal::OutOfMemory),
         }
+    }
+
+    /// These directions are armed from now on, and no other. Where the key is due by that, a wait that is under
+    /// way ends and gives it, and else the next one does. An error is that of the waker's write.
+    pub(crate) fn arm(&self, key: Key, on: Interest) -> io::Result<()> {
+        if self.edges.arm(key, on) {
+            return self.wakes.interrupt();
+        }
+        Ok(())
+    }
+
+    /// A direction may still be ready; else as `arm`.
+    pub(crate) fn keep(&self, key: Key, dir: Dir) -> io::Result<()> {
+        if self.edges.keep(key, dir) {
+            return self.wakes.interrupt();
+        }
+        Ok(())
     }
 }

@@ -44,6 +44,15 @@ impl Wakes {
         Ok(())
     }
 
+    /// Ends the wait that is under way, if one is. A wait that begins after the call finds by itself what there is
+    /// to give. An error is that of the waker's write.
+    pub(crate) fn interrupt(&self) -> io::Result<()> {
+        if is_under_way(self.word.load(Ordering::SeqCst)) {
+            return self.waker.wake();
+        }
+        Ok(())
+    }
+
     /// A wait is under way from now on. Whether it was told to end before it began.
     pub(crate) fn begin(&self) -> bool {
         let before = self.word.swap(UNDER_WAY, Ordering::SeqCst);
