@@ -62,6 +62,14 @@ fn an_edge_is_given_where_it_is_armed_and_kept_where_it_is_not(rt: HostRuntime) 
     same(&rt, edges.is_unsure(KEY), false);
     same(&rt, edges.tell(KEY, Interest::READ, true), Interest::NONE);
     same(&rt, edges.is_unsure(KEY), true);
+    // whoever joins under the key finds nothing of this
+    edges.join(KEY);
+    same(
+        &rt,
+        (edges.take(KEY, Dir::Read), edges.take(KEY, Dir::Write)),
+        (true, true),
+    );
+    same(&rt, edges.is_unsure(KEY), false);
     drop(edges);
 }
 
@@ -83,6 +91,68 @@ fn keys_are_given_in_rising_order_and_stay_due_where_there_is_no_room(rt: HostRu
     );
     drop(first);
     same_due(&rt, rt.alloc(), &edges, &[event(KEY, Interest::READ)]);
+    drop(edges);
+}
+
+/// What is armed of a key, so that keys side by side differ.
+fn armed_of(key: u32) -> Interest {
+    if key % 2 == 0 {
+        Interest::READ
+    } else {
+        Interest::WRITE
+    }
+}
+
+/// Arms all keys.
+fn arm_all(edges: &Edges) {
+    for key in 0..4_096 {
+        edges.join(Key(key));
+        edges.expect(Key(key), armed_of(key));
+    }
+}
+
+/// Whether edges of both directions give of each key what is armed of it.
+fn give_what_is_armed(edges: &Edges) -> bool {
+    for key in 0..4_096 {
+        if edges.tell(Key(key), Interest::READ_WRITE, false) != armed_of(key) {
+            return false;
+        }
+    }
+    true
+}
+
+/// Whether each key is due once it is armed where an edge was kept.
+fn are_due(edges: &Edges) -> bool {
+    for key in 0..4_096 {
+        if !edges.arm(Key(key), armed_of(key)) {
+            return false;
+        }
+    }
+    true
+}
+
+/// Whether these are the events of all keys, in rising order.
+fn are_all(events: &[Event]) -> bool {
+    let mut wanted = 0;
+    for found in events {
+        if *found != event(Key(wanted), armed_of(wanted)) {
+            return false;
+        }
+        wanted = wanted.wrapping_add(1);
+    }
+    wanted == 4_096
+}
+
+#[test]
+fn each_of_4096_keys_is_armed_and_due_for_itself(rt: HostRuntime) {
+    let edges = Edges::new(rt.alloc()).expect(&rt, MEMORY);
+    arm_all(&edges);
+    same(&rt, give_what_is_armed(&edges), true);
+    same(&rt, are_due(&edges), true);
+    let events = due(&rt, rt.alloc(), &edges, 4_096);
+    same(&rt, are_all(events.as_slice()), true);
+    drop(events);
+    same_due(&rt, rt.alloc(), &edges, &[]);
     drop(edges);
 }
 
@@ -108,5 +178,43 @@ fn an_edge_beside_an_arm_is_given_once(rt: HostRuntime) {
     for _ in 0..2_000 {
         same(&rt, meet(&rt, rt.alloc(), &edges), true);
     }
+    drop(edges);
+}
+
+/// So many edges, one after the other, each of a direction that is armed, behind an edge of the other direction.
+/// Whether each is given, at once or by the look after it.
+fn each_is_given(rt: &impl Abort, alloc: Global, edges: &Edges) -> bool {
+    for _ in 0..20_000 {
+        let _ = edges.take(KEY, Dir::Read);
+        let _ = edges.tell(KEY, Interest::WRITE, false);
+        let _ = edges.arm(KEY, Interest::READ);
+        let given = edges.tell(KEY, Interest::READ, false);
+        let later = due(rt, alloc, edges, 4);
+        let is_given = given == Interest::READ || !later.is_empty();
+        drop(later);
+        if !is_given {
+            return false;
+        }
+    }
+    true
+}
+
+/// Uses up the edges of the other direction, as they come.
+fn use_up(edges: &Edges) {
+    for _ in 0..400_000 {
+        let _ = edges.take(KEY, Dir::Write);
+    }
+}
+
+#[test]
+fn no_edge_is_lost_beside_a_call_that_uses_up_another(rt: HostRuntime) {
+    let edges = Edges::new(rt.alloc()).expect(&rt, MEMORY);
+    edges.join(KEY);
+    let (is_given, ()) = join(
+        &rt,
+        || each_is_given(&rt, rt.alloc(), &edges),
+        || use_up(&edges),
+    );
+    same(&rt, is_given, true);
     drop(edges);
 }

@@ -442,6 +442,27 @@ const CONNECTIONS: &[Row] = &[
         ],
     },
     Row {
+        shows: "what is due of a connection that was taken out is not given",
+        acts: &[
+            (Watch(7, Interest::WRITE), Done),
+            (Wait(LONG), Event(7, Interest::WRITE)),
+            (Arm(7, Interest::WRITE), Done),
+            (Remove(7), Done),
+            (Wait(Some(0)), Nothing),
+        ],
+    },
+    Row {
+        shows: "an arm under another key tells of it under that key",
+        acts: &[
+            (Watch(7, Interest::READ), Done),
+            (Arm(8, Interest::READ), Done),
+            (Send(1), Done),
+            (Wait(LONG), Event(8, Interest::READ)),
+            (Read, Went(1, 1)),
+            (Faults, Number(0)),
+        ],
+    },
+    Row {
         shows: "a removal of what is not registered is no fault",
         acts: &[
             (Remove(2), Done),

@@ -1,6 +1,6 @@
 //! Which edges of which sources came, which of their directions are armed, and which keys are due.
 
-ghost use Rattle.std.specs.Prelude.{◌≡◌, ◌⊎◌, ◌<◌, ◌≤◌, vec_capacity};
+ghost use Rattle.std.specs.Prelude.{◌≡◌, ◌⊎◌, ◌+◌, ◌*◌, ◌/◌, ◌%◌, ◌<◌, ◌≤◌, vec_capacity};
 ghost use Rattle.aio_base.specs.declared.names.TheConstants.Interest.{NONE};
 ghost use Rattle.aio_edges.specs.Words.{owed_in};
 ghost use Rattle.aio_edges.specs.Given.{AddsNamed};
@@ -17,8 +17,13 @@ use std::sync::atomic::{AtomicU64, Ordering};
 const KEYS: usize = 4_096;
 
 /// Where the word of a key stands. Keys follow one another as sources join, and threads serve those of neighbours
-/// at a time: so their words stand 512 bytes apart, and no thread waits for another's.
-fn place_of(key: Key) -> usize {
+/// at a time: so their words stand 512 bytes apart, and no thread waits for another's. No two keys have one place,
+/// since a key is known by its place; a key beyond all sources has none.
+fn place_of(key: Key) -> usize
+    ensures own { key.0 < 4096 → result % 64 * 64 + result / 64 ≡ key.0 }
+    ensures inside { key.0 < 4096 → result < 4096 }
+    ensures outside { 4096 ≤ key.0 → 4096 ≤ result }
+{
     let key = key.0 as usize;
     if key < KEYS {
         key % 64 * 64 + key / 64

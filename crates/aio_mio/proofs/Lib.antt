@@ -1,2 +1,3 @@
 mod LeftOver
+mod Gathered
 mod Reading

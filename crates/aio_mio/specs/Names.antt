@@ -1,5 +1,5 @@
 -- The system's names of directions and events, and those of the project.
-use Rattle.std.specs.Prelude.{◌≡◌, ◌^◌, ◌||◌, Bool, true, false, nat_lt, List, Option, None, Some, if◌then◌else◌}
+use Rattle.std.specs.Prelude.{◌≡◌, ◌^◌, ◌||◌, Bool, true, nat_lt, List, Option, None, Some, if◌then◌else◌}
 use Rattle.std.specs.List.{filter_map}
 use Rattle.aio_base.specs.declared.names.Event.{Event}
 use Rattle.aio_base.specs.declared.names.Interest.{Interest}

@@ -12,6 +12,7 @@ use crate::names::{asks_for_any, token_of, watch_all};
 use crate::reads::{read_from, read_on, write_to};
 use crate::selector::Selector;
 use aio_base::{Arm, Conn, Did, Dir, Failed, Faults, Interest, Key, Tells};
+use aio_edges::Edges;
 use mio::net::TcpStream;
 use std::alloc::Global;
 use std::io;
@@ -29,7 +30,7 @@ const MANY: usize = 4_096;
 #[derive(Drop)]
 pub struct MioConn {
     stream: TcpStream,
-    selector: Arc<Selector, Global>,
+    selector: Arc<Selector<Edges>, Global>,
     key: Key,
     // The key under which the system watches the stream; `None` while it is not registered.
     watched_as: Option<Key>,
@@ -53,7 +54,7 @@ impl Model for MioConn {
 
 impl MioConn {
     /// A connection that is not registered, under key 0.
-    pub(crate) fn new(stream: TcpStream, selector: Arc<Selector, Global>) -> MioConn
+    pub(crate) fn new(stream: TcpStream, selector: Arc<Selector<Edges>, Global>) -> MioConn
         ensures faults { result.faults ≡ 0 }
         ensures watched { result.watched ≡ NONE }
     {

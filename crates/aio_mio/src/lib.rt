@@ -15,6 +15,7 @@
 mod answers;
 mod clock;
 mod connections;
+mod keeper;
 mod looks;
 mod names;
 mod notify;

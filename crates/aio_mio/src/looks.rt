@@ -1,14 +1,15 @@
 //! The looks of a wait at the system, and the events that they bring.
 
-ghost use Rattle.std.specs.Prelude.{◌≡◌, ◌≢◌, ◌+◌, ◌≤◌, [], ◌++◌, length, take, drop, min, Some, if◌then◌else◌, IfOk, OnErr, vec_len, vec_capacity};
+ghost use Rattle.std.specs.Prelude.{◌≡◌, ◌≢◌, ◌+◌, ◌≤◌, [], ◌++◌, length, take, drop, min, IfOk, OnOk, OnErr, vec_len, vec_capacity};
 ghost use Rattle.mio.specs.Events.{items, capacity as events_capacity};
-ghost use Rattle.aio_edges.specs.Given.{AddsNamed};
+ghost use Rattle.std.specs.Arc.{arc_value};
+ghost use Rattle.aio_mio.specs.Gathering.{BringsUnless, Came, PlansWith};
 
+use crate::keeper::EdgeKeeper;
 use crate::names::{is_unsure, source_event};
 use crate::selector::Selector;
 use crate::wakes::{Plan, plan_of};
 use aio_base::{Event, OutOfMemory};
-use aio_edges::Edges;
 use mio::{Events, Poll};
 use std::alloc::Global;
 use std::io;
@@ -23,13 +24,13 @@ const KEYS: usize = 4_096;
 
 /// What looks at the system, with the events of its last look.
 #[derive(Drop)]
-pub(crate) struct Looks {
+pub(crate) struct Looks<E> {
     poll: Poll,
     events: Events,
     // The events that came of the last look, and how many of them were given on.
     came: Vec<Event>,
     given: usize,
-    selector: Arc<Selector, Global>,
+    selector: Arc<Selector<E>, Global>,
     // Whether the last wait ended without a look.
     passed: bool,
     ghost room: { events_capacity events ≤ vec_capacity came },
@@ -37,10 +38,10 @@ pub(crate) struct Looks {
 }
 
 /// Keeps the edges that the system told, in order, and adds the events that they give.
-fn gather(edges: &Edges, events: &Events, came: &mut Vec<Event>)
+fn gather<E: EdgeKeeper>(edges: &E, events: &Events, came: &mut Vec<Event>)
     requires empty { came.old.items ≡ [] }
     requires room { length (items events.now) ≤ vec_capacity came.old }
-    ensures added { AddsNamed came.old.items came.new.items }
+    ensures came { Came (E.answers edges.now) (items events.now) came.new.items }
     ensures capacity { vec_capacity came.new ≡ vec_capacity came.old }
 {
     for event in events.iter() {
@@ -53,11 +54,13 @@ fn gather(edges: &Edges, events: &Events, came: &mut Vec<Event>)
     }
 }
 
-/// The limit of a wait: where a key is due it only looks.
-fn limit_with(limit: Option<u64>, has_due: bool) -> Option<u64>
-    ensures { result ≡ (if has_due then Some 0 else limit) }
+/// What a wait is to do that was told to end before it began, or was not, and the wait before it passed over, or
+/// did not. Where a key is due it only looks.
+fn plan_with<E: EdgeKeeper>(edges: &E, told: bool, passed: bool, limit: Option<u64>) -> Plan
+    ensures { PlansWith (E.dues edges.now) told passed limit result }
 {
-    if has_due { Some(0) } else { limit }
+    let limit = if edges.has_due() { Some(0) } else { limit };
+    plan_of(told, passed, limit)
 }
 
 /// Adds the first events, as many as there is room for. How many it added.
@@ -87,15 +90,15 @@ fn look_within(poll: &mut Poll, events: &mut Events, limit: Option<u64>) -> io::
     Ok(())
 }
 
-impl Looks {
+impl<E: EdgeKeeper> Looks<E> {
     ghost use Rattle.aio_mio.specs.Looks.{left_over};
 
     /// No look was made yet. `OutOfMemory` where memory ran out.
     pub(crate) fn new(
         alloc: Global,
         poll: Poll,
-        selector: &Arc<Selector, Global>,
-    ) -> Result<Looks, OutOfMemory>
+        selector: &Arc<Selector<E>, Global>,
+    ) -> Result<Looks<E>, OutOfMemory>
         ensures { IfOk result (λ looks. left_over looks ≡ []) }
     {
         let Ok(events) = Events::with_capacity(alloc, EVENTS) else {
@@ -122,6 +125,11 @@ impl Looks {
     pub(crate) fn refill(&mut self, limit: Option<u64>) -> io::Result<()>
         ensures kept { left_over self.old ≢ [] → left_over self.new ≡ left_over self.old }
         ensures none { OnErr result ((left_over self.old ≡ []) × (left_over self.new ≡ [])) }
+        ensures fresh { OnOk result (left_over self.old ≡ [] → BringsUnless
+            (E.answers (arc_value self.new.selector).edges)
+            (E.gives (arc_value self.new.selector).edges) self.new.passed
+            (items self.new.events) (left_over self.new)) }
+        ensures keeper { self.new.selector ≡ self.old.selector }
     {
         if self.given < self.came.len() {
             return Ok(());
@@ -149,12 +157,15 @@ impl Looks {
     fn look(&mut self, limit: Option<u64>) -> io::Result<()>
         ensures given { self.new.given ≡ 0 }
         ensures none { OnErr result (self.new.came.items ≡ []) }
+        ensures brought { OnOk result (BringsUnless (E.answers (arc_value self.new.selector).edges)
+            (E.gives (arc_value self.new.selector).edges) self.new.passed
+            (items self.new.events) self.new.came.items) }
+        ensures keeper { self.new.selector ≡ self.old.selector }
     {
         self.given = 0;
         self.came.clear();
         let told = self.selector.wakes.begin();
-        let limit = limit_with(limit, self.selector.edges.has_due());
-        let planned = plan_of(told, self.passed, limit);
+        let planned = plan_with(&self.selector.edges, told, self.passed, limit);
         self.passed = planned == Plan::PassesOver;
         let Plan::Looks(limit) = planned else {
             self.selector.wakes.end();

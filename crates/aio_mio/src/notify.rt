@@ -5,6 +5,7 @@ ghost use Rattle.std.specs.Prelude.{◌≡◌, false, IsTrue, IfOk};
 use crate::answers::counted;
 use crate::selector::Selector;
 use aio_base::{Failed, Faults, Notify, OutOfMemory};
+use aio_edges::Edges;
 use std::alloc::Global;
 use std::marker::Model;
 use std::sync::Arc;
@@ -15,7 +16,7 @@ use std::sync::Arc;
 /// Contracts see the counts of its notifies and of its faults.
 #[derive(Drop)]
 pub struct MioNotify {
-    selector: Arc<Selector, Global>,
+    selector: Arc<Selector<Edges>, Global>,
     calls: u64,
     faults: u64,
 }
@@ -30,7 +31,7 @@ impl Model for MioNotify {
 
 impl MioNotify {
     /// A notifier that was not called yet.
-    pub(crate) fn new(selector: Arc<Selector, Global>) -> MioNotify
+    pub(crate) fn new(selector: Arc<Selector<Edges>, Global>) -> MioNotify
         ensures { result ≡ record { calls = 0; faults = 0 } }
     {
         MioNotify {

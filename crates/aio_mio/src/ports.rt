@@ -9,6 +9,7 @@ use crate::connections::MioConn;
 use crate::parts::MioRefusal;
 use crate::selector::Selector;
 use aio_base::{Failed, Faults, OutOfMemory, Port};
+use aio_edges::Edges;
 use mio::net::TcpListener;
 use mio::{Events, Interest, Poll, Token};
 use std::alloc::Global;
@@ -29,7 +30,7 @@ struct Listening {
     poll: Poll,
     events: Events,
     listener: Option<TcpListener>,
-    selector: Arc<Selector, Global>,
+    selector: Arc<Selector<Edges>, Global>,
 }
 
 impl Listening {
@@ -37,7 +38,7 @@ impl Listening {
     fn new(
         alloc: Global,
         poll: Poll,
-        selector: &Arc<Selector, Global>,
+        selector: &Arc<Selector<Edges>, Global>,
     ) -> Result<Listening, OutOfMemory> {
         let Ok(events) = Events::with_capacity(alloc, EVENTS) else {
             return Err(OutOfMemory);
@@ -153,7 +154,7 @@ impl<R: Net + Copy> MioPort<R> {
     pub(crate) fn new(
         alloc: Global,
         rt: &R,
-        selector: &Arc<Selector, Global>,
+        selector: &Arc<Selector<Edges>, Global>,
     ) -> Result<MioPort<R>, MioRefusal>
         ensures { IfOk result (λ port. port.faults ≡ 0) }
     {

@@ -12,9 +12,9 @@ use std::sync::Arc;
 
 /// A second owner of the registrations of a poll, and what is kept beside them.
 #[derive(Drop)]
-pub(crate) struct Selector {
+pub(crate) struct Selector<E> {
     pub(crate) registry: Registry,
-    pub(crate) edges: Edges,
+    pub(crate) edges: E,
     pub(crate) wakes: Wakes,
 }
 
@@ -25,9 +25,12 @@ fn second_owner(poll: &Poll) -> io::Result<(Registry, Waker)> {
     Ok((registry, waker))
 }
 
-impl Selector {
+impl Selector<Edges> {
     /// What is to be shared of a poll.
-    pub(crate) fn shared(alloc: Global, poll: &Poll) -> Result<Arc<Selector, Global>, MioRefusal> {
+    pub(crate) fn shared(
+        alloc: Global,
+        poll: &Poll,
+    ) -> Result<Arc<Selector<Edges>, Global>, MioRefusal> {
         let edges = Edges::new(alloc)?;
         let Ok((registry, waker)) = second_owner(poll) else {
             return Err(MioRefusal::System);
@@ -46,15 +49,17 @@ impl Selector {
     /// These directions are armed from now on, and no other. Where the key is due by that, a wait that is under
     /// way ends and gives it, and else the next one does. An error is that of the waker's write.
     pub(crate) fn arm(&self, key: Key, on: Interest) -> io::Result<()> {
-        if self.edges.arm(key, on) {
-            return self.wakes.interrupt();
-        }
-        Ok(())
+        self.interrupt_if(self.edges.arm(key, on))
     }
 
     /// A direction may still be ready; else as `arm`.
     pub(crate) fn keep(&self, key: Key, dir: Dir) -> io::Result<()> {
-        if self.edges.keep(key, dir) {
+        self.interrupt_if(self.edges.keep(key, dir))
+    }
+
+    /// Ends the wait that is under way, if one is and a key is due.
+    fn interrupt_if(&self, is_due: bool) -> io::Result<()> {
+        if is_due {
             return self.wakes.interrupt();
         }
         Ok(())

@@ -6,6 +6,7 @@ use crate::answers::counted;
 use crate::looks::Looks;
 use crate::selector::Selector;
 use aio_base::{Event, EventWait, Failed, Faults, OutOfMemory, Waited};
+use aio_edges::Edges;
 use mio::Poll;
 use std::alloc::Global;
 use std::io::ErrorKind;
@@ -18,7 +19,7 @@ use std::sync::Arc;
 /// Contracts see those events, and the counts of its waits and of its faults.
 #[derive(Drop)]
 pub struct MioWait {
-    looks: Looks,
+    looks: Looks<Edges>,
     waits: u64,
     faults: u64,
 }
@@ -37,7 +38,7 @@ impl MioWait {
     pub(crate) fn new(
         alloc: Global,
         poll: Poll,
-        selector: &Arc<Selector, Global>,
+        selector: &Arc<Selector<Edges>, Global>,
     ) -> Result<MioWait, OutOfMemory>
         ensures { IfOk result (λ wait. wait ≡ record { left = []; waits = 0; faults = 0 }) }
     {

@@ -6,7 +6,7 @@ use Rattle.aio_mio.proofs.looks.Looks.give_on.Goals as goal
 
 -- the slice that is given from is all that is left over
 pub returns : goal.returns
-returns c =
+returns g c =
     let given = c.args.self.now.given in
     let came = c.args.self.now.came.items in
     let seen = c.deref.result.now in
