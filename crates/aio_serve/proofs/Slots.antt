@@ -1,5 +1,5 @@
 -- What a worker's group allows fits the worker's places.
-use Rattle.std.proofs.Common.{ℕ, ◌^◌, ◌≤◌, Bool, List, [], ◌∷◌, ◌++◌, subst, arith, le_trans}
+use Rattle.std.proofs.Common.{◌≡◌, ℕ, ◌^◌, ◌≤◌, max, Bool, List, [], ◌∷◌, ◌++◌, subst, arith, le_trans}
 use Rattle.std.specs.Prelude.{Option, None, Some, IfSome, Result, Ok, Err, Vec, IfOk, IfErr}
 use Rattle.std.specs.declared.alloc.Global.{Global}
 use Rattle.std.specs.List.{AllZip}
@@ -15,7 +15,7 @@ use Rattle.aio_places.specs.Places.{PlaceValue, end_gives}
 use Rattle.aio_park.specs.Stopping.{StopsFor}
 use Rattle.aio_serve.specs.Places.{PlaceFits, Terms, WorkerEnds, WorkerValue, earliest_of, latest_of}
 use Rattle.aio_park.specs.declared.to_end.WorkerFault.{WorkerFault}
-use Rattle.aio_serve.specs.Served.{ServedValue, first_stage, stage_gives}
+use Rattle.aio_serve.specs.Served.{ServedValue, first_stage, served_gives, stage_gives}
 use Rattle.aio_serve.specs.Seated.{IsSeated}
 
 -- ## The bounds of a clock
@@ -45,15 +45,15 @@ fits_from a b early start latest idle sure pair.OutOfMemory order fits = fits
 
 -- ## The slots of a group
 
-pub seats_one_more : (idle start : ℕ) (places : List PlaceValue) (slots : List (Slot ServedValue PairEnd)) (place : PlaceValue) (slot : Slot ServedValue PairEnd)
-    → AllZip (IsSeated idle start) places slots → IsSeated idle start place slot → AllZip (IsSeated idle start) (places ++ place ∷ []) (slots ++ slot ∷ [])
-seats_one_more idle start [] [] place slot seated last = (last, tt)
-seats_one_more idle start [] (s ∷ slots) place slot seated last = elim seated [ ]
-seats_one_more idle start (p ∷ places) [] place slot seated last = elim seated [ ]
-seats_one_more idle start (p ∷ places) (s ∷ slots) place slot seated last = (seated.0, seats_one_more idle start places slots place slot seated.1 last)
+pub seats_one_more : (bounds : ClockBounds) (idle start : ℕ) (places : List PlaceValue) (slots : List (Slot ServedValue PairEnd)) (place : PlaceValue) (slot : Slot ServedValue PairEnd)
+    → AllZip (IsSeated bounds idle start) places slots → IsSeated bounds idle start place slot → AllZip (IsSeated bounds idle start) (places ++ place ∷ []) (slots ++ slot ∷ [])
+seats_one_more bounds idle start [] [] place slot seated last = (last, tt)
+seats_one_more bounds idle start [] (s ∷ slots) place slot seated last = elim seated [ ]
+seats_one_more bounds idle start (p ∷ places) [] place slot seated last = elim seated [ ]
+seats_one_more bounds idle start (p ∷ places) (s ∷ slots) place slot seated last = (seated.0, seats_one_more bounds idle start places slots place slot seated.1 last)
 
-abbrev pub served_gives : ServedValue → Bool → ℕ → PairEnd → Type 0
-served_gives served sure moment end = stage_gives served.stage sure moment end
+at_latest : (n : ℕ) → max n n ≡ n
+at_latest n = omega arith
 
 module _ (t : Terms) (start : ℕ) (within : IsWithin t.bounds start) where
   place_fits : (place : PlaceValue) (end : PairEnd) → stage_gives (first_stage t.idle start place) t.is_sure (latest_of t.bounds.greatest) end → PlaceFits t place end
@@ -62,7 +62,7 @@ module _ (t : Terms) (start : ℕ) (within : IsWithin t.bounds start) where
   place_fits (Err fault) end given = given
 
   -- At the last moment of the clock slots that stand for places allow just what fits these.
-  pub places_fit : (places : List PlaceValue) (slots : List (Slot ServedValue PairEnd)) (ends : List PairEnd) → AllZip (IsSeated t.idle start) places slots
+  pub places_fit : (places : List PlaceValue) (slots : List (Slot ServedValue PairEnd)) (ends : List PairEnd) → AllZip (IsSeated t.bounds t.idle start) places slots
       → SlotsGive served_gives slots t.is_sure (latest_of t.bounds.greatest) ends → AllZip (PlaceFits t) places ends
   places_fit [] [] [] seated given = tt
   places_fit [] [] (end ∷ ends) seated given = elim given [ ]
@@ -71,7 +71,9 @@ module _ (t : Terms) (start : ℕ) (within : IsWithin t.bounds start) where
   places_fit (place ∷ places) (Ended answer ∷ slots) ends seated given = elim seated.0 [ ]
   places_fit (place ∷ places) (Running served ∷ slots) [] seated given = elim given [ ]
   places_fit (place ∷ places) (Running served ∷ slots) (end ∷ ends) seated given = (
-    place_fits place end (subst (λ (s : ServedValue). stage_gives s.stage t.is_sure (latest_of t.bounds.greatest) end) seated.0 given.0),
+    place_fits place end
+        (subst (λ n. stage_gives (first_stage t.idle start place) t.is_sure n end) (at_latest (latest_of t.bounds.greatest))
+        (subst (λ (s : ServedValue). served_gives s t.is_sure (latest_of t.bounds.greatest) end) seated.0 given.0)),
     places_fit places slots ends seated.1 given.1,
   )
 

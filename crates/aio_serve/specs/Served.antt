@@ -1,5 +1,7 @@
 -- A pair while a worker serves it.
-use Rattle.std.specs.Prelude.{◌≡◌, ℕ, zero, suc, ◌<◌, ◌≤◌, Bool, List, Result, Ok, Err}
+use Rattle.std.specs.Prelude.{◌≡◌, ℕ, zero, suc, ◌<◌, ◌≤◌, max, Bool, List, Result, Ok, Err}
+use Rattle.std.proofs.Common.{arith}
+use Rattle.aio_base.specs.ClockBounds.{ClockBounds}
 use Rattle.aio_base.specs.declared.outcomes.CountFault.{CountFault}
 use Rattle.aio_base.specs.declared.outcomes.Poll.{Poll}
 use Rattle.aio_base.specs.declared.outcomes.Poll.TheVariants.{Ready, Pending}
@@ -10,6 +12,7 @@ use Rattle.aio_pairs.specs.declared.outcomes.PairEnd.TheVariants as pair
 use Rattle.aio_relay.specs.Pairs.{PairState, fits-longer, fresh_pair, may_come_to}
 use Rattle.aio_places.specs.Places.{PlaceValue}
 use Rattle.aio_places.specs.SourceEnds.{SourceEndValue, is_sure_end, told_by}
+use Rattle.aio_serve.specs.Places.{latest_of}
 use Rattle.aio_serve.specs.declared.served.Stage.{Stage}
 use Rattle.aio_serve.specs.declared.served.Stage.TheVariants.{Open, Refused, Over}
 
@@ -17,9 +20,11 @@ use Rattle.aio_serve.specs.declared.served.Stage.TheVariants.{Open, Refused, Ove
 abbrev pub StageValue : Type 0
 StageValue = Stage (PairState SourceEndValue)
 
+-- how far a pair is, how often its slot was polled, and the bounds of its clock
 pub record ServedValue : Type 0 where
   pub stage : StageValue
   pub polls : ℕ
+  pub bounds : ClockBounds
 
 -- what stands in the slot of a place before its first poll
 abbrev pub first_stage : (idle start : ℕ) → PlaceValue → StageValue
@@ -41,6 +46,22 @@ stage_gives_later (Open p) notifier_sure early late end order gives = fits-longe
 stage_gives_later (Refused fault) notifier_sure early late end order gives = gives
 stage_gives_later Over notifier_sure early late end order gives = gives
 
+-- no poll of a turn of this moment has a later moment than that
+abbrev pub latest_at : ClockBounds → (moment : ℕ) → ℕ
+latest_at bounds moment = max moment (latest_of bounds.greatest)
+
+-- what a pair in its slot may come to in a turn of this moment: its polls may have later moments, of its own clock
+abbrev pub served_gives : ServedValue → (notifier_sure : Bool) → (moment : ℕ) → PairEnd → Type 0
+served_gives served notifier_sure moment end = stage_gives served.stage notifier_sure (latest_at served.bounds moment) end
+
+later_latest : (latest early late : ℕ) → early ≤ late → max early latest ≤ max late latest
+later_latest latest early late order = omega (arith, order)
+
+pub served_gives_later : (served : ServedValue) (notifier_sure : Bool) (early late : ℕ) (end : PairEnd) → early ≤ late
+    → served_gives served notifier_sure early end → served_gives served notifier_sure late end
+served_gives_later served notifier_sure early late end order = stage_gives_later served.stage notifier_sure
+    (latest_at served.bounds early) (latest_at served.bounds late) end (later_latest (latest_of served.bounds.greatest) early late order)
+
 -- Both ends of a pair were closed: for each, one `remove` of its key was made on a connection with its rest, and had some answer.
 pub record ClosesBoth (removes : (key : ℕ) → (rest : List ℕ) → Result (Unit {0}) CountFault → Type 0) (p : PairState SourceEndValue) : Type 0 where
   pub answer_a : Result (Unit {0}) CountFault
@@ -48,12 +69,13 @@ pub record ClosesBoth (removes : (key : ℕ) → (rest : List ℕ) → Result (U
   pub a : removes p.a.key p.a.rest answer_a
   pub b : removes p.b.key p.b.rest answer_b
 
--- so many polls of a pair one after the other, each of them Pending
+-- so many polls of a pair one after the other, each of them Pending and at a moment of its own, none before that of the turn
 abbrev pub PollsPending : {H : Type 0} → (PairState SourceEndValue → H → Cx → Poll PairEnd → PairState SourceEndValue → H → Type 0)
     → ℕ → PairState SourceEndValue → H → Cx → PairState SourceEndValue → H → Type 0
 PollsPending polls_pair zero p host cx after left = (after ≡ p) × (left ≡ host)
 PollsPending {H} polls_pair (suc n) p host cx after left =
-    (mid : PairState SourceEndValue) × (between : H) × PollsPending polls_pair n p host cx mid between × polls_pair mid between cx Pending after left
+    (mid : PairState SourceEndValue) × (between : H) × (now : ℕ) × PollsPending polls_pair n p host cx mid between × (cx.now ≤ now)
+    × polls_pair mid between (record cx { now = now }) Pending after left
 
 -- A pair was polled once or more in a row, 128 times at most: each poll but the last was Pending, and the answer is that of the last.
 pub record PollsInARow {H : Type 0} (polls_pair : PairState SourceEndValue → H → Cx → Poll PairEnd → PairState SourceEndValue → H → Type 0)
@@ -62,8 +84,10 @@ pub record PollsInARow {H : Type 0} (polls_pair : PairState SourceEndValue → H
   pub most : before < 128
   pub mid : PairState SourceEndValue
   pub between : H
+  pub now : ℕ
+  pub order : cx.now ≤ now
   pub pending : PollsPending polls_pair before p host cx mid between
-  pub last : polls_pair mid between cx answer after left
+  pub last : polls_pair mid between (record cx { now = now }) answer after left
 
 -- A poll of what stands in a slot. An open pair is polled in a row; it stays open where the last poll is Pending, and both its ends are closed as that poll
 -- left them where it is not. A fault is told at once.

@@ -1,7 +1,7 @@
 //! The pairs of a worker, polled as one task.
 
 use crate::served::Served;
-use aio_base::{Conn, Cx, EventWait, Gate, Notify, Poll, Task};
+use aio_base::{Clock, Conn, Cx, EventWait, Gate, Notify, Poll, Task};
 use aio_pairs::PairEnd;
 use aio_park::Group;
 use aio_shared::Inside;
@@ -10,17 +10,17 @@ use std::sync::Wait;
 use std::thread::Threads;
 
 /// A group of pairs.
-type Pairs<'g, C, W, G> = Group<Served<'g, C, W, G>, PairEnd>;
+type Pairs<'g, C, W, K, G> = Group<Served<'g, C, W, K, G>, PairEnd>;
 
 /// A group of pairs, with the gate that may hold them, so that the type itself names how long the
 /// gate lasts. Contracts see the group.
 #[derive(Drop)]
-pub(crate) struct Seats<'g, C: Conn, W: EventWait, G> {
-    pub(crate) group: Pairs<'g, C, W, G>,
+pub(crate) struct Seats<'g, C: Conn, W: EventWait, K: Clock, G> {
+    pub(crate) group: Pairs<'g, C, W, K, G>,
     pub(crate) gate: &'g G,
 }
 
-impl<'g, C: Conn, W: EventWait, G> Model for Seats<'g, C, W, G> {
+impl<'g, C: Conn, W: EventWait, K: Clock, G> Model for Seats<'g, C, W, K, G> {
     ghost use Rattle.aio_pairs.specs.declared.outcomes.PairEnd.{PairEnd};
     ghost use Rattle.aio_park.specs.Groups.{GroupValue};
     ghost use Rattle.aio_serve.specs.Served.{ServedValue};
@@ -36,16 +36,17 @@ impl<
     N: Notify,
     C: Conn + Drop,
     W: EventWait + Drop,
+    K: Clock + Drop,
     G: Gate,
-> Task<Inside<R, N, C, W>> for Seats<'g, C, W, G> {
+> Task<Inside<R, N, C, W>> for Seats<'g, C, W, K, G> {
     ghost use Rattle.aio_park.specs.Groups.{slots_give_later};
-    ghost use Rattle.aio_serve.specs.Served.{ServedValue, stage_gives, stage_gives_later};
+    ghost use Rattle.aio_serve.specs.Served.{served_gives, served_gives_later};
 
     type Output = Vec<PairEnd>;
 
-    ghost gives = { ⟦<Pairs<'g, C, W, G> as Task<Inside<R, N, C, W>>>⟧.gives };
+    ghost gives = { ⟦<Pairs<'g, C, W, K, G> as Task<Inside<R, N, C, W>>>⟧.gives };
 
-    ghost poll_step = { ⟦<Pairs<'g, C, W, G> as Task<Inside<R, N, C, W>>>⟧.poll_step };
+    ghost poll_step = { ⟦<Pairs<'g, C, W, K, G> as Task<Inside<R, N, C, W>>>⟧.poll_step };
 
     ghost poll_count = { λ seats. seats.polls };
 
@@ -58,6 +59,5 @@ impl<
     }
 
     ghost gives_later = { λ seats sure a b ends.
-        slots_give_later (λ (s : ServedValue). stage_gives s.stage)
-        (λ (s : ServedValue). stage_gives_later s.stage) seats.slots sure a b ends.items };
+        slots_give_later served_gives served_gives_later seats.slots sure a b ends.items };
 }

@@ -7,7 +7,6 @@ ghost use Rattle.aio_base.specs.ClockBounds.{IsWithin};
 ghost use Rattle.aio_park.specs.declared.group.Slot.TheVariants.{Running};
 ghost use Rattle.aio_serve.specs.Places.{WorkerEnds};
 ghost use Rattle.aio_serve.specs.Seated.{IsSeated};
-ghost use Rattle.aio_serve.specs.Served.{first_stage};
 
 use crate::seats::Seats;
 use crate::served::Served;
@@ -117,7 +116,7 @@ impl<'g, N: Notify + Drop, C: Clock + Drop, A: Conn + Drop, W: EventWait + Drop,
         rt: R,
     ) -> (
         Thread<R, N, A, W, C>,
-        Result<Seats<'g, A, W, G>, OutOfMemory>,
+        Result<Seats<'g, A, W, C, G>, OutOfMemory>,
     )
         ensures thread { self.entry ≡ record {
           parker = result.0.parker;
@@ -132,7 +131,8 @@ impl<'g, N: Notify + Drop, C: Clock + Drop, A: Conn + Drop, W: EventWait + Drop,
         ensures parker { IfOk result.1 (λ seats. seats.parker ≡ self.entry.parker) }
         ensures seated { IfOk result.1 (λ seats. (start : ℕ)
             × IsWithin (C.bounds result.0.clock) start
-            × AllZip (IsSeated self.entry.terms.idle start) self.entry.places seats.slots) }
+            × AllZip (IsSeated (C.bounds result.0.clock) self.entry.terms.idle start)
+            self.entry.places seats.slots) }
     {
         let Worker {
             post,
@@ -143,7 +143,15 @@ impl<'g, N: Notify + Drop, C: Clock + Drop, A: Conn + Drop, W: EventWait + Drop,
         } = self;
         let mut thread = post.into_thread(rt);
         let start = thread.clock.now();
-        let seated = seat_all(alloc, thread.parker, places, idle, start, gate);
+        let seated = seat_all(
+            alloc,
+            thread.parker,
+            places,
+            idle,
+            start,
+            gate,
+            &thread.clock,
+        );
         (thread, seated)
     }
 }
@@ -165,55 +173,44 @@ impl<'g, N: Notify + Drop, C: Clock + Drop, A: Conn + Drop, W: EventWait + Drop,
     }
 }
 
-/// The places, each in a slot of a group of this parker, in their order.
-fn seat_all<'g, A: Conn + Drop, W: EventWait + Drop, G>(
+/// The places, each in a slot of a group of this parker, in their order, with a twin of the clock.
+fn seat_all<'g, A: Conn + Drop, W: EventWait + Drop, C: Clock + Drop, G>(
     alloc: Global,
     parker: u32,
     places: VecDeque<Place<A, W>>,
     idle: u64,
     start: Moment,
     gate: &'g G,
-) -> Result<Seats<'g, A, W, G>, OutOfMemory>
+    clock: &C,
+) -> Result<Seats<'g, A, W, C, G>, OutOfMemory>
     requires small { parker < 16 }
     requires few { deque_len places ≤ 64 }
     requires some { 0 < idle }
     requires bound { idle ≤ 10 ^ 18 }
-    ensures seated { IfOk result (λ seats. AllZip (IsSeated idle start) places.items seats.slots) }
+    ensures seated { IfOk result (λ seats. AllZip (IsSeated (C.bounds clock.now) idle start)
+        places.items seats.slots) }
     ensures parker { IfOk result (λ seats. seats.parker ≡ parker) }
 {
     let mut group = Group::new(alloc, parker);
     let mut left = places;
     let pairs = left.len() as u32;
     while let Some(place) = left.pop_front() {
-        seat(&mut group, alloc, place, idle, start, gate, pairs)?;
+        let served = Served::among(alloc, place, idle, start, gate, clock.twin()?, pairs)?;
+        seat(&mut group, served)?;
     }
     Ok(Seats { group, gate })
 }
 
-/// Puts a place, one of so many pairs, in the next slot of a group. `OutOfMemory` where there was no
-/// memory for it; it is let go.
-fn seat<'g, A: Conn + Drop, W: EventWait + Drop, G>(
-    group: &mut Group<Served<'g, A, W, G>, PairEnd>,
-    alloc: Global,
-    place: Place<A, W>,
-    idle: u64,
-    start: Moment,
-    gate: &'g G,
-    pairs: u32,
-) -> Result<(), OutOfMemory>
+/// Puts a pair in the next slot of a group. `OutOfMemory` where there was no memory for it; it is let go.
+fn seat<T: Drop>(group: &mut Group<T, PairEnd>, served: T) -> Result<(), OutOfMemory>
     requires room { length group.old.slots < 64 }
-    requires some { 0 < idle }
-    requires bound { idle ≤ 10 ^ 18 }
     ensures { OnOk result (group.new ≡ record group.old {
-      slots = group.old.slots
-          ++ Running (record { stage = first_stage idle start place; polls = 0 }) ∷ [];
+      slots = group.old.slots ++ Running served ∷ [];
     }) }
 {
-    let served = Served::among(alloc, place, idle, start, gate, pairs)?;
     match group.add(served) {
-        Ok(_) => {}
+        Ok(_) => Ok(()),
         Err((_, GroupRefusal::Full)) => unreachable!(),
-        Err((_, GroupRefusal::OutOfMemory)) => return Err(OutOfMemory),
+        Err((_, GroupRefusal::OutOfMemory)) => Err(OutOfMemory),
     }
-    Ok(())
 }

@@ -2,7 +2,6 @@ use Rattle.std.proofs.Common.{◌≡◌, ◌≤◌, ◌++◌, [], ◌∷◌, Lis
 use Rattle.std.specs.List.{AllByRecursion}
 use Rattle.std.specs.Arc.{arc_value}
 use Rattle.std.proofs.lemmas.List.{nil_from_length}
-use Rattle.aio_shared.specs.Members.{IsMemberOf}
 use Rattle.aio_jobs.specs.Dealing.{GivesInTurn}
 use Rattle.aio_places.specs.Places.{PlaceValue}
 use Rattle.aio_park.specs.Posts.{HaveParkers, IsPostOf, PostValue, member_terms}

@@ -10,7 +10,7 @@ abbrev pub invariant-loop-place : goal.invariant-loop-place
 invariant-loop-place g l = record {
   seated : List PlaceValue;
   items : l.fn.places.items ≡ seated ++ l.left.items;
-  slots : AllZip (IsSeated l.idle l.start) seated l.group.slots;
+  slots : AllZip (IsSeated (g.C.Clock.bounds l.clock) l.idle l.start) seated l.group.slots;
   few : length l.group.slots + deque_len l.left ≤ 64;
   parker : l.group.parker ≡ l.parker;
 }

@@ -18,7 +18,7 @@ returns g c =
     (ends_so w ended
     (IfOk-weaker ended _ (λ ends. AllZip (PlaceFits terms) places ends.items)
     (λ ends told.
-    let at = IfOk-at_ok (λ seats. (start : ℕ) × IsWithin terms.bounds start × AllZip (IsSeated terms.idle start) places seats.slots) told.1 c.begin-thread.ensures.seated in
+    let at = IfOk-at_ok (λ seats. (start : ℕ) × IsWithin terms.bounds start × AllZip (IsSeated terms.bounds terms.idle start) places seats.slots) told.1 c.begin-thread.ensures.seated in
     places_fit terms at.0 at.1 places told.0.slots ends.items at.2 (told.2 (latest_of terms.bounds.greatest) (latest_is_past terms.bounds)))
     c.run_then_hand_over.ensures.output)
     c.run_then_hand_over.ensures.cause)
