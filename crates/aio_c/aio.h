@@ -14,18 +14,15 @@
  *   What stood there is overwritten, and not freed: another core whose handle stood there is lost.
  *   `wakers` is a place for `wakers_count` numbers; it may be NULL only where that is 0.
  *
- * Moments never fall from one call for a core to the next. Each call has an answer where they do,
- * but what is promised of the calls after one another (whom a round wakes, that each waker that
- * was stored is woken once at most) is promised where they do not.
- *
  * Nothing else is asked of a caller: each number and each order of calls has an answer. Link with
  * the kit's libc_c.
  *
  * Keys name sources, at most 4,096 of them, and one that is free again is given again. The numbers
  * of listeners, timers and rounds never are. Numbers of wakers are the caller's own, and 0 is one
  * as any other: equal numbers are one waker, and a poll with the number of the poll waiter stores
- * nothing anew. Moments are nanoseconds from a start that the caller chose, and those past 10^18
- * count as that; limits are nanoseconds from no start. */
+ * nothing anew. Moments are nanoseconds from a start that the caller chose; those past 10^18 count
+ * as that, and the moment of a begin or a finish that is below the last one of its core counts as
+ * the last one. Limits are nanoseconds from no start. */
 #ifndef AIO_H
 #define AIO_H
 
@@ -61,7 +58,8 @@ enum {
     AIO_NO_LISTENER = 15,     /* no listener has this number */
     AIO_TICKETS_SPENT = 16,   /* 2^64 - 1 listeners came; this core has no number for another */
     AIO_NOTIFY_FAULT = 17,    /* not answered by a core, which has nobody to notify */
-    AIO_IDS_SPENT = 18        /* 2^40 - 1 timers were registered; this core takes no other */
+    AIO_IDS_SPENT = 18,       /* 2^40 - 1 timers were registered; this core takes no other */
+    AIO_UNREAD_WAKERS = 19    /* the last finish told wakers that were not all read: aio_woken first */
 };
 
 struct aio_handle {
@@ -170,7 +168,7 @@ struct aio_number_answer aio_listen_priority(struct aio_handle h, struct aio_han
  *    system's poller, and aio_handle. Then this step again, until an aio_wait answers 0 with no
  *    events.
  * 5. aio_finish.
- * 6. aio_woken, with places for as many wakers as the finish told, each of which is then woken.
+ * 6. Where the finish told wakers, aio_woken with places for as many, each of which is then woken.
  *
  * Step 4 comes again since an aio_wait takes in hand the first 1,024 events that were given and not
  * yet taken; the others are for the next one, and so are all where it was interrupted or failed: 1
@@ -182,9 +180,10 @@ struct aio_number_answer aio_listen_priority(struct aio_handle h, struct aio_han
  * that answers 13 did nothing, and is taken again where there is memory; the round runs until then.
  *
  * aio_woken writes the wakers of the last finish, in order, as many of them as there are places;
- * the places behind them stay as they are. The next begin drops those that were not read by then.
- * While a round runs it writes whom that has taken so far: nobody is to be woken for it, for they
- * come again with the finish of this round.
+ * the places behind them stay as they are. Where there were places for all of them they are read,
+ * and it writes nothing from then on; with fewer places none counts as read, and the next aio_woken
+ * begins with the first of them again. Until they are read aio_begin answers 19, with all as it was,
+ * so that none is lost. Whom a running round has taken so far is told by its finish alone.
  *
  * aio_ticker tells how many rounds have begun, which is the number of the last one. */
 uint64_t aio_ticker(struct aio_handle h, struct aio_handle *out);

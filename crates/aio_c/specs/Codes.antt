@@ -1,5 +1,5 @@
 -- The numbers that stand for a core's answers outside of Rattle, and what crosses of each answer.
-use Rattle.std.specs.Prelude.{ℕ, ◌^◌, ◌==◌, Bool, true, false, if◌then◌else◌, min, List, [], ◌∷◌, Option, None, Some, Result, Ok, Err}
+use Rattle.std.specs.Prelude.{ℕ, ◌^◌, ◌==◌, Bool, true, false, if◌then◌else◌, min, max, List, [], ◌∷◌, Option, None, Some, Result, Ok, Err}
 use Rattle.aio_base.specs.declared.names.Dir.{Dir}
 use Rattle.aio_base.specs.declared.names.Dir.TheVariants.{Read, Write}
 use Rattle.aio_base.specs.declared.names.Event.{Event}
@@ -112,6 +112,10 @@ wait_answer (Ok (Given n)) = record { code = 0; events = n }
 wait_answer (Ok Interrupted) = record { code = 1; events = 0 }
 wait_answer (Err refused) = record { code = refusal_code refused; events = 0 }
 
+-- the answer where wakers of the last finish were not read
+abbrev pub unread_answer : BeginAnswer
+unread_answer = record { code = 19; number = 0; limited = false; limit = 0 }
+
 -- an event that was handled; a code of 2 tells that the poller could not be armed
 abbrev pub handling_answer : ℕ → Option ArmFault → HandleAnswer
 handling_answer key None = record { code = 0; key = key }
@@ -155,6 +159,10 @@ moment_at n = min n (10 ^ 18)
 
 abbrev pub limit_in : Bool → ℕ → Option ℕ
 limit_in limited limit = if limited then Some limit else None
+
+-- the moment of a begin or a finish: one below the last one counts as that
+abbrev pub moment_from : ℕ → ℕ → ℕ
+moment_from clock n = max clock (moment_at n)
 
 -- the limit with which a round begins: no time, where events were given that no wait has taken
 abbrev pub limit_behind : List Event → Bool → ℕ → Option ℕ

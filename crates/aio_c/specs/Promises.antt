@@ -1,6 +1,6 @@
 -- What each call promises across the handle: there is an answer of the core that crossed, and of it and of the core before and after stands what the
 -- core's own call promises, clause by clause.
-use Rattle.std.specs.Prelude.{◌≡◌, ◌≢◌, ◌≤◌, ℕ, ◌+◌, false, List, [], ◌∷◌, ◌++◌, length, map, take, drop, slice_get, Option, None, Some, option_map, is_ok, is_some, IsSome, IsErr, IfSome, IfErr, IfOk, OnOk, OnErr, Result, Err}
+use Rattle.std.specs.Prelude.{◌≡◌, ◌≢◌, ◌≤◌, ℕ, ◌+◌, Bool, true, false, ◌&&◌, ltb, if◌then◌else◌, List, [], ◌∷◌, ◌++◌, length, map, take, drop, slice_get, Option, None, Some, option_map, is_ok, is_some, IsSome, IsErr, IfSome, IfErr, IfOk, OnOk, OnErr, Result, Err}
 use Rattle.std.specs.Option.{option_or}
 use Rattle.aio_base.specs.declared.names.Dir.{Dir}
 use Rattle.aio_base.specs.declared.names.Event.{Event}
@@ -19,6 +19,8 @@ use Rattle.aio_base.specs.Devices.{Interests, PollerStep, TellsFaults, AddOf, Re
 use Rattle.aio_base.specs.Machine.{Outcome, wait_round, handle_round, finish_round}
 use Rattle.aio_base.specs.Timers.{due_wakers}
 use Rattle.aio_base.specs.World.{World, PollerAnswer}
+use Rattle.aio_c.specs.Codes.{moment_from}
+use Rattle.aio_c.specs.declared.held.Held.{Held}
 use Rattle.aio_script.specs.Script.{Script, interests_of, ScriptArms, ScriptWaits}
 use Rattle.aio_source.specs.Rules.{Prepared}
 use Rattle.aio_source.specs.declared.answers.Polled.{Polled}
@@ -80,6 +82,24 @@ counts old new = record { before = old.0.faults; after = new.0.faults }
 
 abbrev pub counts_for : Key → State → State → ArmFault
 counts_for key old new = record { key = key; before = old.0.faults; after = new.0.faults }
+
+-- ## What a handle holds beside its core
+
+-- of what the handle holds the core alone may be another one
+abbrev pub ChangesCoreAlone : Held → Held → Type 0
+ChangesCoreAlone old new = new ≡ record old { core = new.core }
+
+abbrev pub has_wakers : List Waker → Bool
+has_wakers [] = false
+has_wakers (waker ∷ wakers) = true
+
+-- whom the last finish has to wake, where they were not all read since
+abbrev pub unread_wakers : Held → List Waker
+unread_wakers held = if held.unread then held.core.1.round.taken else []
+
+-- whether some of them are unread still, after a reading into so many places
+abbrev pub unread_behind : Held → ℕ → Bool
+unread_behind held places = held.unread && ltb places (length held.core.1.round.taken)
 
 -- ## Sources
 
@@ -184,6 +204,20 @@ pub record FinishPromises (old : State) (now : ℕ) (told : Result (Option Round
   pub idle : OnOk told (new.1.round.running ≡ false)
   pub fault : IfOk told (λ first. first ≡ old.1.round.fault)
   pub rose : IfOk told (λ first. IfSome first HasRisen)
+
+-- a begin, at a moment that does not fall: what the core's own promises, and the moment is kept
+pub record Begins (old : Held) (now : ℕ) (given : Option ℕ) (told : Result (ℕ × Option ℕ) CoreRefusal) (new : Held) : Type 0 where
+  pub core : BeginPromises old.core (moment_from old.clock now) given told new.core
+  pub clock : OnOk told (new.clock ≡ moment_from old.clock now)
+  pub unread : new.unread ≡ old.unread
+  pub refused : OnErr told (new ≡ old)
+
+-- a finish so; its wakers, where it has any, are unread
+pub record Finishes (old : Held) (now : ℕ) (told : Result (Option RoundFault) CoreRefusal) (new : Held) : Type 0 where
+  pub core : FinishPromises old.core (moment_from old.clock now) told new.core
+  pub clock : OnOk told (new.clock ≡ moment_from old.clock now)
+  pub unread : OnOk told (new.unread ≡ has_wakers new.core.1.round.taken)
+  pub refused : OnErr told (new ≡ old)
 
 -- ## Timers and what the poller in memory is told
 

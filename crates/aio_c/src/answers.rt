@@ -6,7 +6,7 @@ ghost use Rattle.aio_c.specs.Codes.{refusal_code, poll_code, fault_code, insert_
 ghost use Rattle.aio_c.specs.Codes.{step_code, memory_code, key_answer, replacing, poll_answer};
 ghost use Rattle.aio_c.specs.Codes.{listener_answer, beginning, begin_answer, wait_answer};
 ghost use Rattle.aio_c.specs.Codes.{handling_answer, handle_answer, finish_answer, timer_answer};
-ghost use Rattle.aio_c.specs.Codes.{ask_answer, dir_of, which_of, moment_at, limit_in};
+ghost use Rattle.aio_c.specs.Codes.{ask_answer, dir_of, which_of, moment_at, moment_from, limit_in};
 
 use aio_base::{
     ArmFault, Dir, InsertRefusal, Interest, Key, Moment, OutOfMemory, Poll, TimerId, Waited, Waker,
@@ -363,6 +363,15 @@ pub(crate) fn moment_at(n: u64) -> Moment
         Some(moment) => moment,
         None => unreachable!(),
     }
+}
+
+/// The moment at which a round begins or ends: that so many nanoseconds after the start, and the last one of
+/// a begin or finish where it is earlier.
+pub(crate) fn moment_from(clock: Moment, n: u64) -> Moment
+    ensures { result ≡ moment_from clock n }
+{
+    let now = moment_at(n);
+    if now.get() < clock.get() { clock } else { now }
 }
 
 pub(crate) fn limit_in(limited: bool, limit: u64) -> Option<u64>

@@ -5,12 +5,12 @@
 //! round has one export, which takes the handle and puts it back through `out`. Its answer is a
 //! plain struct with a code. Of each it promises that some answer of the core crossed as that
 //! struct, and of that answer what the core's own call promises, clause by clause, over what the
-//! handle held before and holds after. So the machine's rules hold across the handle, for a caller
-//! that keeps to what the proofs take for granted of it. A handle that is used is one that a call, or an
-//! `aio_new` that answered `true`, has put back; it is used once, by one call at a time, and never after
-//! `aio_free`. `out` is a place for a handle, and `wakers` one for as many numbers as it says. And
-//! moments never fall from call to call: each clause is of a world at the moment of its own call, and no
-//! run of the machine leads from a world to one with an earlier clock.
+//! handle held before and holds after; beside the core that is the moment of the last begin or finish, so
+//! that moments never fall, and whether the wakers of the last finish were read, before which no round
+//! begins. So the machine's rules hold across the handle, for a caller that keeps to what the proofs take
+//! for granted of it. A handle that is used is one that a call, or an `aio_new` that answered `true`, has
+//! put back; it is used once, by one call at a time, and never after `aio_free`. `out` is a place for a
+//! handle, and `wakers` one for as many numbers as it says.
 #![tactic(auto)]
 
 ghost use Rattle.std.specs.Prelude.{◌≡◌, List, true, false};
@@ -34,6 +34,7 @@ mod tasks;
 mod tests;
 mod timers;
 
+use aio_base::Moment;
 use aio_react::Core;
 use aio_script::ScriptPoller;
 use held::Held;
@@ -94,19 +95,31 @@ impl Handle {
 /// armed: it stands for the opening world. `false` where memory ran out; `out` is as it was then.
 #[unsafe(no_mangle)]
 pub extern "C" fn aio_new(alloc: Global, out: &mut Handle) -> bool
-    ensures made { result ≡ true → out.new.home.core ≡ (new_script, new_core) }
+    ensures made { result ≡ true → out.new.home ≡ record {
+      core = (new_script, new_core);
+      clock = 0;
+      unread = false;
+    } }
     ensures stands { (armed : List ArmedDirection) → AgreesWithArmed (tells new_script) armed
         → result ≡ true → Stands (tells out.new.home.core.0) out.new.home.core.1
         (record opening { armed = armed }) }
     ensures refused { result ≡ false → out.new ≡ out.old }
 {
+    let Some(clock) = Moment::new(0) else {
+        return false;
+    };
     let Ok(poller) = ScriptPoller::new(alloc) else {
         return false;
     };
     let Ok(core) = Core::new(alloc, poller) else {
         return false;
     };
-    match Box::new(alloc, Held { core }) {
+    let held = Held {
+        core,
+        clock,
+        unread: false,
+    };
+    match Box::new(alloc, held) {
         Ok(made) => {
             *out = Handle::close(made);
             true

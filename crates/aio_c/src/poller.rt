@@ -3,7 +3,7 @@
 ghost use Rattle.std.specs.Prelude.{◌≡◌, false, true};
 ghost use Rattle.aio_base.specs.Machine.{with_due};
 ghost use Rattle.aio_c.specs.Codes.{memory_code, which_of};
-ghost use Rattle.aio_c.specs.Promises.{Crossed, GivePromises};
+ghost use Rattle.aio_c.specs.Promises.{Crossed, ChangesCoreAlone, GivePromises};
 
 use crate::Handle;
 use crate::answers::{memory_code, which_of};
@@ -11,8 +11,9 @@ use aio_base::{Event, Interest, Key};
 
 /// Tells the poller in memory an event of this source.
 fn give(h: Handle, out: &mut Handle, event: Event) -> u32
-    ensures { Crossed memory_code
+    ensures answer { Crossed memory_code
         (λ told. GivePromises h.home.core event told out.new.home.core) result }
+    ensures rest { ChangesCoreAlone h.home out.new.home }
 {
     let mut held = h.open();
     let told = held.core.poller().give(event);
@@ -24,10 +25,11 @@ fn give(h: Handle, out: &mut Handle, event: Event) -> u32
 /// key may be one that no source has.
 #[unsafe(no_mangle)]
 pub extern "C" fn aio_give(h: Handle, out: &mut Handle, key: u32, read: bool, write: bool) -> u32
-    ensures { Crossed memory_code (λ told. GivePromises h.home.core (record {
+    ensures answer { Crossed memory_code (λ told. GivePromises h.home.core (record {
       key = record { 0 = key };
       on = record { read = read; write = write; priority = false };
     }) told out.new.home.core) result }
+    ensures rest { ChangesCoreAlone h.home out.new.home }
 {
     let event = Event {
         key: Key(key),
@@ -49,10 +51,11 @@ pub extern "C" fn aio_give_priority(
     read: bool,
     write: bool,
 ) -> u32
-    ensures { Crossed memory_code (λ told. GivePromises h.home.core (record {
+    ensures answer { Crossed memory_code (λ told. GivePromises h.home.core (record {
       key = record { 0 = key };
       on = record { read = read; write = write; priority = true };
     }) told out.new.home.core) result }
+    ensures rest { ChangesCoreAlone h.home out.new.home }
 {
     let event = Event {
         key: Key(key),
@@ -69,12 +72,14 @@ pub extern "C" fn aio_give_priority(
 /// for an arm, 2 for a removal, and each other number for a wait.
 #[unsafe(no_mangle)]
 pub extern "C" fn aio_fail_next(h: Handle, out: &mut Handle, kind: u32)
-    ensures { out.new.home.core ≡ (
-      record h.home.core.0 {
-        due = with_due (which_of kind) h.home.core.0.due;
-      },
-      h.home.core.1,
-    ) }
+    ensures { out.new.home ≡ record h.home {
+      core = (
+        record h.home.core.0 {
+          due = with_due (which_of kind) h.home.core.0.due;
+        },
+        h.home.core.1,
+      );
+    } }
 {
     let mut held = h.open();
     held.core.poller().fail_next(which_of(kind));
@@ -84,12 +89,14 @@ pub extern "C" fn aio_fail_next(h: Handle, out: &mut Handle, kind: u32)
 /// The next wait of the poller that does not fail is interrupted, as the system's was.
 #[unsafe(no_mangle)]
 pub extern "C" fn aio_interrupt_next(h: Handle, out: &mut Handle)
-    ensures { out.new.home.core ≡ (
-      record h.home.core.0 {
-        due = record h.home.core.0.due { interrupt = true };
-      },
-      h.home.core.1,
-    ) }
+    ensures { out.new.home ≡ record h.home {
+      core = (
+        record h.home.core.0 {
+          due = record h.home.core.0.due { interrupt = true };
+        },
+        h.home.core.1,
+      );
+    } }
 {
     let mut held = h.open();
     held.core.poller().interrupt_next();

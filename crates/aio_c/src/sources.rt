@@ -6,7 +6,7 @@ ghost use Rattle.aio_base.specs.World.{World};
 ghost use Rattle.aio_react.specs.Cores.{entry_at};
 ghost use Rattle.aio_react.specs.Standing.{Stands};
 ghost use Rattle.aio_c.specs.Codes.{key_answer, done_code};
-ghost use Rattle.aio_c.specs.Promises.{Crossed, AddPromises, DelPromises, tells};
+ghost use Rattle.aio_c.specs.Promises.{Crossed, ChangesCoreAlone, AddPromises, DelPromises, tells};
 
 use crate::Handle;
 use crate::answers::{KeyAnswer, done_code, key_answer};
@@ -15,8 +15,9 @@ use aio_base::Key;
 /// Registers a source under the least key that is not live.
 #[unsafe(no_mangle)]
 pub extern "C" fn aio_add(h: Handle, out: &mut Handle) -> KeyAnswer
-    ensures { Crossed key_answer
+    ensures answer { Crossed key_answer
         (λ told. AddPromises h.home.core told out.new.home.core) result }
+    ensures rest { ChangesCoreAlone h.home out.new.home }
 {
     let mut held = h.open();
     let told = held.core.add();
@@ -27,8 +28,9 @@ pub extern "C" fn aio_add(h: Handle, out: &mut Handle) -> KeyAnswer
 /// Takes a source out.
 #[unsafe(no_mangle)]
 pub extern "C" fn aio_del(h: Handle, out: &mut Handle, key: u32) -> u32
-    ensures { Crossed done_code
+    ensures answer { Crossed done_code
         (λ told. DelPromises h.home.core (record { 0 = key }) told out.new.home.core) result }
+    ensures rest { ChangesCoreAlone h.home out.new.home }
 {
     let mut held = h.open();
     let told = held.core.del(Key(key));

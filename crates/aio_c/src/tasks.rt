@@ -8,8 +8,8 @@ ghost use Rattle.aio_react.specs.Asking.{asked_of, poll_part, step_part_of};
 ghost use Rattle.aio_react.specs.Numbers.{value_of};
 ghost use Rattle.aio_c.specs.Codes.{poll_answer, listener_answer, step_code, done_code, ask_answer};
 ghost use Rattle.aio_c.specs.Codes.{dir_of};
-ghost use Rattle.aio_c.specs.Promises.{Crossed, PollPromises, ListenPromises, StepPromises};
-ghost use Rattle.aio_c.specs.Promises.{UnlistenPromises};
+ghost use Rattle.aio_c.specs.Promises.{Crossed, ChangesCoreAlone, PollPromises, ListenPromises};
+ghost use Rattle.aio_c.specs.Promises.{StepPromises, UnlistenPromises};
 
 use crate::Handle;
 use crate::answers::{
@@ -27,8 +27,9 @@ pub extern "C" fn aio_poll(
     write: bool,
     waker: u32,
 ) -> PollAnswer
-    ensures { Crossed poll_answer (λ told. PollPromises h.home.core (record { 0 = key })
+    ensures answer { Crossed poll_answer (λ told. PollPromises h.home.core (record { 0 = key })
         (dir_of write) (record { 0 = waker }) told out.new.home.core) result }
+    ensures rest { ChangesCoreAlone h.home out.new.home }
 {
     let mut held = h.open();
     let told = held.core.poll(Key(key), dir_of(write), Waker(waker));
@@ -52,8 +53,9 @@ pub extern "C" fn aio_poll_asks(h: Handle, out: &mut Handle, key: u32, write: bo
 /// Polls whether a source is urgently ready, with a waker.
 #[unsafe(no_mangle)]
 pub extern "C" fn aio_poll_priority(h: Handle, out: &mut Handle, key: u32, waker: u32) -> PollAnswer
-    ensures { Crossed poll_answer (λ told. PollPromises h.home.core (record { 0 = key })
+    ensures answer { Crossed poll_answer (λ told. PollPromises h.home.core (record { 0 = key })
         Priority (record { 0 = waker }) told out.new.home.core) result }
+    ensures rest { ChangesCoreAlone h.home out.new.home }
 {
     let mut held = h.open();
     let told = held.core.poll(Key(key), Dir::Priority, Waker(waker));
@@ -78,8 +80,9 @@ pub extern "C" fn aio_poll_priority_asks(h: Handle, out: &mut Handle, key: u32) 
 /// `aio_step` on, and once it is ready it stays so. Its number never comes again.
 #[unsafe(no_mangle)]
 pub extern "C" fn aio_listen(h: Handle, out: &mut Handle, key: u32, write: bool) -> NumberAnswer
-    ensures { Crossed listener_answer (λ told. ListenPromises h.home.core (record { 0 = key })
+    ensures answer { Crossed listener_answer (λ told. ListenPromises h.home.core (record { 0 = key })
         (dir_of write) told out.new.home.core) result }
+    ensures rest { ChangesCoreAlone h.home out.new.home }
 {
     let mut held = h.open();
     let told = held.core.listen(Key(key), dir_of(write));
@@ -90,8 +93,9 @@ pub extern "C" fn aio_listen(h: Handle, out: &mut Handle, key: u32, write: bool)
 /// A new listener of a source for urgent readiness.
 #[unsafe(no_mangle)]
 pub extern "C" fn aio_listen_priority(h: Handle, out: &mut Handle, key: u32) -> NumberAnswer
-    ensures { Crossed listener_answer (λ told. ListenPromises h.home.core (record { 0 = key })
+    ensures answer { Crossed listener_answer (λ told. ListenPromises h.home.core (record { 0 = key })
         Priority told out.new.home.core) result }
+    ensures rest { ChangesCoreAlone h.home out.new.home }
 {
     let mut held = h.open();
     let told = held.core.listen(Key(key), Dir::Priority);
@@ -102,8 +106,9 @@ pub extern "C" fn aio_listen_priority(h: Handle, out: &mut Handle, key: u32) -> 
 /// Polls a listener with a waker.
 #[unsafe(no_mangle)]
 pub extern "C" fn aio_step(h: Handle, out: &mut Handle, listener: u64, waker: u32) -> u32
-    ensures { Crossed step_code (λ told. StepPromises h.home.core listener
+    ensures answer { Crossed step_code (λ told. StepPromises h.home.core listener
         (record { 0 = waker }) told out.new.home.core) result }
+    ensures rest { ChangesCoreAlone h.home out.new.home }
 {
     let mut held = h.open();
     let told = held.core.step(listener, Waker(waker));
@@ -127,8 +132,9 @@ pub extern "C" fn aio_step_asks(h: Handle, out: &mut Handle, listener: u64) -> A
 /// Gives up a listener.
 #[unsafe(no_mangle)]
 pub extern "C" fn aio_unlisten(h: Handle, out: &mut Handle, listener: u64) -> u32
-    ensures { Crossed done_code (λ told. UnlistenPromises h.home.core listener
+    ensures answer { Crossed done_code (λ told. UnlistenPromises h.home.core listener
         told out.new.home.core) result }
+    ensures rest { ChangesCoreAlone h.home out.new.home }
 {
     let mut held = h.open();
     let told = held.core.unlisten(listener);

@@ -13,6 +13,7 @@ use crate::tasks::{
 };
 use crate::timers::{aio_insert_timer, aio_remove_timer};
 use crate::{Handle, aio_free, aio_new};
+use aio_base::Moment;
 use aio_react::Core;
 use aio_script::ScriptPoller;
 use std::alloc::Global;
@@ -48,6 +49,8 @@ enum Call {
     Wait,
     Handle,
     Finish(u64),
+    /// Reads wakers into so many places, two at most.
+    Woken(usize),
     Ticker,
 }
 
@@ -69,10 +72,16 @@ fn asked(answer: AskAnswer) -> Told {
 
 /// A handle for an answer to be put in.
 fn spare(alloc: Global) -> Result<Handle, Fail> {
-    let Ok(core) = Core::new(alloc, ScriptPoller::new(alloc)?) else {
+    let (Ok(core), Some(clock)) = (Core::new(alloc, ScriptPoller::new(alloc)?), Moment::new(0))
+    else {
         return Err(Fail::from("there is no memory"));
     };
-    Ok(Handle::close(Box::new(alloc, Held { core })?))
+    let held = Held {
+        core,
+        clock,
+        unread: false,
+    };
+    Ok(Handle::close(Box::new(alloc, held)?))
 }
 
 fn answer_in_a_round(h: Handle, out: &mut Handle, call: Call) -> Told {
@@ -106,8 +115,19 @@ fn answer_in_a_round(h: Handle, out: &mut Handle, call: Call) -> Told {
             let ended = aio_finish(h, out, now);
             Told(ended.code, ended.wakers)
         }
+        Call::Woken(places) => first_woken(h, out, places),
         _ => Told(0, aio_ticker(h, out)),
     }
+}
+
+/// What stands in a place where no waker was written.
+const NOBODY: u32 = 99;
+
+/// Reads wakers into so many places. What stands in the first of them then, and in the second.
+fn first_woken(h: Handle, out: &mut Handle, count: usize) -> Told {
+    let mut places = [NOBODY; 2];
+    aio_woken(h, out, &mut places[..count.min(2)]);
+    Told(places[1], places[0] as u64)
 }
 
 fn answer_of_a_listener(h: Handle, out: &mut Handle, call: Call) -> Told {
@@ -269,6 +289,7 @@ const LATER_ROUNDS: &[(Call, Told)] = &[
     (Call::Handle, Told(0, 0)),
     (Call::HandleAsks, Told(0, 0)),
     (Call::Finish(9), Told(0, 1)),
+    (Call::Woken(1), Told(99, 7)),
     (Call::Poll(0, 7), Told(1, 0)),
     (Call::Begin(u64::MAX), Told(0, 3)),
     (Call::Finish(u64::MAX), Told(0, 1)),
@@ -333,12 +354,65 @@ const LEFT_BEHIND: &[(Call, Told)] = &[
     (Call::Wait, Told(0, 1)),
     (Call::Handle, Told(0, 0)),
     (Call::Finish(0), Told(0, 1)),
+    (Call::Woken(1), Told(99, 1)),
     (Call::BeginWithin(0, 40), Told(0, 40)),
 ];
 
 #[test]
 fn a_round_behind_events_that_were_not_taken_does_not_wait(rt: HostRuntime) -> Result<(), Fail> {
     aio_free(walked(&rt, rt.alloc(), spare(rt.alloc())?, LEFT_BEHIND)?);
+    Ok(())
+}
+
+/// Two timers fire, and no round begins before both wakers are read: with one place they are not. Read
+/// once they are told no more, nor is whom the next round has taken before its end.
+const UNREAD: &[(Call, Told)] = &[
+    (Call::Insert(5, 3), Told(0, 1)),
+    (Call::Insert(5, 4), Told(0, 2)),
+    (Call::Woken(2), Told(99, 99)),
+    (Call::Begin(5), Told(0, 1)),
+    (Call::Woken(2), Told(99, 99)),
+    (Call::Finish(5), Told(0, 2)),
+    (Call::Begin(5), Told(19, 0)),
+    (Call::Woken(1), Told(99, 3)),
+    (Call::BeginWithin(5, 40), Told(19, 0)),
+    (Call::Ticker, Told(0, 1)),
+    (Call::Insert(6, 8), Told(0, 3)),
+    (Call::Woken(2), Told(4, 3)),
+    (Call::Woken(2), Told(99, 99)),
+    (Call::Begin(6), Told(0, 2)),
+    (Call::Finish(6), Told(0, 1)),
+    (Call::Woken(2), Told(99, 8)),
+    (Call::Begin(6), Told(0, 3)),
+    (Call::Finish(6), Told(0, 0)),
+    (Call::Begin(6), Told(0, 4)),
+];
+
+/// A timer is due at 50. Behind a begin at 40 each earlier moment counts as 40: the limit is 10, also of the
+/// round that begins at 30; and behind one at 60 a begin at 50 finds the timer of 60 due. A refused begin
+/// leaves the moment as it was.
+const FALLING: &[(Call, Told)] = &[
+    (Call::Insert(50, 9), Told(0, 1)),
+    (Call::BeginWithin(40, 90), Told(0, 10)),
+    (Call::Begin(70), Told(6, 0)),
+    (Call::Finish(20), Told(0, 0)),
+    (Call::BeginWithin(30, 90), Told(0, 10)),
+    (Call::Finish(60), Told(0, 0)),
+    (Call::Insert(60, 4), Told(0, 2)),
+    (Call::BeginWithin(50, 90), Told(0, 0)),
+    (Call::Finish(0), Told(0, 2)),
+    (Call::Woken(2), Told(4, 9)),
+];
+
+#[test]
+fn a_round_begins_once_the_wakers_of_the_last_one_are_read(rt: HostRuntime) -> Result<(), Fail> {
+    aio_free(walked(&rt, rt.alloc(), spare(rt.alloc())?, UNREAD)?);
+    Ok(())
+}
+
+#[test]
+fn an_earlier_moment_counts_as_the_last_one(rt: HostRuntime) -> Result<(), Fail> {
+    aio_free(walked(&rt, rt.alloc(), spare(rt.alloc())?, FALLING)?);
     Ok(())
 }
 

@@ -1,4 +1,4 @@
-use Rattle.std.proofs.Common.{rules, ◌≡◌, sym, subst}
+use Rattle.std.proofs.Common.{rules, ◌≡◌, false, sym, subst}
 use Rattle.aio_base.specs.World.{opening}
 use Rattle.aio_script.specs.Script.{Script}
 use Rattle.aio_react.specs.Standing.{Stands}
@@ -9,6 +9,6 @@ use Rattle.aio_c.proofs.aio_new.Goals as goal
 
 pub returns-in-Ok-new-2-clause-stands : goal.returns-in-Ok-new-2-clause-stands
 returns-in-Ok-new-2-clause-stands c armed agrees made =
-    let within : c.close.result.home ≡ record { core = c.in-Ok-new.core } = search rules in
+    let within : c.close.result.home ≡ record { core = c.in-Ok-new.core; clock = 0; unread = false } = search rules in
     subst (λ (held : Held). Stands (tells held.core.0) held.core.1 (record opening { armed = armed })) (sym within)
     (c.in-Ok-new.ensures.stands armed (subst (λ (p : Script). AgreesWithArmed (tells p) armed) (sym c.in-Ok.ensures.fresh) agrees))
