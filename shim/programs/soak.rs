@@ -1,7 +1,8 @@
 //! 8 threads with 25 socket pairs each: every pair sends a byte there and one back 400 times,
 //! beside timers, as a task with a waker of its own. A round trip that is not made within the time
 //! of the first argument in seconds, 20 where there is none, ends the program with status 1. Each
-//! thread makes its own pairs; where the second argument is `one`, the main thread makes all.
+//! thread makes its own pairs; where the second argument is `one`, the main thread makes all. A third
+//! one is another number of threads, a fourth one of trips of a pair.
 use async_io::{Async, Timer};
 use futures_lite::io::{AsyncReadExt, AsyncWriteExt};
 use futures_lite::FutureExt;
@@ -15,7 +16,7 @@ use std::time::{Duration, Instant};
 
 const THREADS: usize = 8;
 const PAIRS: usize = 25;
-const TRIPS: u32 = 400;
+const TRIPS: usize = 400;
 
 type Work = Pin<Box<dyn Future<Output = ()> + Send>>;
 type Pair = (Async<UnixStream>, Async<UnixStream>);
@@ -82,9 +83,9 @@ fn pairs() -> Vec<Pair> {
     (0..PAIRS).map(|_| Async::<UnixStream>::pair().unwrap()).collect()
 }
 
-async fn trips((mut near, mut far): Pair, patience: Duration) {
+async fn trips((mut near, mut far): Pair, count: usize, patience: Duration) {
     let mut byte = [0];
-    for trip in 0..TRIPS {
+    for trip in 0..count {
         if trip % 50 == 0 {
             Timer::after(Duration::from_micros(200)).await;
         }
@@ -113,22 +114,24 @@ fn main() {
     let seconds = std::env::args().nth(1).map_or(20, |word| word.parse().unwrap());
     let patience = Duration::from_secs(seconds);
     let makes_all = std::env::args().nth(2).map_or(false, |word| word == "one");
+    let number = |at, other| std::env::args().nth(at).map_or(other, |word| word.parse().unwrap());
+    let (threads, count) = (number(3, THREADS), number(4, TRIPS));
     let start = Instant::now();
-    let made: Vec<_> = (0..THREADS).map(|_| makes_all.then(pairs)).collect();
-    let threads: Vec<_> = made
+    let made: Vec<_> = (0..threads).map(|_| makes_all.then(pairs)).collect();
+    let running: Vec<_> = made
         .into_iter()
         .map(|made| {
             std::thread::spawn(move || {
                 let pairs = made.unwrap_or_else(pairs).into_iter();
-                let works = pairs.map(|pair| Box::pin(trips(pair, patience)) as Work);
+                let works = pairs.map(|pair| Box::pin(trips(pair, count, patience)) as Work);
                 async_io::block_on(run_all(works.collect()))
             })
         })
         .collect();
-    for thread in threads {
+    for thread in running {
         thread.join().unwrap();
     }
-    let made = THREADS * PAIRS * TRIPS as usize;
+    let made = threads * PAIRS * count;
     let whose = if makes_all { " over pairs of one thread" } else { "" };
     println!("{made} round trips{whose} in {} ms", start.elapsed().as_millis());
 }
