@@ -11,7 +11,7 @@ use Rattle.aio_base.specs.Lines.{body_of, fault_of, first, is_allowed, line_byte
 use Rattle.aio_base.specs.Trace.{header_words}
 use Rattle.aio_replay.specs.Language.{LanguageRules, first_header, first_reply, first_version}
 
-fault_of_long : (bytes : List ℕ) → 256 < length bytes → fault_of bytes ≡ Some fault.Long
+pub fault_of_long : (bytes : List ℕ) → 256 < length bytes → fault_of bytes ≡ Some fault.Long
 unfolding fault_of
 fault_of_long bytes long =
     ap (λ (t : Bool). result_err (if t then Err fault.Long

@@ -7,7 +7,7 @@ use std::alloc::AllocError;
 
 /// Why a line is not answered.
 #[derive(Clone, Copy)]
-pub(crate) enum Unanswered {
+pub enum Unanswered {
     /// The line is refused.
     Refused(Reason),
     /// Memory ran out.
@@ -17,7 +17,7 @@ pub(crate) enum Unanswered {
 /// What answers lines, and the text of those that it answered, which is not written yet. Both lie
 /// together, so that what a line runs is handed one reference.
 #[derive(Drop)]
-pub(crate) struct Gathered<A> {
+pub struct Gathered<A> {
     pub answerer: A,
     pub text: Vec<u8>,
 }
@@ -33,7 +33,7 @@ impl<A: Drop> Gathered<A> {
 
 /// What answers the lines of an input one after the other, with a state of its own, as a driver of lines
 /// asks for it. Lines are given without their line feeds.
-pub(crate) trait Answerer {
+pub trait Answerer {
     ghost use Rattle.aio_replay.specs.Answering.{AnswerRules, AnswersHeader, AnswersLine, IsReady};
     ghost use Rattle.aio_replay.specs.Language.{LanguageRules};
 

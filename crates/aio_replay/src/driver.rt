@@ -22,7 +22,7 @@ const LINE_ROOM: usize = 32_768;
 /// Lines in the middle of their input: the reader of them, what answers them, and the text that is not
 /// written yet.
 #[derive(Drop)]
-pub(crate) struct Driver<A> {
+pub struct Driver<A> {
     pub reader: LineReader,
     pub gathered: Gathered<A>,
 }
@@ -39,7 +39,7 @@ impl<A: Answerer + Drop> Driver<A> {
 
     /// A driver that has read nothing, over what answers the lines. `AllocError` where there is no memory
     /// for its parts.
-    pub(crate) fn new(alloc: Global, answerer: A) -> Result<Driver<A>, AllocError>
+    pub fn new(alloc: Global, answerer: A) -> Result<Driver<A>, AllocError>
         ensures ahead { IfOk result (λ d. d.reader.ahead ≡ []) }
         ensures text { IfOk result (λ d. d.gathered.text.items ≡ []) }
         ensures answerer { IfOk result (λ d. d.gathered.answerer ≡ answerer) }
@@ -57,14 +57,14 @@ impl<A: Answerer + Drop> Driver<A> {
     }
 
     /// What answered the lines.
-    pub(crate) fn into_answerer(self) -> A
+    pub fn into_answerer(self) -> A
         ensures { result ≡ self.gathered.answerer }
     {
         self.gathered.into_answerer()
     }
 
     /// Answers the lines of an input, from its header to its end.
-    pub(crate) fn drive<S: Source, K: Sink>(&mut self, input: &mut S, out: &mut K) -> End
+    pub fn drive<S: Source, K: Sink>(&mut self, input: &mut S, out: &mut K) -> End
         requires opens { Opens A.rules self.old.reader.ahead self.old.gathered.text.items
             self.old.gathered.answerer }
         requires within { A.rules.within 2 self.old.gathered.answerer }

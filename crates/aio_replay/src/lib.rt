@@ -8,12 +8,13 @@
 //! input or with a refused line, the core that is handed back stands for the machine's world in which
 //! that run ends; at a fault, for the world after a front part of the steps, in which is each whose
 //! answer was written; where memory ran out there is none. And of a trace that a number describes,
-//! that its summary tells the counts of the machine's run.
+//! that its summary tells the counts of the machine's run. What else answers the lines of an input
+//! gives the driver an `Answerer` of its own.
 #![tactic(auto)]
 
-mod answerer;
+pub mod answerer;
 pub mod counts;
-mod driver;
+pub mod driver;
 pub mod ends;
 mod replayer;
 mod replies;

@@ -1,4 +1,4 @@
--- A written line reads as its step.
+-- Words with one space between them are read as these words; so a written line reads as its step.
 use Rattle.std.proofs.Common.{◌≡◌, ℕ, zero, suc, ◌*◌, ◌<◌, ◌≤◌, ◌^◌, leb, Bool, true, false, ◌&&◌, List, [], ◌∷◌, length, Option, None, Some, refl, sym, ap, ◌∙◌, subst, arith, decimal, length-append}
 use Rattle.std.specs.List.{All, list_all, join_with_byte}
 use Rattle.std.proofs.lemmas.Bool.{leb-true}
@@ -12,7 +12,7 @@ use Rattle.aio_base.specs.declared.outcomes.Which.TheVariants as which
 use Rattle.aio_base.specs.declared.steps.Step.{Step}
 use Rattle.aio_base.specs.declared.steps.Step.TheVariants as step
 use Rattle.aio_base.specs.Text.{dir_text, flags_of, which_text}
-use Rattle.aio_base.specs.Lines.{Reads, HasSpelling, SpellAll, StepWord, Text, Number, Written, body_of, is_allowed, is_blank, is_word, limit_word, step_words, words_in, written_line, written_word, written_words}
+use Rattle.aio_base.specs.Lines.{line_bytes, Reads, HasSpelling, SpellAll, StepWord, Text, Number, Written, body_of, is_allowed, is_blank, is_word, limit_word, step_words, words_in, written_line, written_word, written_words}
 use Rattle.aio_trace.proofs.Bodies.{body_of_other}
 use Rattle.aio_trace.proofs.LineNumbers.{numerals, numeral_of_digits}
 use Rattle.aio_trace.proofs.LineWords.{words_of_first, words_of_one, words_behind_blank}
@@ -21,7 +21,7 @@ use Rattle.aio_trace.proofs.Printed.{ArePrinted, ArePrintedWords, is_printed, nu
 -- ## Numbers in range
 
 -- each number of these words is at most the last moment
-abbrev AreSmall : List StepWord → Type 0
+abbrev pub AreSmall : List StepWord → Type 0
 AreSmall [] = Unit {0}
 AreSmall (Text text ∷ ws) = AreSmall ws
 AreSmall (Number n ∷ ws) = (n ≤ 10 ^ 18) × AreSmall ws
@@ -30,7 +30,7 @@ limit_small : (limit : Option ℕ) → HasSpelling (step.Begin limit) → AreSma
 limit_small None fits = tt
 limit_small (Some n) fits = (fits, tt)
 
-step_small : (s : Step) → HasSpelling s → AreSmall (step_words s)
+pub step_small : (s : Step) → HasSpelling s → AreSmall (step_words s)
 step_small (step.Del key) fits = (omega arith, tt)
 step_small (step.Poll key dir waker) fits = (let k = fits.0 in omega arith, (let w = fits.2 in omega arith, tt))
 step_small (step.New key dir) fits = (let k = fits.0 in omega arith, tt)
@@ -50,13 +50,13 @@ step_small _ fits = tt
 -- ## Lengths
 
 -- so many words, or fewer, and none of these bytes is long
-abbrev AreShort : ℕ → List StepWord → Type 0
+abbrev pub AreShort : ℕ → List StepWord → Type 0
 AreShort room [] = Unit {0}
 AreShort zero (w ∷ ws) = ⊥
 AreShort (suc room) (Text text ∷ ws) = (leb (length text) 19 ≡ true) × AreShort room ws
 AreShort (suc room) (Number n ∷ ws) = AreShort room ws
 
-dir_short : (dir : Dir) → leb (length (dir_text dir)) 19 ≡ true
+pub dir_short : (dir : Dir) → leb (length (dir_text dir)) 19 ≡ true
 dir_short Read = refl
 dir_short Write = refl
 dir_short Priority = refl
@@ -75,7 +75,7 @@ limit_short : (limit : Option ℕ) → AreShort 5 (limit_word limit ∷ [])
 limit_short None = (refl, tt)
 limit_short (Some n) = tt
 
-step_short : (s : Step) → AreShort 6 (step_words s)
+pub step_short : (s : Step) → AreShort 6 (step_words s)
 step_short (step.Poll key dir waker) = (refl, (dir_short dir, tt))
 step_short (step.New key dir) = (refl, (dir_short dir, tt))
 step_short (step.TimerAt deadline) = (refl, (refl, tt))
@@ -147,22 +147,31 @@ allowed_body line allowed = body_of_other line (λ at long last.
     let refused : list_all is_allowed line ≡ false = list_all_at is_allowed line at 0 (omega arith) (ap is_allowed last) in
     absurd cc)
 
-pub written_reads : (s : Step) → HasSpelling s → Reads s (written_line s)
-unfolding written_line
-written_reads s fits =
-    let ws = step_words s in
+-- what a line needs that reads as these words
+pub record SpelledLine (ws : List StepWord) (line : List ℕ) : Type 0 where
+  pub short : length line ≤ line_bytes
+  pub allowed : list_all is_allowed (body_of line) ≡ true
+  pub spelled : SpellAll (words_in (body_of line)) ws
+
+-- six words at most, whose numbers are small and whose bytes are few and printed, with one space between them
+pub spelled_line : (ws : List StepWord) → AreSmall ws → AreShort 6 ws → ArePrintedWords ws → SpelledLine ws (join_with_byte 32 (written_words ws))
+spelled_line ws small few shown =
     let line = join_with_byte 32 (written_words ws) in
-    let small = step_small s fits in
-    let printed = written_printed ws small (step_printed s) in
+    let printed = written_printed ws small shown in
     let words : words_in line ≡ written_words ws = words_of_joined (written_words ws) printed in
     let allowed : list_all is_allowed line ≡ true = text_allowed line (subst ArePrinted (sym words) printed) in
     let body : body_of line ≡ line = allowed_body line allowed in
     record {
-      in_range = fits;
-      short = let long = joined_short 6 ws small (step_short s) in omega arith;
+      short = let long = joined_short 6 ws small few in omega arith;
       allowed = ap (list_all is_allowed) body ∙ allowed;
       spelled = subst (λ words. SpellAll words ws) (sym (ap words_in body ∙ words)) (spell_written ws small);
     }
+
+pub written_reads : (s : Step) → HasSpelling s → Reads s (written_line s)
+unfolding written_line
+written_reads s fits =
+    let line = spelled_line (step_words s) (step_small s fits) (step_short s) (step_printed s) in
+    record { in_range = fits; short = line.short; allowed = line.allowed; spelled = line.spelled }
 
 pub reads : (s : Step) (line : List ℕ) → Written s line → Reads s line
 reads s line written = subst (Reads s) (sym written.1) (written_reads s written.0)

@@ -11,8 +11,12 @@ use crate::places::{
 use crate::words::next_word;
 use aio_base::{Event, Key, LineFault, Step, Waker, Which};
 
-/// What the words of a line read as, or their first fault.
-pub(crate) fn read_words<D: Dialect>(body: &[u8]) -> Result<D::Line, D::Fault>
+/// What the words of a line read as by the table of a version, or their first fault. It takes no memory.
+///
+/// # Errors
+///
+/// `Empty` where there is no word; else that of the first word that is not what its place asks.
+pub fn read_words<D: Dialect>(body: &[u8]) -> Result<D::Line, D::Fault>
     ensures { result ≡ words_read D.table (words_in body.now) }
 {
     let Some((word, rest)) = next_word(body) else {

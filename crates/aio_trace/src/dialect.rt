@@ -8,7 +8,7 @@ use aio_base::{Dir, Interest, LineFault, Step, Waker};
 
 /// A version of the language, as its lines are read: what stands in the places in which versions differ,
 /// and which lines a version alone has.
-pub(crate) trait Dialect {
+pub trait Dialect {
     ghost use Rattle.std.specs.Prelude.{◌≡◌, ◌∷◌, Ok, Err, MatchResult};
     ghost use Rattle.aio_base.specs.Lines.{ADirection, AWaker, SomeFlags, Version, read, take_value, value_of, words_in};
 
@@ -126,7 +126,7 @@ impl Dialect for First {
 
 /// A step with this waker in place of its own, where it has one.
 #[inline(always)]
-fn with_waker(step: Step, waker: Waker) -> Step
+pub fn with_waker(step: Step, waker: Waker) -> Step
     ensures { result ≡ with_waker step waker }
 {
     match step {
@@ -139,7 +139,7 @@ fn with_waker(step: Step, waker: Waker) -> Step
 
 /// Whether a word is this text.
 #[inline]
-pub(crate) fn word_is(word: &[u8], text: &[u8]) -> bool
+pub fn word_is(word: &[u8], text: &[u8]) -> bool
     ensures { result ≡ bytes_eq word.now text.now }
 {
     word == text

@@ -17,7 +17,7 @@ use crate::words::next_word;
 use aio_base::{LineFault, Step};
 
 /// The most bytes of a line, without its line feed.
-const LINE_BYTES: usize = 256;
+pub const LINE_BYTES: usize = 256;
 
 /// The step that a line reads as, given without its line feed, or what is wrong with it: exactly
 /// one of the two. It takes no memory.
@@ -89,7 +89,7 @@ pub fn is_header(line: &[u8]) -> bool
 }
 
 /// A line without the one carriage return that may stand at its end.
-fn body_of(line: &[u8]) -> &[u8]
+pub fn body_of(line: &[u8]) -> &[u8]
     ensures { result.now ≡ body_of line.now }
 {
     if line.is_empty() {
@@ -116,7 +116,7 @@ fn byte_before(body: &[u8], fault: LineFault) -> LineFault
 }
 
 /// Whether a line may hold each of these bytes.
-fn all_allowed(body: &[u8]) -> bool
+pub fn all_allowed(body: &[u8]) -> bool
     ensures { result ≡ list_all is_allowed body.now }
 {
     body.iter().all(|byte| *byte == b' ' || *byte == b'\t' || (*byte >= 33 && *byte <= 126))

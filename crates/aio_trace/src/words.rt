@@ -29,7 +29,7 @@ fn skip_blanks(text: &[u8]) -> &[u8]
 }
 
 /// The first word of a text, and what follows it; `None` where the text has no word.
-pub(crate) fn next_word(text: &[u8]) -> Option<(&[u8], &[u8])>
+pub fn next_word(text: &[u8]) -> Option<(&[u8], &[u8])>
     ensures { MatchOption result (words_in text.now ≡ [])
         (λ r. words_in text.now ≡ r.0.now ∷ words_in r.1.now) }
 {
@@ -47,7 +47,7 @@ pub(crate) fn next_word(text: &[u8]) -> Option<(&[u8], &[u8])>
 
 /// The number, at most `most`, that the first word of a text spells, and what follows it; or the
 /// fault of that word, or of there being none.
-pub(crate) fn next_number(text: &[u8], most: u64) -> Result<(u64, &[u8]), LineFault>
+pub fn next_number(text: &[u8], most: u64) -> Result<(u64, &[u8]), LineFault>
     requires { most ≤ 10 ^ 18 }
     ensures { MatchResult result
         (λ r. take_number most (words_in text.now) ≡ Ok (r.0, words_in r.1.now))
@@ -76,7 +76,7 @@ pub(crate) fn next_number(text: &[u8], most: u64) -> Result<(u64, &[u8]), LineFa
 }
 
 /// Whether a text has no word.
-pub(crate) fn has_ended(text: &[u8]) -> bool
+pub fn has_ended(text: &[u8]) -> bool
     ensures { (result ≡ true) ↔ (words_in text.now ≡ []) }
 {
     skip_blanks(text).is_empty()

@@ -9,9 +9,10 @@ use crate::writing::{push_before, push_numbered};
 use aio_base::{Dir, Event, Key, Moment, Step, Waker, Which};
 use std::alloc::AllocError;
 
-/// Writes a step's line, maybe a part of it where memory runs out.
+/// Writes a step's line, with its line feed; `AllocError` where memory runs out, maybe behind a part of
+/// it.
 #[tactic(auto, unfolding(aio_base::specs::Lines::written_line))]
-pub(crate) fn push_step(step: &Step, out: &mut Vec<u8>) -> Result<(), AllocError>
+pub fn push_step(step: &Step, out: &mut Vec<u8>) -> Result<(), AllocError>
     requires { IsInRange step.now }
     ensures pushes { Pushes out.old out.new (ended_line (written_line step.now)) result }
 {

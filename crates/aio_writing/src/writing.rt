@@ -89,9 +89,9 @@ pub fn write_reply(
     }
 }
 
-/// Writes a line of a word and a number.
+/// Writes a line of a word and a number; `AllocError` where memory runs out, maybe behind a part of it.
 #[inline(never)]
-pub(crate) fn push_numbered<const N: usize>(
+pub fn push_numbered<const N: usize>(
     out: &mut Vec<u8>,
     word: &[u8; N],
     number: u64,
@@ -146,9 +146,10 @@ fn push_close<const N: usize>(
     out.extend_from_slice(&line[start..])
 }
 
-/// Writes words, and a number in decimal digits behind them.
+/// Writes words, and a number in decimal digits behind them; `AllocError` where memory runs out, maybe
+/// behind a part of them.
 #[inline(always)]
-pub(crate) fn push_before(out: &mut Vec<u8>, words: &[u8], number: u64) -> Result<(), AllocError>
+pub fn push_before(out: &mut Vec<u8>, words: &[u8], number: u64) -> Result<(), AllocError>
     ensures pushes { Pushes out.old out.new (words.now ++ decimal number) result }
 {
     match out.extend_from_slice(words) {

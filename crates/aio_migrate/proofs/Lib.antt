@@ -1,0 +1,4 @@
+mod MigratedEnds
+mod MigrationText
+mod MigratorLemmas
+mod TraceSteps

@@ -1,0 +1,4 @@
+pub mod MigratedInputs
+pub mod Migration
+pub mod MigratorRules
+pub mod Migrators

@@ -1,0 +1,5 @@
+mod NameFields
+pub mod RunLemmas
+pub mod TaskLemmas
+mod RefusedRuns
+mod Rows2

@@ -1,0 +1,23 @@
+//! Assertions as calls: what stands in the body of a test makes its proof longer by the square, and an
+//! assertion is long.
+
+use std::fmt::Debug;
+use std::process::Abort;
+
+/// What a test needs that allocates.
+pub(crate) const MEMORY: &str = "memory is left";
+
+/// Asserts that what was found is what was wanted.
+pub(crate) fn same<T: Debug + Drop + PartialEq>(rt: &impl Abort, found: T, wanted: T) {
+    assert_eq!(rt; found, wanted);
+}
+
+/// Asserts the same of one row of a table, which is told where the two differ.
+pub(crate) fn same_in<T: Debug + Drop + PartialEq, U: Copy + Debug + PartialEq>(
+    rt: &impl Abort,
+    row: U,
+    found: T,
+    wanted: T,
+) {
+    same(rt, (row, found), (row, wanted));
+}
