@@ -1,3 +1,1 @@
-mod PastKept
-mod SoundRuns
 mod StoppedRounds

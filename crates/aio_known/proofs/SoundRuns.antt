@@ -16,7 +16,7 @@ use Rattle.aio_base.proofs.Searching.{false_unless, nothing_found}
 use Rattle.aio_laws.proofs.runs.Singles.{run_has_no_doubles}
 use Rattle.aio_facts.specs.Facts.{facts_in, no_facts, is_polled_of}
 use Rattle.aio_facts.specs.Sound.{IsBefore, Sound, UnusedSound}
-use Rattle.aio_sound.proofs.PastKept.{KeptBefore, run_keeps}
+use Rattle.aio_known.proofs.PastKept.{KeptBefore, run_keeps}
 use Rattle.aio_facts.proofs.Waiting.{facts_are, serial_apart}
 
 -- ## Nothing twice

@@ -1,0 +1,11 @@
+pub mod PastKept
+pub mod SoundRuns
+pub mod KnownLists
+pub mod Changing
+pub mod KnownPolls
+pub mod KnownRounds
+pub mod KnownHandles
+pub mod KnownTimers
+pub mod KnownSources
+pub mod KnownListeners
+pub mod KnownLaw

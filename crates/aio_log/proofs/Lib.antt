@@ -1,0 +1,9 @@
+pub mod Tests
+pub mod Waits
+pub mod RightLines
+pub mod LogRows
+pub mod TraceRows
+pub mod WrittenBack
+pub mod Telling
+pub mod RunLines
+pub mod Spellings
